@@ -3,8 +3,8 @@ use Rattle.std.specs.Prelude.{IfSome}
 use Rattle.bi_fdt.specs.declared.node.NodeRef.{NodeRef}
 use Rattle.bi_fdt.specs.Table.{TableItem}
 use Rattle.bi_fdt.specs.Views.{table_of_node}
-use Rattle.bi_commands.specs.declared.order_stub.NameOrder.{NameOrder}
-use Rattle.bi_commands.specs.OrderStub.{IsNameOrder}
+use Rattle.bi_fit.specs.declared.name_order.NameOrder.{NameOrder}
+use Rattle.bi_fit.specs.NameOrders.{IsNameOrder}
 
 -- The order of the names of a node's blob is that of the nodes after it.
 

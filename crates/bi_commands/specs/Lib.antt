@@ -14,7 +14,6 @@ pub mod LimitedSinks
 pub mod Listing
 pub mod ImagePayloads
 pub mod MadeEntries
-pub mod OrderStub
 pub mod Parts
 pub mod PayloadBounds
 pub mod Shown

@@ -13,7 +13,6 @@ pub mod extract;
 pub mod known_texts;
 pub mod laws;
 pub mod list;
-mod order_stub;
 pub mod parts;
 mod payload_bounds;
 pub mod shown;

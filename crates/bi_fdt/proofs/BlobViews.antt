@@ -65,10 +65,10 @@ strings_within file header =
     let within : totalsize file ≤ length file = header.file_holds_total in
     omega arith
 
-pub is_held : (limits : Limits) (file : List ℕ) (count : ℕ) (entries : List Entry) → HasNoHeaderFault limits file →
-    HasReservations file (off_mem_rsvmap file) (totalsize file) count → HasTable (tree_blocks file) limits.depth entries →
+pub is_held : (limits : Limits) (file : List ℕ) (count : ℕ) (entries : List Entry) (used : List (List ℕ)) → HasNoHeaderFault limits file →
+    HasReservations file (off_mem_rsvmap file) (totalsize file) count → HasTable (tree_blocks file) limits.depth entries used →
     IsBlobHeld file count entries
-is_held limits file count entries fine has table =
+is_held limits file count entries used fine has table =
     let header : Header file = HasNoHeaderFault-Header limits file fine in
     let least : 36 ≤ header_length file = header_length-least file in
     let whole : header_length file ≤ length file = header.whole in
@@ -81,10 +81,10 @@ is_held limits file count entries fine has table =
       named = subst (HaveNameOffsets file) (sym table.is_table.items) (names_in_tree file table.root table.holds);
     }
 
-pub is_blob : (limits : Limits) (file : List ℕ) (count : ℕ) (entries : List Entry) → AreBytes file → HasNoHeaderFault limits file →
-    HasReservations file (off_mem_rsvmap file) (totalsize file) count → HasTable (tree_blocks file) limits.depth entries →
+pub is_blob : (limits : Limits) (file : List ℕ) (count : ℕ) (entries : List Entry) (used : List (List ℕ)) → AreBytes file → HasNoHeaderFault limits file →
+    HasReservations file (off_mem_rsvmap file) (totalsize file) count → HasTable (tree_blocks file) limits.depth entries used →
     IsBlob file (boot_cpuid_phys file) (reservations_at file (off_mem_rsvmap file) count) (root_in (map (item_in file) entries))
-is_blob limits file count entries bytes fine has table =
+is_blob limits file count entries used bytes fine has table =
     let header : Header file = HasNoHeaderFault-Header limits file fine in
     subst (IsBlob file (boot_cpuid_phys file) (reservations_at file (off_mem_rsvmap file) count)) (sym (table_root file entries table.root table.is_table)) (record {
       bytes = bytes;
@@ -94,15 +94,15 @@ is_blob limits file count entries bytes fine has table =
       holds = table.holds;
     })
 
-pub is_blob_within : (limits : Limits) (file : List ℕ) (count : ℕ) (entries : List Entry) → AreBytes file → HasNoHeaderFault limits file →
-    HasReservations file (off_mem_rsvmap file) (totalsize file) count → HasTable (tree_blocks file) limits.depth entries →
+pub is_blob_within : (limits : Limits) (file : List ℕ) (count : ℕ) (entries : List Entry) (used : List (List ℕ)) → AreBytes file → HasNoHeaderFault limits file →
+    HasReservations file (off_mem_rsvmap file) (totalsize file) count → HasTable (tree_blocks file) limits.depth entries used →
     IsBlobWithin limits file
-is_blob_within limits file count entries bytes fine has table =
+is_blob_within limits file count entries used bytes fine has table =
     blob_of_parts limits file count bytes fine has (record { root = table.root; holds = table.holds; shallow = table.shallow })
 
 -- The blob of these was read from the file.
-pub is_read_blob : (limits : Limits) (file : List ℕ) (count : ℕ) (entries : List Entry) → AreBytes file → HasNoHeaderFault limits file →
-    HasReservations file (off_mem_rsvmap file) (totalsize file) count → HasTable (tree_blocks file) limits.depth entries →
+pub is_read_blob : (limits : Limits) (file : List ℕ) (count : ℕ) (entries : List Entry) (used : List (List ℕ)) → AreBytes file → HasNoHeaderFault limits file →
+    HasReservations file (off_mem_rsvmap file) (totalsize file) count → HasTable (tree_blocks file) limits.depth entries used →
     IsReadBlob limits file (record {
       file = file;
       cpu = boot_cpuid_phys file;
@@ -110,9 +110,9 @@ pub is_read_blob : (limits : Limits) (file : List ℕ) (count : ℕ) (entries : 
       reservations = reservations_at file (off_mem_rsvmap file) count;
       table = map (item_in file) entries;
     })
-is_read_blob limits file count entries bytes fine has table =
-    let blob = is_blob limits file count entries bytes fine has table in
-    let within = is_blob_within limits file count entries bytes fine has table in
+is_read_blob limits file count entries used bytes fine has table =
+    let blob = is_blob limits file count entries used bytes fine has table in
+    let within = is_blob_within limits file count entries used bytes fine has table in
     record {
       is_file = refl;
       size = refl;

@@ -2,11 +2,10 @@ use Rattle.std.proofs.Common.{◌≡◌, ℕ, zero, suc, ◌+◌, ◌-◌, ◌<�
 use Rattle.std.proofs.Common.{ap, subst, ◌∙◌, arith}
 use Rattle.std.proofs.Math.ListN.{set}
 use Rattle.std.proofs.Math.Seq.{drop-append_seam}
-use Rattle.std.proofs.lemmas.List.{length-append, length-map, map-append, drop-map, append-nil, reverse-append, map_push}
+use Rattle.std.proofs.lemmas.List.{length-append, length-set, length-map, map-append, drop-map, append-nil, reverse-append, map_push}
 use Rattle.bi_blob.specs.Tree.{FileProperty, names}
 use Rattle.bi_blob.specs.Events.{FileNodeProperty, FileNodeEnd}
 use Rattle.bi_blob.specs.NameSets.{HoldsNames}
-use Rattle.bi_fdt.specs.PropertySets.{HoldsProperties}
 use Rattle.bi_blob.specs.OpenNodes.{OpenFileNode, new_node, events_of_open_nodes, events_of_open_node, with_one_property, with_one_child}
 use Rattle.bi_blob.specs.OpenNodes.{own_of}
 use Rattle.bi_blob.proofs.Blobs.OpenNodes.{events_of_open_nodes-property, events_of_open_nodes-child, names-with_last}
@@ -18,9 +17,14 @@ use Rattle.bi_fdt.specs.declared.table.NodeEntry.{NodeEntry}
 use Rattle.bi_fdt.specs.declared.table.PropertyEntry.{PropertyEntry}
 use Rattle.bi_fdt.specs.Table.{TableItem, NodeItem, PropertyItem, count_inside, property_in, item_in, items_of, AreLinked}
 use Rattle.bi_fdt.specs.Growth.{AreOpen, IsGrowing, IsFinished, EndsInside}
+use Rattle.bi_fdt.specs.Numbers.{IsNumberOf, with_name}
+use Rattle.bi_fdt.specs.PropertyMarks.{HasMarked, AreMarksBelow}
+use Rattle.bi_fdt.specs.TableNames.{AreTableNames}
 use Rattle.bi_fdt.proofs.Items.{items_of-append, open_items, node_items, items_of-open_nodes, items_of-open, inside-open, childless_items}
 use Rattle.bi_fdt.proofs.Links.{AreLinked-node, AreLinked-property, AreLinked-end, items-set, drop-push, properties_alone}
 use Rattle.bi_fdt.proofs.Links.{AreOnlyProperties}
+use Rattle.bi_fdt.proofs.PropertyMarks.{begins_without_names, bound_more}
+use Rattle.bi_fdt.proofs.TableNames.{table_names-node, table_names-property, table_names-set}
 
 -- A table that grows still has the entries of its open nodes after a child begins, after a property is added to the innermost one, and
 -- after that one ends.
@@ -121,9 +125,9 @@ pub growing_begun : (file : List ℕ) (growing grown : Growing) (o : OpenFileNod
     → grown.innermost.entry ≡ length growing.entries.items → HoldsNames grown.innermost.children []
     → grown.outer.items ≡ growing.outer.items ++ parent ∷ [] → parent.entry ≡ growing.innermost.entry
     → HoldsNames parent.children (names o.children ++ name ∷ [])
-    → HoldsProperties grown.properties []
+    → grown.names ≡ growing.names
     → IsGrowing file grown (new_node name place) (o ∷ outer)
-growing_begun file growing grown o outer name place new parent is entries item deep none at fresh outers same holds properties = record {
+growing_begun file growing grown o outer name place new parent is entries item deep none at fresh outers same holds named = record {
   items = ap (map (item_in file)) entries ∙ map-append (item_in file) growing.entries.items (entry.Node new ∷ [])
       ∙ ap (λ l. map (item_in file) growing.entries.items ++ l ∷ []) item
       ∙ ap (λ l. l ++ NodeItem (length outer + 1) place name ∷ []) is.items
@@ -135,7 +139,13 @@ growing_begun file growing grown o outer name place new parent is entries item d
     fresh,
     AreOpen-first growing.innermost parent (reverse growing.outer.items) (names o.children) (names o.children ++ name ∷ []) o.name outer is.opened same holds,
   );
-  properties = λ _. properties;
+  named = subst (AreTableNames file grown.entries.items) (ap (λ n. n.used) (sym named))
+      (subst (λ l. AreTableNames file l growing.names.used) (sym entries) (table_names-node file growing.entries.items growing.names.used new is.named));
+  marks = subst (AreMarksBelow (length grown.entries.items)) (sym named)
+      (bound_more (length growing.entries.items) (length grown.entries.items) growing.names.marks
+      (omega (arith, ap length entries ∙ length-append growing.entries.items (entry.Node new ∷ []))) is.marks);
+  properties = λ _. subst (λ n. HasMarked n grown.innermost.entry []) (sym named)
+      (begins_without_names growing.names grown.innermost.entry (subst (λ n. AreMarksBelow n growing.names) (sym at) is.marks));
 } where
   more : (n : ℕ) → n + 1 + 1 ≡ suc n + 1
   more n = omega arith
@@ -148,9 +158,12 @@ pub growing_property : (file : List ℕ) (growing grown : Growing) (o : OpenFile
     → grown.entries.items ≡ set (growing.entries.items ++ entry.Property p ∷ []) growing.innermost.entry
     (entry.Node (record n { property_count = length (growing.entries.items ++ entry.Property p ∷ []) - growing.innermost.entry - 1 })))
     → grown.innermost ≡ growing.innermost → grown.outer ≡ growing.outer
-    → HoldsProperties grown.properties (map (λ (q : FileProperty). q.name) o.properties ++ (property_in file p).name ∷ [])
+    → grown.names.used ≡ with_name growing.names.used (property_in file p).name
+    → IsNumberOf grown.names.used (property_in file p).name p.number
+    → AreMarksBelow (length grown.entries.items) grown.names
+    → HasMarked grown.names growing.innermost.entry (map (λ (q : FileProperty). q.name) o.properties ++ (property_in file p).name ∷ [])
     → IsGrowing file grown (with_one_property o (property_in file p)) outer
-growing_property file growing grown o outer p is childless entries same same_outer holds =
+growing_property file growing grown o outer p is childless entries same same_outer used number marks holds =
     let found : IsNodeEntry file growing.entries.items growing.innermost.entry (NodeItem (length outer) o.place o.name) (open_rest o outer) = innermost_entry file growing o outer is in
     let pushed : drop growing.innermost.entry (growing.entries.items ++ entry.Property p ∷ []) ≡ entry.Node found.n ∷ (found.later ++ entry.Property p ∷ []) =
     drop-push growing.entries.items found.later growing.innermost.entry found.n (entry.Property p) found.is_at in
@@ -174,7 +187,12 @@ growing_property file growing grown o outer p is childless entries same same_out
           (subst AreOnlyProperties (sym rest) (properties_alone o.properties)) refl refl (omega arith) is.linked);
       opened = subst (λ a. AreOpen (a ∷ reverse grown.outer.items) (names o.children) o.name outer) (sym same)
           (subst (λ l. AreOpen (growing.innermost ∷ reverse l.items) (names o.children) o.name outer) (sym same_outer) is.opened);
-      properties = λ _. subst (HoldsProperties grown.properties) (sym (map_push (λ (q : FileProperty). q.name) o.properties (property_in file p))) holds;
+      named = subst (λ l. AreTableNames file l grown.names.used) (sym written)
+          (table_names-set file (growing.entries.items ++ entry.Property p ∷ []) (found.later ++ entry.Property p ∷ []) grown.names.used growing.innermost.entry found.n m pushed refl
+          (table_names-property file growing.entries.items growing.names.used grown.names.used p is.named used number));
+      marks = marks;
+      properties = λ _. subst (λ mark. HasMarked grown.names mark (map (λ (q : FileProperty). q.name) (with_one_property o (property_in file p)).properties)) (ap (λ (a : OpenNode). a.entry) (sym same))
+          (subst (HasMarked grown.names growing.innermost.entry) (sym (map_push (λ (q : FileProperty). q.name) o.properties (property_in file p))) holds);
     } where
       item_depth : {a b : ℕ} {x y : ℕ} {k l : List ℕ} → NodeItem a x k ≡ NodeItem b y l → a ≡ b
       item_depth e = cc
@@ -185,11 +203,11 @@ pub growing_ended : (file : List ℕ) (growing grown : Growing) (o : OpenFileNod
     → ((n : NodeEntry) → slice_get growing.entries.items growing.innermost.entry ≡ Some (entry.Node n)
     → grown.entries.items ≡ set growing.entries.items growing.innermost.entry
     (entry.Node (record n { after = length growing.entries.items })))
-    → growing.outer.items ≡ grown.outer.items ++ parent ∷ [] → grown.innermost ≡ parent
+    → growing.outer.items ≡ grown.outer.items ++ parent ∷ [] → grown.innermost ≡ parent → grown.names ≡ growing.names
     → EndsInside file grown o outer
-growing_ended file growing grown o [] parent is entries outers same =
+growing_ended file growing grown o [] parent is entries outers same named =
     absurd (subst (λ l. AreOpen (growing.innermost ∷ l) (names o.children) o.name []) (ap reverse outers ∙ reverse-append grown.outer.items (parent ∷ [])) is.opened)
-growing_ended file growing grown o (up ∷ outer) parent is entries outers same =
+growing_ended file growing grown o (up ∷ outer) parent is entries outers same named =
     let found : IsNodeEntry file growing.entries.items growing.innermost.entry (NodeItem (length (up ∷ outer)) o.place o.name) (open_rest o (up ∷ outer)) = innermost_entry file growing o (up ∷ outer) is in
     let m : NodeEntry = record found.n { after = length growing.entries.items } in
     let written : grown.entries.items ≡ set growing.entries.items growing.innermost.entry (entry.Node m) =
@@ -210,6 +228,11 @@ growing_ended file growing grown o (up ∷ outer) parent is entries outers same 
           refl refl refl refl (omega arith) is.linked));
       opened = subst (λ a. AreOpen (a ∷ reverse grown.outer.items) (names (with_one_child up o).children) up.name outer) (sym same)
           (subst (λ l. AreOpen (parent ∷ reverse grown.outer.items) l up.name outer) (sym (names-with_last up.children o.name (own_of o) o.children)) opened.2);
+      named = subst (AreTableNames file grown.entries.items) (ap (λ n. n.used) (sym named))
+          (subst (λ l. AreTableNames file l growing.names.used) (sym written)
+          (table_names-set file growing.entries.items found.later growing.names.used growing.innermost.entry found.n m found.is_at refl is.named));
+      marks = subst (AreMarksBelow (length grown.entries.items)) (sym named)
+          (subst (λ n. AreMarksBelow n growing.names) (sym (ap length written ∙ length-set growing.entries.items growing.innermost.entry (entry.Node m))) is.marks);
       properties = λ none. absurd (some (names up.children) o.name (sym (names-with_last up.children o.name (own_of o) o.children) ∙ none));
     } where
       item_depth : {a b : ℕ} {x y : ℕ} {k l : List ℕ} → NodeItem a x k ≡ NodeItem b y l → a ≡ b
@@ -223,20 +246,20 @@ growing_ended file growing grown o (up ∷ outer) parent is entries outers same 
       some (m ∷ ns) n e = cc
 
 -- The root ends.
-pub growing_finished : (file : List ℕ) (growing : Growing) (entries : List Entry) (o : OpenFileNode) (outer : List OpenFileNode) →
+pub growing_finished : (file : List ℕ) (growing finished : Growing) (o : OpenFileNode) (outer : List OpenFileNode) →
     IsGrowing file growing o outer
     → ((n : NodeEntry) → slice_get growing.entries.items growing.innermost.entry ≡ Some (entry.Node n)
-    → entries ≡ set growing.entries.items growing.innermost.entry (entry.Node (record n { after = length growing.entries.items })))
-    → growing.outer.items ≡ []
-    → (outer ≡ []) × IsFinished file entries o
-growing_finished file growing entries o (up ∷ outer) is written none =
+    → finished.entries.items ≡ set growing.entries.items growing.innermost.entry (entry.Node (record n { after = length growing.entries.items })))
+    → growing.outer.items ≡ [] → finished.names ≡ growing.names
+    → (outer ≡ []) × IsFinished file finished o
+growing_finished file growing finished o (up ∷ outer) is written none named =
     let opened : AreOpen (growing.innermost ∷ []) (names o.children) o.name (up ∷ outer) =
     subst (λ l. AreOpen (growing.innermost ∷ reverse l) (names o.children) o.name (up ∷ outer)) none is.opened in
     absurd opened.2
-growing_finished file growing entries o [] is written none =
+growing_finished file growing finished o [] is written none named =
     let found : IsNodeEntry file growing.entries.items growing.innermost.entry (NodeItem 0 o.place o.name) (open_rest o []) = innermost_entry file growing o [] is in
     let m : NodeEntry = record found.n { after = length growing.entries.items } in
-    let same : entries ≡ set growing.entries.items growing.innermost.entry (entry.Node m) =
+    let same : finished.entries.items ≡ set growing.entries.items growing.innermost.entry (entry.Node m) =
     written found.n (get_at growing.entries.items found.later growing.innermost.entry (entry.Node found.n) found.is_at) in
     let deep : found.n.depth ≡ 0 = item_depth found.is_item in (
       refl,
@@ -248,6 +271,9 @@ growing_finished file growing entries o [] is written none =
             (AreLinked-end file 0 0 (length growing.entries.items) growing.entries.items found.later growing.innermost.entry found.n m found.is_at deep
             (ap (count_inside found.n.depth) found.are_items ∙ ap (λ d. count_inside d (open_rest o [])) deep ∙ inside-open 0 o ∙ ap length (sym found.are_items))
             refl refl refl refl (omega arith) is.linked);
+        named = subst (AreTableNames file finished.entries.items) (ap (λ n. n.used) (sym named))
+            (subst (λ l. AreTableNames file l growing.names.used) (sym same)
+            (table_names-set file growing.entries.items found.later growing.names.used growing.innermost.entry found.n m found.is_at refl is.named));
       },
     ) where
       item_depth : {a b : ℕ} {x y : ℕ} {k l : List ℕ} → NodeItem a x k ≡ NodeItem b y l → a ≡ b

@@ -87,3 +87,27 @@ ends_more bytes ends more n end long each is pushed index d within =
     ] where
       first : index ≡ n → index - n ≡ 0
       first same = omega arith
+
+-- A later end of the bytes before the first zero byte.
+before_zero-later : (n : ℕ) (bytes : List ℕ) → n ≤ length (before_zero bytes) → before_zero (drop n bytes) ≡ drop n (before_zero bytes)
+before_zero-later zero bytes within = refl
+before_zero-later (suc n) [] within = refl
+before_zero-later (suc n) (byte ∷ rest) within =
+    subst (λ front. suc n ≤ length front → before_zero (drop n rest) ≡ drop (suc n) front) (sym (before_zero-cons byte rest))
+    (by_test (byte == 0) (before_zero-later n rest)) within where
+      by_test : (is_zero : Bool) → (n ≤ length (before_zero rest) → before_zero (drop n rest) ≡ drop n (before_zero rest))
+          → suc n ≤ length (cond is_zero [] (byte ∷ before_zero rest)) →
+          before_zero (drop n rest) ≡ drop (suc n) (cond is_zero [] (byte ∷ before_zero rest))
+      by_test true later short = absurd (omega arith)
+      by_test false later short = later (omega arith)
+
+-- A later end of a name is the name there.
+pub name_from-later : (bytes : List ℕ) (at n : ℕ) → n ≤ length (name_from bytes at) → name_from bytes (at + n) ≡ drop n (name_from bytes at)
+name_from-later bytes at n within = sym (ap before_zero (drop_again at n bytes)) ∙ before_zero-later n (drop at bytes) within
+
+-- A name is within the bytes.
+pub name_within : (bytes : List ℕ) (at : ℕ) → length (name_from bytes at) ≤ length bytes - at
+name_within bytes at =
+    let most : length (name_from bytes at) ≤ length (drop at bytes) = length_before_zero (drop at bytes) in
+    let long : length (drop at bytes) ≡ length bytes - at = length-drop at bytes in
+    omega arith

@@ -36,6 +36,11 @@ IsNumbered-more : (all front : List (List ℕ)) → BeginsWith all front → (it
 IsNumbered-more all front begins (NodeItem depth place name) number is = tt
 IsNumbered-more all front begins (PropertyItem property) number is = slice_get-begin all front begins number property.name is
 
+pub AreNumbered-more : (all front : List (List ℕ)) → BeginsWith all front → (table : List TableItem) (numbers : List ℕ) →
+    AreNumbered front table numbers → AreNumbered all table numbers
+AreNumbered-more all front begins table numbers are =
+    AllZip-then (IsNumbered front) (IsNumbered all) table numbers (IsNumbered-more all front begins) are
+
 -- The item at an index of a table has the number at that index.
 abbrev pub IsNumberedAt : List (List ℕ) → List TableItem → List ℕ → ℕ → Type 0
 IsNumberedAt names table numbers index = (d : TableItem) → IsNumbered names (get_or table index d) (get_or numbers index 0)
@@ -117,7 +122,7 @@ known_name tails heads names part name number are is found =
     there.1 ∙ ap Some (same_name_of_head tails part there.0 name there.2 is)
 
 -- A name whose head is new is new.
-new_name : (tails heads : List NamePart) (names : List (List ℕ)) (part : NamePart) (name : List ℕ) → AreOnce tails →
+pub new_name : (tails heads : List NamePart) (names : List (List ℕ)) (part : NamePart) (name : List ℕ) → AreOnce tails →
     AllZip (IsHead tails) heads names →
     IsHead tails part name → IsNewPart part heads → IsNew name names
 new_name tails [] [] part name once all is new = tt

@@ -1,10 +1,11 @@
-use Rattle.std.proofs.Common.{ℕ, zero, suc, ◌+◌, List, [], ◌∷◌, length, drop, take, sym, ap, subst, ◌∙◌, arith}
+use Rattle.std.proofs.Common.{◌≡◌, ℕ, zero, suc, ◌+◌, List, [], ◌∷◌, length, map, drop, take, Some, slice_get, slice_index, sym, ap, subst, ◌∙◌, arith}
 use Rattle.std.specs.List.{AllZip}
+use Rattle.std.proofs.lemmas.Option.{none-some}
 use Rattle.bi_fdt.specs.declared.table.NodeEntry.{NodeEntry}
 use Rattle.bi_fdt.specs.Table.{TableItem, NodeItem, PropertyItem, first_properties}
 use Rattle.bi_fdt.specs.Content.{first_sibling}
 use Rattle.bi_fdt.specs.Fields.{IsNodeOf}
-use Rattle.bi_fdt.specs.Numbers.{HasNumber, AreNumbered}
+use Rattle.bi_fdt.specs.Numbers.{HasNumber, IsNumberOf, AreNumbered}
 use Rattle.bi_fdt.proofs.NodeViews.{after_node}
 
 -- The numbers of the names of a node's properties are those that its table has for them.
@@ -38,3 +39,24 @@ numbers_there file table index n there names numbers are =
     (numbered_first names there.later (drop (index + 1) numbers)
     (subst (λ items. AreNumbered names items (drop (index + 1) numbers)) (ap (λ k. drop k table) (omega arith) ∙ after_node file table index n there 0)
     (numbered_from names (index + 1) table numbers are))))
+
+-- ---- numbers by another list
+
+-- The key at the number of a name is its number by the other list.
+picked_number : (others names : List (List ℕ)) (keys : List ℕ) (number : ℕ) (name : List ℕ) → AllZip (IsNumberOf others) names keys →
+    slice_get names number ≡ Some name → IsNumberOf others name (slice_index keys number)
+picked_number others [] keys number name are is = absurd (none-some _ is)
+picked_number others (first ∷ names) [] number name are is = elim are [ ]
+picked_number others (first ∷ names) (key ∷ keys) zero name are is = are.0 ∙ is
+picked_number others (first ∷ names) (key ∷ keys) (suc number) name are is = picked_number others names keys number name are.1 is
+
+-- The keys at the numbers of properties are their numbers by the other list.
+pub picked_numbers : (others names : List (List ℕ)) (keys : List ℕ) → AllZip (IsNumberOf others) names keys →
+    (table : List TableItem) (numbers : List ℕ) → AreNumbered names table numbers → AreNumbered others table (map (slice_index keys) numbers)
+picked_numbers others names keys keyed [] [] are = tt
+picked_numbers others names keys keyed [] (number ∷ numbers) are = elim are [ ]
+picked_numbers others names keys keyed (item ∷ table) [] are = elim are [ ]
+picked_numbers others names keys keyed (NodeItem depth place name ∷ table) (number ∷ numbers) are =
+    (tt, picked_numbers others names keys keyed table numbers are.1)
+picked_numbers others names keys keyed (PropertyItem property ∷ table) (number ∷ numbers) are =
+    (picked_number others names keys number property.name keyed are.0, picked_numbers others names keys keyed table numbers are.1)

@@ -1,4 +1,4 @@
-use Rattle.std.proofs.Common.{◌≡◌, ℕ, ◌+◌, ◌≤◌, List, [], ◌∷◌, length, map, refl, sym, ap, subst, ◌∙◌, inl, inr, arith}
+use Rattle.std.proofs.Common.{◌≡◌, ℕ, ◌+◌, ◌≤◌, List, [], ◌∷◌, length, map, refl, sym, ap, subst, ◌∙◌, inl, inr, Bool, true, false, arith}
 use Rattle.std.specs.Prelude.{IsTrue}
 use Rattle.std.proofs.lemmas.List.{append-nil, length-append}
 use Rattle.bi_base.specs.declared.fault.Fault.{Fault}
@@ -20,14 +20,12 @@ use Rattle.bi_blob.proofs.Blobs.Tokens.{length-token_bytes}
 use Rattle.bi_blob.proofs.Blobs.TreeTokens.{length-Prop}
 use Rattle.bi_blob.proofs.Blobs.ReaderSteps.{IsNext, next_nop, next_child, next_property, next_end_of_child, next_last, property_at}
 use Rattle.bi_blob.proofs.Blobs.TreeOrFault.{fault_there}
-use Rattle.bi_fdt.specs.declared.growing.Growing as table
-use Rattle.bi_fdt.specs.declared.growing.Ending.TheVariants as ending
-use Rattle.bi_fdt.specs.declared.table.Entry.{Entry}
+use Rattle.bi_fdt.specs.declared.growing.Growing.{Growing}
 use Rattle.bi_fdt.specs.declared.tokens.Reading.{Reading}
 use Rattle.bi_fdt.specs.Blocks.{IsNumberAt, node_name_checks, property_token_checks}
 use Rattle.bi_fdt.specs.Table.{items_of}
-use Rattle.bi_fdt.specs.Growth.{IsGrowing, IsFinished, EndsInside, IsEnding}
-use Rattle.bi_fdt.specs.Reading.{IsReading, IsTable, IsAfter}
+use Rattle.bi_fdt.specs.Growth.{IsFinished, EndsInside, EndsChild, EndsRoot, IsEnding}
+use Rattle.bi_fdt.specs.Reading.{IsReading, IsTable, IsAfter, IsAhead}
 use Rattle.bi_fdt.proofs.Items.{items_of-append}
 
 -- Inside the root, FDT_BEGIN_NODE begins a child, FDT_PROP adds a property, FDT_END_NODE ends the innermost node, FDT_NOP changes nothing,
@@ -142,9 +140,9 @@ after_root blocks depth_limit place o position number =
     (next_last blocks depth_limit place o position (end_is_next blocks depth_limit place o [] position number))
 
 -- The table of a root that has ended is that of its tree.
-pub finished_table : (file : List ℕ) (entries : List Entry) (o : OpenFileNode) → o.name ≡ [] → IsFinished file entries o →
-    IsTable file entries (ended_root o)
-finished_table file entries o unnamed finished = record {
+pub finished_table : (file : List ℕ) (finished : Growing) (o : OpenFileNode) → o.name ≡ [] → IsFinished file finished o →
+    IsTable file finished.entries.items (ended_root o)
+finished_table file growing o unnamed finished = record {
   items = finished.items ∙ sym (append-nil (items_of 0 (events_of_open_node o)))
       ∙ sym (items_of-append 0 (events_of_open_node o) (FileNodeEnd ∷ []))
       ∙ ap (items_of 0) (sym (events_of_open_nodes-root o unnamed));
@@ -152,39 +150,48 @@ finished_table file entries o unnamed finished = record {
 }
 
 -- A reader after FDT_END_NODE of a child.
-pub after_end_inside : (blocks : TreeBlocks) (depth_limit : ℕ) (reading : Reading) (grown : table.Growing) →
-    IsReading blocks depth_limit reading → IsNumberAt blocks reading.place end_node_number →
-    IsEnding reading.growing (ending.Inside grown) → IsReading blocks depth_limit (record { place = reading.place + 4; growing = grown })
-after_end_inside blocks depth_limit reading grown r number ended = by_outer r.innermost r.outer r.position (ended.1 blocks.file r.innermost r.outer r.growing) where
-  by_outer : (o : OpenFileNode) (outer : List OpenFileNode) → IsOpenAt blocks depth_limit reading.place (OpenTree o outer) →
-      EndsInside blocks.file grown o outer → IsReading blocks depth_limit (record { place = reading.place + 4; growing = grown })
+after_end_inside : (blocks : TreeBlocks) (depth_limit : ℕ) (old new : Reading) →
+    IsReading blocks depth_limit old → IsNumberAt blocks old.place end_node_number →
+    EndsChild old.growing new.growing → new.place ≡ old.place + 4 → IsReading blocks depth_limit new
+after_end_inside blocks depth_limit old new r number ended moved = by_outer r.innermost r.outer r.position (ended.grown blocks.file r.innermost r.outer r.growing) where
+  by_outer : (o : OpenFileNode) (outer : List OpenFileNode) → IsOpenAt blocks depth_limit old.place (OpenTree o outer) →
+      EndsInside blocks.file new.growing o outer → IsReading blocks depth_limit new
   by_outer o [] position more = absurd more
   by_outer o (parent ∷ outer) position more = record {
     innermost = with_one_child parent o;
     outer = outer;
-    position = after_child blocks depth_limit reading.place o parent outer position number;
+    position = subst (λ place. IsOpenAt blocks depth_limit place (OpenTree (with_one_child parent o) outer)) (sym moved)
+        (after_child blocks depth_limit old.place o parent outer position number);
     growing = more;
-    few = (let few : length reading.growing.entries.items ≤ reading.place = r.few in
-        let same : length grown.entries.items ≡ length reading.growing.entries.items = ended.0 in omega arith);
-    within = (let within : reading.place + 4 ≤ blocks.end = number.within in omega arith);
+    strings = ended.strings ∙ r.strings;
+    few = omega (arith, r.few, ended.count, moved);
+    within = omega (arith, number.within, moved);
   }
 
 -- A reader after FDT_END_NODE of the root.
-pub after_end_root : (blocks : TreeBlocks) (depth_limit : ℕ) (reading : Reading) (entries : List Entry) →
-    IsReading blocks depth_limit reading → IsNumberAt blocks reading.place end_node_number →
-    ((file : List ℕ) (o : OpenFileNode) (outer : List OpenFileNode) → IsGrowing file reading.growing o outer →
-    (outer ≡ []) × IsFinished file entries o) →
-    IsAfter blocks depth_limit (reading.place + 4) entries
-after_end_root blocks depth_limit reading entries r number ended =
-    by_outer r.outer r.position (ended blocks.file r.innermost r.outer r.growing) where
-      by_outer : (outer : List OpenFileNode) → IsOpenAt blocks depth_limit reading.place (OpenTree r.innermost outer) →
-          (outer ≡ []) × IsFinished blocks.file entries r.innermost → IsAfter blocks depth_limit (reading.place + 4) entries
+after_end_root : (blocks : TreeBlocks) (depth_limit : ℕ) (old new : Reading) →
+    IsReading blocks depth_limit old → IsNumberAt blocks old.place end_node_number →
+    EndsRoot old.growing new.growing → new.place ≡ old.place + 4 → IsAfter blocks depth_limit new
+after_end_root blocks depth_limit old new r number ended moved =
+    by_outer r.outer r.position (ended.finished blocks.file r.innermost r.outer r.growing) where
+      by_outer : (outer : List OpenFileNode) → IsOpenAt blocks depth_limit old.place (OpenTree r.innermost outer) →
+          (outer ≡ []) × IsFinished blocks.file new.growing r.innermost → IsAfter blocks depth_limit new
       by_outer (parent ∷ outer) position whole = absurd (one_more whole.0) where
         one_more : parent ∷ outer ≡ [] → ⊥
         one_more e = cc
       by_outer [] position whole = record {
         root = ended_root r.innermost;
-        position = after_root blocks depth_limit reading.place r.innermost position number;
-        is_table = finished_table blocks.file entries r.innermost position.is_tree_so_far.1 whole.1;
-        within = (let within : reading.place + 4 ≤ blocks.end = number.within in omega arith);
+        position = subst (λ place. IsOpenAt blocks depth_limit place (WholeTree (ended_root r.innermost))) (sym moved)
+            (after_root blocks depth_limit old.place r.innermost position number);
+        is_table = finished_table blocks.file new.growing r.innermost position.is_tree_so_far.1 whole.1;
+        named = whole.1.named;
+        within = omega (arith, number.within, moved);
       }
+
+-- A reader after FDT_END_NODE.
+pub after_end : (blocks : TreeBlocks) (depth_limit : ℕ) (old new : Reading) (has_ended : Bool) → IsReading blocks depth_limit old →
+    IsNumberAt blocks old.place end_node_number → IsEnding old.growing has_ended new.growing → new.place ≡ old.place + 4 →
+    IsAhead blocks depth_limit old.place has_ended new
+after_end blocks depth_limit old new false r number ended moved =
+    (after_end_inside blocks depth_limit old new r number ended moved, omega (arith, moved))
+after_end blocks depth_limit old new true r number ended moved = after_end_root blocks depth_limit old new r number ended moved

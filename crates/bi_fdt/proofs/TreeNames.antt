@@ -1,4 +1,4 @@
-use Rattle.std.proofs.Common.{◌≡◌, ◌⊎◌, ℕ, ◌+◌, ◌-◌, ◌<◌, List, [], ◌∷◌, ◌++◌, length, map, get_or, Contains, inl, inr, refl, sym, ap, subst, ◌∙◌, arith, append-nil}
+use Rattle.std.proofs.Common.{◌≡◌, ◌⊎◌, ℕ, ◌+◌, ◌-◌, ◌<◌, List, [], ◌∷◌, ◌++◌, length, map, get_or, Contains, Bool, true, false, inl, inr, refl, sym, ap, subst, ◌∙◌, arith, append-nil}
 use Rattle.std.proofs.lemmas.List.{get_or-map, length-map, append_assoc}
 use Rattle.bi_base.proofs.ListMembers.{Contains-none, Contains-cases, Contains-first, Contains-others}
 use Rattle.bi_blob.specs.Tree.{Root, FileNode, FileProperty}
@@ -8,7 +8,10 @@ use Rattle.bi_fdt.specs.declared.table.Entry.{Entry}
 use Rattle.bi_fdt.proofs.Items.{table_of}
 use Rattle.bi_fdt.specs.NameTables.{HasAtMostNameOf}
 use Rattle.bi_fdt.specs.Table.{TableItem, NodeItem, PropertyItem, item_in, items_of}
-use Rattle.bi_fdt.specs.TreeNames.{IsNameIn, HasMoreNamesOf}
+use Rattle.bi_fdt.specs.Numbers.{with_name, names_after, names_of_table}
+use Rattle.bi_fdt.specs.TreeNames.{IsNameIn, AreNamesIn, HasMoreNamesOf}
+use Rattle.bi_blob.specs.Layout.{is_among}
+use Rattle.std.specs.Prelude.{if◌then◌else◌}
 
 -- The name of a property in the table of a tree is that of a property of the tree, so that the names of the table's properties are names
 -- in the tree.
@@ -45,6 +48,30 @@ property_in_events depth (FileNodeEnd ∷ later) property has =
 pub name_in_table : (root : Root FileNode) (property : FileProperty) → Contains (table_of root) (PropertyItem property) →
     IsNameIn property.name root
 name_in_table root property has = (property, property_in_events 0 (file_events_of root) property has, refl)
+
+-- The names of properties of the tree with one more.
+with_name-in : (root : Root FileNode) (used : List (List ℕ)) (name : List ℕ) → AreNamesIn used root → IsNameIn name root →
+    AreNamesIn (with_name used name) root
+with_name-in root used name are is = by (is_among name used)
+  where
+    by : (b : Bool) → AreNamesIn (if b then used else used ++ name ∷ []) root
+    by true = are
+    by false = All-push (λ name. IsNameIn name root) used name are is
+
+-- The names of a table are those of properties of the tree.
+names_after-in : (root : Root FileNode) (table : List TableItem) (used : List (List ℕ)) →
+    ((property : FileProperty) → Contains table (PropertyItem property) → IsNameIn property.name root) →
+    AreNamesIn used root → AreNamesIn (names_after used table) root
+names_after-in root [] used each are = are
+names_after-in root (NodeItem depth place name ∷ table) used each are =
+    names_after-in root table used (λ property has. each property (Contains-others (NodeItem depth place name) table (PropertyItem property) has)) are
+names_after-in root (PropertyItem first ∷ table) used each are =
+    names_after-in root table (with_name used first.name) (λ property has. each property (Contains-others (PropertyItem first) table (PropertyItem property) has))
+    (with_name-in root used first.name are (each first (Contains-first (PropertyItem first) table)))
+
+pub names_in_tree : (root : Root FileNode) (table : List TableItem) → table ≡ table_of root → AreNamesIn (names_of_table table) root
+names_in_tree root table is =
+    names_after-in root table [] (λ property has. name_in_table root property (subst (λ table. Contains table (PropertyItem property)) is has)) tt
 
 -- No names more.
 pub HasMoreNamesOf-none : (names : List (List ℕ)) (root : Root FileNode) → HasMoreNamesOf names names root

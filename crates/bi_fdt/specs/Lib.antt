@@ -1,8 +1,11 @@
 pub mod Header
 pub mod Blocks
-pub mod PrefixedNames
 pub mod Properties
 pub mod Table
+pub mod Numbers
+pub mod TableNames
+pub mod UsedNames
+pub mod PropertyMarks
 pub mod Growth
 pub mod Reading
 pub mod Content
@@ -10,11 +13,10 @@ pub mod TreeNames
 pub mod Fields
 pub mod ReadBlobs
 pub mod Views
-pub mod Digests
 pub mod Strings
-pub mod PropertySets
-pub mod Numbers
 pub mod NameParts
 pub mod NameTails
 pub mod KeyOrder
+pub mod Ranks
+pub mod Order
 pub mod NameTables

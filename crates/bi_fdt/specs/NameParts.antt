@@ -1,4 +1,5 @@
 use Rattle.std.specs.Prelude.{◌≡◌, ◌⊎◌, ℕ, List, [], ◌∷◌, ◌++◌, length, map, Some, slice_get}
+use Rattle.std.specs.Prelude.{Option, MatchOption}
 use Rattle.std.specs.BTreeMap.{get}
 use Rattle.std.specs.Borrow.{Bor}
 use Rattle.bi_blob.specs.NamesByPrefix.{prefix_of_name, by_prefix}
@@ -19,6 +20,11 @@ AreOnce parts = (part : NamePart) (m n : ℕ) → slice_get parts m ≡ Some par
 -- A part is not in a list.
 abbrev pub IsNewPart : NamePart → List NamePart → Type 0
 IsNewPart part parts = (index : ℕ) → ¬ (slice_get parts index ≡ Some part)
+
+-- A part is in a list at the index that is found, or it is not there and none is found.
+abbrev pub FindsPart : List NamePart → NamePart → Option ℕ → Type 0
+FindsPart parts part found =
+    MatchOption found (IsNewPart part parts) (λ index. slice_get parts index ≡ Some part)
 
 -- A part was in a list at this index, or it was not there and is now at the end, at this index.
 abbrev pub IsPlaced : List NamePart → NamePart → ℕ → List NamePart → Type 0

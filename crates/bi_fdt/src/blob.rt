@@ -8,11 +8,15 @@ ghost use Rattle.bi_blob.specs.Blob.{tree_blocks as tree_blocks_of, Header};
 ghost use Rattle.bi_blob.specs.BlobFaults.{HasNoHeaderFault, HasReservations};
 ghost use Rattle.bi_blob.specs.BlobFaults.{IsFaultBeforeTree};
 ghost use Rattle.bi_fdt.specs.Blocks.{blocks_of};
+ghost use Rattle.bi_base.specs.Slices.{bytes_of};
+ghost use Rattle.bi_blob.specs.Tree.{AreDistinct};
 ghost use Rattle.bi_blob.specs.Lookups.{root_node};
 ghost use Rattle.bi_fdt.specs.Table.{item_in};
 ghost use Rattle.bi_fdt.specs.Reading.{IsTable};
 ghost use Rattle.bi_fdt.specs.Content.{root_of};
 ghost use Rattle.bi_fdt.specs.Fields.{HaveNameOffsets};
+ghost use Rattle.bi_fdt.specs.Numbers.{AreNumbered, FindsNumber, names_of_table};
+ghost use Rattle.bi_fdt.specs.TreeNames.{AreNamesIn};
 ghost use Rattle.bi_fdt.specs.ReadBlobs.{IsReadBlob, IsBlobReadError};
 
 use crate::blocks::Blocks;
@@ -24,18 +28,20 @@ use crate::node::NodeRef;
 use crate::reservations::{PAIR_SIZE, count_reservations};
 use crate::strings::Strings;
 use crate::structure::read_tree;
-use crate::table::Entry;
+use crate::table::{Entry, name_numbers};
+use crate::used_names::UsedNames;
 use bi_base::{Error, Fault, Limits, two_cells_at};
-use std::alloc::Global;
+use std::alloc::{AllocError, Global};
 use std::marker::Model;
 
 /// A devicetree blob that was read (Devicetree Specification, chapter 5). It holds slices of its
-/// file, and one table of the nodes and properties of its tree.
+/// file, one table of the nodes and properties of its tree, and the names of the properties.
 #[derive(Drop)]
 pub struct Blob<'a> {
     file: &'a [u8],
     reservation_count: usize,
     entries: Vec<Entry>,
+    names: UsedNames<'a>,
 }
 
 impl<'a> Model for Blob<'a> {
@@ -45,6 +51,7 @@ impl<'a> Model for Blob<'a> {
     ghost use Rattle.bi_fdt.specs.Table.{item_in};
     ghost use Rattle.bi_fdt.specs.Content.{Blob};
     ghost use Rattle.bi_fdt.specs.Fields.{IsBlobHeld};
+    ghost use Rattle.bi_fdt.specs.TableNames.{AreTableNames};
 
     ghost Value = { Blob };
 
@@ -58,7 +65,8 @@ impl<'a> Model for Blob<'a> {
     } };
 
     ghost invariant = { λ blob.
-        IsBlobHeld blob.file.now blob.reservation_count blob.entries.items };
+        IsBlobHeld blob.file.now blob.reservation_count blob.entries.items
+        × AreTableNames blob.file.now blob.entries.items blob.names.used };
 }
 
 impl<'a> Blob<'a> {
@@ -88,11 +96,12 @@ impl<'a> Blob<'a> {
         let reservation_count = check_before_tree(file, limits)?;
         let strings = Strings::new(alloc, strings_block(file))?;
         let blocks = tree_blocks(file, &strings);
-        let entries = read_tree(alloc, blocks, usize::from(limits.depth()))?;
+        let (entries, names) = read_tree(alloc, blocks, usize::from(limits.depth()))?;
         Ok(Blob {
             file,
             reservation_count,
             entries,
+            names,
         })
     }
 
@@ -157,6 +166,34 @@ impl<'a> Blob<'a> {
         ensures same_table { table_of_node result ≡ self.now.table }
     {
         NodeRef::at(self, index)
+    }
+
+    /// Returns the names of the properties, each once, in the order of their first use in the file.
+    /// The number of a name is its index.
+    pub fn names(&self) -> &[&'a [u8]]
+        ensures names { bytes_of result.now ≡ names_of_table self.now.table }
+        ensures distinct { AreDistinct (names_of_table self.now.table) }
+        ensures in_tree { AreNamesIn (names_of_table self.now.table) (root_of self.now) }
+    {
+        self.names.names()
+    }
+
+    /// Returns the number of the name of each property, and any number for each node, in the order
+    /// of the file. Fails if memory runs out.
+    pub fn name_numbers(&self, alloc: Global) -> Result<Vec<usize>, AllocError>
+        ensures { IfOk result (λ numbers.
+            AreNumbered (names_of_table self.now.table) self.now.table numbers.items) }
+    {
+        name_numbers(alloc, &self.entries)
+    }
+
+    /// Returns the number of the given name, which has fewer than 128 bytes. Returns None if and
+    /// only if no property has this name. Takes log n comparisons, for n names.
+    pub fn name_number(&self, name: &'a [u8]) -> Option<usize>
+        requires { length name.now < 128 }
+        ensures { FindsNumber (names_of_table self.now.table) name.now result }
+    {
+        self.names.find(name)
     }
 
     /// Returns the bytes of the strings block (Devicetree Specification, 5.5).

@@ -10,7 +10,6 @@ ghost use Rattle.bi_blob.specs.BlobFaults.{TokenPasses, token_fault, HasTokenNum
 ghost use Rattle.bi_blob.specs.BlobFaults.{property_checks};
 ghost use Rattle.bi_fdt.specs.Blocks.{blocks_of, AreBlocks, node_name_checks};
 ghost use Rattle.bi_fdt.specs.Blocks.{property_token_checks};
-ghost use Rattle.bi_fdt.specs.Digests.{digest_of_name};
 
 use crate::names::name_at;
 use crate::strings::Strings;
@@ -101,7 +100,7 @@ pub(crate) fn child_name<'a>(
     Ok(name)
 }
 
-/// Returns the property whose token is at `place`.
+/// Returns the property whose token is at `place`. Its name has no number yet: `number` is 0.
 pub(crate) fn property_at(
     blocks: Blocks,
     place: usize,
@@ -147,16 +146,15 @@ pub(crate) fn property_at(
         name_begin: (blocks.strings_begin + name_offset) as u32,
         name_length: name.len() as u32,
         value_length,
+        number: 0,
     })
 }
 
-/// Returns the digest of the name of the property whose token is at `place`.
-pub(crate) fn name_digest(blocks: Blocks, place: usize, name: &[u8]) -> [u8; 32]
+/// Returns the offset in the strings block of the name of the property whose token is at `place`.
+pub(crate) fn name_offset(blocks: Blocks, place: usize) -> usize
     requires blocks { AreBlocks blocks }
     requires within { place + 12 ≤ blocks.end }
-    requires name { name.now ≡ name_from blocks.strings.now (u32_at blocks.file.now (place + 8)) }
-    ensures { result ≡ digest_of_name name.now }
+    ensures { result ≡ u32_at blocks.entry.file.now (place + 8) }
 {
-    let offset = cell_at(blocks.file, place + 8) as usize;
-    blocks.strings.digest_at(offset, name)
+    cell_at(blocks.file, place + 8) as usize
 }

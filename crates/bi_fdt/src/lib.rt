@@ -3,28 +3,30 @@
 
 mod blob;
 mod blocks;
-mod digests;
 mod fields;
 mod growing;
 mod header;
+mod marked_names;
 mod name_parts;
 mod name_table;
 mod name_tails;
 mod names;
 mod node;
 mod numbers;
+mod order;
 mod properties;
-mod property_names;
 mod ranks;
 mod reservations;
 mod strings;
 mod structure;
 mod table;
 mod tokens;
+mod used_names;
 
 pub use blob::Blob;
 pub use node::NodeRef;
 pub use numbers::NameNumbers;
+pub use order::{OrderedProperties, PropertyOrder};
 pub use properties::Properties;
-pub use ranks::{NameRanks, rank_names};
+pub use ranks::{NameRanks, keys_at, rank_names};
 pub use table::Property;

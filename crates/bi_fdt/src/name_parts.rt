@@ -31,7 +31,7 @@ impl<'a> Model for NameParts<'a> {
 }
 
 impl<'a> NameParts<'a> {
-    ghost use Rattle.bi_fdt.specs.NameParts.{IsPlaced};
+    ghost use Rattle.bi_fdt.specs.NameParts.{IsPlaced, FindsPart};
 
     /// Returns an empty list of parts. It allocates nothing yet.
     pub(crate) fn new(alloc: Global) -> NameParts<'a>
@@ -61,5 +61,13 @@ impl<'a> NameParts<'a> {
         self.numbers.insert(key, number)?;
         self.parts.push((tail, bytes)).unwrap();
         Ok(number)
+    }
+
+    /// Returns the number of a part, if it is there. It takes log n comparisons, for n parts.
+    pub(crate) fn find(&self, tail: usize, bytes: &'a [u8]) -> Option<usize>
+        ensures { FindsPart self.now (tail, bytes.now) result }
+    {
+        let key = (tail, name_prefix(bytes), bytes);
+        self.numbers.get(&key).copied()
     }
 }

@@ -1,6 +1,7 @@
 //! A table of the names of properties.
 
-ghost use Rattle.std.specs.Prelude.{◌≡◌, [], IfOk, Some, map, slice_get, take};
+ghost use Rattle.std.specs.Prelude.{◌≡◌, ◌+◌, ◌/◌, ◌<◌, [], IfOk, OnErr, Some, length, map, slice_get};
+ghost use Rattle.std.specs.Prelude.{take};
 ghost use Rattle.bi_blob.specs.Blob.{tree_blocks};
 ghost use Rattle.bi_fdt.specs.Content.{root_of};
 ghost use Rattle.bi_fdt.specs.Fields.{HasNameOffset};
@@ -8,13 +9,14 @@ ghost use Rattle.bi_fdt.specs.NameTables.{names_in_table, IsNameTable, HasMoreNa
 ghost use Rattle.bi_fdt.specs.KeyOrder.{IsKeyOrder};
 ghost use Rattle.bi_fdt.specs.NameTables.{HasAtMostMore, HasAtMostNameOf, prefix_of_item};
 ghost use Rattle.bi_fdt.specs.NameTails.{IsTail, AreBlockNumbers, head_length};
-ghost use Rattle.bi_fdt.specs.Numbers.{IsNumbered, AreNumbered};
+ghost use Rattle.bi_fdt.specs.Numbers.{IsNumbered, AreNumbered, FindsNumber};
+ghost use Rattle.bi_fdt.specs.Strings.{AreEnds};
 ghost use Rattle.bi_fdt.specs.Table.{item_in};
 ghost use Rattle.bi_fdt.specs.TreeNames.{HasMoreNamesOf};
 
 use crate::blob::Blob;
 use crate::name_parts::NameParts;
-use crate::name_tails::{block_numbers, tail_at};
+use crate::name_tails::{NO_BLOCKS, block_numbers, tail_at};
 use crate::strings::{STRIDE, ends_of_names};
 use crate::table::Entry;
 use bi_base::cell_at;
@@ -45,8 +47,27 @@ impl<'a> NameTable<'a> {
         }
     }
 
+    /// Returns the number that the blocks of each name at the first multiples of 64 have together.
+    /// The names have these ends. The last of them comes first. Fails if memory runs out.
+    pub(crate) fn block_numbers(
+        &mut self,
+        alloc: Global,
+        strings: &'a [u8],
+        ends: &[usize],
+    ) -> Result<Vec<usize>, AllocError>
+        requires table { IsNameTable self.old }
+        requires ends { AreEnds strings.now ends.now }
+        requires count { length ends.now ≡ length strings.now / 64 + 1 }
+        ensures blocks { IfOk result (λ numbers.
+            AreBlockNumbers self.new.tails strings.entry.now numbers.items) }
+        ensures table { IsNameTable self.new }
+        ensures names { names_in_table self.new ≡ names_in_table self.old }
+    {
+        block_numbers(alloc, &mut self.tails, strings, ends)
+    }
+
     /// Returns the number of a name, whose tail has the number `tail`. Fails if memory runs out.
-    fn add(&mut self, name: &'a [u8], tail: usize) -> Result<usize, AllocError>
+    pub(crate) fn add(&mut self, name: &'a [u8], tail: usize) -> Result<usize, AllocError>
         requires table { IsNameTable self.old }
         requires tail { IsTail self.old.tails tail name.now }
         ensures added { IfOk result (λ number.
@@ -54,6 +75,7 @@ impl<'a> NameTable<'a> {
         ensures more { HasMoreNames self.old self.new }
         ensures only { HasAtMostMore (names_in_table self.old) (names_in_table self.new)
             name.entry.now }
+        ensures failed { OnErr result (names_in_table self.new ≡ names_in_table self.old) }
     {
         self.names.reserve(1)?;
         let number = self.heads.add(tail, head_of(name))?;
@@ -61,6 +83,15 @@ impl<'a> NameTable<'a> {
             self.names.push(name).unwrap();
         }
         Ok(number)
+    }
+
+    /// Returns the number of a name of less than 128 bytes, if it is there.
+    pub(crate) fn find(&self, name: &'a [u8]) -> Option<usize>
+        requires table { IsNameTable self.now }
+        requires short { length name.now < 128 }
+        ensures { FindsNumber (names_in_table self.now) name.now result }
+    {
+        self.heads.find(NO_BLOCKS, name)
     }
 
     /// Returns the number of the name of a property, and any number for a node. `blocks` are the

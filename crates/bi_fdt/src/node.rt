@@ -1,10 +1,13 @@
 //! The nodes of a blob.
 
 ghost use Rattle.std.specs.Prelude.{◌≡◌, ◌<◌, ◌^◌, ℕ, List, drop, length, slice_get, IsTrue};
-ghost use Rattle.std.specs.Prelude.{IfSome, Some};
+ghost use Rattle.std.specs.Prelude.{IfSome, Some, map};
+ghost use Rattle.std.specs.Cmp.Lexicographic.{slice_cmp};
 ghost use Rattle.std.specs.List.{AllZip};
+ghost use Rattle.std.specs.List.Sorted.{IsStrictlySortedBy};
 ghost use Rattle.std.specs.Option.{option_map};
-ghost use Rattle.bi_blob.specs.Tree.{properties_of};
+ghost use Rattle.std.specs.Ordering.{nat_cmp};
+ghost use Rattle.bi_blob.specs.Tree.{AreDistinct, properties_of, property_of};
 ghost use Rattle.bi_blob.specs.Lookups.{siblings, root_node, node_at, node_named, value_named};
 ghost use Rattle.bi_blob.specs.Lookups.{property_named};
 ghost use Rattle.bi_fdt.specs.Properties.{file_property_of};
@@ -12,6 +15,7 @@ ghost use Rattle.bi_fdt.specs.Content.{root_of, begins_with_node};
 ghost use Rattle.bi_fdt.specs.Numbers.{HasNumber, AreNumbered};
 
 use crate::blob::Blob;
+use crate::order::{OrderedProperties, PropertyOrder};
 use crate::properties::Properties;
 use crate::table::{Entry, NodeEntry, Property};
 
@@ -30,6 +34,8 @@ pub struct NodeRef<'a, 'b> {
 impl<'a, 'b> NodeRef<'a, 'b> {
     ghost use Rattle.bi_fdt.specs.Views.{HasNodeAt, node_in, node_of, table_of_node};
     ghost use Rattle.bi_fdt.specs.Fields.{IsNodeOf};
+    ghost use Rattle.bi_fdt.specs.Order.{IsPropertyOrder, IsNumberOrder, AreByNumber};
+    ghost use Rattle.bi_fdt.specs.Order.{sorted_properties};
 
     /// Returns the root of a blob.
     pub(crate) fn new(blob: &'b Blob<'a>) -> NodeRef<'a, 'b>
@@ -103,6 +109,31 @@ impl<'a, 'b> NodeRef<'a, 'b> {
         let begin = self.index + 1;
         let end = begin + self.entry().property_count as usize;
         Properties::new(self.blob.file(), &entries[begin..end])
+    }
+
+    /// Returns the properties in this order, each after its key. It may only be called with an
+    /// order of the properties of this blob. Iterating over all of them takes time linear in their
+    /// number. If the keys are the numbers of their names, they come in ascending order of these
+    /// numbers; if these are ranks, in byte order of their names.
+    pub fn properties_in<'n>(self, order: &'n PropertyOrder) -> OrderedProperties<'a, 'b, 'n>
+        requires { (keys : List ℕ) × IsPropertyOrder (table_of_node self) keys order.now }
+        ensures by_number { let own = (node_of self.entry).own in (names : List (List ℕ))
+            → IsNumberOrder names (table_of_node self.entry) order.entry.now
+            → AreDistinct (map (λ property. property.0) (properties_of own))
+            → AreByNumber names own.properties result }
+        ensures by_name { let own = (node_of self.entry).own in (names : List (List ℕ))
+            → IsNumberOrder names (table_of_node self.entry) order.entry.now
+            → AreDistinct (map (λ property. property.0) (properties_of own))
+            → IsStrictlySortedBy (slice_cmp nat_cmp) names
+            → map (λ keyed. property_of keyed.1) result ≡ sorted_properties (properties_of own) }
+    {
+        let begin = self.index + 1;
+        let end = begin + self.entry().property_count as usize;
+        OrderedProperties::new(
+            self.blob.file(),
+            self.blob.entries(),
+            &order.pairs()[begin..end],
+        )
     }
 
     /// Returns the numbers of the names of the properties, in their order in the file. `numbers`

@@ -5,10 +5,8 @@ ghost use Rattle.std.specs.Prelude.{IsSome, IfSome, IfOk};
 ghost use Rattle.bi_blob.specs.Tokens.{name_from};
 ghost use Rattle.bi_blob.specs.Tree.{HasNoZero};
 ghost use Rattle.bi_blob.specs.BlobFaults.{HasName};
-ghost use Rattle.bi_fdt.specs.Digests.{digest_of_name};
 ghost use Rattle.bi_fdt.specs.Strings.{AreEnds};
 
-use crate::digests::{NO_DIGEST, digests_of_names};
 use crate::names::name_at;
 use std::alloc::{AllocError, Global};
 use std::marker::Model;
@@ -16,18 +14,16 @@ use std::marker::Model;
 /// How far apart the offsets are whose names' ends are kept.
 pub(crate) const STRIDE: usize = 64;
 
-/// A strings block. It keeps where the name at each multiple of `STRIDE` ends, and the digest of
-/// its blocks, so that a name and its digest are found as fast however long it is.
+/// A strings block. It keeps where the name at each multiple of `STRIDE` ends, so that a name is
+/// found as fast however long it is.
 #[derive(Drop)]
 pub(crate) struct Strings<'a> {
     bytes: &'a [u8],
     ends: Vec<usize>,
-    digests: Vec<[u8; 32]>,
 }
 
 impl<'a> Model for Strings<'a> {
-    ghost use Rattle.std.specs.Prelude.{List, ℕ};
-    ghost use Rattle.bi_fdt.specs.Digests.{AreDigests};
+    ghost use Rattle.std.specs.Prelude.{◌≡◌, ◌+◌, ◌/◌, List, ℕ, length};
     ghost use Rattle.bi_fdt.specs.Strings.{AreEnds};
 
     ghost Value = { List ℕ };
@@ -35,7 +31,7 @@ impl<'a> Model for Strings<'a> {
     ghost view = { λ strings. strings.bytes.now };
 
     ghost invariant = { λ strings. AreEnds strings.bytes.now strings.ends.items
-        × AreDigests strings.bytes.now strings.digests.items };
+        × (length strings.ends.items ≡ length strings.bytes.now / 64 + 1) };
 }
 
 impl<'a> Strings<'a> {
@@ -44,12 +40,7 @@ impl<'a> Strings<'a> {
         ensures { IfOk result (λ strings. strings ≡ bytes.entry.now) }
     {
         let ends = ends_of_names(alloc, bytes)?;
-        let digests = digests_of_names(alloc, bytes, &ends)?;
-        Ok(Strings {
-            bytes,
-            ends,
-            digests,
-        })
+        Ok(Strings { bytes, ends })
     }
 
     /// Returns the name at offset `at`. Returns None exactly if no zero byte ends it.
@@ -72,16 +63,19 @@ impl<'a> Strings<'a> {
         Some(&self.bytes[at..end])
     }
 
-    /// Returns the digest of the name at offset `at`.
-    pub(crate) fn digest_at(&self, at: usize, name: &[u8]) -> [u8; 32]
-        requires { name.now ≡ name_from self.now at }
-        ensures { result ≡ digest_of_name name.now }
+    /// Returns the bytes of the block.
+    pub(crate) fn bytes(&self) -> &'a [u8]
+        ensures { result.now ≡ self.now }
     {
-        if name.len() < 2 * STRIDE {
-            return NO_DIGEST;
-        }
-        let index = index_of_later_blocks(at, name.len());
-        self.digests[self.digests.len() - 1 - index]
+        self.bytes
+    }
+
+    /// Returns the ends of the names at the first multiples of 64.
+    pub(crate) fn ends(&self) -> &[usize]
+        ensures ends { AreEnds self.now result.now }
+        ensures count { length result.now ≡ length self.now / 64 + 1 }
+    {
+        &self.ends
     }
 }
 

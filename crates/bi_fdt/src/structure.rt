@@ -13,31 +13,32 @@ ghost use Rattle.bi_fdt.specs.Reading.{IsReading, IsAfter, HasTable};
 use crate::blocks::{Blocks, number_at, root_name};
 use crate::growing::Growing;
 use crate::table::Entry;
-use crate::tokens::{Next, Reading, step};
+use crate::tokens::{Reading, step};
+use crate::used_names::UsedNames;
 use bi_base::{Cause, Error, Fault, refuse, up4};
 use bi_blob::format::{BEGIN_NODE, END, NOP};
 use std::alloc::Global;
 
-/// Returns the table of the tree that the structure block holds. The fault is that of the first
-/// check that fails.
+/// Returns the table of the tree that the structure block holds, and the names of its properties.
+/// The fault is that of the first check that fails.
 pub(crate) fn read_tree<'a>(
     alloc: Global,
     blocks: Blocks<'a, '_>,
     depth_limit: usize,
-) -> Result<Vec<Entry>, Error>
+) -> Result<(Vec<Entry>, UsedNames<'a>), Error>
     requires blocks { AreBlocks blocks }
     requires ordered { blocks.begin ≤ blocks.end }
     requires depth { 1 ≤ depth_limit }
-    ensures ok { IfOk result (λ entries. HasTable
-        (blocks_of blocks.entry) depth_limit entries.items) }
+    ensures ok { IfOk result (λ table. HasTable
+        (blocks_of blocks.entry) depth_limit table.0.items table.1.used) }
     ensures failed { IfErr result (IsFaultOrNoMemory
         (IsStructureFault (blocks_of blocks.entry) depth_limit)) }
 {
     let place = skip_to_root(blocks)?;
-    let begun = begin_root(alloc, blocks, depth_limit, place)?;
-    let (place, entries) = read_root(alloc, blocks, depth_limit, begun)?;
-    check_after_root(blocks, place)?;
-    Ok(entries)
+    let mut reading = begin_root(alloc, blocks, depth_limit, place)?;
+    read_root(alloc, blocks, depth_limit, &mut reading)?;
+    check_after_root(blocks, reading.place)?;
+    Ok(reading.growing.into_table())
 }
 
 /// Returns the offset of the token of the root.
@@ -80,32 +81,30 @@ fn begin_root<'a>(
         (IsStructureFault (blocks_of blocks.entry) depth_limit)) }
 {
     let name = root_name(blocks, place, depth_limit)?;
-    let growing = Growing::new(alloc, name, place as u32)?;
+    let growing = Growing::new(alloc, blocks.strings, name, place as u32)?;
     Ok(Reading {
         place: place + up4(name.len() + 5),
         growing,
     })
 }
 
-/// Reads the tokens inside the root. Returns the offset after them, and the table.
+/// Reads the tokens inside the root.
 fn read_root<'a>(
     alloc: Global,
     blocks: Blocks<'a, '_>,
     depth_limit: usize,
-    begun: Reading<'a>,
-) -> Result<(usize, Vec<Entry>), Error>
+    reading: &mut Reading<'a>,
+) -> Result<(), Error>
     requires blocks { AreBlocks blocks }
-    requires reading { IsReading (blocks_of blocks) depth_limit begun }
-    ensures ok { IfOk result (λ after. IsAfter (blocks_of blocks.entry)
-        depth_limit after.0 after.1.items) }
+    requires reading { IsReading (blocks_of blocks) depth_limit reading.old }
+    ensures ok { OnOk result (IsAfter (blocks_of blocks.entry) depth_limit reading.new) }
     ensures failed { IfErr result (IsFaultOrNoMemory
         (IsStructureFault (blocks_of blocks.entry) depth_limit)) }
 {
-    let mut reading = begun;
     loop {
-        match step(alloc, blocks, depth_limit, reading)? {
-            Next::Inside(next) => reading = next,
-            Next::After(place, entries) => return Ok((place, entries)),
+        let has_ended = step(alloc, blocks, depth_limit, reading)?;
+        if has_ended {
+            return Ok(());
         }
     }
 }

@@ -1,12 +1,15 @@
 //! The table of a tree: one entry for each node and each property, in the order of their tokens in
 //! the file. An entry has numbers only: the names and the values are in the file.
 
-ghost use Rattle.std.specs.Prelude.{◌≡◌, ◌+◌, ◌<◌, ◌^◌, length, slice_get, slice_set};
+ghost use Rattle.std.specs.Prelude.{◌≡◌, ◌+◌, ◌<◌, ◌^◌, length, map, slice_get, slice_set, IfOk};
 ghost use Rattle.bi_base.specs.Cells.{slice};
 ghost use Rattle.bi_fdt.specs.declared.table.NodeEntry.{NodeEntry};
 ghost use Rattle.bi_fdt.specs.declared.table.Entry.TheVariants as entry;
 ghost use Rattle.bi_fdt.specs.Properties.{file_property_of};
 ghost use Rattle.bi_fdt.specs.Table.{node_name_in, property_in};
+ghost use Rattle.bi_fdt.specs.TableNames.{number_of};
+
+use std::alloc::{AllocError, Global};
 
 /// A node: its token FDT_BEGIN_NODE (Devicetree Specification, 5.4.1), and where its entries are in
 /// the table. The name is in the file, after the number of the token.
@@ -45,6 +48,8 @@ pub(crate) struct PropertyEntry {
     pub(crate) name_length: u32,
     /// The length of the value.
     pub(crate) value_length: u32,
+    /// The number of the name among the names of the properties of the blob.
+    pub(crate) number: u32,
 }
 
 impl PropertyEntry {
@@ -83,6 +88,28 @@ pub struct Property<'a> {
 pub(crate) enum Entry {
     Node(NodeEntry),
     Property(PropertyEntry),
+}
+
+impl Entry {
+    /// Returns the number of the name of a property, and 0 for a node.
+    pub(crate) fn name_number(self) -> usize
+        ensures { result ≡ number_of self }
+    {
+        match self {
+            Entry::Property(property) => property.number as usize,
+            Entry::Node(_) => 0,
+        }
+    }
+}
+
+/// Returns the numbers of the names of these entries. Fails if memory runs out.
+pub(crate) fn name_numbers(alloc: Global, entries: &[Entry]) -> Result<Vec<usize>, AllocError>
+    ensures { IfOk result (λ numbers. numbers.items ≡ map number_of entries.now) }
+{
+    entries
+        .iter()
+        .map(|entry| entry.name_number())
+        .collect(alloc)
 }
 
 /// Returns the `length` bytes of a file from offset `at`, or as many of them as it has.

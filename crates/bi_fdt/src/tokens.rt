@@ -1,71 +1,59 @@
 //! The tokens of the structure block, one at a time (Devicetree Specification, 5.4.1).
 
-ghost use Rattle.std.specs.Prelude.{IfOk, IfErr};
+ghost use Rattle.std.specs.Prelude.{IfOk, IfErr, OnOk, false};
 ghost use Rattle.bi_base.specs.Errors.{IsFaultOrNoMemory};
 ghost use Rattle.bi_blob.specs.BlobFaults.{IsStructureFault};
 ghost use Rattle.bi_blob.specs.Tokens.{begin_node_number, prop_number};
 ghost use Rattle.bi_fdt.specs.Blocks.{blocks_of, AreBlocks, IsNumberAt};
 ghost use Rattle.bi_fdt.specs.Reading.{IsReading, IsAhead};
 
-use crate::blocks::{Blocks, child_name, name_digest, number_at, property_at};
-use crate::growing::{Ending, Growing};
-use crate::table::Entry;
+use crate::blocks::{Blocks, child_name, name_offset, number_at, property_at};
+use crate::growing::Growing;
 use bi_base::{Cause, Error, refuse, up4};
 use bi_blob::format::{BEGIN_NODE, END_NODE, NOP, PROP};
 use std::alloc::Global;
 
-/// How far reading has come inside the root: the offset of the next token, and the tree so far.
+/// How far reading has come: the offset of the next token, and the tree so far.
 #[derive(Drop)]
 pub(crate) struct Reading<'a> {
     pub(crate) place: usize,
     pub(crate) growing: Growing<'a>,
 }
 
-/// What comes after a token inside the root.
-#[derive(Drop)]
-pub(crate) enum Next<'a> {
-    /// More tokens inside the root.
-    Inside(Reading<'a>),
-    /// The tokens after the root, from this offset on, and the table of the tree.
-    After(usize, Vec<Entry>),
-}
-
-/// Reads the token at `reading.place`. Fails with the fault of the first of its checks that fails,
-/// or runs out of memory.
+/// Reads the token at `reading.place`, inside the root. Returns whether the root has ended. Fails
+/// with the fault of the first of its checks that fails, or if memory runs out.
 pub(crate) fn step<'a>(
     alloc: Global,
     blocks: Blocks<'a, '_>,
     depth_limit: usize,
-    reading: Reading<'a>,
-) -> Result<Next<'a>, Error>
+    reading: &mut Reading<'a>,
+) -> Result<bool, Error>
     requires blocks { AreBlocks blocks }
-    requires reading { IsReading (blocks_of blocks) depth_limit reading }
-    ensures ok { IfOk result (IsAhead (blocks_of blocks.entry) depth_limit reading.entry.place) }
+    requires reading { IsReading (blocks_of blocks) depth_limit reading.old }
+    ensures ok { IfOk result (λ has_ended.
+        IsAhead (blocks_of blocks.entry) depth_limit reading.old.place has_ended reading.new) }
     ensures failed { IfErr result (IsFaultOrNoMemory
         (IsStructureFault (blocks_of blocks.entry) depth_limit)) }
 {
     let number = number_at(blocks, reading.place)?;
     if number == BEGIN_NODE {
-        return begin_node(alloc, blocks, depth_limit, reading);
+        begin_node(alloc, blocks, depth_limit, reading)?;
+        return Ok(false);
     }
     if number == PROP {
-        return add_property(blocks, depth_limit, reading);
+        add_property(blocks, depth_limit, reading)?;
+        return Ok(false);
     }
-    let Reading { place, growing } = reading;
     if number == NOP {
-        let place = place + 4;
-        return Ok(Next::Inside(Reading { place, growing }));
+        reading.place += 4;
+        return Ok(false);
     }
     if number != END_NODE {
-        return refuse(Cause::BadToken, place as u32).map_err(Error::from);
+        return refuse(Cause::BadToken, reading.place as u32).map_err(Error::from);
     }
-    Ok(match growing.end_node() {
-        Ending::Inside(growing) => Next::Inside(Reading {
-            place: place + 4,
-            growing,
-        }),
-        Ending::Root(entries) => Next::After(place + 4, entries),
-    })
+    let has_ended = reading.growing.end_node();
+    reading.place += 4;
+    Ok(has_ended)
 }
 
 /// Reads the token FDT_BEGIN_NODE at `reading.place`, with the same errors.
@@ -73,46 +61,44 @@ fn begin_node<'a>(
     alloc: Global,
     blocks: Blocks<'a, '_>,
     depth_limit: usize,
-    reading: Reading<'a>,
-) -> Result<Next<'a>, Error>
+    reading: &mut Reading<'a>,
+) -> Result<(), Error>
     requires blocks { AreBlocks blocks }
-    requires reading { IsReading (blocks_of blocks) depth_limit reading }
-    requires number { IsNumberAt (blocks_of blocks) reading.place begin_node_number }
-    ensures ok { IfOk result (IsAhead (blocks_of blocks.entry) depth_limit reading.entry.place) }
+    requires reading { IsReading (blocks_of blocks) depth_limit reading.old }
+    requires number { IsNumberAt (blocks_of blocks) reading.old.place begin_node_number }
+    ensures ok { OnOk result
+        (IsAhead (blocks_of blocks.entry) depth_limit reading.old.place false reading.new) }
     ensures failed { IfErr result (IsFaultOrNoMemory
         (IsStructureFault (blocks_of blocks.entry) depth_limit)) }
 {
-    let Reading { place, growing } = reading;
-    let name = child_name(blocks, place, growing.depth(), depth_limit)?;
-    let growing = growing.begin_node(alloc, name, place as u32)?;
+    let name = child_name(blocks, reading.place, reading.growing.depth(), depth_limit)?;
+    reading
+        .growing
+        .begin_node(alloc, name, reading.place as u32)?;
     // Besides the name, the token has its number of four bytes and a zero byte.
-    Ok(Next::Inside(Reading {
-        place: place + up4(name.len() + 5),
-        growing,
-    }))
+    reading.place += up4(name.len() + 5);
+    Ok(())
 }
 
 /// Reads the token FDT_PROP at `reading.place`, with the same errors.
 fn add_property<'a>(
     blocks: Blocks<'a, '_>,
     depth_limit: usize,
-    reading: Reading<'a>,
-) -> Result<Next<'a>, Error>
+    reading: &mut Reading<'a>,
+) -> Result<(), Error>
     requires blocks { AreBlocks blocks }
-    requires reading { IsReading (blocks_of blocks) depth_limit reading }
-    requires number { IsNumberAt (blocks_of blocks) reading.place prop_number }
-    ensures added { IfOk result (IsAhead (blocks_of blocks.entry) depth_limit reading.entry.place) }
+    requires reading { IsReading (blocks_of blocks) depth_limit reading.old }
+    requires number { IsNumberAt (blocks_of blocks) reading.old.place prop_number }
+    ensures ok { OnOk result
+        (IsAhead (blocks_of blocks.entry) depth_limit reading.old.place false reading.new) }
     ensures failed { IfErr result (IsFaultOrNoMemory
         (IsStructureFault (blocks_of blocks.entry) depth_limit)) }
 {
-    let Reading { place, growing } = reading;
-    let property = property_at(blocks, place, growing.is_childless())?;
+    let property = property_at(blocks, reading.place, reading.growing.is_childless())?;
+    let at = name_offset(blocks, reading.place);
     let name = property.name_in(blocks.file);
-    let digest = name_digest(blocks, place, name);
+    reading.growing.add_property(property, at, name)?;
     // Besides the value, the token has its number and two cells.
-    let width = up4(property.value_length as usize + 12);
-    Ok(Next::Inside(Reading {
-        place: place + width,
-        growing: growing.add_property(property, name, digest)?,
-    }))
+    reading.place += up4(property.value_length as usize + 12);
+    Ok(())
 }

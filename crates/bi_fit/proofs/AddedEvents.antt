@@ -1,15 +1,17 @@
-use Rattle.std.proofs.Common.{◌≡◌, ℕ, List, [], ◌∷◌, ◌++◌, fold, sym, ap, subst, ◌∙◌, append_assoc, append-nil, Option, IfSome}
+use Rattle.std.proofs.Common.{◌≡◌, ℕ, List, [], ◌∷◌, ◌++◌, fold, sym, ap, subst, ◌∙◌, append_assoc, append-nil, Option, None, Some, IfSome}
 use Rattle.std.proofs.lemmas.List.Sums.{fold-append}
 use Rattle.bi_blob.specs.Tree.{PropertyMap}
 use Rattle.bi_blob.specs.Events.{Event, NodeEnd}
 use Rattle.bi_blob.specs.Stages.{Stage, BeforeRoot, next_stage}
 use Rattle.bi_blob.specs.Following.{AllFollow, MayFollowInText, stage_of_events, MayEnd}
 use Rattle.bi_lay.specs.Contents.{Doc, with_event}
-use Rattle.bi_fit.specs.declared.document.ranked_node.RankedNode.{RankedNode}
-use Rattle.bi_fit.specs.RankedNodes.{HasRanks}
+use Rattle.bi_fdt.specs.Views.{table_of_node}
+use Rattle.bi_fdt.specs.declared.node.NodeRef.{NodeRef}
+use Rattle.bi_fit.specs.declared.name_order.NameOrder.{NameOrder}
+use Rattle.bi_fit.specs.NameOrders.{IsNameOrder, HasOrder}
 use Rattle.bi_fit.specs.NormalNodes.{with_events, MayAdd, begin_events}
 
--- Events that are added to a document in turn are added together, may be added in two parts, and keep its names and their ranks.
+-- Events that are added to a document in turn are added together, may be added in two parts, and keep its names and an order by these.
 
 -- None change it.
 pub with_events-none : (document : Doc) → with_events document [] ≡ document
@@ -24,18 +26,33 @@ with_events-append document events later = ap (λ l. record document { events = 
 pub same_names : (document more : Doc) (events : List Event) → more ≡ with_events document events → more.names ≡ document.names
 same_names document more events is = ap (λ document. document.names) is
 
--- so that ranks by these stay ranks by these.
-pub still_ranked : (ranked : RankedNode) (document more : Doc) (events : List Event) → more ≡ with_events document events →
-    HasRanks document.names ranked → HasRanks more.names ranked
-still_ranked ranked document more events is has = subst (λ names. HasRanks names ranked) (sym (same_names document more events is)) has
+-- so that an order by these stays one by these.
+pub still_ordered : (order : NameOrder) (node : NodeRef) (document more : Doc) (events : List Event) → more ≡ with_events document events →
+    HasOrder document.names order node → HasOrder more.names order node
+still_ordered order node document more events is has = subst (λ names. HasOrder names order node) (sym (same_names document more events is)) has
 
--- The next node has ranks if there is one.
-abbrev pub HasNextRanks : List (List ℕ) → Option RankedNode → Type 0
-HasNextRanks names next = IfSome next (HasRanks names)
+-- The order is of the next node, if there is one.
+abbrev pub HasNextOrder : List (List ℕ) → NameOrder → Option NodeRef → Type 0
+HasNextOrder names order next = IfSome next (HasOrder names order)
 
-pub still_ranked_next : (next : Option RankedNode) (document more : Doc) (events : List Event) → more ≡ with_events document events →
-    HasNextRanks document.names next → HasNextRanks more.names next
-still_ranked_next next document more events is has = subst (λ names. HasNextRanks names next) (sym (same_names document more events is)) has
+-- The next node is of the same table, if there is one.
+abbrev pub HasNextTable : NodeRef → Option NodeRef → Type 0
+HasNextTable node next = IfSome next (λ other. table_of_node other ≡ table_of_node node)
+
+-- An order of a node is one of a node of the same table,
+pub ordered_next : (names : List (List ℕ)) (order : NameOrder) (node : NodeRef) (next : Option NodeRef) → HasNextTable node next →
+    HasOrder names order node → HasNextOrder names order next
+ordered_next names order node None same has = tt
+ordered_next names order node (Some other) same has = record {
+  same_names = has.same_names;
+  is_order = subst (λ table. IsNameOrder table order) (sym same) has.is_order;
+}
+
+-- also once events were added.
+pub still_ordered_next : (order : NameOrder) (node : NodeRef) (next : Option NodeRef) (document more : Doc) (events : List Event) →
+    more ≡ with_events document events → HasNextTable node next → HasOrder document.names order node → HasNextOrder more.names order next
+still_ordered_next order node next document more events is same has =
+    ordered_next more.names order node next same (still_ordered order node document more events is has)
 
 -- Of events that may follow one another, the first of them may,
 follow-front : (stage : Stage) (events later : List Event) → AllFollow MayFollowInText stage (events ++ later) →

@@ -13,12 +13,12 @@ use Rattle.bi_blob.proofs.Texts.NormalOrder.{has_one_order}
 use Rattle.bi_blob.proofs.Texts.NormalEvents.{normal_events_have_one_tree}
 use Rattle.bi_hash.specs.declared.algo.Algo.TheVariants.{Sha256}
 use Rattle.bi_hash.specs.Digests.{digest_of}
-use Rattle.bi_lay.specs.Contents.{Doc, empty_content, with_event}
+use Rattle.bi_lay.specs.Contents.{Doc, empty_with_names, with_event, HaveSameContent}
 use Rattle.bi_fit.specs.declared.form.Form.{Form}
 use Rattle.bi_fit.specs.declared.form.Form.TheVariants.{Embedded, External}
-use Rattle.bi_fit.specs.NormalNodes.{MayAdd, with_events, begin_events, next_end}
-use Rattle.bi_fit.specs.PropertyMapModels.{PropertyMapModel, without_numbers, HaveNumbers}
-use Rattle.bi_fit.specs.Building.{HeadModel, ImageSpecModel, CanBeBuilt, built_tree, cell_property, built_image_properties, built_root_properties}
+use Rattle.bi_fit.specs.NormalNodes.{MayAdd, with_events, begin_events, next_end, leaf}
+use Rattle.bi_fit.specs.PropertyMapModels.{PropertyMapModel, among}
+use Rattle.bi_fit.specs.Building.{HeadModel, ImageSpecModel, CanBeBuilt, built_tree, cell_property, built_image_properties, built_root_properties, sha256_properties, hash_node_name}
 use Rattle.bi_fit.specs.Documents.{document_of}
 use Rattle.bi_fit.specs.ImageTree.{with_image_nodes, without_payload}
 use Rattle.bi_fit.specs.Names.{is_payload_name}
@@ -32,6 +32,7 @@ use Rattle.bi_fit.proofs.Texts.{depth-normal_tree}
 use Rattle.std.proofs.lemmas.List.{at_drop_more}
 use Rattle.bi_base.proofs.ListMembers.{each-append}
 use Rattle.bi_fit.specs.declared.building.NamedImage.{NamedImage}
+use Rattle.bi_fit.specs.BuiltNames.{built_names}
 use Rattle.bi_fit.specs.NamedImages.{named_model, named_models}
 use Rattle.bi_fit.specs.BuiltNodes.{built_payloads, hash_node_with, built_image_nodes, built_images_node, built_configurations_node}
 
@@ -53,10 +54,10 @@ built_image_node form begin head image =
     node image.name (entries (placed_properties form begin head image))
     (built_hash_node image.payload) none
 
--- No name of the properties of a node to be built has a number.
-pub have_no_numbers : (names : List (List ℕ)) (properties : PropertyMapModel) (own : PropertyMap) → properties ≡ without_numbers own →
-    HaveNumbers names properties
-have_no_numbers names properties own is = subst (HaveNumbers names) (sym is) tt
+-- The names of the properties of a node to be built are those of the document.
+pub same_names : (names : List (List ℕ)) (properties : PropertyMapModel) (own : PropertyMap) → names ≡ built_names → properties ≡ among built_names own →
+    names ≡ properties.names
+same_names names properties own are is = are ∙ sym (ap (λ m. m.names) is)
 
 -- The properties of an image node to be built give no payload.
 pub properties_apart : (head : HeadModel) (image : ImageSpecModel) →
@@ -80,12 +81,14 @@ properties_placed form begin head image made set is_made is_set =
 
 -- An image node of a specification that is added is that of the text.
 pub same_built_image : (one form : Form) (begin : ℕ) (head : HeadModel) (image : ImageSpecModel)
-    (made : PropertyMapModel) (digest : List ℕ) →
-    one ≡ form → made ≡ without_numbers (from_entries (built_image_properties head image)) → digest ≡ digest_of Sha256 image.payload →
-    node image.name (entries (with_payload one begin (Some image.payload) (without_payload made.by_name))) (hash_node_with digest) none
+    (made hash : PropertyMapModel) (digest : List ℕ) →
+    one ≡ form → made ≡ among built_names (from_entries (built_image_properties head image)) →
+    hash ≡ among built_names (from_entries (sha256_properties digest)) → digest ≡ digest_of Sha256 image.payload →
+    node image.name (entries (with_payload one begin (Some image.payload) (without_payload made.by_name))) (leaf hash_node_name hash.by_name) none
     ≡ built_image_node form begin head image
-same_built_image one form begin head image made digest same_form is_made is_digest =
-    ap (λ one. node image.name (entries (with_payload one begin (Some image.payload) (without_payload made.by_name))) (hash_node_with digest) none) same_form
+same_built_image one form begin head image made hash digest same_form is_made is_hash is_digest =
+    ap (λ (hash : PropertyMapModel). node image.name (entries (with_payload one begin (Some image.payload) (without_payload made.by_name))) (leaf hash_node_name hash.by_name) none) is_hash
+    ∙ ap (λ one. node image.name (entries (with_payload one begin (Some image.payload) (without_payload made.by_name))) (hash_node_with digest) none) same_form
     ∙ ap (λ own. node image.name (entries own) (hash_node_with digest) none)
     (properties_placed form begin head image made.by_name (with_payload form begin (Some image.payload) (without_payload made.by_name)) (ap (λ properties. properties.by_name) is_made) refl)
     ∙ ap (λ digest. node image.name (entries (placed_properties form begin head image)) (hash_node_with digest) none) is_digest
@@ -133,7 +136,7 @@ module _ (form : Form) (head : HeadModel) (images : List ImageSpecModel) where
   root_children = events (normal_tree form (built_tree head images)).children
 
   -- Both children of the root, added in turn, are its children.
-  module _ (started : Doc) (is_started : started ≡ empty_content 0) (can : CanBeBuilt head images) where
+  module _ (started : Doc) (is_started : started ≡ empty_with_names 0 built_names) (can : CanBeBuilt head images) where
     may_all : MayAdd started (whole started root_begin root_children)
     may_all = subst (λ document. MayAdd document (events_of (normal_tree form (built_tree head images)))) (sym is_started) (built_closed can).follow
 
@@ -166,12 +169,14 @@ module _ (form : Form) (head : HeadModel) (images : List ImageSpecModel) where
           may_end_root = may_end started root_begin root_children begun filled is_begun all_children may_all
 
           -- and the document is that of the tree.
-          pub is_document : (ended : Doc) → ended ≡ with_event filled NodeEnd → ended ≡ document_of form (built_tree head images)
+          pub is_document : (ended : Doc) → ended ≡ with_event filled NodeEnd → HaveSameContent ended (document_of form (built_tree head images))
           is_document ended is_ended =
+              let is : ended ≡ with_events (empty_with_names 0 built_names) (whole started root_begin root_children) =
               is_ended ∙ whole_added started root_begin root_children begun filled is_begun all_children
-              ∙ ap (λ document. with_events document (whole started root_begin root_children)) is_started
+              ∙ ap (λ document. with_events document (whole started root_begin root_children)) is_started in
+              (ap (λ document. document.boot_cpu) is, ap (λ document. document.reservations) is, ap (λ document. document.events) is)
 
           -- Its root has ended.
           pub is_closed : (ended : Doc) → ended ≡ with_event filled NodeEnd → stage_of_events ended.events ≡ AfterRoot
           is_closed ended is_ended =
-              subst (λ (document : Doc). stage_of_events document.events ≡ AfterRoot) (sym (is_document ended is_ended)) (built_closed can).closed
+              subst (λ events. stage_of_events events ≡ AfterRoot) (sym (is_document ended is_ended).2) (built_closed can).closed

@@ -35,7 +35,8 @@ pub mod AddedEvents
 pub mod PropertyMaps
 pub mod DistinctNumbers
 pub mod MovedPairs
-pub mod Rankings
+pub mod RankedProperties
+pub mod KeyedEntries
 pub mod AddedProperties
 pub mod NodeEvents
 pub mod PayloadEnds
@@ -63,4 +64,5 @@ pub mod ListedNames
 pub mod PassedResults
 pub mod BuiltPayloads
 pub mod BuiltProperties
+pub mod BuiltNames
 pub mod BuiltDocuments

@@ -37,11 +37,6 @@ after_of : (form : Form) (tree : ImageTree) → payloads_after form tree.payload
 after_of Embedded tree = refl
 after_of External tree = refl
 
--- A document that is another has the same content as it.
-pub same_content : (one other : Doc) → one ≡ other → HaveSameContent one other
-same_content one other is =
-    (ap (λ document. document.boot_cpu) is, ap (λ document. document.reservations) is, ap (λ document. document.events) is)
-
 -- Documents with the same content have the same text.
 same_text : (one other : Doc) → HaveSameContent one other → text_of one ≡ text_of other
 same_text one other same =

@@ -1,21 +1,21 @@
-use Rattle.std.specs.Prelude.{ℕ, ◌≤◌, ⊤, List, [], Option, option_map}
+use Rattle.std.specs.Prelude.{◌≡◌, ℕ, ◌≤◌, List, [], Option, option_map}
 use Rattle.std.specs.FinMap.{entries}
 use Rattle.bi_base.specs.Cells.{up4}
 use Rattle.bi_blob.specs.Tree.{Nodes, none, node, Property, PropertyMap, EachOwn}
 use Rattle.bi_blob.specs.Events.{events}
 use Rattle.bi_blob.specs.Layout.{longest_text}
+use Rattle.bi_fdt.specs.Views.{node_of}
 use Rattle.bi_lay.specs.Contents.{Doc}
 use Rattle.bi_fit.specs.declared.document.image_node.ImageChildren.{ImageChildren}
 use Rattle.bi_fit.specs.declared.document.image_node.ImageChildren.TheVariants.{OfNode, Hash}
 use Rattle.bi_fit.specs.declared.document.image_node.ImageNode.{ImageNode}
 use Rattle.bi_fit.specs.declared.form.Form.{Form}
 use Rattle.bi_fit.specs.declared.payload_area.PayloadArea.{PayloadArea}
-use Rattle.bi_fit.specs.BuiltNodes.{hash_node_with}
 use Rattle.bi_fit.specs.ImageTree.{without_payload}
 use Rattle.bi_fit.specs.NormalNodes.{MayAdd, HasDistinctNames, HasCellSize, nodes_by_name}
-use Rattle.bi_fit.specs.NormalNodes.{sorted_image_children}
-use Rattle.bi_fit.specs.PropertyMapModels.{HaveNumbers}
-use Rattle.bi_fit.specs.RankedNodes.{sibling_of, HasRanks}
+use Rattle.bi_fit.specs.NormalNodes.{sorted_image_children, leaf}
+use Rattle.bi_fit.specs.Building.{hash_node_name}
+use Rattle.bi_fit.specs.NameOrders.{HasOrder}
 use Rattle.bi_fit.specs.TakenDigests.{HaveDigests, after_digests}
 use Rattle.bi_fit.specs.Text.{with_payload}
 
@@ -28,25 +28,25 @@ added_payload image = option_map (λ payload. payload.now) image.payload
 -- The children that are added, with the properties of each in byte order.
 abbrev pub added_children : ImageChildren → Nodes (List Property)
 added_children (OfNode parent) =
-    sorted_image_children parent.hashed parent.digests.now (sibling_of parent.node).children
-added_children (Hash digest) = hash_node_with digest.now
+    sorted_image_children parent.hashed parent.digests.now (node_of parent.node).children
+added_children (Hash properties) = leaf hash_node_name properties.now.by_name
 
--- The digests that are left after those of the hash nodes of a file. None are left where the
--- SHA-256 is given.
+-- The digests that are left after those of the hash nodes of a file. None are left where the hash
+-- node is given.
 abbrev pub digests_left : ImageChildren → List ℕ
 digests_left (OfNode parent) =
-    after_digests parent.hashed parent.digests.now (nodes_by_name (sibling_of parent.node).children)
-digests_left (Hash digest) = []
+    after_digests parent.hashed parent.digests.now (nodes_by_name (node_of parent.node).children)
+digests_left (Hash properties) = []
 
--- The children may be added to a document with these names: the ranks of the nodes of a file are
--- those of the names, there are digests for the hash nodes, and no node has two properties of one
--- name.
+-- The children may be added to a document with these names: the order of a file, or the properties
+-- of the hash node, are by these names, there are digests for the hash nodes of the file, and none
+-- of its nodes has two properties of one name.
 abbrev pub AreAddable : List (List ℕ) → ImageChildren → Type 0
 AreAddable names (OfNode parent) =
-    HasRanks names parent.node
-    × HaveDigests parent.hashed parent.digests.now (nodes_by_name (sibling_of parent.node).children)
-    × EachOwn HasDistinctNames (sibling_of parent.node).children
-AreAddable names (Hash digest) = ⊤
+    HasOrder names parent.order.now parent.node
+    × HaveDigests parent.hashed parent.digests.now (nodes_by_name (node_of parent.node).children)
+    × EachOwn HasDistinctNames (node_of parent.node).children
+AreAddable names (Hash properties) = names ≡ properties.now.names
 
 -- The properties that are added, with those that give the payload. `begin` is the offset of an
 -- external payload from the end of the blob.
@@ -62,7 +62,7 @@ added_image form begin image =
 
 -- An image node may be added to a document, with its payload after those of the area.
 pub record IsAddable (document : Doc) (area : PayloadArea) (image : ImageNode) : Type 0 where
-  pub numbers : HaveNumbers document.names image.properties
+  pub names : document.names ≡ image.properties.names
   pub small : area.end ≤ longest_text
   pub sized : HasCellSize area.form (added_payload image)
   pub children : AreAddable document.names image.children

@@ -24,14 +24,15 @@ pub mod TakenDigests
 pub mod NormalNodes
 pub mod ComparedNodes
 pub mod LongNames
+pub mod BuiltNames
 pub mod BuiltNodes
 pub mod FitTexts
 pub mod PropertyMapModels
 pub mod PropertyMaps
-pub mod RankedNodes
+pub mod ChangedNames
+pub mod NameOrders
 pub mod TextNodes
 pub mod AddedImages
-pub mod EntryOrder
 pub mod Laws
 pub mod KnownFiles
 pub mod KnownFaults

@@ -1,37 +1,52 @@
-use Rattle.std.specs.Prelude.{ℕ, List, map, T}
-use Rattle.std.specs.Ordering.{nat_cmp}
+use Rattle.std.specs.Prelude.{◌≡◌, ℕ, ◌<◌, nat_le, suc, List, [], ◌∷◌, map, length, T}
+use Rattle.std.specs.Prelude.{◌==◌, Bool, false, Option, None, Some, if◌then◌else◌}
 use Rattle.std.specs.Cmp.Lexicographic.{slice_cmp}
-use Rattle.std.specs.List.{flat_map}
-use Rattle.std.specs.Option.{option_to_list}
 use Rattle.std.specs.FinMap.{from_sorted, is_sorted}
-use Rattle.bi_lay.specs.Values.{value_bytes}
+use Rattle.std.specs.List.{AllByRecursion}
+use Rattle.std.specs.List.Sorted.{IsStrictlySortedBy}
+use Rattle.std.specs.Ordering.{nat_cmp}
 use Rattle.bi_blob.specs.Tree.{Property}
-use Rattle.bi_fit.specs.declared.document.property_map.MapEntry.{MapEntry}
+use Rattle.bi_fdt.specs.Order.{KeyedProperty}
+use Rattle.bi_lay.specs.Contents.{name_numbered}
+use Rattle.bi_lay.specs.declared.items.Value.{Value}
+use Rattle.bi_lay.specs.Values.{value_bytes}
 use Rattle.bi_fit.specs.declared.document.property_map.PropertyMap.TheInside.{Inside as Fields}
 use Rattle.bi_fit.specs.PropertyMapModels.{PropertyMapModel}
 
 -- What the map of a node's properties holds, and what is true of it.
 
--- The bytes of the names and values of these entries.
-abbrev pub properties_in : List MapEntry → List Property
-properties_in entries = map (λ entry. (entry.name.now, value_bytes entry.value)) entries
+-- The names and values of properties, each of which is given by the rank of its name.
+abbrev pub named : List (List ℕ) → List (ℕ × Value) → List Property
+named names entries = map (λ entry. (name_numbered names entry.0, value_bytes entry.1)) entries
 
--- The number of the name of an entry, if it has one, with the name.
-abbrev pub number_in : MapEntry → List (List ℕ × ℕ)
-number_in entry = map (λ number. (entry.name.now, number)) (option_to_list entry.number)
+-- The ranks are those of names.
+abbrev pub AreRanksWithin : List (List ℕ) → List (ℕ × Value) → Type 0
+AreRanksWithin names entries = AllByRecursion (λ entry. entry.0 < length names) entries
 
--- The numbers of the names of these entries, each with its name.
-abbrev pub numbers_in : List MapEntry → List (List ℕ × ℕ)
-numbers_in entries = flat_map number_in entries
+-- The entry has the rank and the value of this property, whose key is the rank.
+abbrev pub IsEntryOf : KeyedProperty → ℕ × Value → Type 0
+IsEntryOf keyed entry = (keyed.0 ≡ entry.0) × (keyed.1.value ≡ value_bytes entry.1)
 
 -- What the fields show.
 abbrev pub property_map_model : Fields → PropertyMapModel
 property_map_model properties = record {
-  by_name = from_sorted (properties_in properties.entries.items);
-  numbers = numbers_in properties.entries.items;
+  names = properties.names.now;
+  by_name = from_sorted (named properties.names.now properties.entries.items);
 }
 
--- What is true of the fields: the names are in byte order.
-abbrev pub IsConsistentMap : Fields → Type 0
-IsConsistentMap properties =
-    T (is_sorted (slice_cmp nat_cmp) (properties_in properties.entries.items))
+-- What is true of the fields: the names are in byte order, and the ranks ascend.
+pub record IsConsistentMap (properties : Fields) : Type 0 where
+  pub in_order : IsStrictlySortedBy (slice_cmp nat_cmp) properties.names.now
+  pub within : AreRanksWithin properties.names.now properties.entries.items
+  pub ascending : T (is_sorted nat_cmp properties.entries.items)
+
+-- The index of the first entry whose rank is not less, or the number of the entries.
+abbrev pub index_of_rank : List (ℕ × Value) → (rank : ℕ) → ℕ
+index_of_rank [] rank = 0
+index_of_rank (entry ∷ entries) rank =
+    if nat_le rank entry.0 then 0 else suc (index_of_rank entries rank)
+
+-- There is an entry, and it has this rank.
+abbrev pub is_entry_ranked : Option (ℕ × Value) → (rank : ℕ) → Bool
+is_entry_ranked None rank = false
+is_entry_ranked (Some entry) rank = entry.0 == rank

@@ -10,6 +10,7 @@ ghost use Rattle.bi_fit.specs.NamedImages.{head_model, named_models, tree_of_nam
 mod digests;
 mod document;
 mod lists;
+mod names;
 mod payloads;
 mod properties;
 

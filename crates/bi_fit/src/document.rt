@@ -19,29 +19,26 @@ ghost use Rattle.bi_fit.specs.Text.{fit_text};
 mod hash_nodes;
 mod image_node;
 mod image_nodes;
-mod name_ranks;
 mod nodes;
 mod property_map;
-mod ranked_node;
 mod text_parts;
 mod tree;
 
 use crate::changes::Changes;
 pub(crate) use crate::document::image_node::{ImageChildren, ImageNode, add_image_node};
-use crate::document::name_ranks::rank_names_of;
 pub(crate) use crate::document::nodes::{add_leaf, begin_with};
 pub(crate) use crate::document::property_map::PropertyMap;
-use crate::document::ranked_node::RankedNode;
 use crate::document::text_parts::TextParts;
 use crate::document::tree::add_tree;
 use crate::fit::Fit;
 use crate::form::Form;
 use crate::image::Image;
 use crate::memory::only_memory;
+use crate::name_order::NameOrder;
 use crate::payload_area::length_after_blob;
 use crate::text::FitText;
 use bi_base::{Cause, Error, Fault, Limits, refuse};
-use bi_fdt::{Blob, NameRanks};
+use bi_fdt::Blob;
 use bi_lay::Doc;
 use std::alloc::{AllocError, Global};
 
@@ -57,8 +54,7 @@ impl<'a> Fit<'a> {
     ///
     /// Takes n log n steps for n nodes and properties. The different names of properties are put in
     /// byte order once, which takes m log m comparisons for m names; names of 64 bytes or more are
-    /// compared only if they are together no longer than `limits.file()`. The names in the root, in
-    /// image nodes and in hash nodes are also compared with those of the properties that change.
+    /// compared only if they are together no longer than `limits.file()`.
     ///
     /// Errors: TooLarge at `limits.file()`, exactly if the text is longer than that, unless memory
     /// runs out; OutOfMemory, which never comes if the payloads after the blob are longer than that
@@ -146,21 +142,19 @@ impl<'a> Fit<'a> {
         self.give_invariant();
         let blob: &Blob<'b> = self.blob();
         let images: &[Image<'b>] = self.images();
-        let NameRanks { names, ranks } = rank_names_of(alloc, blob, limits.file())?;
+        let order: NameOrder<'b> = self.name_order(alloc, limits.file())?;
+        let names = order.names.to_vec(alloc)?;
         let mut doc: Doc<'b> = Doc::with_names(alloc, blob.boot_cpu(), names)?;
         add_reservations(&mut doc, blob)?;
-        let root = RankedNode {
-            node: blob.root(),
-            ranks: &ranks,
-        };
         let parts = TextParts {
+            order: &order,
             images,
             images_position: self.images_position(),
             form,
             changes,
             digests,
         };
-        add_tree(alloc, &mut doc, root, parts)?;
+        add_tree(alloc, &mut doc, blob.root(), parts)?;
         Ok(doc)
     }
 }

@@ -15,7 +15,6 @@ use super::image_nodes::entries_of;
 use super::limited_sink::LimitedSink;
 use super::lines::{most_open, put_tree};
 use crate::common_lines::put_reservations;
-use crate::order_stub::name_order;
 use crate::payload_bounds::check_payloads;
 use crate::words::{Word, put_lines};
 use bi_base::{Error, Limits, Sink};
@@ -38,7 +37,7 @@ pub(super) fn describe_fit<S: Sink>(
         (IsImageError limits (OfFit (tree_of fit.now))) sink.old sink.new) }
 {
     check_payloads(fit.images(), limits.file())?;
-    let order = name_order(fit, alloc, limits.file())?;
+    let order = fit.name_order(alloc, limits.file())?;
     let entries = entries_of(alloc, fit, &order)?;
     let mut names = vec![in alloc; b"".as_slice(); most_open(&entries)]?;
     let mut measure = LimitedSink::new(limits.file());

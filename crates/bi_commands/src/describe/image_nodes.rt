@@ -5,8 +5,8 @@ ghost use Rattle.bi_blob.specs.Tree.{AreDistinct, EachOwn, names};
 ghost use Rattle.bi_fdt.specs.Views.{node_of, table_of_node};
 ghost use Rattle.bi_fit.specs.NormalNodes.{HasDistinctNames, alone, properties_by_name};
 ghost use Rattle.bi_fit.specs.Content.{IsHeld, tree_of};
+ghost use Rattle.bi_fit.specs.NameOrders.{IsNameOrder};
 ghost use Rattle.bi_commands.specs.ImagePayloads.{bytes_of_payload, bytes_of_payloads};
-ghost use Rattle.bi_commands.specs.OrderStub.{IsNameOrder};
 ghost use Rattle.bi_commands.specs.MadeEntries.{begin_entries, image_entries, images_entries};
 ghost use Rattle.bi_commands.specs.MadeEntries.{root_children_entries};
 ghost use Rattle.bi_commands.specs.TreeEntries.{NodeEnds, tree_entries, as_entry};
@@ -16,9 +16,8 @@ use super::entries::Entry;
 use super::image_payload::ImagePayload;
 use super::nodes::{add_children, add_node, begin_node};
 use super::properties::{add_image_properties, add_properties};
-use crate::order_stub::NameOrder;
 use bi_fdt::NodeRef;
-use bi_fit::Fit;
+use bi_fit::{Fit, NameOrder};
 use std::alloc::{AllocError, Global};
 
 /// Returns the entries of a flattened image tree: those of the properties of the root, and those of

@@ -4,14 +4,14 @@ ghost use Rattle.std.specs.Prelude.{◌≡◌, ◌++◌, map, OnOk};
 ghost use Rattle.bi_blob.specs.Tree.{EachOwn};
 ghost use Rattle.bi_fdt.specs.Views.{node_of, table_of_node};
 ghost use Rattle.bi_fit.specs.NormalNodes.{HasDistinctNames, alone, properties_by_name};
-ghost use Rattle.bi_commands.specs.OrderStub.{IsNameOrder};
+ghost use Rattle.bi_fit.specs.NameOrders.{IsNameOrder};
 ghost use Rattle.bi_commands.specs.MadeEntries.{begin_entries, plain_entries};
 ghost use Rattle.bi_commands.specs.TreeEntries.{as_entry};
 
 use super::entries::Entry;
 use super::properties::add_properties;
-use crate::order_stub::NameOrder;
 use bi_fdt::NodeRef;
+use bi_fit::NameOrder;
 use std::alloc::AllocError;
 
 /// Appends the entries of a node, and of all nodes below it.

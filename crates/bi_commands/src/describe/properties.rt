@@ -4,14 +4,13 @@ ghost use Rattle.std.specs.Prelude.{◌≡◌, ◌++◌, map, OnOk};
 ghost use Rattle.bi_fdt.specs.Views.{node_of, table_of_node};
 ghost use Rattle.bi_fit.specs.NormalNodes.{HasDistinctNames, properties_by_name};
 ghost use Rattle.bi_fit.specs.ImageTree.{without_payload};
-ghost use Rattle.bi_commands.specs.OrderStub.{IsNameOrder};
+ghost use Rattle.bi_fit.specs.NameOrders.{IsNameOrder};
 ghost use Rattle.bi_commands.specs.MadeEntries.{property_entries};
 ghost use Rattle.bi_commands.specs.TreeEntries.{as_entry};
 
 use super::entries::Entry;
-use crate::order_stub::{NameOrder, properties_in};
 use bi_fdt::NodeRef;
-use bi_fit::is_payload_name;
+use bi_fit::{NameOrder, is_payload_name};
 use std::alloc::AllocError;
 
 /// Appends the entries of the properties of a node, in byte order of their names.
@@ -25,7 +24,7 @@ pub(super) fn add_properties<'a>(
     ensures { OnOk result (map as_entry entries.new.items ≡ map as_entry entries.old.items
         ++ property_entries (properties_by_name (node_of node.entry).own)) }
 {
-    for (_, property) in properties_in(node, &order.properties) {
+    for (_, property) in node.properties_in(&order.properties) {
         entries.push(Entry::Property {
             name: property.name,
             value: property.value,
@@ -46,13 +45,14 @@ pub(super) fn add_image_properties<'a>(
     ensures { OnOk result (map as_entry entries.new.items ≡ map as_entry entries.old.items
         ++ property_entries (without_payload (properties_by_name (node_of node.entry).own))) }
 {
-    for (_, property) in properties_in(node, &order.properties) {
-        if !is_payload_name(property.name) {
-            entries.push(Entry::Property {
-                name: property.name,
-                value: property.value,
-            })?;
+    for (_, property) in node.properties_in(&order.properties) {
+        if is_payload_name(property.name) {
+            continue;
         }
+        entries.push(Entry::Property {
+            name: property.name,
+            value: property.value,
+        })?;
     }
     Ok(())
 }

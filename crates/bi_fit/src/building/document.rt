@@ -15,11 +15,13 @@ ghost use Rattle.bi_fit.specs.NamedImages.{head_model, named_models};
 ghost use Rattle.bi_fit.specs.BuiltNodes.{built_image_nodes, built_images_node};
 ghost use Rattle.bi_fit.specs.BuiltNodes.{built_configurations_node, built_payloads};
 ghost use Rattle.bi_fit.specs.BuiltNodes.{ArePrepared};
+ghost use Rattle.bi_fit.specs.BuiltNames.{built_names as built_names_of};
 
 use crate::building::lists::KeyLists;
+use crate::building::names::built_names;
 use crate::building::properties::{
     CONFIGURATION_NAME, configuration_properties, default_properties, image_properties,
-    root_properties,
+    root_properties, sha256_properties,
 };
 use crate::building::{Head, NamedImage};
 use crate::document::{
@@ -28,6 +30,7 @@ use crate::document::{
 use crate::form::Form;
 use crate::memory::only_memory;
 use crate::payload_area::PayloadArea;
+use crate::property_names::PropertyNames;
 use bi_lay::Doc;
 use std::alloc::{AllocError, Global};
 
@@ -56,11 +59,13 @@ pub(super) fn build_doc<'a>(
         (document_of form (built_tree (head_model parts.entry.head) images))) }
     ensures closed { IfOk result (λ doc. stage_of_events doc.events ≡ AfterRoot) }
 {
-    let properties = root_properties(alloc, parts.head)?;
-    let mut doc = only_memory(Doc::new(alloc, 0))?;
+    let names = built_names(alloc)?;
+    let properties = root_properties(alloc, &names, parts.head)?;
+    let by_rank = names.to_vec(alloc)?;
+    let mut doc = only_memory(Doc::with_names(alloc, 0, by_rank))?;
     begin_with(&mut doc, b"", &properties)?;
-    add_built_images(alloc, &mut doc, parts, form)?;
-    add_configurations(alloc, &mut doc, parts)?;
+    add_built_images(alloc, &mut doc, &names, parts, form)?;
+    add_configurations(alloc, &mut doc, &names, parts)?;
     doc.end();
     Ok(doc)
 }
@@ -69,20 +74,23 @@ pub(super) fn build_doc<'a>(
 fn add_built_images<'a>(
     alloc: Global,
     doc: &mut Doc<'a>,
+    names: &PropertyNames<'a>,
     parts: BuiltParts<'a>,
     form: Form,
 ) -> Result<(), AllocError>
     requires prepared { ArePrepared parts }
     requires within { AreWithin form 0 (built_payloads (named_models parts.images.now)) }
+    requires names { names.now ≡ built_names_of }
+    requires doc_names { doc.old.names ≡ built_names_of }
     requires may { let images = named_models parts.images.now in
         MayAdd doc.old (events (built_images_node form (head_model parts.head) images)) }
     ensures added { let images = named_models parts.entry.images.now in
         OnOk result (doc.new ≡ with_events doc.old
         (events (built_images_node form (head_model parts.entry.head) images))) }
 {
-    let properties = PropertyMap::new(alloc);
+    let properties = PropertyMap::new(alloc, names);
     begin_with(doc, b"images", &properties)?;
-    add_built_image_nodes(alloc, doc, parts, form)?;
+    add_built_image_nodes(alloc, doc, names, parts, form)?;
     doc.end();
     Ok(())
 }
@@ -91,11 +99,14 @@ fn add_built_images<'a>(
 fn add_built_image_nodes<'a>(
     alloc: Global,
     doc: &mut Doc<'a>,
+    names: &PropertyNames<'a>,
     parts: BuiltParts<'a>,
     form: Form,
 ) -> Result<(), AllocError>
     requires prepared { ArePrepared parts }
     requires within { AreWithin form 0 (built_payloads (named_models parts.images.now)) }
+    requires names { names.now ≡ built_names_of }
+    requires doc_names { doc.old.names ≡ built_names_of }
     requires may { let images = named_models parts.images.now in
         MayAdd doc.old (events (built_image_nodes form 0 (head_model parts.head) images)) }
     ensures added { let images = named_models parts.entry.images.now in
@@ -104,11 +115,12 @@ fn add_built_image_nodes<'a>(
 {
     let mut area = PayloadArea::new(form);
     for (index, image) in parts.images.iter().enumerate() {
+        let hash = sha256_properties(alloc, names, &parts.digests[index])?;
         let added = ImageNode {
             name: image.name,
-            properties: image_properties(alloc, parts.head, image)?,
+            properties: image_properties(alloc, names, parts.head, image)?,
             payload: Some(image.payload),
-            children: ImageChildren::Hash(&parts.digests[index]),
+            children: ImageChildren::Hash(&hash),
         };
         add_image_node(alloc, doc, &mut area, added)?;
     }
@@ -119,18 +131,21 @@ fn add_built_image_nodes<'a>(
 fn add_configurations<'a>(
     alloc: Global,
     doc: &mut Doc<'a>,
+    names: &PropertyNames<'a>,
     parts: BuiltParts<'a>,
 ) -> Result<(), AllocError>
     requires prepared { ArePrepared parts }
+    requires names { names.now ≡ built_names_of }
+    requires doc_names { doc.old.names ≡ built_names_of }
     requires may { let images = named_models parts.images.now in
         MayAdd doc.old (events (built_configurations_node (head_model parts.head) images)) }
     ensures added { let images = named_models parts.entry.images.now in
         OnOk result (doc.new ≡ with_events doc.old
         (events (built_configurations_node (head_model parts.entry.head) images))) }
 {
-    let properties = default_properties(alloc)?;
+    let properties = default_properties(alloc, names)?;
     begin_with(doc, b"configurations", &properties)?;
-    let properties = configuration_properties(alloc, parts.head, parts.lists)?;
+    let properties = configuration_properties(alloc, names, parts.head, parts.lists)?;
     add_leaf(doc, CONFIGURATION_NAME, &properties)?;
     doc.end();
     Ok(())

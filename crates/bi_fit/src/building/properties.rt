@@ -11,12 +11,18 @@ ghost use Rattle.bi_fit.specs.Building.{configuration_name, text_value};
 ghost use Rattle.bi_fit.specs.Names.{default_name};
 ghost use Rattle.bi_fit.specs.BuiltNodes.{AreKeyLists, with_cell_property};
 ghost use Rattle.bi_fit.specs.NamedImages.{head_model, named_model};
-ghost use Rattle.bi_fit.specs.PropertyMapModels.{without_numbers};
+ghost use Rattle.bi_fit.specs.PropertyMapModels.{among, with_property_value};
+ghost use Rattle.bi_lay.specs.Values.{value_bytes};
+ghost use Rattle.bi_fit.specs.BuiltNames.{built_name, built_names};
+ghost use Rattle.bi_fit.specs.Building.{sha256_properties as sha256_properties_of};
 
 use crate::building::lists::KeyLists;
+use crate::building::names::PropertyName;
 use crate::building::{Head, NamedImage};
 use crate::document::PropertyMap;
 use crate::key::Key;
+use crate::property_names::PropertyNames;
+use bi_hash::Algo;
 use bi_lay::Value;
 use std::alloc::{AllocError, Global};
 
@@ -24,102 +30,144 @@ use std::alloc::{AllocError, Global};
 pub(super) const CONFIGURATION_NAME: &[u8] = b"conf-1";
 
 /// Returns the properties of the root.
-pub(super) fn root_properties<'a>(
+pub(super) fn root_properties<'a, 'b>(
     alloc: Global,
+    names: &'b PropertyNames<'a>,
     head: Head<'a>,
-) -> Result<PropertyMap<'a>, AllocError>
+) -> Result<PropertyMap<'a, 'b>, AllocError>
+    requires { names.now ≡ built_names }
     ensures { IfOk result (λ properties. properties
-        ≡ without_numbers (from_entries (built_root_properties (head_model head.entry)))) }
+        ≡ among built_names (from_entries (built_root_properties (head_model head.entry)))) }
 {
-    let mut properties = PropertyMap::new(alloc);
-    properties.insert(b"timestamp", Value::Cell(head.time))?;
-    properties.insert(b"description", Value::Text(head.description))?;
-    properties.insert(b"#address-cells", Value::Cell(1))?;
+    let mut properties = PropertyMap::new(alloc, names);
+    insert(&mut properties, PropertyName::Timestamp, Value::Cell(head.time))?;
+    insert(&mut properties, PropertyName::Description, Value::Text(head.description))?;
+    insert(&mut properties, PropertyName::AddressCells, Value::Cell(1))?;
     Ok(properties)
 }
 
 /// Returns the properties of an image node, without those that give its payload.
-pub(super) fn image_properties<'a>(
+pub(super) fn image_properties<'a, 'b>(
     alloc: Global,
+    names: &'b PropertyNames<'a>,
     head: Head<'a>,
     image: &NamedImage<'a>,
-) -> Result<PropertyMap<'a>, AllocError>
+) -> Result<PropertyMap<'a, 'b>, AllocError>
+    requires { names.now ≡ built_names }
     ensures { IfOk result (λ properties. properties
-        ≡ without_numbers (from_entries
+        ≡ among built_names (from_entries
         (built_image_properties (head_model head.entry) (named_model image.now)))) }
 {
-    let mut properties = PropertyMap::new(alloc);
-    insert_cell(&mut properties, b"entry", image.entry)?;
-    insert_cell(&mut properties, b"load", image.load)?;
-    properties.insert(b"type", Value::Text(image.key.type_name().as_bytes()))?;
-    properties.insert(b"os", Value::Text(image.os.as_bytes()))?;
-    properties.insert(b"description", Value::Text(head.description))?;
-    properties.insert(b"compression", Value::Text(image.compression.as_bytes()))?;
-    properties.insert(b"arch", Value::Text(image.arch.as_bytes()))?;
+    let mut properties = PropertyMap::new(alloc, names);
+    insert_cell(&mut properties, PropertyName::Entry, image.entry)?;
+    insert_cell(&mut properties, PropertyName::Load, image.load)?;
+    insert(&mut properties, PropertyName::ImageType, Value::Text(image.key.type_name().as_bytes()))?;
+    insert(&mut properties, PropertyName::Os, Value::Text(image.os.as_bytes()))?;
+    insert(&mut properties, PropertyName::Description, Value::Text(head.description))?;
+    insert(&mut properties, PropertyName::Compression, Value::Text(image.compression.as_bytes()))?;
+    insert(&mut properties, PropertyName::Arch, Value::Text(image.arch.as_bytes()))?;
     Ok(properties)
 }
 
 /// Returns the properties of the node of the configuration.
-pub(super) fn default_properties<'a>(alloc: Global) -> Result<PropertyMap<'a>, AllocError>
+pub(super) fn default_properties<'a, 'b>(
+    alloc: Global,
+    names: &'b PropertyNames<'a>,
+) -> Result<PropertyMap<'a, 'b>, AllocError>
+    requires { names.now ≡ built_names }
     ensures { IfOk result (λ properties. properties
-        ≡ without_numbers (from_entries ((default_name, text_value configuration_name) ∷ []))) }
+        ≡ among built_names (from_entries ((default_name, text_value configuration_name) ∷ []))) }
 {
-    let mut properties = PropertyMap::new(alloc);
-    properties.insert(b"default", Value::Text(CONFIGURATION_NAME))?;
+    let mut properties = PropertyMap::new(alloc, names);
+    insert(&mut properties, PropertyName::Default, Value::Text(CONFIGURATION_NAME))?;
     Ok(properties)
 }
 
 /// Returns the properties of the configuration, which has these lists.
-pub(super) fn configuration_properties<'a>(
+pub(super) fn configuration_properties<'a, 'b>(
     alloc: Global,
+    names: &'b PropertyNames<'a>,
     head: Head<'a>,
     lists: &'a KeyLists,
-) -> Result<PropertyMap<'a>, AllocError>
+) -> Result<PropertyMap<'a, 'b>, AllocError>
+    requires { names.now ≡ built_names }
     ensures { (images : List ImageSpecModel) → AreKeyLists images lists.entry.now →
         IfOk result (λ properties. properties
-        ≡ without_numbers (from_entries
+        ≡ among built_names (from_entries
         (built_configuration_properties (head_model head.entry) images))) }
 {
-    let mut properties = PropertyMap::new(alloc);
+    let mut properties = PropertyMap::new(alloc, names);
     insert_list(&mut properties, Key::Script, &lists.script)?;
     insert_list(&mut properties, Key::Loadables, &lists.loadables)?;
     insert_list(&mut properties, Key::Firmware, &lists.firmware)?;
     insert_list(&mut properties, Key::Ramdisk, &lists.ramdisk)?;
     insert_list(&mut properties, Key::Fdt, &lists.fdt)?;
     insert_list(&mut properties, Key::Kernel, &lists.kernel)?;
-    properties.insert(b"description", Value::Text(head.description))?;
+    insert(&mut properties, PropertyName::Description, Value::Text(head.description))?;
     Ok(properties)
+}
+
+/// Returns the properties of a hash node with this SHA-256.
+pub(super) fn sha256_properties<'a, 'b>(
+    alloc: Global,
+    names: &'b PropertyNames<'a>,
+    digest: &'a [u8; 32],
+) -> Result<PropertyMap<'a, 'b>, AllocError>
+    requires { names.now ≡ built_names }
+    ensures { IfOk result (λ properties. properties
+        ≡ among built_names (from_entries (sha256_properties_of digest.entry.now))) }
+{
+    let mut properties = PropertyMap::new(alloc, names);
+    insert(&mut properties, PropertyName::Value, Value::Slice(digest))?;
+    insert(&mut properties, PropertyName::Algo, Value::Text(Algo::Sha256.name().as_bytes()))?;
+    Ok(properties)
+}
+
+/// Adds a property, or gives the property of this name another value.
+fn insert<'a>(
+    properties: &mut PropertyMap<'a, '_>,
+    name: PropertyName,
+    value: Value<'a>,
+) -> Result<(), AllocError>
+    requires { properties.old.names ≡ built_names }
+    ensures { OnOk result (properties.new
+        ≡ with_property_value (built_name name) (value_bytes value.entry) properties.old) }
+{
+    properties.insert(name.rank(), value)
 }
 
 /// Adds a property of one cell, if there is a number.
 fn insert_cell<'a>(
-    properties: &mut PropertyMap<'a>,
-    name: &'a [u8],
+    properties: &mut PropertyMap<'a, '_>,
+    name: PropertyName,
     number: Option<u32>,
 ) -> Result<(), AllocError>
+    requires { properties.old.names ≡ built_names }
     ensures { OnOk result
-        (properties.new ≡ with_cell_property name.entry.now number properties.old) }
+        (properties.new ≡ with_cell_property (built_name name) number properties.old) }
 {
     match number {
-        Some(number) => properties.insert(name, Value::Cell(number)),
+        Some(number) => insert(properties, name, Value::Cell(number)),
         None => Ok(()),
     }
 }
 
 /// Adds the property of a key that lists names, if it lists one at least.
 fn insert_list<'a>(
-    properties: &mut PropertyMap<'a>,
+    properties: &mut PropertyMap<'a, '_>,
     key: Key,
     list: &'a [u8],
 ) -> Result<(), AllocError>
-    ensures { (names : List (List ℕ)) (rest : List Property)
+    requires { properties.old.names ≡ built_names }
+    ensures same_names { OnOk result (properties.new.names ≡ properties.old.names) }
+    ensures inserted { (names : List (List ℕ)) (rest : List Property)
         → list.entry.now ≡ strings_of names
-        → properties.old ≡ without_numbers (from_entries rest) →
+        → properties.old ≡ among built_names (from_entries rest) →
         OnOk result
-        (properties.new ≡ without_numbers (from_entries (list_property key names ++ rest))) }
+        (properties.new ≡ among built_names (from_entries (list_property key names ++ rest))) }
 {
     if list.is_empty() {
         return Ok(());
     }
-    properties.insert(key.name().as_bytes(), Value::Slice(list))
+    insert(properties, PropertyName::of_key(key), Value::Slice(list))
 }

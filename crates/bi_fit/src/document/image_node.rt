@@ -7,11 +7,12 @@ ghost use Rattle.bi_fit.specs.NormalNodes.{MayAdd, with_events, next_end};
 ghost use Rattle.bi_fit.specs.AddedImages.{IsAddable, added_image, added_payload};
 ghost use Rattle.bi_fit.specs.AddedImages.{AreAddable, added_children, digests_left};
 
-use crate::document::hash_nodes::{add_children_with_digests, add_hash_node};
-use crate::document::nodes::begin_with;
+use crate::document::hash_nodes::add_children_with_digests;
+use crate::document::nodes::{add_leaf, begin_with};
 use crate::document::property_map::PropertyMap;
-use crate::document::ranked_node::RankedNode;
+use crate::name_order::NameOrder;
 use crate::payload_area::PayloadArea;
+use bi_fdt::NodeRef;
 use bi_lay::Doc;
 use std::alloc::{AllocError, Global};
 
@@ -21,7 +22,7 @@ pub(crate) struct ImageNode<'a, 'b> {
     /// The name.
     pub(crate) name: &'a [u8],
     /// The properties. Those that give a payload are replaced by those of `payload`.
-    pub(crate) properties: PropertyMap<'a>,
+    pub(crate) properties: PropertyMap<'a, 'b>,
     /// The payload, if there is one.
     pub(crate) payload: Option<&'a [u8]>,
     /// The children.
@@ -33,15 +34,17 @@ pub(crate) struct ImageNode<'a, 'b> {
 pub(crate) enum ImageChildren<'a, 'b> {
     /// Those of a node of a file.
     OfNode(NodeChildren<'a, 'b>),
-    /// One hash node, `hash-1`, with this SHA-256.
-    Hash(&'a [u8; 32]),
+    /// One hash node, `hash-1`, with these properties.
+    Hash(&'b PropertyMap<'a, 'b>),
 }
 
 /// The children of an image node of a file, with the digests for its hash nodes.
 #[derive(Clone, Copy)]
 pub(crate) struct NodeChildren<'a, 'b> {
     /// The image node.
-    pub(crate) node: RankedNode<'a, 'b>,
+    pub(crate) node: NodeRef<'a, 'b>,
+    /// The order of the names of the file's properties.
+    pub(crate) order: &'b NameOrder<'a>,
     /// Whether the hash nodes get the first of the digests.
     pub(crate) hashed: bool,
     /// The digests of this image and of those after it.
@@ -50,7 +53,7 @@ pub(crate) struct NodeChildren<'a, 'b> {
 
 /// Adds an image node, with all nodes below it, as a child of the innermost open node. Its payload
 /// follows those of the area, and the node has the properties that give it. Returns the digests
-/// that are left after those of its hash nodes, which are none if the SHA-256 is given.
+/// that are left after those of its hash nodes, which are none if the hash node is given.
 ///
 /// It fails if memory runs out. It is not specified what the document has then. The area has the
 /// payload.
@@ -100,12 +103,13 @@ fn add_image_children<'a>(
         ImageChildren::OfNode(
             NodeChildren {
                 node,
+                order,
                 hashed,
                 digests,
             },
-        ) => add_children_with_digests(alloc, doc, node, hashed, digests),
-        ImageChildren::Hash(digest) => {
-            add_hash_node(alloc, doc, digest)?;
+        ) => add_children_with_digests(alloc, doc, node, order, hashed, digests),
+        ImageChildren::Hash(properties) => {
+            add_leaf(doc, b"hash-1", properties)?;
             Ok(&[])
         }
     }

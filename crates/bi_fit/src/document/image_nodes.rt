@@ -9,7 +9,8 @@ ghost use Rattle.bi_blob.specs.Tree.{EachOwn};
 ghost use Rattle.bi_blob.specs.Events.{events};
 ghost use Rattle.bi_fit.specs.TakenDigests.{is_hashed as is_hashed_of};
 ghost use Rattle.bi_fit.specs.NormalNodes.{MayAdd, with_events, HasDistinctNames, alone};
-ghost use Rattle.bi_fit.specs.RankedNodes.{sibling_of, HasRanks};
+ghost use Rattle.bi_fdt.specs.Views.{node_of};
+ghost use Rattle.bi_fit.specs.NameOrders.{HasOrder};
 ghost use Rattle.bi_fit.specs.TextNodes.{HasRoom, AreTextImages, text_image_nodes};
 ghost use Rattle.bi_fit.specs.TextNodes.{text_images_node};
 
@@ -17,9 +18,9 @@ use crate::changes::Changes;
 use crate::document::image_node::{ImageChildren, ImageNode, NodeChildren, add_image_node};
 use crate::document::nodes::begin_node;
 use crate::document::property_map::PropertyMap;
-use crate::document::ranked_node::RankedNode;
 use crate::document::text_parts::TextParts;
 use crate::payload_area::PayloadArea;
+use bi_fdt::NodeRef;
 use bi_lay::Doc;
 use std::alloc::{AllocError, Global};
 
@@ -28,18 +29,18 @@ use std::alloc::{AllocError, Global};
 pub(super) fn add_images<'a>(
     alloc: Global,
     doc: &mut Doc<'a>,
-    node: RankedNode<'a, '_>,
+    node: NodeRef<'a, '_>,
     parts: TextParts<'a, '_>,
 ) -> Result<(), AllocError>
-    requires ranks { HasRanks doc.old.names node }
-    requires images { AreTextImages parts (sibling_of node).children }
+    requires order { HasOrder doc.old.names parts.order.now node }
+    requires images { AreTextImages parts (node_of node).children }
     requires room { HasRoom parts }
-    requires distinct { EachOwn HasDistinctNames (alone (sibling_of node)) }
-    requires may { MayAdd doc.old (events (text_images_node parts (sibling_of node))) }
+    requires distinct { EachOwn HasDistinctNames (alone (node_of node)) }
+    requires may { MayAdd doc.old (events (text_images_node parts (node_of node))) }
     ensures added { OnOk result (doc.new ≡ with_events doc.old
-        (events (text_images_node parts.entry (sibling_of node.entry)))) }
+        (events (text_images_node parts.entry (node_of node.entry)))) }
 {
-    begin_node(alloc, doc, node)?;
+    begin_node(alloc, doc, node, parts.order)?;
     add_image_nodes(alloc, doc, node, parts)?;
     doc.end();
     Ok(())
@@ -50,16 +51,16 @@ pub(super) fn add_images<'a>(
 fn add_image_nodes<'a>(
     alloc: Global,
     doc: &mut Doc<'a>,
-    node: RankedNode<'a, '_>,
+    node: NodeRef<'a, '_>,
     parts: TextParts<'a, '_>,
 ) -> Result<(), AllocError>
-    requires ranks { HasRanks doc.old.names node }
-    requires images { AreTextImages parts (sibling_of node).children }
+    requires order { HasOrder doc.old.names parts.order.now node }
+    requires images { AreTextImages parts (node_of node).children }
     requires room { HasRoom parts }
-    requires distinct { EachOwn HasDistinctNames (sibling_of node).children }
-    requires may { MayAdd doc.old (events (text_image_nodes parts (sibling_of node).children)) }
+    requires distinct { EachOwn HasDistinctNames (node_of node).children }
+    requires may { MayAdd doc.old (events (text_image_nodes parts (node_of node).children)) }
     ensures added { OnOk result (doc.new ≡ with_events doc.old
-        (events (text_image_nodes parts.entry (sibling_of node.entry).children))) }
+        (events (text_image_nodes parts.entry (node_of node.entry).children))) }
 {
     let mut next = node.first_child();
     let mut area = PayloadArea::new(parts.form);
@@ -70,12 +71,13 @@ fn add_image_nodes<'a>(
         };
         let children = NodeChildren {
             node: child,
+            order: parts.order,
             hashed: is_hashed(parts.changes, image.payload),
             digests: left,
         };
         let added = ImageNode {
             name: child.name(),
-            properties: PropertyMap::from_node(alloc, child)?,
+            properties: PropertyMap::from_node(alloc, child, parts.order)?,
             payload: image.payload,
             children: ImageChildren::OfNode(children),
         };

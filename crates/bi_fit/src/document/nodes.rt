@@ -8,12 +8,13 @@ ghost use Rattle.bi_blob.specs.Tree.{EachOwn};
 ghost use Rattle.bi_blob.specs.Events.{events};
 ghost use Rattle.bi_fit.specs.NormalNodes.{MayAdd, with_events, HasDistinctNames, alone};
 ghost use Rattle.bi_fit.specs.NormalNodes.{begin_events, properties_by_name, sorted_nodes, leaf};
-ghost use Rattle.bi_fit.specs.PropertyMapModels.{HaveNumbers};
-ghost use Rattle.bi_fit.specs.RankedNodes.{sibling_of, HasRanks};
+ghost use Rattle.bi_fdt.specs.Views.{node_of};
+ghost use Rattle.bi_fit.specs.NameOrders.{HasOrder};
 
 use crate::document::property_map::PropertyMap;
-use crate::document::ranked_node::RankedNode;
 use crate::memory::only_memory;
+use crate::name_order::NameOrder;
+use bi_fdt::NodeRef;
 use bi_lay::Doc;
 use std::alloc::{AllocError, Global};
 
@@ -21,32 +22,33 @@ use std::alloc::{AllocError, Global};
 pub(super) fn begin_node<'a>(
     alloc: Global,
     doc: &mut Doc<'a>,
-    node: RankedNode<'a, '_>,
+    node: NodeRef<'a, '_>,
+    order: &NameOrder<'a>,
 ) -> Result<(), AllocError>
-    requires ranks { HasRanks doc.old.names node }
-    requires distinct { HasDistinctNames (sibling_of node).own }
-    requires may { let properties = properties_by_name (sibling_of node).own in
-        MayAdd doc.old (begin_events (sibling_of node).name properties) }
-    ensures added { let properties = properties_by_name (sibling_of node.entry).own in
+    requires order { HasOrder doc.old.names order.now node }
+    requires distinct { HasDistinctNames (node_of node).own }
+    requires may { let properties = properties_by_name (node_of node).own in
+        MayAdd doc.old (begin_events (node_of node).name properties) }
+    ensures added { let properties = properties_by_name (node_of node.entry).own in
         OnOk result (doc.new ≡ with_events doc.old
-        (begin_events (sibling_of node.entry).name properties)) }
+        (begin_events (node_of node.entry).name properties)) }
 {
-    let properties = PropertyMap::from_node(alloc, node)?;
+    let properties = PropertyMap::from_node(alloc, node, order)?;
     begin_with(doc, node.name(), &properties)
 }
 
 /// Begins a node of this name, as a child of the innermost open node or as the root, and adds these
 /// properties to it, in byte order of their names.
 ///
-/// It may only be called if these events may come next in the document: `Doc::may_begin` is true of
-/// the name, and the name of each property has a byte and no zero. A number in the properties is
-/// that of the name in the document.
+/// It may only be called if the names of the document are those of the properties, and these events
+/// may come next in the document: `Doc::may_begin` is true of the name, and the name of each
+/// property has a byte and no zero.
 pub(crate) fn begin_with<'a>(
     doc: &mut Doc<'a>,
     name: &'a [u8],
-    properties: &PropertyMap<'a>,
+    properties: &PropertyMap<'a, '_>,
 ) -> Result<(), AllocError>
-    requires numbers { HaveNumbers doc.old.names properties.now }
+    requires names { doc.old.names ≡ properties.now.names }
     requires may { MayAdd doc.old (begin_events name.now properties.now.by_name) }
     ensures added { OnOk result (doc.new ≡ with_events doc.old
         (begin_events name.entry.now properties.entry.now.by_name)) }
@@ -60,9 +62,9 @@ pub(crate) fn begin_with<'a>(
 pub(crate) fn add_leaf<'a>(
     doc: &mut Doc<'a>,
     name: &'a [u8],
-    properties: &PropertyMap<'a>,
+    properties: &PropertyMap<'a, '_>,
 ) -> Result<(), AllocError>
-    requires numbers { HaveNumbers doc.old.names properties.now }
+    requires names { doc.old.names ≡ properties.now.names }
     requires may { MayAdd doc.old (events (leaf name.now properties.now.by_name)) }
     ensures added { OnOk result (doc.new ≡ with_events doc.old
         (events (leaf name.entry.now properties.entry.now.by_name))) }
@@ -77,16 +79,17 @@ pub(crate) fn add_leaf<'a>(
 pub(super) fn add_node<'a>(
     alloc: Global,
     doc: &mut Doc<'a>,
-    node: RankedNode<'a, '_>,
+    node: NodeRef<'a, '_>,
+    order: &NameOrder<'a>,
 ) -> Result<(), AllocError>
-    requires ranks { HasRanks doc.old.names node }
-    requires distinct { EachOwn HasDistinctNames (alone (sibling_of node)) }
-    requires may { MayAdd doc.old (events (sorted_nodes (alone (sibling_of node)))) }
+    requires order { HasOrder doc.old.names order.now node }
+    requires distinct { EachOwn HasDistinctNames (alone (node_of node)) }
+    requires may { MayAdd doc.old (events (sorted_nodes (alone (node_of node)))) }
     ensures added { OnOk result (doc.new ≡ with_events doc.old
-        (events (sorted_nodes (alone (sibling_of node.entry))))) }
+        (events (sorted_nodes (alone (node_of node.entry))))) }
 {
-    begin_node(alloc, doc, node)?;
-    add_children(alloc, doc, node)?;
+    begin_node(alloc, doc, node, order)?;
+    add_children(alloc, doc, node, order)?;
     doc.end();
     Ok(())
 }
@@ -96,17 +99,18 @@ pub(super) fn add_node<'a>(
 pub(super) fn add_children<'a>(
     alloc: Global,
     doc: &mut Doc<'a>,
-    node: RankedNode<'a, '_>,
+    node: NodeRef<'a, '_>,
+    order: &NameOrder<'a>,
 ) -> Result<(), AllocError>
-    requires ranks { HasRanks doc.old.names node }
-    requires distinct { EachOwn HasDistinctNames (sibling_of node).children }
-    requires may { MayAdd doc.old (events (sorted_nodes (sibling_of node).children)) }
+    requires order { HasOrder doc.old.names order.now node }
+    requires distinct { EachOwn HasDistinctNames (node_of node).children }
+    requires may { MayAdd doc.old (events (sorted_nodes (node_of node).children)) }
     ensures added { OnOk result (doc.new ≡ with_events doc.old
-        (events (sorted_nodes (sibling_of node.entry).children))) }
+        (events (sorted_nodes (node_of node.entry).children))) }
 {
     let mut next = node.first_child();
     while let Some(child) = next {
-        add_node(alloc, doc, child)?;
+        add_node(alloc, doc, child, order)?;
         next = child.next_sibling();
     }
     Ok(())

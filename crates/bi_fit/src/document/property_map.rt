@@ -1,29 +1,30 @@
 //! The properties of a node, by name.
 
-ghost use Rattle.std.specs.Prelude.{◌≡◌, ◌<◌, ℕ, List, length, map, slice_get, OnOk, IfOk};
+ghost use Rattle.std.specs.Prelude.{◌≡◌, ◌≤◌, ◌+◌, ℕ, List, map, slice_get, OnOk, IfOk};
 ghost use Rattle.std.specs.FinMap.{empty, entries};
+ghost use Rattle.std.specs.List.{AllZip};
 ghost use Rattle.std.specs.Option.{option_map};
 ghost use Rattle.bi_blob.specs.Events.{NodeProperty};
 ghost use Rattle.bi_blob.specs.Following.{stage_of_events, MayHaveNextProperty};
-ghost use Rattle.bi_lay.specs.Contents.{with_event};
+ghost use Rattle.bi_lay.specs.Contents.{with_event, name_numbered};
 ghost use Rattle.bi_lay.specs.Values.{value_bytes};
-ghost use Rattle.bi_fdt.specs.KeyOrder.{IsKeyOrder};
+ghost use Rattle.bi_fdt.specs.Numbers.{IsNumberOf};
+ghost use Rattle.bi_fdt.specs.Views.{node_of, table_of_node};
 ghost use Rattle.bi_fit.specs.ImageTree.{without_payload};
 ghost use Rattle.bi_fit.specs.Text.{with_payload};
 ghost use Rattle.bi_fit.specs.Updating.{with_time};
 ghost use Rattle.bi_fit.specs.TakenDigests.{HasDigest, with_first_digest, after_digest};
 ghost use Rattle.bi_fit.specs.NormalNodes.{MayAdd, with_events, HasDistinctNames, HasCellSize};
 ghost use Rattle.bi_fit.specs.NormalNodes.{properties_by_name};
-ghost use Rattle.bi_fit.specs.PropertyMapModels.{without_numbers, with_property_value, HaveNumbers};
-ghost use Rattle.bi_fit.specs.PropertyMapModels.{AreNumbersIn};
-ghost use Rattle.bi_fit.specs.PropertyMaps.{number_in};
-ghost use Rattle.bi_fit.specs.RankedNodes.{sibling_of, HasRanks};
-ghost use Rattle.bi_fit.specs.EntryOrder.{index_of_name, is_entry_named, IsEntryAt};
+ghost use Rattle.bi_fit.specs.NameOrders.{IsNameOrder};
+ghost use Rattle.bi_fit.specs.PropertyMapModels.{among, with_property_value};
+ghost use Rattle.bi_fit.specs.PropertyMaps.{IsEntryOf, index_of_rank, is_entry_ranked};
 
-use crate::document::ranked_node::RankedNode;
 use crate::form::Form;
 use crate::memory::only_memory;
-use crate::payload_names::is_payload_name;
+use crate::name_order::NameOrder;
+use crate::property_names::PropertyNames;
+use bi_fdt::{NodeRef, OrderedProperties};
 use bi_hash::Algo;
 use bi_lay::{Doc, Value};
 use std::alloc::{AllocError, Global};
@@ -31,21 +32,13 @@ use std::marker::Model;
 
 /// The properties of a node, by name. Names and values are borrowed and not copied.
 #[derive(Drop)]
-pub(crate) struct PropertyMap<'a> {
-    // They are in byte order of their names, which are distinct.
-    entries: Vec<MapEntry<'a>>,
+pub(crate) struct PropertyMap<'a, 'b> {
+    names: &'b PropertyNames<'a>,
+    // The rank of each name among the names, and the value. The ranks ascend.
+    entries: Vec<(usize, Value<'a>)>,
 }
 
-/// A property of a node. The number of its name is its index among the names of the document, if it
-/// is known.
-#[derive(Clone, Copy)]
-struct MapEntry<'a> {
-    name: &'a [u8],
-    number: Option<usize>,
-    value: Value<'a>,
-}
-
-impl<'a> Model for PropertyMap<'a> {
+impl<'a, 'b> Model for PropertyMap<'a, 'b> {
     ghost use Rattle.bi_fit.specs.PropertyMapModels.{PropertyMapModel, model_code};
 
     ghost Value = { PropertyMapModel };
@@ -59,56 +52,58 @@ impl<'a> Model for PropertyMap<'a> {
     ghost invariant = { IsConsistentMap };
 }
 
-impl<'a> PropertyMap<'a> {
-    /// Returns a map without properties. It allocates nothing.
-    pub(crate) fn new(alloc: Global) -> PropertyMap<'a>
-        ensures { result ≡ without_numbers empty }
+impl<'a, 'b> PropertyMap<'a, 'b> {
+    /// Returns a map without properties, which may get properties of these names. It allocates
+    /// nothing.
+    pub(crate) fn new(alloc: Global, names: &'b PropertyNames<'a>) -> PropertyMap<'a, 'b>
+        ensures { result ≡ among names.entry.now empty }
     {
+        // The call gives the proof that the names are in byte order.
+        let _ = names.ranks();
         PropertyMap {
+            names,
             entries: Vec::new(alloc),
         }
     }
 
-    /// Returns the properties of a node, with the ranks of their names as numbers. Compares no
-    /// names.
+    /// Returns the properties of a node of the blob that the order is of. Compares no names. It
+    /// fails if memory runs out.
     pub(super) fn from_node(
         alloc: Global,
-        node: RankedNode<'a, '_>,
-    ) -> Result<PropertyMap<'a>, AllocError>
-        requires ranks { (names : List (List ℕ)) × HasRanks names node }
-        requires distinct { HasDistinctNames (sibling_of node).own }
-        ensures properties { IfOk result (λ properties. properties.by_name
-            ≡ properties_by_name (sibling_of node.entry).own) }
-        ensures numbers { (names : List (List ℕ)) → HasRanks names node.entry →
-            IfOk result (HaveNumbers names) }
+        node: NodeRef<'a, '_>,
+        order: &'b NameOrder<'a>,
+    ) -> Result<PropertyMap<'a, 'b>, AllocError>
+        requires order { IsNameOrder (table_of_node node) order.now }
+        requires distinct { HasDistinctNames (node_of node).own }
+        ensures { IfOk result (λ properties. properties
+            ≡ among order.entry.now.names (properties_by_name (node_of node.entry).own)) }
     {
-        let order = order_by_rank(alloc, node.name_ranks())?;
-        let mut entries = Vec::with_capacity(alloc, order.len())?;
-        for (rank, index) in &order {
-            entries.push(entry_at(node, *rank, *index))?;
-        }
-        Ok(PropertyMap { entries })
+        // The call gives the proof that the names are in byte order.
+        let _ = order.names.ranks();
+        let properties = node.properties_in(&order.properties);
+        let entries = entries_of(alloc, node.property_count(), properties)?;
+        Ok(PropertyMap {
+            names: &order.names,
+            entries,
+        })
     }
 
-    /// Adds a property, or gives the property of this name another value. Compares the name with
-    /// those before it in byte order, and with its own.
+    /// Adds a property, or gives the property of this name another value. The name is given by its
+    /// rank. Compares the rank with those before it.
     ///
     /// It fails if memory runs out. It is not specified which properties the map has then.
-    pub(crate) fn insert(&mut self, name: &'a [u8], value: Value<'a>) -> Result<(), AllocError>
-        ensures { OnOk result
-            (self.new ≡ with_property_value name.entry.now (value_bytes value.entry) self.old) }
+    pub(crate) fn insert(&mut self, rank: usize, value: Value<'a>) -> Result<(), AllocError>
+        requires { (name : List ℕ) × IsNumberOf self.old.names name rank }
+        ensures inserted { (name : List ℕ) → IsNumberOf self.old.names name rank → OnOk result
+            (self.new ≡ with_property_value name (value_bytes value.entry) self.old) }
+        ensures same_names { OnOk result (self.new.names ≡ self.old.names) }
     {
-        let index = find_index(&self.entries, name);
-        if has_name_at(&self.entries, index, name) {
-            self.entries[index].value = value;
+        let index = find_index(&self.entries, rank);
+        if has_rank_at(&self.entries, index, rank) {
+            self.entries[index] = (rank, value);
             return Ok(());
         }
-        let entry = MapEntry {
-            name,
-            number: None,
-            value,
-        };
-        self.entries.insert(index, entry)?;
+        self.entries.insert(index, (rank, value))?;
         Ok(())
     }
 
@@ -129,18 +124,18 @@ impl<'a> PropertyMap<'a> {
         ensures set { let given = option_map (λ payload. payload.now) payload.entry in
             OnOk result (self.new.by_name
             ≡ with_payload form begin given (without_payload self.old.by_name)) }
-        ensures numbers { (names : List (List ℕ)) → HaveNumbers names self.old →
-            OnOk result (HaveNumbers names self.new) }
+        ensures same_names { OnOk result (self.new.names ≡ self.old.names) }
     {
         self.remove_payload();
         let Some(payload) = payload else {
             return Ok(());
         };
+        let ranks = self.names.ranks();
         match form {
-            Form::Embedded => self.insert(b"data", Value::Slice(payload)),
+            Form::Embedded => self.insert(ranks.payload, Value::Slice(payload)),
             Form::External => {
-                self.insert(b"data-offset", Value::Cell(begin))?;
-                self.insert(b"data-size", Value::Cell(payload.len() as u32))
+                self.insert(ranks.offset, Value::Cell(begin))?;
+                self.insert(ranks.size, Value::Cell(payload.len() as u32))
             }
         }
     }
@@ -151,10 +146,11 @@ impl<'a> PropertyMap<'a> {
     /// It fails if memory runs out. It is not specified which properties the map has then.
     pub(super) fn set_time(&mut self, time: Option<u32>) -> Result<(), AllocError>
         ensures set { OnOk result (self.new.by_name ≡ with_time time self.old.by_name) }
-        ensures same_numbers { OnOk result (self.new.numbers ≡ self.old.numbers) }
+        ensures same_names { OnOk result (self.new.names ≡ self.old.names) }
     {
         if let Some(time) = time {
-            self.insert(b"timestamp", Value::Cell(time))?;
+            let ranks = self.names.ranks();
+            self.insert(ranks.time, Value::Cell(time))?;
         }
         Ok(())
     }
@@ -171,35 +167,36 @@ impl<'a> PropertyMap<'a> {
         requires { HasDigest algo digests.now }
         ensures set { OnOk result (self.new.by_name
             ≡ with_first_digest algo digests.entry.now self.old.by_name) }
-        ensures same_numbers { OnOk result (self.new.numbers ≡ self.old.numbers) }
+        ensures same_names { OnOk result (self.new.names ≡ self.old.names) }
         ensures left { IfOk result (λ left. left.now ≡ after_digest algo digests.entry.now) }
     {
         let Some(algo) = algo else {
             return Ok(digests);
         };
         let (digest, left) = digests.split_at(algo.digest_size());
-        self.insert(b"value", Value::Slice(digest))?;
+        let ranks = self.names.ranks();
+        self.insert(ranks.digest, Value::Slice(digest))?;
         Ok(left)
     }
 
-    /// Removes the four properties that hold a payload or name its region.
+    /// Removes the four properties that hold a payload or name its region. Compares no names.
     fn remove_payload(&mut self)
-        ensures properties { self.new.by_name ≡ without_payload self.old.by_name }
-        ensures numbers { (names : List (List ℕ)) → HaveNumbers names self.old →
-            HaveNumbers names self.new }
+        ensures { self.new ≡ among self.old.names (without_payload self.old.by_name) }
     {
-        self.entries.retain(|entry| !is_payload_name(entry.name));
+        let ranks = self.names.ranks();
+        self.entries.retain(|entry| !ranks.is_payload(entry.0));
     }
 
     /// Adds the properties to the innermost open node, in byte order of their names.
     ///
-    /// It may only be called if these events may come next in the document: for each property in
-    /// turn, `Doc::may_property` is true of its name after those before it were added.
+    /// It may only be called if the names of the document are those of the map, and these events
+    /// may come next in the document: for each property in turn, `Doc::may_property` is true of its
+    /// name after those before it were added.
     ///
     /// It fails if memory runs out. It is not specified which of the properties the document has
     /// then.
     pub(super) fn add_to(&self, doc: &mut Doc<'a>) -> Result<(), AllocError>
-        requires numbers { HaveNumbers doc.old.names self.now }
+        requires names { doc.old.names ≡ self.now.names }
         requires may { MayAdd doc.old (map NodeProperty (entries self.now.by_name)) }
         ensures added { OnOk result (doc.new ≡ with_events doc.old
             (map NodeProperty (entries self.now.by_name))) }
@@ -211,64 +208,52 @@ impl<'a> PropertyMap<'a> {
     }
 }
 
-/// Adds a property to the innermost open node. It fails if memory runs out.
-fn add_entry<'a>(doc: &mut Doc<'a>, entry: MapEntry<'a>) -> Result<(), AllocError>
-    requires number { AreNumbersIn doc.old.names (number_in entry) }
-    requires may { MayHaveNextProperty entry.name.now (stage_of_events doc.old.events) }
-    ensures added { OnOk result (doc.new ≡ with_event doc.old
-        (NodeProperty (entry.entry.name.now, value_bytes entry.entry.value))) }
+/// Returns these properties, each by the rank that is its key. `count` is their number. It fails if
+/// memory runs out.
+fn entries_of<'a>(
+    alloc: Global,
+    count: usize,
+    properties: OrderedProperties<'a, '_, '_>,
+) -> Result<Vec<(usize, Value<'a>)>, AllocError>
+    ensures { IfOk result (λ entries. AllZip IsEntryOf properties.entry entries.items) }
 {
-    match entry.number {
-        Some(number) => only_memory(doc.property_numbered(number, entry.value)),
-        None => only_memory(doc.property(entry.name, entry.value)),
+    let mut entries = Vec::with_capacity(alloc, count)?;
+    for (rank, property) in properties {
+        entries.push((rank, Value::Slice(property.value)))?;
     }
+    Ok(entries)
 }
 
-/// Returns these ranks in ascending order, each before its index. Fails if memory runs out.
-fn order_by_rank(alloc: Global, ranks: &[usize]) -> Result<Vec<(usize, usize)>, AllocError>
-    ensures { IfOk result (λ order. IsKeyOrder ranks.now order.items) }
+/// Adds a property to the innermost open node. The name is given by its rank. It fails if memory
+/// runs out.
+fn add_entry<'a>(doc: &mut Doc<'a>, entry: (usize, Value<'a>)) -> Result<(), AllocError>
+    requires { let name = name_numbered doc.old.names entry.0 in
+        MayHaveNextProperty name (stage_of_events doc.old.events) }
+    ensures { let name = name_numbered doc.old.names entry.entry.0 in
+        OnOk result (doc.new ≡ with_event doc.old (NodeProperty (name, value_bytes entry.entry.1))) }
 {
-    let mut order = Vec::with_capacity(alloc, ranks.len())?;
-    for (index, rank) in ranks.iter().enumerate() {
-        order.push((*rank, index))?;
-    }
-    order.sort()?;
-    Ok(order)
+    only_memory(doc.property_numbered(entry.0, entry.1))
 }
 
-/// Returns the entry of the property at an index of a node, which has one there, with this rank as
-/// its number.
-fn entry_at<'a>(node: RankedNode<'a, '_>, rank: usize, index: usize) -> MapEntry<'a>
-    requires { index < length (sibling_of node).own.properties }
-    ensures { IsEntryAt (sibling_of node.entry).own (rank, index) result }
-{
-    let (name, value) = node.property_at(index).unwrap();
-    MapEntry {
-        name,
-        number: Some(rank),
-        value: Value::Slice(value),
-    }
-}
-
-/// Returns the index of the first of these entries, which are in byte order of their names, whose
-/// name is not before this one. Returns their number if there is none.
-fn find_index(entries: &[MapEntry<'_>], name: &[u8]) -> usize
-    ensures { result ≡ index_of_name entries.now name.now }
+/// Returns the index of the first of these entries, whose ranks ascend, whose rank is not less than
+/// this one. Returns their number if there is none.
+fn find_index(entries: &[(usize, Value<'_>)], rank: usize) -> usize
+    ensures { result ≡ index_of_rank entries.now rank }
 {
     for (index, entry) in entries.iter().enumerate() {
-        if !name.cmp(entry.name).is_gt() {
+        if rank <= entry.0 {
             return index;
         }
     }
     entries.len()
 }
 
-/// Returns whether there is an entry at this index, and it has this name.
-fn has_name_at(entries: &[MapEntry<'_>], index: usize, name: &[u8]) -> bool
-    ensures { result ≡ is_entry_named (slice_get entries.now index) name.now }
+/// Returns whether there is an entry at this index, and it has this rank.
+fn has_rank_at(entries: &[(usize, Value<'_>)], index: usize, rank: usize) -> bool
+    ensures { result ≡ is_entry_ranked (slice_get entries.now index) rank }
 {
     match entries.get(index) {
-        Some(entry) => entry.name == name,
+        Some(entry) => entry.0 == rank,
         None => false,
     }
 }

@@ -8,15 +8,16 @@ ghost use Rattle.bi_blob.specs.Tree.{EachOwn};
 ghost use Rattle.bi_blob.specs.Events.{events};
 ghost use Rattle.bi_fit.specs.Names.{images_name};
 ghost use Rattle.bi_fit.specs.NormalNodes.{MayAdd, with_events, HasDistinctNames, alone};
-ghost use Rattle.bi_fit.specs.RankedNodes.{sibling_of, HasRanks};
+ghost use Rattle.bi_fdt.specs.Views.{node_of};
+ghost use Rattle.bi_fit.specs.NameOrders.{HasOrder};
 ghost use Rattle.bi_fit.specs.TextNodes.{HasRoom, HaveTextImages, HaveImagesAfter};
 ghost use Rattle.bi_fit.specs.TextNodes.{one_fewer, text_root, text_root_children};
 
 use crate::document::image_nodes::add_images;
 use crate::document::nodes::{add_node, begin_with};
 use crate::document::property_map::PropertyMap;
-use crate::document::ranked_node::RankedNode;
 use crate::document::text_parts::TextParts;
+use bi_fdt::NodeRef;
 use bi_lay::Doc;
 use std::alloc::{AllocError, Global};
 
@@ -25,19 +26,19 @@ use std::alloc::{AllocError, Global};
 pub(super) fn add_tree<'a>(
     alloc: Global,
     doc: &mut Doc<'a>,
-    root: RankedNode<'a, '_>,
+    root: NodeRef<'a, '_>,
     parts: TextParts<'a, '_>,
 ) -> Result<(), AllocError>
-    requires ranks { HasRanks doc.old.names root }
-    requires images { HaveTextImages parts (sibling_of root).children }
-    requires position { HaveImagesAfter (Some parts.images_position) (sibling_of root).children }
+    requires order { HasOrder doc.old.names parts.order.now root }
+    requires images { HaveTextImages parts (node_of root).children }
+    requires position { HaveImagesAfter (Some parts.images_position) (node_of root).children }
     requires room { HasRoom parts }
-    requires distinct { EachOwn HasDistinctNames (alone (sibling_of root)) }
-    requires may { MayAdd doc.old (events (text_root parts (sibling_of root))) }
+    requires distinct { EachOwn HasDistinctNames (alone (node_of root)) }
+    requires may { MayAdd doc.old (events (text_root parts (node_of root))) }
     ensures added { OnOk result (doc.new ≡ with_events doc.old
-        (events (text_root parts.entry (sibling_of root.entry)))) }
+        (events (text_root parts.entry (node_of root.entry)))) }
 {
-    let mut properties = PropertyMap::from_node(alloc, root)?;
+    let mut properties = PropertyMap::from_node(alloc, root, parts.order)?;
     properties.set_time(parts.changes.time)?;
     begin_with(doc, root.name(), &properties)?;
     add_root_children(alloc, doc, root, parts)?;
@@ -49,17 +50,17 @@ pub(super) fn add_tree<'a>(
 fn add_root_children<'a>(
     alloc: Global,
     doc: &mut Doc<'a>,
-    root: RankedNode<'a, '_>,
+    root: NodeRef<'a, '_>,
     parts: TextParts<'a, '_>,
 ) -> Result<(), AllocError>
-    requires ranks { HasRanks doc.old.names root }
-    requires images { HaveTextImages parts (sibling_of root).children }
-    requires position { HaveImagesAfter (Some parts.images_position) (sibling_of root).children }
+    requires order { HasOrder doc.old.names parts.order.now root }
+    requires images { HaveTextImages parts (node_of root).children }
+    requires position { HaveImagesAfter (Some parts.images_position) (node_of root).children }
     requires room { HasRoom parts }
-    requires distinct { EachOwn HasDistinctNames (sibling_of root).children }
-    requires may { MayAdd doc.old (events (text_root_children parts (sibling_of root).children)) }
+    requires distinct { EachOwn HasDistinctNames (node_of root).children }
+    requires may { MayAdd doc.old (events (text_root_children parts (node_of root).children)) }
     ensures added { OnOk result (doc.new ≡ with_events doc.old
-        (events (text_root_children parts.entry (sibling_of root.entry).children))) }
+        (events (text_root_children parts.entry (node_of root.entry).children))) }
 {
     let mut next = root.first_child();
     let mut before_images = Some(parts.images_position);
@@ -83,22 +84,22 @@ fn after_one(count: Option<usize>) -> Option<usize>
 fn add_root_child<'a>(
     alloc: Global,
     doc: &mut Doc<'a>,
-    node: RankedNode<'a, '_>,
+    node: NodeRef<'a, '_>,
     is_images: bool,
     parts: TextParts<'a, '_>,
 ) -> Result<(), AllocError>
-    requires ranks { HasRanks doc.old.names node }
-    requires named { bytes_eq (sibling_of node).name images_name ≡ is_images }
-    requires images { HaveTextImages parts (alone (sibling_of node)) }
+    requires order { HasOrder doc.old.names parts.order.now node }
+    requires named { bytes_eq (node_of node).name images_name ≡ is_images }
+    requires images { HaveTextImages parts (alone (node_of node)) }
     requires room { HasRoom parts }
-    requires distinct { EachOwn HasDistinctNames (alone (sibling_of node)) }
-    requires may { MayAdd doc.old (events (text_root_children parts (alone (sibling_of node)))) }
+    requires distinct { EachOwn HasDistinctNames (alone (node_of node)) }
+    requires may { MayAdd doc.old (events (text_root_children parts (alone (node_of node)))) }
     ensures added { OnOk result (doc.new ≡ with_events doc.old
-        (events (text_root_children parts.entry (alone (sibling_of node.entry))))) }
+        (events (text_root_children parts.entry (alone (node_of node.entry))))) }
 {
     if is_images {
         add_images(alloc, doc, node, parts)
     } else {
-        add_node(alloc, doc, node)
+        add_node(alloc, doc, node, parts.order)
     }
 }

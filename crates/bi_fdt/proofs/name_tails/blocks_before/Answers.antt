@@ -1,8 +1,7 @@
 use Rattle.std.proofs.Common.{◌∙◌, ◌≡◌, ◌+◌, ◌-◌, ◌≤◌, ℕ, List, length, take, drop, refl, sym, ap, subst, arith}
 use Rattle.bi_blob.specs.Tokens.{name_from}
 use Rattle.bi_fdt.specs.NameTails.{AreAllBlocks}
-use Rattle.bi_fdt.proofs.NameEnds.{name_before_end}
-use Rattle.bi_fdt.proofs.NameDigests.{name_from-later, name_within}
+use Rattle.bi_fdt.proofs.NameEnds.{name_before_end, name_from-later, name_within}
 use Rattle.bi_fdt.proofs.NameParts.{AreMoreParts-same, placed_more, placed_at}
 use Rattle.bi_fdt.proofs.NameTails.{AreAllBlocks-none, AreAllBlocks-more}
 use Rattle.bi_fdt.proofs.name_tails.blocks_before.Goals as goal

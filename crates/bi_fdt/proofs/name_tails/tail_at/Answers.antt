@@ -1,7 +1,7 @@
 use Rattle.std.proofs.Common.{◌≡◌, ℕ, ◌+◌, ◌-◌, ◌*◌, ◌/◌, List, length, ap, subst, ◌∙◌, arith}
 use Rattle.bi_blob.specs.Tokens.{name_from}
 use Rattle.bi_fdt.specs.NameTails.{AreAllBlocks}
-use Rattle.bi_fdt.proofs.NameDigests.{name_from-later}
+use Rattle.bi_fdt.proofs.NameEnds.{name_from-later}
 use Rattle.bi_fdt.proofs.NameTails.{IsTail-short, IsTail-later}
 use Rattle.bi_fdt.proofs.name_tails.tail_at.Goals as goal
 

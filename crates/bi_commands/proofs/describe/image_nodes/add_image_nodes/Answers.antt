@@ -9,7 +9,7 @@ use Rattle.bi_fit.proofs.NodeEvents.{nodes_from, nodes_from_first}
 use Rattle.bi_commands.specs.declared.describe.image_payload.ImagePayload.{ImagePayload}
 use Rattle.bi_commands.specs.ImagePayloads.{bytes_of_payload, bytes_of_payloads}
 use Rattle.bi_commands.specs.MadeEntries.{image_entries, images_entries}
-use Rattle.bi_commands.specs.OrderStub.{IsNameOrder}
+use Rattle.bi_fit.specs.NameOrders.{IsNameOrder}
 use Rattle.bi_commands.specs.TreeEntries.{as_entry}
 use Rattle.bi_commands.proofs.EntriesOfNodes.{appended_first, images-first, images-no_nodes, images-no_payloads}
 use Rattle.bi_commands.proofs.NextNodes.{HasNextOrder, next_in_order}

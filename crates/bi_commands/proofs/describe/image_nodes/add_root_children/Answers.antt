@@ -8,7 +8,7 @@ use Rattle.bi_fit.specs.Names.{images_name}
 use Rattle.bi_fit.proofs.NodeEvents.{nodes_from, nodes_from_first}
 use Rattle.bi_commands.specs.ImagePayloads.{bytes_of_payloads}
 use Rattle.bi_commands.specs.MadeEntries.{plain_entries, begin_entries, images_entries, root_children_entries}
-use Rattle.bi_commands.specs.OrderStub.{IsNameOrder}
+use Rattle.bi_fit.specs.NameOrders.{IsNameOrder}
 use Rattle.bi_commands.specs.TreeEntries.{NodeEnds, as_entry}
 use Rattle.bi_commands.proofs.NextNodes.{HasNextOrder, next_in_order}
 use Rattle.bi_commands.proofs.EntriesOfNodes.{appended_first, root-images, root-other, root-none}

@@ -6,7 +6,7 @@ use Rattle.bi_fdt.specs.Views.{node_of, table_of_node}
 use Rattle.bi_fit.specs.NormalNodes.{HasDistinctNames, alone, properties_by_name}
 use Rattle.bi_fit.proofs.NodeEvents.{nodes_from, nodes_from_first}
 use Rattle.bi_commands.specs.MadeEntries.{plain_entries, begin_entries}
-use Rattle.bi_commands.specs.OrderStub.{IsNameOrder}
+use Rattle.bi_fit.specs.NameOrders.{IsNameOrder}
 use Rattle.bi_commands.specs.TreeEntries.{as_entry}
 use Rattle.bi_commands.proofs.EntriesOfNodes.{appended_first, plain-first, node_appended}
 use Rattle.bi_commands.proofs.NextNodes.{HasNextOrder, next_in_order}

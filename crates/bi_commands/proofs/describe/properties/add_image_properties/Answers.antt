@@ -3,7 +3,7 @@ use Rattle.bi_blob.specs.Tree.{Property, property_of}
 use Rattle.bi_fdt.specs.Properties.{file_property_of}
 use Rattle.bi_fdt.specs.Views.{node_of}
 use Rattle.bi_fit.specs.NormalNodes.{properties_by_name}
-use Rattle.bi_commands.specs.OrderStub.{KeyedProperty}
+use Rattle.bi_fdt.specs.Order.{KeyedProperty}
 use Rattle.bi_commands.specs.TreeEntries.{PropertyEntry, as_entry}
 use Rattle.bi_commands.proofs.EntriesOfNodes.{entries-push, appended_first}
 use Rattle.bi_commands.proofs.KeptProperties.{others_of, entries_without, others_first, others_later}

@@ -9,38 +9,46 @@ use Rattle.bi_fdt.proofs.growing.Growing.end_node.Goals as goal
 
 pub set_after-requires : goal.set_after-requires
 set_after-requires c =
-    let within : c.args.self.innermost.entry < length c.args.self.entries.items = innermost_within c.requires.grown.file c.args.self c.requires.grown.innermost c.requires.grown.outer c.requires.grown.is in
-    let now : length c.deref_mut.result.now ≡ length c.args.self.entries.items = ap length c.deref_mut.ensures.value in
-    omega arith
+    let grown = c.requires.grown in
+    let within : c.args.self.now.innermost.entry < length c.args.self.now.entries.items = innermost_within grown.file c.args.self.now grown.innermost grown.outer grown.is in
+    let now : length c.deref_mut.result.now ≡ length c.args.self.now.entries.items = ap length c.deref_mut.ensures.value in
+    omega (arith, within, now)
 
 pub returns-in-Some : goal.returns-in-Some
 returns-in-Some c =
-    let index : ℕ = c.args.self.innermost.entry in
-    let long : c.len-after.result ≡ length c.args.self.entries.items = search rules in
+    let old = c.args.self.now in
+    let index : ℕ = old.innermost.entry in
+    let long : c.len-after.result ≡ length old.entries.items = search rules in
     let now = c.deref_mut.ensures.value in
-    let held : (with_items c.args.self.entries c.set_after.new.entries).items ≡ c.set_after.new.entries =
-    with_items_is c.args.self.entries c.set_after.new.entries (c.set_after.auto.entries ∙ c.deref_mut.ensures.len) in (
-      ap length held ∙ c.set_after.auto.entries ∙ ap length now,
-      λ file innermost outer growing.
-          growing_ended file c.args.self _ innermost outer c.in-Some.parent growing
+    let held : (with_items old.entries c.set_after.new.entries).items ≡ c.set_after.new.entries =
+    with_items_is old.entries c.set_after.new.entries (c.set_after.auto.entries ∙ c.deref_mut.ensures.len) in
+    record {
+      count = ap length held ∙ c.set_after.auto.entries ∙ ap length now;
+      strings = refl;
+      grown = λ file innermost outer growing.
+          growing_ended file old _ innermost outer c.in-Some.parent growing
           (λ n at.
           held
           ∙ c.set_after.ensures n (ap (λ l. slice_get l index) now ∙ at)
           ∙ ap (λ l. set l index (entry.Node (record n { after = c.len-after.result }))) now
-          ∙ ap (λ k. set c.args.self.entries.items index (entry.Node (record n { after = k }))) long)
-          c.in-Some.ensures.items refl,
-    )
+          ∙ ap (λ k. set old.entries.items index (entry.Node (record n { after = k }))) long)
+          c.in-Some.ensures.items refl refl;
+    }
 
-pub returns : goal.returns
-returns c = λ file innermost outer growing.
-    let index : ℕ = c.args.self.innermost.entry in
-    let long : c.len-after.result ≡ length c.args.self.entries.items = search rules in
+pub returns-in-None : goal.returns-in-None
+returns-in-None c =
+    let old = c.args.self.now in
+    let index : ℕ = old.innermost.entry in
+    let long : c.len-after.result ≡ length old.entries.items = search rules in
     let now = c.deref_mut.ensures.value in
-    let none : length c.args.self.outer.items ≡ 0 = grind (arith, common_steps, c.in-None.ensures.cases) in
-    growing_finished file c.args.self _ innermost outer growing
-    (λ n at.
-    with_items_is c.args.self.entries c.set_after.new.entries (c.set_after.auto.entries ∙ c.deref_mut.ensures.len)
-    ∙ c.set_after.ensures n (ap (λ l. slice_get l index) now ∙ at)
-    ∙ ap (λ l. set l index (entry.Node (record n { after = c.len-after.result }))) now
-    ∙ ap (λ k. set c.args.self.entries.items index (entry.Node (record n { after = k }))) long)
-    (nil_from_length c.args.self.outer.items none)
+    let none : length old.outer.items ≡ 0 = grind (arith, common_steps, c.in-None.ensures.cases) in
+    record {
+      finished = λ file innermost outer growing.
+          growing_finished file old _ innermost outer growing
+          (λ n at.
+          with_items_is old.entries c.set_after.new.entries (c.set_after.auto.entries ∙ c.deref_mut.ensures.len)
+          ∙ c.set_after.ensures n (ap (λ l. slice_get l index) now ∙ at)
+          ∙ ap (λ l. set l index (entry.Node (record n { after = c.len-after.result }))) now
+          ∙ ap (λ k. set old.entries.items index (entry.Node (record n { after = k }))) long)
+          (nil_from_length old.outer.items none) refl;
+    }

@@ -7,10 +7,10 @@ use Rattle.bi_fit.specs.NormalNodes.{MayAdd, with_events, next_end, AreWithin, H
 use Rattle.bi_fit.specs.Text.{end_after}
 use Rattle.bi_fit.proofs.ImageNodes.{within_sized, within_first, within_later}
 use Rattle.bi_fit.proofs.NodeEvents.{IsAdding, may_add_first, adding_later}
-use Rattle.bi_fit.specs.Building.{built_image_properties}
+use Rattle.bi_fit.specs.Building.{built_image_properties, sha256_properties}
 use Rattle.bi_fit.specs.NamedImages.{head_model, named_model, named_models}
 use Rattle.bi_fit.specs.BuiltNodes.{built_payloads, built_image_nodes}
-use Rattle.bi_fit.proofs.BuiltDocuments.{built_hash_node, placed_properties, built_image_node, nodes_later, nodes_at, have_no_numbers}
+use Rattle.bi_fit.proofs.BuiltDocuments.{built_hash_node, placed_properties, built_image_node, nodes_later, nodes_at, same_names}
 use Rattle.bi_fit.proofs.BuiltDocuments.{same_built_image}
 use Rattle.bi_fit.proofs.BuiltPayloads.{no_named_image, built_payloads_from, digest_at}
 use Rattle.bi_fit.proofs.building.document.add_built_image_nodes.Goals as goal
@@ -25,16 +25,16 @@ add_image_node-requires c =
     let target = with_events c.args.doc.now (events (built_image_nodes c.args.form 0 head (named_models images))) in
     let later = built_image_nodes c.args.form (end_after end (Some image.payload)) head (named_models (drop (index + 1) images)) in
     let digest = digest_at images c.args.parts.digests.now index c.loop-index-test.true c.requires.prepared.digests in
-    let same = same_built_image c.loop-index.area.form c.args.form (up4 end) head image c.in_ok-image_properties.field-0 (get_or c.args.parts.digests.now index [])
-    c.loop-index.invariant.form c.in_ok-image_properties.ensures digest in
+    let same = same_built_image c.loop-index.area.form c.args.form (up4 end) head image c.in_ok-image_properties.field-0 c.in_ok-hash.hash (get_or c.args.parts.digests.now index [])
+    c.loop-index.invariant.form c.in_ok-image_properties.ensures c.in_ok-hash.ensures digest in
     let sized : HasCellSize c.args.form (Some image.payload) =
     within_sized c.args.form end (Some image.payload) (built_payloads (named_models (drop (index + 1) images)))
     (subst (AreWithin c.args.form end) (built_payloads_from images index no_named_image c.loop-index-test.true) c.loop-index.invariant.within) in
     record {
-      numbers = have_no_numbers c.loop-index.doc.names c.in_ok-image_properties.field-0 (from_entries (built_image_properties head image)) c.in_ok-image_properties.ensures;
+      names = same_names c.loop-index.doc.names c.in_ok-image_properties.field-0 (from_entries (built_image_properties head image)) c.loop-index.invariant.names c.in_ok-image_properties.ensures;
       small = c.loop-index.invariant.small;
       sized = subst (λ form. HasCellSize form (Some image.payload)) (sym c.loop-index.invariant.form) sized;
-      children = tt;
+      children = same_names c.loop-index.doc.names c.in_ok-hash.hash (from_entries (sha256_properties (get_or c.args.parts.digests.now index []))) c.loop-index.invariant.names c.in_ok-hash.ensures;
       may = subst (λ nodes. MayAdd c.loop-index.doc (events nodes)) (sym same)
           (may_add_first c.loop-index.doc target image.name (entries (placed_properties c.args.form (up4 end) head image)) (built_hash_node image.payload) later
           (subst (IsAdding c.loop-index.doc target) (nodes_at c.args.form end head images index no_named_image c.loop-index-test.true) c.loop-index.invariant.adding));
@@ -59,8 +59,8 @@ loop-index-preserved c =
     let is : next_end c.loop-index.area.form c.loop-index.area.end payload ≡ next_end c.args.form c.loop-index.area.end payload = ap (λ form. next_end form c.loop-index.area.end payload) c.loop-index.invariant.form in
     omega (arith, c.in_ok-add_image_node.ensures.end) in
     let digest = digest_at images c.args.parts.digests.now index c.loop-index-test.true c.requires.prepared.digests in
-    let same = same_built_image c.loop-index.area.form c.args.form (up4 c.loop-index.area.end) head image c.in_ok-image_properties.field-0 (get_or c.args.parts.digests.now index [])
-    c.loop-index.invariant.form c.in_ok-image_properties.ensures digest in
+    let same = same_built_image c.loop-index.area.form c.args.form (up4 c.loop-index.area.end) head image c.in_ok-image_properties.field-0 c.in_ok-hash.hash (get_or c.args.parts.digests.now index [])
+    c.loop-index.invariant.form c.in_ok-image_properties.ensures c.in_ok-hash.ensures digest in
     let added : c.add_image_node.new.doc ≡ with_events c.loop-index.doc (events (built_image_node c.args.form (up4 c.loop-index.area.end) head image)) =
     c.in_ok-add_image_node.ensures.added ∙ ap (λ nodes. with_events c.loop-index.doc (events nodes)) same in
     rw at (record {
@@ -69,4 +69,5 @@ loop-index-preserved c =
       within = within_later c.args.form c.loop-index.area.end payload (built_payloads rest) within;
       small = small;
       form = c.in_ok-add_image_node.ensures.form ∙ c.loop-index.invariant.form;
+      names = ap (λ document. document.names) c.in_ok-add_image_node.ensures.added ∙ c.loop-index.invariant.names;
     })

@@ -3,6 +3,7 @@ use Rattle.bi_blob.specs.Events.{events}
 use Rattle.bi_blob.specs.Layout.{longest_text}
 use Rattle.bi_fit.specs.NormalNodes.{with_events, AreWithin}
 use Rattle.bi_fit.proofs.NodeEvents.{IsAdding}
+use Rattle.bi_fit.specs.BuiltNames.{built_names}
 use Rattle.bi_fit.specs.NamedImages.{head_model, named_models}
 use Rattle.bi_fit.specs.BuiltNodes.{built_payloads, built_image_nodes}
 use Rattle.bi_fit.proofs.building.document.add_built_image_nodes.Given as goal
@@ -14,4 +15,5 @@ invariant-loop-index l = record {
   within : AreWithin l.fn.form l.area.end (built_payloads (named_models (drop l.index l.parts.images.now)));
   small : l.area.end ≤ longest_text;
   form : l.area.form ≡ l.fn.form;
+  names : l.doc.names ≡ built_names;
 }

@@ -8,15 +8,14 @@ use Rattle.bi_fit.specs.Names.{images_name}
 use Rattle.bi_fit.proofs.AddedEvents.{may_begin, may_have_children, may_end, whole_added}
 use Rattle.bi_fit.specs.NamedImages.{head_model, named_models}
 use Rattle.bi_fit.specs.BuiltNodes.{built_image_nodes}
-use Rattle.bi_fit.proofs.BuiltDocuments.{have_no_numbers}
 use Rattle.bi_fit.proofs.building.document.add_built_images.Goals as goal
 
 -- The node of the images has no properties.
 abbrev own : PropertyMap
 own = from_entries {R = slice_cmp nat_cmp} []
 
-pub begin_with-requires-clause-numbers : goal.begin_with-requires-clause-numbers
-begin_with-requires-clause-numbers c = have_no_numbers c.args.doc.now.names c.new-properties.result own c.new-properties.ensures
+pub begin_with-requires-clause-names : goal.begin_with-requires-clause-names
+begin_with-requires-clause-names c = c.requires.doc_names ∙ sym c.requires.names ∙ sym (ap (λ m. m.names) c.new-properties.ensures)
 
 pub begin_with-requires-clause-may : goal.begin_with-requires-clause-may
 begin_with-requires-clause-may c =

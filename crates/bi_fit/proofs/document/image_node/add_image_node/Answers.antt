@@ -22,8 +22,8 @@ begins area image at set is_at is_set =
     ap (begin_events image.name.now)
     (is_set ∙ ap (λ at. with_payload area.form at (added_payload image) (without_payload image.properties.by_name)) is_at)
 
-pub begin_with-requires-clause-numbers : goal.begin_with-requires-clause-numbers
-begin_with-requires-clause-numbers c = c.in_ok-set_payload.ensures.numbers c.args.doc.now.names c.requires.numbers
+pub begin_with-requires-clause-names : goal.begin_with-requires-clause-names
+begin_with-requires-clause-names c = c.requires.names ∙ sym c.in_ok-set_payload.ensures.same_names
 
 pub begin_with-requires-clause-may : goal.begin_with-requires-clause-may
 begin_with-requires-clause-may c =

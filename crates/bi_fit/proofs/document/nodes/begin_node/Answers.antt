@@ -1,7 +1,8 @@
+use Rattle.std.proofs.Common.{sym, ap, ◌∙◌}
 use Rattle.bi_fit.proofs.document.nodes.begin_node.Goals as goal
 
-pub from_node-requires-clause-ranks : goal.from_node-requires-clause-ranks
-from_node-requires-clause-ranks c = (c.args.doc.now.names, c.requires.ranks)
+pub from_node-requires-clause-order : goal.from_node-requires-clause-order
+from_node-requires-clause-order c = c.requires.order.is_order
 
-pub begin_with-requires-clause-numbers : goal.begin_with-requires-clause-numbers
-begin_with-requires-clause-numbers c = c.in_ok-properties.ensures.numbers c.args.doc.now.names c.requires.ranks
+pub begin_with-requires-clause-names : goal.begin_with-requires-clause-names
+begin_with-requires-clause-names c = c.requires.order.same_names ∙ sym (ap (λ m. m.names) c.in_ok-properties.ensures)

@@ -1,25 +1,25 @@
 use Rattle.std.proofs.Common.{◌≡◌, ◌+◌, ◌∷◌, map, drop, get_or, add-one, sym, ap, subst, ◌∙◌, nat_cmp}
 use Rattle.std.specs.Cmp.Lexicographic.{slice_cmp}
 use Rattle.std.specs.FinMap.{entries, entries-from_sorted}
-use Rattle.bi_fit.specs.PropertyMaps.{properties_in, numbers_in}
-use Rattle.bi_fit.specs.PropertyMapModels.{AreNumbersIn, HaveNumbers}
 use Rattle.std.proofs.Math.Seq.{drop-cons}
 use Rattle.bi_blob.specs.Events.{NodeProperty}
 use Rattle.bi_fit.specs.NormalNodes.{MayAdd, with_events}
-use Rattle.bi_fit.proofs.AddedProperties.{no_map_entry, IsAddingEntries, entry_number, may_add_entry, adding_more}
+use Rattle.bi_fit.specs.PropertyMaps.{named}
+use Rattle.bi_fit.proofs.RankedProperties.{named_in_order}
+use Rattle.bi_fit.proofs.AddedProperties.{no_map_entry, IsAddingEntries, may_add_entry, adding_more}
 use Rattle.bi_fit.proofs.document.property_map.PropertyMap.add_to.Goals as goal
 
 pub loop-entry-init : goal.loop-entry-init
 loop-entry-init c =
-    let all : properties_in c.deref-entry-items.result.now ≡ entries c.args.self.now.by_name =
-    ap properties_in c.deref-entry-items.ensures.value
-    ∙ sym (entries-from_sorted (slice_cmp nat_cmp) (properties_in c.self.inside.entries.items) c.self.invariant)
-    ∙ ap (λ properties. entries properties.by_name) c.self.view_is in
-    let numbers : AreNumbersIn c.args.doc.now.names (numbers_in c.deref-entry-items.result.now) =
-    subst (λ l. AreNumbersIn c.args.doc.now.names (numbers_in l)) (sym c.deref-entry-items.ensures.value) (subst (HaveNumbers c.args.doc.now.names) (sym c.self.view_is) c.requires.numbers) in
+    let fields = c.self.inside in
+    let all : named c.args.doc.now.names c.deref-entry-items.result.now ≡ entries c.args.self.now.by_name =
+    ap (λ names. named names c.deref-entry-items.result.now) (c.requires.names ∙ sym (ap (λ m. m.names) c.self.view_is))
+    ∙ ap (named fields.names.now) c.deref-entry-items.ensures.value
+    ∙ sym (entries-from_sorted (slice_cmp nat_cmp) (named fields.names.now fields.entries.items)
+    (named_in_order fields.names.now c.self.invariant.in_order fields.entries.items c.self.invariant.within c.self.invariant.ascending))
+    ∙ ap (λ m. entries m.by_name) c.self.view_is in
     record {
       added = ap (λ l. with_events c.args.doc.now (map NodeProperty l)) all;
-      numbers = numbers;
       may = subst (λ l. MayAdd c.args.doc.now (map NodeProperty l)) (sym all) c.requires.may;
     }
 
@@ -30,11 +30,7 @@ add_entry-requires c =
     let entry = get_or items c.loop-entry.entry-index no_map_entry in
     let later = drop (c.loop-entry.entry-index + 1) items in
     let left : drop c.loop-entry.entry-index items ≡ entry ∷ later = rw add-one (drop-cons items c.loop-entry.entry-index no_map_entry c.loop-entry-test.true) in
-    let adding = subst (IsAddingEntries c.loop-entry.doc target) left c.loop-entry.invariant in
-    record {
-      number = entry_number c.loop-entry.doc target entry later adding;
-      may = may_add_entry c.loop-entry.doc target entry later adding;
-    }
+    may_add_entry c.loop-entry.doc target entry later (subst (IsAddingEntries c.loop-entry.doc target) left c.loop-entry.invariant)
 
 pub loop-entry-preserved : goal.loop-entry-preserved
 loop-entry-preserved c =
@@ -43,4 +39,4 @@ loop-entry-preserved c =
     let entry = get_or items c.loop-entry.entry-index no_map_entry in
     let later = drop (c.loop-entry.entry-index + 1) items in
     let left : drop c.loop-entry.entry-index items ≡ entry ∷ later = rw add-one (drop-cons items c.loop-entry.entry-index no_map_entry c.loop-entry-test.true) in
-    adding_more c.loop-entry.doc target entry later (subst (IsAddingEntries c.loop-entry.doc target) left c.loop-entry.invariant) c.add_entry.new.doc c.in_ok-add_entry.ensures.added
+    adding_more c.loop-entry.doc target entry later (subst (IsAddingEntries c.loop-entry.doc target) left c.loop-entry.invariant) c.add_entry.new.doc c.in_ok-add_entry.ensures

@@ -1,79 +1,102 @@
-use Rattle.std.proofs.Common.{◌≡◌, true, false, T, None, slice_get, set, refl, sym, ap, subst, ◌∙◌, nat_cmp}
-use Rattle.std.specs.Cmp.Lexicographic.{slice_cmp}
+use Rattle.std.proofs.Common.{◌≡◌, ℕ, ◌<◌, Bool, List, T, slice_get, length, set, sym, ap, subst, ◌∙◌, nat_cmp}
+use Rattle.std.specs.FinMap.{is_sorted, put}
+use Rattle.std.specs.FinMap.Entries.{is_sorted-put}
 use Rattle.std.specs.List.{insert as insert_at}
-use Rattle.std.specs.FinMap.{is_sorted, put, from_sorted}
+use Rattle.std.proofs.lemmas.Cmp.{nat_cmp_total}
+use Rattle.std.proofs.lemmas.Option.{slice_get_within}
 use Rattle.bi_lay.specs.declared.items.Value.{Value}
 use Rattle.bi_lay.specs.Values.{value_bytes}
-use Rattle.bi_fit.specs.declared.document.property_map.MapEntry.{MapEntry}
-use Rattle.bi_fit.specs.PropertyMaps.{properties_in, numbers_in}
-use Rattle.bi_fit.specs.PropertyMapModels.{with_property_value}
-use Rattle.bi_fit.specs.EntryOrder.{index_of_name, is_entry_named}
-use Rattle.bi_fit.proofs.PropertyMaps.{sorted-put, from_sorted-put, properties-insert_at, properties-set, found_name, numbers-insert_at, numbers-set, same_model, index_within}
+use Rattle.bi_fdt.specs.Numbers.{IsNumberOf}
+use Rattle.bi_fit.specs.PropertyMapModels.{PropertyMapModel, with_property_value}
+use Rattle.bi_fit.specs.PropertyMaps.{AreRanksWithin, index_of_rank, is_entry_ranked, IsConsistentMap}
+use Rattle.bi_fit.proofs.RankedProperties.{within-put, model-put, index_within, put_new, put_other}
+use Rattle.bi_fit.specs.declared.document.property_map.PropertyMap.TheInside.{Inside as Fields}
 use Rattle.bi_fit.proofs.document.property_map.PropertyMap.insert.Goals as goal
 use Rattle.bi_fit.proofs.document.property_map.PropertyMap.insert.Goals.{After-index_mut, In_ok-insert}
 
--- Where the name was found, its entry gets the value.
-replaced : (c : After-index_mut) → (value : Value) → let entries = c.self.inside.entries.items in
-    let new : MapEntry = record { name = c.index_mut.result.now.name; number = c.index_mut.result.now.number; value = value } in
-    (properties_in (set entries c.find_index-index.result new) ≡ put (slice_cmp nat_cmp) c.args.name.now (value_bytes value) (properties_in entries))
-    × (numbers_in (set entries c.find_index-index.result new) ≡ numbers_in entries)
-replaced c value =
-    let entries = c.self.inside.entries.items in
-    let name = c.args.name.now in
-    let new : MapEntry = record { name = c.index_mut.result.now.name; number = c.index_mut.result.now.number; value = value } in
-    let place : c.find_index-index.result ≡ index_of_name entries name = c.find_index-index.ensures ∙ ap (λ l. index_of_name l name) c.deref.ensures.value in
-    let named : is_entry_named (slice_get entries c.find_index-index.result) name ≡ true =
-    ap (λ l. is_entry_named (slice_get l c.find_index-index.result) name) (sym c.deref-2.ensures.value) ∙ sym c.has_name_at.ensures ∙ c.if-has_name_at.true in
-    let found = found_name entries c.find_index-index.result name c.index_mut.result.now named c.index_mut.ensures.value in (
-      subst (λ p. properties_in (set entries p new) ≡ put (slice_cmp nat_cmp) name (value_bytes value) (properties_in entries)) (sym place)
-          (properties-set entries name new (subst (λ p. is_entry_named (slice_get entries p) name ≡ true) place named) found.1),
-      numbers-set entries c.find_index-index.result c.index_mut.result.now new found.0 refl,
+-- The rank is that of one of the names.
+within : (fields : Fields) (model : PropertyMapModel) (rank : ℕ) → fields.names.now ≡ model.names → (name : List ℕ) × IsNumberOf model.names name rank →
+    rank < length fields.names.now
+within fields model rank same there =
+    slice_get_within fields.names.now rank there.0 (subst (λ names. IsNumberOf names there.0 rank) (sym same) there.1)
+
+-- The index is the place of the rank, and it was tested whether the rank is there.
+found : (es one other : List (ℕ × Value)) (rank at : ℕ) (there : Bool) → one ≡ es → other ≡ es → at ≡ index_of_rank one rank →
+    there ≡ is_entry_ranked (slice_get other at) rank →
+    (at ≡ index_of_rank es rank) × (is_entry_ranked (slice_get es (index_of_rank es rank)) rank ≡ there)
+found es one other rank at there is_one is_other is_at is_there =
+    let place : at ≡ index_of_rank es rank = is_at ∙ ap (λ l. index_of_rank l rank) is_one in (
+      place,
+      sym (is_there ∙ ap (λ l. is_entry_ranked (slice_get l at) rank) is_other ∙ ap (λ p. is_entry_ranked (slice_get es p) rank) place),
     )
+
+-- Fields with the rank put in are consistent.
+consistent : (fields : Fields) → IsConsistentMap fields → (rank : ℕ) → rank < length fields.names.now → (value : Value) →
+    (items : List (ℕ × Value)) → items ≡ put nat_cmp rank value fields.entries.items →
+    AreRanksWithin fields.names.now items × T (is_sorted nat_cmp items)
+consistent fields are rank inside value items is = (
+  subst (AreRanksWithin fields.names.now) (sym is) (within-put fields.names.now are.in_order rank inside value fields.entries.items are.within),
+  subst (λ l. T (is_sorted nat_cmp l)) (sym is) (is_sorted-put nat_cmp nat_cmp_total rank value fields.entries.items are.ascending),
+)
+
+-- Where the rank was found, its entry gets the value.
+replaced : (c : After-index_mut) →
+    set c.self.inside.entries.items c.find_index-index.result (c.args.rank, c.args.value) ≡ put nat_cmp c.args.rank c.args.value c.self.inside.entries.items
+replaced c =
+    let entries = c.self.inside.entries.items in
+    let here = found entries c.deref.result.now c.deref-2.result.now c.args.rank c.find_index-index.result c.has_rank_at.result
+    c.deref.ensures.value c.deref-2.ensures.value c.find_index-index.ensures c.has_rank_at.ensures in
+    ap (λ p. set entries p (c.args.rank, c.args.value)) here.0
+    ∙ put_other c.args.rank c.args.value entries (here.1 ∙ c.if-has_rank_at.true)
 
 pub invariant_of-self : goal.invariant_of-self
 invariant_of-self c =
-    let properties = replaced (goal.at.invariant_of-self c).After-index_mut c.args.value in
-    subst (λ l. T (is_sorted (slice_cmp nat_cmp) l)) (sym properties.0) (sorted-put (properties_in c.self.inside.entries.items) c.args.name.now (value_bytes c.args.value) c.self.invariant)
+    let inside = within c.self.inside c.args.self.now c.args.rank (ap (λ m. m.names) c.self.view_is) c.requires in
+    let are = consistent c.self.inside c.self.invariant c.args.rank inside c.args.value _ (replaced (goal.at.invariant_of-self c).After-index_mut) in
+    record { in_order = c.self.invariant.in_order; within = are.0; ascending = are.1 }
 
-pub returns-then-has_name_at : goal.returns-then-has_name_at
-returns-then-has_name_at c =
-    let properties = replaced (goal.at.returns-then-has_name_at c).After-index_mut c.args.value in
-    same_model _ _
-    (ap (λ l. from_sorted {R = slice_cmp nat_cmp} l) properties.0
-    ∙ from_sorted-put (properties_in c.self.inside.entries.items) c.args.name.now (value_bytes c.args.value) c.self.invariant
-    ∙ ap (λ m. (with_property_value c.args.name.now (value_bytes c.args.value) m).by_name) c.self.view_is)
-    (properties.1 ∙ ap (λ m. m.numbers) c.self.view_is)
+pub returns-then-has_rank_at : goal.returns-then-has_rank_at
+returns-then-has_rank_at c =
+    let names = c.self.inside.names.now in
+    let inside = within c.self.inside c.args.self.now c.args.rank (ap (λ m. m.names) c.self.view_is) c.requires in
+    record {
+      inserted = λ name is.
+          model-put names c.self.invariant.in_order c.args.rank inside c.args.value c.self.inside.entries.items _
+          (replaced (goal.at.returns-then-has_rank_at c).After-index_mut) c.self.invariant.within c.self.invariant.ascending name
+          (subst (λ m. IsNumberOf m.names name c.args.rank) (sym c.self.view_is) is)
+          ∙ ap (with_property_value name (value_bytes c.args.value)) c.self.view_is;
+      same_names = ap (λ m. m.names) c.self.view_is;
+    }
 
 pub insert-requires : goal.insert-requires
 insert-requires c =
-    rw (c.find_index-index.ensures, c.deref.ensures.value, c.self.inside.entries.ok.0) (index_within c.self.inside.entries.items c.args.name.now)
+    rw (c.find_index-index.ensures, c.deref.ensures.value, c.self.inside.entries.ok.0) (index_within c.args.rank c.args.value c.self.inside.entries.items)
 
 -- Where it was not found, it gets an entry in its place.
-added : (c : In_ok-insert) → let entries = c.self.inside.entries.items in
-    (properties_in c.insert.new.self.items ≡ put (slice_cmp nat_cmp) c.args.name.now (value_bytes c.args.value) (properties_in entries))
-    × (numbers_in c.insert.new.self.items ≡ numbers_in entries)
+added : (c : In_ok-insert) → c.insert.new.self.items ≡ put nat_cmp c.args.rank c.args.value c.self.inside.entries.items
 added c =
     let entries = c.self.inside.entries.items in
-    let name = c.args.name.now in
-    let new : MapEntry = record { name = c.args.name; number = None; value = c.args.value } in
-    let place : c.find_index-index.result ≡ index_of_name entries name = c.find_index-index.ensures ∙ ap (λ l. index_of_name l name) c.deref.ensures.value in
-    let apart : is_entry_named (slice_get entries (index_of_name entries name)) name ≡ false =
-    subst (λ p. is_entry_named (slice_get entries p) name ≡ false) place
-    (ap (λ l. is_entry_named (slice_get l c.find_index-index.result) name) (sym c.deref-2.ensures.value) ∙ sym c.has_name_at.ensures ∙ c.if-has_name_at.false) in
-    let items : c.insert.new.self.items ≡ insert_at entries (index_of_name entries name) new = c.in_ok-insert.ensures.items ∙ ap (λ p. insert_at entries p new) place in (
-      ap properties_in items ∙ properties-insert_at entries new apart,
-      ap numbers_in items ∙ numbers-insert_at entries (index_of_name entries name) new refl,
-    )
+    let here = found entries c.deref.result.now c.deref-2.result.now c.args.rank c.find_index-index.result c.has_rank_at.result
+    c.deref.ensures.value c.deref-2.ensures.value c.find_index-index.ensures c.has_rank_at.ensures in
+    c.in_ok-insert.ensures.items
+    ∙ ap (λ p. insert_at entries p (c.args.rank, c.args.value)) here.0
+    ∙ put_new c.args.rank c.args.value entries (here.1 ∙ c.if-has_rank_at.false)
 
 pub invariant_of-self-2 : goal.invariant_of-self-2
 invariant_of-self-2 c =
-    subst (λ l. T (is_sorted (slice_cmp nat_cmp) l)) (sym (added (goal.at.invariant_of-self-2 c).In_ok-insert).0) (sorted-put (properties_in c.self.inside.entries.items) c.args.name.now (value_bytes c.args.value) c.self.invariant)
+    let inside = within c.self.inside c.args.self.now c.args.rank (ap (λ m. m.names) c.self.view_is) c.requires in
+    let are = consistent c.self.inside c.self.invariant c.args.rank inside c.args.value _ (added (goal.at.invariant_of-self-2 c).In_ok-insert) in
+    record { in_order = c.self.invariant.in_order; within = are.0; ascending = are.1 }
 
 pub returns : goal.returns
 returns c =
-    let properties = added (goal.at.returns c).In_ok-insert in
-    same_model _ _
-    (ap (λ l. from_sorted {R = slice_cmp nat_cmp} l) properties.0
-    ∙ from_sorted-put (properties_in c.self.inside.entries.items) c.args.name.now (value_bytes c.args.value) c.self.invariant
-    ∙ ap (λ m. (with_property_value c.args.name.now (value_bytes c.args.value) m).by_name) c.self.view_is)
-    (properties.1 ∙ ap (λ m. m.numbers) c.self.view_is)
+    let names = c.self.inside.names.now in
+    let inside = within c.self.inside c.args.self.now c.args.rank (ap (λ m. m.names) c.self.view_is) c.requires in
+    record {
+      inserted = λ name is.
+          model-put names c.self.invariant.in_order c.args.rank inside c.args.value c.self.inside.entries.items _
+          (added (goal.at.returns c).In_ok-insert) c.self.invariant.within c.self.invariant.ascending name
+          (subst (λ m. IsNumberOf m.names name c.args.rank) (sym c.self.view_is) is)
+          ∙ ap (with_property_value name (value_bytes c.args.value)) c.self.view_is;
+      same_names = ap (λ m. m.names) c.self.view_is;
+    }

@@ -1,23 +1,34 @@
-use Rattle.std.proofs.Common.{◌≡◌, Some, slice_get, sym, subst, rules}
+use Rattle.std.proofs.Common.{T, sym, subst, ap, ◌∙◌, nat_cmp, rules}
+use Rattle.std.specs.Cmp.Lexicographic.{slice_cmp}
+use Rattle.std.specs.FinMap.{from_sorted, is_sorted}
+use Rattle.bi_fit.specs.PropertyMaps.{named, AreRanksWithin}
+use Rattle.std.specs.FinMap.Entries.{is_sorted-where_key}
 use Rattle.std.proofs.lemmas.Fn.{filter_same}
-use Rattle.std.specs.List.{AllByRecursion}
-use Rattle.bi_fit.specs.PropertyMaps.{numbers_in}
-use Rattle.bi_fit.specs.PropertyMapModels.{HaveNumbers}
-use Rattle.bi_fit.proofs.PropertyMaps.{sorted-filter, numbers-filter, keeps_value, from_sorted-filter}
+use Rattle.bi_fit.specs.ChangedNames.{is_payload_rank}
+use Rattle.std.specs.Prelude.{not}
+use Rattle.bi_fit.specs.PropertyMapModels.{among}
+use Rattle.bi_fit.specs.ImageTree.{without_payload}
+use Rattle.bi_fit.proofs.RankedProperties.{keeps_value, by_name-filter, within-filter}
 use Rattle.bi_fit.proofs.document.property_map.PropertyMap.remove_payload.Goals as goal
 
 pub invariant_of-self : goal.invariant_of-self
 invariant_of-self c =
-    let kept = filter_same _ keeps_value _ (λ x b f' t. search rules) _ _ c.retain.ensures.filtered in
-    rw kept (sorted-filter c.self.inside.entries.items c.self.invariant)
+    let names = c.self.inside.names.now in
+    let entries = c.self.inside.entries.items in
+    let keeps = keeps_value names c.self.invariant.in_order c.ranks-ranks.result c.ranks-ranks.ensures in
+    let kept = filter_same _ keeps _ (λ x b f' t. search rules) _ _ c.retain.ensures.filtered in
+    record {
+      in_order = c.self.invariant.in_order;
+      within = subst (AreRanksWithin names) (sym kept) (within-filter names c.self.invariant.in_order c.ranks-ranks.result c.ranks-ranks.ensures entries c.self.invariant.within);
+      ascending = subst (λ l. T (is_sorted nat_cmp l)) (sym kept) (is_sorted-where_key nat_cmp (λ rank. not (is_payload_rank c.ranks-ranks.result rank)) entries c.self.invariant.ascending);
+    }
 
-pub returns-clause-properties : goal.returns-clause-properties
-returns-clause-properties c =
-    let kept = filter_same _ keeps_value _ (λ x b f' t. search rules) _ _ c.retain.ensures.filtered in
-    rw (← c.self.view_is, kept) (from_sorted-filter c.self.inside.entries.items c.self.invariant)
-
-pub returns-clause-numbers : goal.returns-clause-numbers
-returns-clause-numbers c names have =
-    let kept = filter_same _ keeps_value _ (λ x b f' t. search rules) _ _ c.retain.ensures.filtered in
-    let given : AllByRecursion (λ entry. slice_get names entry.1 ≡ Some entry.0) (numbers_in c.self.inside.entries.items) = subst (HaveNumbers names) (sym c.self.view_is) have in
-    rw kept (numbers-filter (λ entry. slice_get names entry.1 ≡ Some entry.0) c.self.inside.entries.items given)
+pub returns : goal.returns
+returns c =
+    let names = c.self.inside.names.now in
+    let entries = c.self.inside.entries.items in
+    let keeps = keeps_value names c.self.invariant.in_order c.ranks-ranks.result c.ranks-ranks.ensures in
+    let kept = filter_same _ keeps _ (λ x b f' t. search rules) _ _ c.retain.ensures.filtered in
+    ap (λ l. among names (from_sorted {R = slice_cmp nat_cmp} (named names l))) kept
+    ∙ (ap (among names) (by_name-filter names c.self.invariant.in_order c.ranks-ranks.result c.ranks-ranks.ensures entries c.self.invariant.within c.self.invariant.ascending)
+    ∙ ap (λ m. among m.names (without_payload m.by_name)) c.self.view_is)

@@ -1,0 +1,34 @@
+use Rattle.std.proofs.Common.{◌≡◌, ℕ, false, List, [], ◌∷◌, map, Some, sym, ap, ◌∙◌}
+use Rattle.std.specs.Prelude.{nat_eq}
+use Rattle.std.specs.List.{slice_get, AllByRecursion, AllZip, IsDistinct}
+use Rattle.std.proofs.lemmas.Bool.{ne_eqb}
+use Rattle.std.proofs.lemmas.Map.Keys.{IsDistinct-cons}
+use Rattle.std.proofs.lemmas.Option.{same_Some}
+use Rattle.bi_blob.specs.Tree.{FileProperty, IsNew, AreDistinct, property_of}
+use Rattle.bi_fdt.specs.Numbers.{HasNumber}
+
+-- The numbers of the names of properties are distinct where the names are.
+
+-- The number of a name is not that of another name.
+numbers_differ : (names : List (List ℕ)) (name : List ℕ) (number : ℕ) → slice_get names number ≡ Some name →
+    (properties : List FileProperty) (numbers : List ℕ) → IsNew name (map (λ property. property.0) (map property_of properties)) →
+    AllZip (HasNumber names) properties numbers → AllByRecursion (λ other. nat_eq number other ≡ false) numbers
+numbers_differ names name number is [] [] new are = tt
+numbers_differ names name number is [] (other ∷ numbers) new are = absurd are
+numbers_differ names name number is (property ∷ later) [] new are = absurd are
+numbers_differ names name number is (property ∷ later) (other ∷ numbers) new are = (
+  ne_eqb number other (λ equal. new.0 (same_Some property.name name (sym are.0 ∙ ap (slice_get names) (sym equal) ∙ is))),
+  numbers_differ names name number is later numbers new.1 are.1,
+)
+
+-- Properties of distinct names have distinct numbers.
+pub distinct_numbers : (names : List (List ℕ)) (properties : List FileProperty) (numbers : List ℕ) →
+    AreDistinct (map (λ property. property.0) (map property_of properties)) → AllZip (HasNumber names) properties numbers →
+    IsDistinct nat_eq numbers
+unfolding IsDistinct
+distinct_numbers names [] [] distinct are = tt
+distinct_numbers names [] (number ∷ numbers) distinct are = absurd are
+distinct_numbers names (property ∷ later) [] distinct are = absurd are
+distinct_numbers names (property ∷ later) (number ∷ numbers) distinct are =
+    IsDistinct-cons nat_eq number numbers (numbers_differ names property.name number are.0 later numbers distinct.0 are.1)
+    (distinct_numbers names later numbers distinct.1 are.1)

@@ -1,0 +1,243 @@
+use Rattle.std.proofs.Common.{◌≡◌, ℕ, zero, suc, ◌<◌, ◌≤◌, inl, inr, Bool, true, false, List, [], ◌∷◌, ◌++◌, length}
+use Rattle.std.proofs.Common.{refl, sym, ap, subst, ◌∙◌, arith}
+use Rattle.std.specs.Prelude.{◌||◌, ◌==◌, if◌then◌else◌, bytes_eq, slice_index_or, slice_set}
+use Rattle.std.specs.List.{AllByRecursion}
+use Rattle.std.specs.Cmp.{unsigned_Decides}
+use Rattle.std.proofs.lemmas.Option.{none-some, same_Some, slice_get_within}
+use Rattle.std.proofs.lemmas.Slice.Eq.{bytes_eq-Decides}
+use Rattle.std.proofs.lemmas.List.Folds.{list_any-append}
+use Rattle.bi_blob.specs.Layout.{is_among}
+use Rattle.bi_blob.specs.Tree.{AreDistinct, IsNew}
+use Rattle.bi_blob.proofs.NameSets.{new_by_test, held_by_test}
+use Rattle.bi_fdt.specs.Numbers.{IsNumberOf, with_name}
+use Rattle.bi_fdt.specs.PropertyMarks.{MarkedNames, has_mark, HasMarked, AreMarksBelow}
+use Rattle.bi_fdt.proofs.NameParts.{slice_get-pushed}
+use Rattle.bi_fdt.proofs.UsedNames.{numbered_old}
+
+-- A node has exactly the names that have its mark.
+
+or_true : (b : Bool) → (b || true) ≡ true
+or_true true = refl
+or_true false = refl
+
+or_false : (b : Bool) → (b || false) ≡ b
+or_false true = refl
+or_false false = refl
+
+-- Two names that differ.
+differ : (a b : List ℕ) → ¬ (a ≡ b) → bytes_eq a b ≡ false
+differ a b apart = by (bytes_eq a b) refl
+  where
+    by : (e : Bool) → bytes_eq a b ≡ e → bytes_eq a b ≡ false
+    by true is = absurd (apart ((bytes_eq-Decides a b).0 is))
+    by false is = is
+
+same_bytes : (name : List ℕ) → bytes_eq name name ≡ true
+same_bytes name = (bytes_eq-Decides name name).1 refl
+
+-- A name that was not used has no mark.
+pub no_mark : (used : List (List ℕ)) (marks : List ℕ) (mark : ℕ) (name : List ℕ) → IsNew name used → has_mark used marks mark name ≡ false
+no_mark [] marks mark name new = refl
+no_mark (first ∷ later) [] mark name new = refl
+no_mark (first ∷ later) (own ∷ marks) mark name new = rw (differ first name new.0) (no_mark later marks mark name new.1)
+
+-- No name has a mark that is greater than all marks.
+pub no_greater_mark : (used : List (List ℕ)) (marks : List ℕ) (mark : ℕ) (name : List ℕ) → AllByRecursion (λ other. other < mark) marks →
+    has_mark used marks mark name ≡ false
+no_greater_mark [] marks mark name less = refl
+no_greater_mark (first ∷ later) [] mark name less = refl
+no_greater_mark (first ∷ later) (own ∷ marks) mark name less = by (bytes_eq first name) refl (no_greater_mark later marks mark name less.1)
+  where
+    by : (e : Bool) → bytes_eq first name ≡ e → has_mark later marks mark name ≡ false → has_mark (first ∷ later) (own ∷ marks) mark name ≡ false
+    by false is behind = rw is behind
+    by true is behind = rw is (by_mark (own == mark) refl)
+      where
+        by_mark : (e : Bool) → (own == mark) ≡ e → (own == mark) ≡ false
+        by_mark false apart = apart
+        by_mark true one = let same : own ≡ mark = (unsigned_Decides own mark).0 one in absurd (omega (arith, less.0, same))
+
+-- The mark of a name is at its number.
+pub mark_at : (used : List (List ℕ)) (marks : List ℕ) (mark : ℕ) (name : List ℕ) (number d : ℕ) → AreDistinct used →
+    length marks ≡ length used → IsNumberOf used name number → has_mark used marks mark name ≡ (slice_index_or marks number d == mark)
+mark_at [] marks mark name number d distinct long is = absurd (none-some name is)
+mark_at (first ∷ later) [] mark name number d distinct long is = absurd (omega (arith, long))
+mark_at (first ∷ later) (own ∷ marks) mark name zero d distinct long is =
+    rw ((bytes_eq-Decides first name).1 (same_Some _ _ is)) refl
+mark_at (first ∷ later) (own ∷ marks) mark name (suc number) d distinct long is =
+    rw (differ first name (λ same. numbered_old later name number is (subst (λ n. IsNew n later) same distinct.0)))
+    (mark_at later marks mark name number d distinct.1 (omega (arith, long)) is)
+
+-- The marks after a name gets another.
+pub mark_set : (used : List (List ℕ)) (marks : List ℕ) (mark : ℕ) (name other : List ℕ) (number : ℕ) → AreDistinct used →
+    length marks ≡ length used → IsNumberOf used name number →
+    has_mark used (slice_set marks number mark) mark other ≡ (has_mark used marks mark other || bytes_eq name other)
+mark_set [] marks mark name other number distinct long is = absurd (none-some name is)
+mark_set (first ∷ later) [] mark name other number distinct long is = absurd (omega (arith, long))
+mark_set (first ∷ later) (own ∷ marks) mark name other zero distinct long is = by (bytes_eq first other) refl
+  where
+    same : bytes_eq first other ≡ bytes_eq name other
+    same = ap (λ l. bytes_eq l other) (same_Some _ _ is)
+
+    by : (e : Bool) → bytes_eq first other ≡ e → has_mark (first ∷ later) (mark ∷ marks) mark other
+        ≡ (has_mark (first ∷ later) (own ∷ marks) mark other || bytes_eq name other)
+    by true one =
+        rw (one, sym same ∙ one) ((unsigned_Decides mark mark).1 refl ∙ sym (or_true (own == mark)))
+    by false apart =
+        rw (apart, sym same ∙ apart) (sym (or_false (has_mark later marks mark other)))
+mark_set (first ∷ later) (own ∷ marks) mark name other (suc number) distinct long is =
+    by (bytes_eq first other) refl (mark_set later marks mark name other number distinct.1 (omega (arith, long)) is)
+  where
+    apart : ¬ (first ≡ name)
+    apart same = numbered_old later name number is (subst (λ n. IsNew n later) same distinct.0)
+
+    by : (e : Bool) → bytes_eq first other ≡ e →
+        has_mark later (slice_set marks number mark) mark other ≡ (has_mark later marks mark other || bytes_eq name other) →
+        has_mark (first ∷ later) (own ∷ slice_set marks number mark) mark other
+        ≡ (has_mark (first ∷ later) (own ∷ marks) mark other || bytes_eq name other)
+    by true one behind =
+        let no = differ name other (λ same. apart ((bytes_eq-Decides first other).0 one ∙ sym same)) in
+        rw (one, no) (sym (or_false (own == mark)))
+    by false two behind = rw two behind
+
+-- The marks with that of a new name.
+pub mark_push : (used : List (List ℕ)) (marks : List ℕ) (mark : ℕ) (name other : List ℕ) → length marks ≡ length used → IsNew name used →
+    has_mark (used ++ name ∷ []) (marks ++ mark ∷ []) mark other ≡ (has_mark used marks mark other || bytes_eq name other)
+mark_push [] [] mark name other long new = by (bytes_eq name other) refl
+  where
+    by : (e : Bool) → bytes_eq name other ≡ e → (if bytes_eq name other then mark == mark else false) ≡ bytes_eq name other
+    by true is = rw is ((unsigned_Decides mark mark).1 refl)
+    by false is = rw is refl
+mark_push [] (own ∷ marks) mark name other long new = absurd (omega (arith, long))
+mark_push (first ∷ later) [] mark name other long new = absurd (omega (arith, long))
+mark_push (first ∷ later) (own ∷ marks) mark name other long new =
+    by (bytes_eq first other) refl (mark_push later marks mark name other (omega (arith, long)) new.1)
+  where
+    by : (e : Bool) → bytes_eq first other ≡ e →
+        has_mark (later ++ name ∷ []) (marks ++ mark ∷ []) mark other ≡ (has_mark later marks mark other || bytes_eq name other) →
+        has_mark (first ∷ (later ++ name ∷ [])) (own ∷ (marks ++ mark ∷ [])) mark other
+        ≡ (has_mark (first ∷ later) (own ∷ marks) mark other || bytes_eq name other)
+    by true one behind =
+        let no = differ name other (λ same. new.0 ((bytes_eq-Decides first other).0 one ∙ sym same)) in
+        rw (one, no) (sym (or_false (own == mark)))
+    by false two behind = rw two behind
+
+-- A name is among names with one more if it was among them or is that.
+among_push : (held : List (List ℕ)) (name other : List ℕ) → is_among other (held ++ name ∷ []) ≡ (is_among other held || bytes_eq name other)
+among_push held name other =
+    list_any-append (λ one. bytes_eq one other) held (name ∷ []) ∙ ap (λ b. is_among other held || b) (or_false (bytes_eq name other))
+
+-- A name that comes next was not used before, and any other was.
+pub next_is_new : (used : List (List ℕ)) (name : List ℕ) (number : ℕ) → IsNumberOf (with_name used name) name number →
+    number ≡ length used → is_among name used ≡ false
+next_is_new used name number is last = by (is_among name used) refl
+  where
+    by : (b : Bool) → is_among name used ≡ b → is_among name used ≡ false
+    by false new = new
+    by true old =
+        let kept : IsNumberOf used name number = subst (λ l. IsNumberOf l name number) (ap (λ b. if b then used else used ++ name ∷ []) old) is in
+        let within : number < length used = slice_get_within used number name kept in
+        absurd (omega (arith, within, last))
+
+pub other_is_old : (used : List (List ℕ)) (name : List ℕ) (number : ℕ) → IsNumberOf (with_name used name) name number →
+    ¬ (number ≡ length used) → with_name used name ≡ used
+other_is_old used name number is elsewhere = by (is_among name used) refl
+  where
+    by : (b : Bool) → is_among name used ≡ b → with_name used name ≡ used
+    by true old = ap (λ b. if b then used else used ++ name ∷ []) old
+    by false new =
+        elim (slice_get-pushed used name number name (subst (λ l. IsNumberOf l name number) (ap (λ b. if b then used else used ++ name ∷ []) new) is)) [
+          | inl there ↦ absurd (numbered_old used name number there (new_by_test name used new))
+          | inr last ↦ absurd (elsewhere last.0)
+        ]
+
+-- A node that gets one more name.
+pub marked_more : (names new : MarkedNames) (mark : ℕ) (held : List (List ℕ)) (name : List ℕ) → HasMarked names mark held →
+    ((other : List ℕ) → has_mark new.used new.marks mark other ≡ (has_mark names.used names.marks mark other || bytes_eq name other)) →
+    HasMarked new mark (held ++ name ∷ [])
+marked_more names new mark held name has more other =
+    among_push held name other ∙ ap (λ b. b || bytes_eq name other) (has other) ∙ sym (more other)
+
+-- Whether a node has a name, by its mark.
+pub new_without_mark : (names : MarkedNames) (mark : ℕ) (held : List (List ℕ)) (name : List ℕ) → HasMarked names mark held →
+    has_mark names.used names.marks mark name ≡ false → IsNew name held
+new_without_mark names mark held name has lacks = new_by_test name held (has name ∙ lacks)
+
+pub old_with_mark : (names : MarkedNames) (mark : ℕ) (held : List (List ℕ)) (name : List ℕ) → HasMarked names mark held →
+    has_mark names.used names.marks mark name ≡ true → ¬ (IsNew name held)
+old_with_mark names mark held name has marked = held_by_test name held (has name ∙ marked)
+
+-- A node that begins, whose mark is greater than all, has no name.
+pub begins_without_names : (names : MarkedNames) (mark : ℕ) → AreMarksBelow mark names → HasMarked names mark []
+begins_without_names names mark below name = sym (no_greater_mark names.used names.marks mark name below)
+
+-- Bounds of marks.
+pub bound_push : (most : ℕ) (marks : List ℕ) (mark : ℕ) → mark < most → AllByRecursion (λ other. other < most) marks →
+    AllByRecursion (λ other. other < most) (marks ++ mark ∷ [])
+bound_push most [] mark within all = (within, tt)
+bound_push most (first ∷ marks) mark within all = (all.0, bound_push most marks mark within all.1)
+
+pub bound_set : (most : ℕ) (marks : List ℕ) (number mark : ℕ) → mark < most → AllByRecursion (λ other. other < most) marks →
+    AllByRecursion (λ other. other < most) (slice_set marks number mark)
+bound_set most [] number mark within all = tt
+bound_set most (first ∷ marks) zero mark within all = (within, all.1)
+bound_set most (first ∷ marks) (suc number) mark within all = (all.0, bound_set most marks number mark within all.1)
+
+-- A greater bound.
+pub bound_more : (bound more : ℕ) (marks : List ℕ) → bound ≤ more → AllByRecursion (λ other. other < bound) marks →
+    AllByRecursion (λ other. other < more) marks
+bound_more bound more [] most all = tt
+bound_more bound more (other ∷ marks) most all = (omega (arith, all.0, most), bound_more bound more marks most all.1)
+
+-- What the mark of a name tells, where `old` are the names before, which have as many marks.
+module _ (old : MarkedNames) (used : List (List ℕ)) (mark number : ℕ) (name : List ℕ) (long : length old.marks ≡ length old.used)
+    (same : used ≡ with_name old.used name) (is : IsNumberOf used name number) where
+  with_is : IsNumberOf (with_name old.used name) name number
+  with_is = subst (λ l. IsNumberOf l name number) same is
+
+  module _ (last : number ≡ length old.marks) where
+    was_new : is_among name old.used ≡ false
+    was_new = next_is_new old.used name number with_is (last ∙ long)
+
+    pub next_used : used ≡ old.used ++ name ∷ []
+    next_used = same ∙ ap (λ b. if b then old.used else old.used ++ name ∷ []) was_new
+
+    pub next_is_first : (held : List (List ℕ)) → HasMarked old mark held → IsNew name held
+    next_is_first held has =
+        new_without_mark old mark held name has (no_mark old.used old.marks mark name (new_by_test name old.used was_new))
+
+    pub next_marked : (held : List (List ℕ)) → HasMarked old mark held → (other : List ℕ) →
+        is_among other (held ++ name ∷ []) ≡ has_mark used (old.marks ++ mark ∷ []) mark other
+    next_marked held has other =
+        among_push held name other ∙ ap (λ b. b || bytes_eq name other) (has other)
+        ∙ sym (mark_push old.used old.marks mark name other long (new_by_test name old.used was_new))
+        ∙ ap (λ l. has_mark l (old.marks ++ mark ∷ []) mark other) (sym next_used)
+
+  module _ (elsewhere : ¬ (number ≡ length old.marks)) where
+    pub known_used : used ≡ old.used
+    known_used = same ∙ other_is_old old.used name number with_is (λ last. elsewhere (last ∙ sym long))
+
+    known_is : IsNumberOf old.used name number
+    known_is = subst (λ l. IsNumberOf l name number) known_used is
+
+    pub known_within : number < length old.marks
+    known_within = let within : number < length old.used = slice_get_within old.used number name known_is in omega (arith, within, long)
+
+    module _ (distinct : AreDistinct used) (held : List (List ℕ)) (has : HasMarked old mark held) (d : ℕ) where
+      by_mark : has_mark old.used old.marks mark name ≡ (slice_index_or old.marks number d == mark)
+      by_mark = mark_at old.used old.marks mark name number d (subst AreDistinct known_used distinct) long known_is
+
+      pub known_is_old : slice_index_or old.marks number d ≡ mark → ¬ (IsNew name held)
+      known_is_old one = old_with_mark old mark held name has (by_mark ∙ (unsigned_Decides _ mark).1 one)
+
+      pub known_is_first : ¬ (slice_index_or old.marks number d ≡ mark) → IsNew name held
+      known_is_first apart = new_without_mark old mark held name has (by_mark ∙ by (slice_index_or old.marks number d == mark) refl)
+        where
+          by : (b : Bool) → (slice_index_or old.marks number d == mark) ≡ b → (slice_index_or old.marks number d == mark) ≡ false
+          by true one = absurd (apart ((unsigned_Decides _ mark).0 one))
+          by false two = two
+
+      pub known_marked : (other : List ℕ) → is_among other (held ++ name ∷ []) ≡ has_mark used (slice_set old.marks number mark) mark other
+      known_marked other =
+          among_push held name other ∙ ap (λ b. b || bytes_eq name other) (has other)
+          ∙ sym (mark_set old.used old.marks mark name other number (subst AreDistinct known_used distinct) long known_is)
+          ∙ ap (λ l. has_mark l (slice_set old.marks number mark) mark other) (sym known_used)

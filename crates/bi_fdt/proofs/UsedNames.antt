@@ -1,0 +1,65 @@
+use Rattle.std.proofs.Common.{◌≡◌, ◌↔◌, ℕ, zero, suc, inl, inr, Bool, true, false, List, [], ◌∷◌, ◌++◌, slice_get}
+use Rattle.std.proofs.Common.{refl, sym, ap, subst, ◌∙◌}
+use Rattle.std.specs.Prelude.{if◌then◌else◌, IfOk, OnOk, Ok, Err}
+use Rattle.std.specs.declared.result.Result.{Result}
+use Rattle.std.specs.List.{AllByRecursion}
+use Rattle.std.proofs.lemmas.Option.{none-some, same_Some}
+use Rattle.bi_blob.specs.Layout.{is_among}
+use Rattle.bi_blob.specs.Tree.{AreDistinct, IsNew}
+use Rattle.bi_blob.proofs.NameSets.{new_by_test, held_by_test}
+use Rattle.bi_fdt.specs.NameTables.{HasAtMostMore}
+use Rattle.bi_fdt.specs.Numbers.{IsNumberOf, with_name}
+
+-- Names that were used are there once, at their numbers.
+
+-- A name that has a number is not new.
+pub numbered_old : (names : List (List ℕ)) (name : List ℕ) (number : ℕ) → IsNumberOf names name number → ¬ (IsNew name names)
+numbered_old [] name number is new = absurd (none-some name is)
+numbered_old (first ∷ later) name zero is new = absurd (new.0 (same_Some _ _ is))
+numbered_old (first ∷ later) name (suc number) is new = numbered_old later name number is new.1
+
+-- What holds of all holds of the last.
+last_of_all : {A : Type 0} (P : A → Type 0) (xs : List A) (x : A) → AllByRecursion P (xs ++ x ∷ []) → P x
+last_of_all P [] x all = all.0
+last_of_all P (y ∷ xs) x all = last_of_all P xs x all.1
+
+-- The last of distinct names is not among the others.
+last_is_new : (names : List (List ℕ)) (name : List ℕ) → AreDistinct (names ++ name ∷ []) → IsNew name names
+last_is_new [] name distinct = tt
+last_is_new (first ∷ later) name distinct = (
+  (λ same. last_of_all (λ other. ¬ (other ≡ first)) later name distinct.0 (sym same)),
+  last_is_new later name distinct.1,
+)
+
+-- The names after one more use of one of them.
+pub used_once_more : (old new : List (List ℕ)) (name : List ℕ) (number : ℕ) → HasAtMostMore old new name → AreDistinct new →
+    IsNumberOf new name number → new ≡ with_name old name
+used_once_more old new name number at_most distinct is = by (is_among name old) refl at_most
+  where
+    by : (b : Bool) → is_among name old ≡ b → HasAtMostMore old new name → new ≡ with_name old name
+    by true among (inl same) = same ∙ ap (λ b. if b then old else old ++ name ∷ []) (sym among)
+    by true among (inr more) = absurd (held_by_test name old among (last_is_new old name (subst AreDistinct more distinct)))
+    by false among (inl same) =
+        absurd (numbered_old old name number (subst (λ l. IsNumberOf l name number) same is) (new_by_test name old among))
+    by false among (inr more) = more ∙ ap (λ b. if b then old else old ++ name ∷ []) (sym among)
+
+-- Two names are equal exactly if their numbers are.
+pub one_number_each : (names : List (List ℕ)) → AreDistinct names → (a b : List ℕ) (m n : ℕ) → IsNumberOf names a m → IsNumberOf names b n →
+    (m ≡ n) ↔ (a ≡ b)
+one_number_each names distinct a b m n is_a is_b = (
+  (λ same. same_Some _ _ (sym is_a ∙ ap (slice_get names) same ∙ is_b)),
+  (λ same. once names distinct m n b (subst (λ l. IsNumberOf names l m) same is_a) is_b),
+) where
+  once : (names : List (List ℕ)) → AreDistinct names → (m n : ℕ) (name : List ℕ) → IsNumberOf names name m → IsNumberOf names name n → m ≡ n
+  once [] distinct m n name at_m at_n = absurd (none-some name at_m)
+  once (first ∷ later) distinct zero zero name at_m at_n = refl
+  once (first ∷ later) distinct zero (suc n) name at_m at_n =
+      absurd (numbered_old later name n at_n (subst (λ l. IsNew l later) (same_Some _ _ at_m) distinct.0))
+  once (first ∷ later) distinct (suc m) zero name at_m at_n =
+      absurd (numbered_old later name m at_m (subst (λ l. IsNew l later) (same_Some _ _ at_n) distinct.0))
+  once (first ∷ later) distinct (suc m) (suc n) name at_m at_n = ap suc (once later distinct.1 m n name at_m at_n)
+
+-- What follows from what holds of a value.
+pub on_ok : {V E : Type 0} (r : Result V E) (P : V → Type 0) (Q : Type 0) → IfOk r P → ((v : V) → P v → Q) → OnOk r Q
+on_ok (Ok v) P Q has follows = follows v has
+on_ok (Err e) P Q has follows = tt

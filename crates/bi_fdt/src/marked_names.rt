@@ -1,0 +1,97 @@
+//! The names of the properties of a node, while the node is read.
+
+ghost use Rattle.std.specs.Prelude.{◌≡◌, ◌<◌, ◌++◌, ◌∷◌, ◌↔◌, ℕ, List, [], length};
+ghost use Rattle.std.specs.Prelude.{IsSome, IfSome, IfOk, OnOk};
+ghost use Rattle.bi_blob.specs.Tokens.{name_from};
+ghost use Rattle.bi_blob.specs.Tree.{IsNew};
+ghost use Rattle.bi_blob.specs.BlobFaults.{HasName};
+ghost use Rattle.bi_fdt.specs.Numbers.{IsNumberOf, with_name};
+ghost use Rattle.bi_fdt.specs.PropertyMarks.{HasMarked, AreMarksBelow};
+
+use crate::strings::Strings;
+use crate::used_names::UsedNames;
+use std::alloc::{AllocError, Global};
+use std::marker::Model;
+
+/// The names that properties have had so far, each with the mark of the last node that has a
+/// property of the name. So it is known at once whether a node has a name, and nothing is cleared
+/// when a node begins.
+#[derive(Drop)]
+pub(crate) struct MarkedNames<'a> {
+    names: UsedNames<'a>,
+    /// The mark of each name, by its number.
+    marks: Vec<u32>,
+}
+
+impl<'a> Model for MarkedNames<'a> {
+    ghost use Rattle.std.specs.Prelude.{◌≡◌, length};
+    ghost use Rattle.bi_fdt.specs.PropertyMarks.{MarkedNames as Marked};
+
+    ghost Value = { Marked };
+
+    ghost view = { λ names. record {
+      strings = names.names.strings;
+      used = names.names.used;
+      marks = names.marks.items;
+    } };
+
+    ghost invariant = { λ names. length names.marks.items ≡ length names.names.used };
+}
+
+impl<'a> MarkedNames<'a> {
+    /// Returns a strings block of which no name was used. Takes time and memory linear in it.
+    pub(crate) fn new(alloc: Global, strings: &Strings<'a>) -> Result<MarkedNames<'a>, AllocError>
+        ensures { IfOk result (λ names.
+            names ≡ record { strings = strings.now; used = []; marks = [] }) }
+    {
+        Ok(MarkedNames {
+            names: UsedNames::new(alloc, strings)?,
+            marks: Vec::new(alloc),
+        })
+    }
+
+    /// Adds the name at offset `at` to those of the properties of the node with this mark, and
+    /// returns its number. Returns None if the node has the name already. Reads at most 127 bytes
+    /// of the name, however long it is. Fails if memory runs out.
+    pub(crate) fn insert(
+        &mut self,
+        at: usize,
+        name: &'a [u8],
+        mark: u32,
+    ) -> Result<Option<usize>, AllocError>
+        requires there { HasName self.old.strings at (length self.old.strings) }
+        requires name { name.now ≡ name_from self.old.strings at }
+        ensures number { IfOk result (λ number.
+            IfSome number (IsNumberOf self.new.used name.entry.now)) }
+        ensures used { OnOk result (self.new.used ≡ with_name self.old.used name.entry.now) }
+        ensures new { IfOk result (λ number. (held : List (List ℕ))
+            → HasMarked self.old mark held → (IsSome number ↔ IsNew name.entry.now held)) }
+        ensures added { IfOk result (λ number. IsSome number → (held : List (List ℕ))
+            → HasMarked self.old mark held
+            → HasMarked self.new mark (held ++ name.entry.now ∷ [])) }
+        ensures marks { OnOk result ((bound : ℕ) → mark < bound → AreMarksBelow bound self.old
+            → AreMarksBelow bound self.new) }
+        ensures strings { self.new.strings ≡ self.old.strings }
+    {
+        self.marks.reserve(1)?;
+        let number = self.names.number_at(at, name)?;
+        if number == self.marks.len() {
+            self.marks.push(mark).unwrap();
+            return Ok(Some(number));
+        }
+        if self.marks[number] == mark {
+            return Ok(None);
+        }
+        self.marks[number] = mark;
+        Ok(Some(number))
+    }
+
+    /// Returns the names without their marks.
+    pub(crate) fn into_names(self) -> UsedNames<'a>
+        ensures strings { result.strings ≡ self.entry.strings }
+        ensures used { result.used ≡ self.entry.used }
+    {
+        let MarkedNames { names, marks: _ } = self;
+        names
+    }
+}
