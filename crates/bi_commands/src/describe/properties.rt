@@ -47,12 +47,13 @@ pub(super) fn add_image_properties<'a>(
         ++ property_entries (without_payload (properties_by_name (node_of node.entry).own))) }
 {
     for (_, property) in properties_in(node, &order.properties) {
-        if !is_payload_name(property.name) {
-            entries.push(Entry::Property {
-                name: property.name,
-                value: property.value,
-            })?;
+        if is_payload_name(property.name) {
+            continue;
         }
+        entries.push(Entry::Property {
+            name: property.name,
+            value: property.value,
+        })?;
     }
     Ok(())
 }
