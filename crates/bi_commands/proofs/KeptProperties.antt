@@ -1,4 +1,4 @@
-use Rattle.std.proofs.Common.{◌≡◌, true, false, T, not, cond, List, ◌∷◌, None, sym, ap, ◌∙◌, nat_cmp}
+use Rattle.std.proofs.Common.{◌≡◌, T, not, cond, List, None, sym, ap, ◌∙◌, nat_cmp}
 use Rattle.std.specs.Cmp.Lexicographic.{slice_cmp}
 use Rattle.std.specs.FinMap.{entries, from_sorted, get, entries-from_sorted, entries_sorted, is_sorted, get-from_sorted, same_entries_map}
 use Rattle.std.specs.FinMap.Entries.{where_key, find-where_key, is_sorted-where_key}
@@ -31,12 +31,3 @@ entries_without properties =
 
     is_sorted_kept : T (is_sorted (slice_cmp nat_cmp) kept)
     is_sorted_kept = is_sorted-where_key (slice_cmp nat_cmp) (λ name. not (is_payload_name name)) (entries properties) (entries_sorted properties)
-
--- The first of some properties is one of the others, unless it holds a payload or names its region.
-pub others_first : (property : Property) (later : List Property) → is_payload_name property.0 ≡ false →
-    others_of (property ∷ later) ≡ property ∷ others_of later
-others_first property later is = ap (λ b. cond (not b) (property ∷ others_of later) (others_of later)) is
-
-pub others_later : (property : Property) (later : List Property) → is_payload_name property.0 ≡ true →
-    others_of (property ∷ later) ≡ others_of later
-others_later property later is = ap (λ b. cond (not b) (property ∷ others_of later) (others_of later)) is
