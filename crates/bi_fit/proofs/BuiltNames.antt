@@ -31,7 +31,7 @@ abbrev are_in_order : List (List ℕ) → Bool
 are_in_order [] = true
 are_in_order (name ∷ names) = is_first name names && are_in_order names
 
-in_order : (names : List (List ℕ)) → are_in_order names ≡ true → IsStrictlySortedBy (slice_cmp nat_cmp) names
+pub in_order : (names : List (List ℕ)) → are_in_order names ≡ true → IsStrictlySortedBy (slice_cmp nat_cmp) names
 unfolding IsStrictlySortedBy
 in_order [] are = tt
 in_order (name ∷ names) are =

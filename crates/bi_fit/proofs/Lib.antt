@@ -37,6 +37,7 @@ pub mod DistinctNumbers
 pub mod MovedPairs
 pub mod RankedProperties
 pub mod KeyedEntries
+pub mod ChangedNames
 pub mod AddedProperties
 pub mod NodeEvents
 pub mod PayloadEnds

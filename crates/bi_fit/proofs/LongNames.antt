@@ -74,7 +74,7 @@ pub payload_name_short : (name : List ℕ) → is_payload_name name ≡ true →
 payload_name_short name is = one_of_short name payload_names (refl, (refl, (refl, (refl, tt)))) is
 
 -- How many bytes there are in place of a name.
-abbrev long_length : List ℕ → ℕ
+abbrev pub long_length : List ℕ → ℕ
 long_length name = length (name_if_long name)
 
 -- These are at most as many as those of all names among which the name is,
@@ -91,7 +91,7 @@ one_and_others name names has =
     omega (arith, both, one)
 
 -- Each of these names is short or among others.
-abbrev AreShortOrAmong : List (List ℕ) → List (List ℕ) → Type 0
+abbrev pub AreShortOrAmong : List (List ℕ) → List (List ℕ) → Type 0
 AreShortOrAmong others names = AllByRecursion (λ name. (long_length name ≡ 0) ⊎ Contains others name) names
 
 -- This is so without a name that is none of them.
@@ -138,24 +138,18 @@ new_before name (other ∷ later) before = (differs, new_before name later befor
         true≢false (ap is_lt (sym before.0 ∙ tied))
 
 -- so names in byte order are distinct.
-distinct_in_order : (names : List (List ℕ)) → IsStrictlySortedBy (slice_cmp nat_cmp) names → AreDistinct names
+pub distinct_in_order : (names : List (List ℕ)) → IsStrictlySortedBy (slice_cmp nat_cmp) names → AreDistinct names
 distinct_in_order [] ordered = tt
 distinct_in_order (name ∷ later) ordered = (
   new_before name later (sorted_head (slice_cmp nat_cmp) name later ordered),
   distinct_in_order later (sorted_tail (slice_cmp nat_cmp) name later ordered),
 )
 
--- Each name that is among others is short or among them.
-all_among : (names others : List (List ℕ)) → All (Contains others) names → AreShortOrAmong others names
-all_among [] others among = tt
-all_among (name ∷ later) others among =
-    (inr (All-head (Contains others) name later among), all_among later others (All-tail (Contains others) name later among))
-
--- Long names in byte order, which are among others, are together no longer than those.
-pub long_names_in_order : (sorted names : List (List ℕ)) → IsStrictlySortedBy (slice_cmp nat_cmp) sorted → All (Contains names) sorted →
+-- Long names in byte order, each of which is short or among others, are together no longer than those.
+pub long_names_in_order : (sorted names : List (List ℕ)) → IsStrictlySortedBy (slice_cmp nat_cmp) sorted → AreShortOrAmong names sorted →
     length (flat_map name_if_long sorted) ≤ length (flat_map name_if_long names)
 long_names_in_order sorted names ordered among =
-    let no_longer = no_longer_than_others sorted names (distinct_in_order sorted ordered) (all_among sorted names among) in
+    let no_longer = no_longer_than_others sorted names (distinct_in_order sorted ordered) among in
     omega (arith, length-flat_map name_if_long sorted, length-flat_map name_if_long names, no_longer)
 
 -- One of these nodes or of all nodes below them has what meets a condition.

@@ -17,7 +17,6 @@ use Rattle.bi_fit.specs.NewDigests.{new_digests}
 use Rattle.bi_fit.specs.Documents.{document_of}
 use Rattle.bi_fit.specs.NormalNodes.{MayAdd, with_events, with_reservations, HasDistinctNames, HaveImageNodes, AreImageNodes, alone}
 use Rattle.bi_fit.specs.NormalNodes.{payloads_of, sorted_root}
-use Rattle.bi_fdt.specs.Numbers.{AreRanks}
 use Rattle.bi_fit.proofs.ImagesPositions.{position_there}
 use Rattle.bi_fit.proofs.NormalTrees.{held_distinct, held_images, held_events, held_closed}
 
@@ -61,10 +60,6 @@ module _ (content : FitModel) (held : IsHeld content) (changes : Changes) (form 
       (is_reserved : reserved ≡ with_reservations started blob.reservations) where
     same_reserved : reserved ≡ with_reservations (empty_with_names cpu names) blob.reservations
     same_reserved = is_reserved ∙ ap (λ document. with_reservations document blob.reservations) is_started
-
-    -- The names have the numbers that the ranks of the blob are.
-    pub ranks_there : (ranks : List ℕ) → AreRanks names blob.table ranks → AreRanks reserved.names blob.table ranks
-    ranks_there ranks are = subst (λ names. AreRanks names blob.table ranks) (sym (ap (λ document. document.names) same_reserved)) are
 
     -- The tree may be added.
     pub may_add_tree : MayAdd reserved tree_events

@@ -1,6 +1,6 @@
 //! The order of the names of a file's properties.
 
-ghost use Rattle.std.specs.Prelude.{◌≡◌, ◌<◌, ◌≤◌, ℕ, List, length, flat_map, OnOk, IfOk, IfErr};
+ghost use Rattle.std.specs.Prelude.{◌≡◌, ◌<◌, ◌≤◌, ℕ, List, slice_index_or, length, flat_map, OnOk, IfOk, IfErr};
 ghost use Rattle.std.specs.List.{AllZip};
 ghost use Rattle.bi_base.specs.Errors.{IsFaultOrNoMemory};
 ghost use Rattle.bi_base.specs.Reading.{too_large};
@@ -103,19 +103,24 @@ fn number_name<'a>(
     Ok(number)
 }
 
-/// Returns the ranks of names by their numbers. The ranks are by number.
+/// Returns the ranks of the names that have these numbers. The ranks are by number.
 fn ranks_at(ranks: &[usize], numbers: ChangedNumbers) -> ChangedNumbers
-    requires { (names : List (List ℕ)) × (sorted : List (List ℕ))
-        × AllZip (IsNumberOf sorted) names ranks.now × AreChangedNumbers names numbers }
     ensures { (names sorted : List (List ℕ)) → AllZip (IsNumberOf sorted) names ranks.now
         → AreChangedNumbers names numbers → AreChangedNumbers sorted result }
 {
     ChangedNumbers {
-        payload: ranks[numbers.payload],
-        offset: ranks[numbers.offset],
-        position: ranks[numbers.position],
-        size: ranks[numbers.size],
-        time: ranks[numbers.time],
-        digest: ranks[numbers.digest],
+        payload: rank_at(ranks, numbers.payload),
+        offset: rank_at(ranks, numbers.offset),
+        position: rank_at(ranks, numbers.position),
+        size: rank_at(ranks, numbers.size),
+        time: rank_at(ranks, numbers.time),
+        digest: rank_at(ranks, numbers.digest),
     }
+}
+
+/// Returns the rank at a number, or 0 if no name has the number.
+fn rank_at(ranks: &[usize], number: usize) -> usize
+    ensures { result ≡ slice_index_or ranks.now number 0 }
+{
+    ranks.get(number).copied().unwrap_or(0)
 }
