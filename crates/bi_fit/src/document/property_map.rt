@@ -78,8 +78,6 @@ impl<'a, 'b> PropertyMap<'a, 'b> {
         ensures { IfOk result (λ properties. properties
             ≡ among order.entry.now.names (properties_by_name (node_of node.entry).own)) }
     {
-        // The call gives the proof that the names are in byte order.
-        let _ = order.names.ranks();
         let properties = node.properties_in(&order.properties);
         let entries = entries_of(alloc, node.property_count(), properties)?;
         Ok(PropertyMap {
