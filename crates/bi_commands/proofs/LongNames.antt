@@ -18,7 +18,7 @@ use Rattle.bi_fit.specs.ImageTree.{ImageTree, IsImageTree, IsApart, ArePropertie
 use Rattle.bi_fit.specs.LongNames.{name_if_long, HasLongerNames}
 use Rattle.bi_fit.specs.Names.{images_name}
 use Rattle.bi_fit.proofs.FileTrees.{is_image_tree}
-use Rattle.bi_fit.proofs.LongNames.{length-name_if_long, names_in_order, names_of_node, long_names_of_tree}
+use Rattle.bi_fit.proofs.LongNames.{length-name_if_long, names_of_nodes, names_of_nodes-first, long_names_of_tree}
 use Rattle.bi_fit.proofs.Meanings.{same_in_some}
 use Rattle.bi_fit.proofs.NormalTrees.{held_means}
 use Rattle.bi_norm.specs.Meaning.{OfFit}
@@ -82,13 +82,13 @@ long_bytes-append front back =
     ap length (flat_map-append name_if_long front back) ∙ length-append (flat_map name_if_long front) (flat_map name_if_long back)
 
 long_bytes_of_node : (name : List ℕ) (own : PropertyMap) (children later : Nodes PropertyMap)
-    → long_bytes (names_in_order (node name own children later))
-    ≡ long_bytes (map (λ property. property.0) (entries own)) + (long_bytes (names_in_order children) + long_bytes (names_in_order later))
+    → long_bytes (names_of_nodes (node name own children later))
+    ≡ long_bytes (map (λ property. property.0) (entries own)) + (long_bytes (names_of_nodes children) + long_bytes (names_of_nodes later))
 long_bytes_of_node name own children later =
     let own_names : List (List ℕ) = map (λ property. property.0) (entries own) in
-    ap long_bytes (names_of_node name own children later)
-    ∙ long_bytes-append own_names (names_in_order children ++ names_in_order later)
-    ∙ ap (λ n. long_bytes own_names + n) (long_bytes-append (names_in_order children) (names_in_order later))
+    ap long_bytes (names_of_nodes-first name own children later)
+    ∙ long_bytes-append own_names (names_of_nodes children ++ names_of_nodes later)
+    ∙ ap (λ n. long_bytes own_names + n) (long_bytes-append (names_of_nodes children) (names_of_nodes later))
 
 -- The lines of properties are at least as long as their long names.
 properties_long : (path : List ℕ) (properties : List Property) →
@@ -121,7 +121,7 @@ abbrev properties_by_node : Nodes DescribedNode → Nodes PropertyMap
 properties_by_node nodes = with_each (λ (own : DescribedNode). own.properties) nodes
 
 nodes_long : (above : List (List ℕ)) (nodes : Nodes DescribedNode) →
-    long_bytes (names_in_order (properties_by_node nodes)) ≤ length (flat_map line (node_lines above nodes))
+    long_bytes (names_of_nodes (properties_by_node nodes)) ≤ length (flat_map line (node_lines above nodes))
 nodes_long above none = omega arith
 nodes_long above (node name own children later) =
     let inner : List (List ℕ) = above ++ name ∷ [] in
@@ -189,12 +189,12 @@ properties_shown IsOwn (node name own children later) images payloads are has ap
         rw is (same_node name own _ _ _ _ (plain_properties children) (rest (rw is at has)))
 
 -- The lines of a tree are at least as long as the long names of its properties,
-tree_long : (tree : ImageTree) → IsImageTree tree → long_bytes (names_in_order (as_nodes tree.root)) ≤ length (flat_map line (tree_lines tree))
+tree_long : (tree : ImageTree) → IsImageTree tree → long_bytes (names_of_nodes (as_nodes tree.root)) ≤ length (flat_map line (tree_lines tree))
 tree_long tree is =
     let nodes : Nodes DescribedNode = described_nodes tree.root.children tree.payloads in
     let own : List Words = own_lines (path []) (plain_node tree.root.own) in
     let below : List Words = node_lines [] nodes in
-    let same = ap (λ nodes. long_bytes (names_in_order nodes)) (properties_shown ArePropertiesByName tree.root.children is.images tree.payloads is.is_tree.children is.has_images is.apart) in
+    let same = ap (λ nodes. long_bytes (names_of_nodes nodes)) (properties_shown ArePropertiesByName tree.root.children is.images tree.payloads is.is_tree.children is.has_images is.apart) in
     let lines = ap length (flat_map-append line own below) ∙ length-append (flat_map line own) (flat_map line below) in
     let names = long_bytes_of_node [] tree.root.own tree.root.children none in
     let one = own_long (path []) (plain_node tree.root.own) in
@@ -202,7 +202,7 @@ tree_long tree is =
     omega (arith, same, lines, names, one, two)
 
 -- and so is the description.
-long_names_described : (tree : ImageTree) → IsImageTree tree → long_bytes (names_in_order (as_nodes tree.root)) ≤ length (description (OfFit tree))
+long_names_described : (tree : ImageTree) → IsImageTree tree → long_bytes (names_of_nodes (as_nodes tree.root)) ≤ length (description (OfFit tree))
 long_names_described tree is =
     let kind : Words = codes "kind" ∷ codes "fit" ∷ [] in
     let cpu : Words = codes "boot-cpu" ∷ decimal tree.cpu ∷ [] in

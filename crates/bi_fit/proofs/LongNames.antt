@@ -407,13 +407,13 @@ no_longer_than_all (name ∷ later) =
     omega (arith, length-name_if_long name, no_longer_than_all later, sum_by-cons long_length name later, sum_by-cons (λ name. length name + 1) name later)
 
 -- The names of the properties of nodes, in their order.
-abbrev pub names_in_order : Nodes PropertyMap → List (List ℕ)
-names_in_order nodes = used_names (events (with_each entries nodes))
+abbrev pub names_of_nodes : Nodes PropertyMap → List (List ℕ)
+names_of_nodes nodes = used_names (events (with_each entries nodes))
 
 -- They are those of the first node, of the nodes below it, and of the nodes after it.
-pub names_of_node : (name : List ℕ) (own : PropertyMap) (children later : Nodes PropertyMap) →
-    names_in_order (node name own children later) ≡ map (λ property. property.0) (entries own) ++ (names_in_order children ++ names_in_order later)
-names_of_node name own children later =
+pub names_of_nodes-first : (name : List ℕ) (own : PropertyMap) (children later : Nodes PropertyMap) →
+    names_of_nodes (node name own children later) ≡ map (λ property. property.0) (entries own) ++ (names_of_nodes children ++ names_of_nodes later)
+names_of_nodes-first name own children later =
     flat_map-append event_names (map NodeProperty (entries own)) (events (with_each entries children) ++ (NodeEnd ∷ events (with_each entries later)))
     ∙ ap (λ names. names ++ used_names (events (with_each entries children) ++ (NodeEnd ∷ events (with_each entries later)))) (names_of_properties (entries own))
     ∙ ap (λ names. map (λ property. property.0) (entries own) ++ names) (flat_map-append event_names (events (with_each entries children)) (NodeEnd ∷ events (with_each entries later)))
@@ -436,10 +436,10 @@ module _ (content : FitModel) where
 
   -- Different long names of properties of a file are together no longer than those of the tree that it means.
   pub long_names_of_tree : (names : List (List ℕ)) → AreDistinct names → AreNamesIn names (root_of content.blob) →
-      length (flat_map name_if_long names) ≤ length (flat_map name_if_long (names_in_order (as_nodes (tree_of content).root)))
+      length (flat_map name_if_long names) ≤ length (flat_map name_if_long (names_of_nodes (as_nodes (tree_of content).root)))
   long_names_of_tree names distinct are =
       let nodes = as_nodes (tree_of content).root in
-      let others = names_in_order nodes in
+      let others = names_of_nodes nodes in
       let among : (name : List ℕ) → SomeOwn (HasKey name) nodes → Contains others name =
       λ name some. some_used name (with_each entries nodes) (some_with_each (HasKey name) (HasName name) entries (name_in_order name) nodes some) in
       let long_ones = no_longer_than_others names others distinct (short_or_among others among names are) in
