@@ -68,7 +68,8 @@ node_appended start begin children begun filled ended is_begun is_filled is_ende
 pub images-first : (s : Sibling FileNode) (payload : Option (List ℕ)) (payloads : List (Option (List ℕ))) →
     images_entries (node s.name s.own s.children s.later) (payload ∷ payloads) ≡ image_entries s payload ++ images_entries s.later payloads
 images-first s payload payloads =
-    entries-first s.name (record { properties = without_payload (properties_by_name s.own); payload = OfImage (option_map digest_of_payload payload) })
+    entries-first s.name
+    (record { properties = without_payload (properties_by_name s.own); payload = OfImage (option_map digest_of_payload payload) })
     (with_each plain_node (nodes_by_name s.children)) (described_images (without_payloads (nodes_by_name s.later)) payloads)
 
 -- Where no payloads are left there are no entries,
@@ -87,39 +88,51 @@ images-no_nodes payloads = refl
 others_kept : (wanted : List ℕ) (change : Nodes PropertyMap → Nodes PropertyMap) (nodes : Nodes PropertyMap) → IsNew wanted (names nodes) →
     with_children_of wanted change nodes ≡ nodes
 others_kept wanted change none new = refl
-others_kept wanted change (node name own children later) new = where_wanted (bytes_eq name wanted) refl (others_kept wanted change later new.1)
+others_kept wanted change (node name own children later) new =
+    where_wanted (bytes_eq name wanted) refl (others_kept wanted change later new.1)
   where
     where_wanted : (b : Bool) → bytes_eq name wanted ≡ b → with_children_of wanted change later ≡ later →
-        (if b then node name own (change children) later else node name own children (with_children_of wanted change later)) ≡ node name own children later
+        (if b then node name own (change children) later else node name own children (with_children_of wanted change later))
+        ≡ node name own children later
     where_wanted true is rest = absurd (new.0 ((bytes_eq-Decides name wanted).0 is))
     where_wanted false is rest = ap (λ nodes. node name own children nodes) rest
 
 -- The same for children of the root, of which no two have one name: one of the name `images`,
-pub root-images : (s : Sibling FileNode) (payloads : List (Option (List ℕ))) → bytes_eq s.name images_name ≡ true → IsNew s.name (names s.later) →
+pub root-images : (s : Sibling FileNode) (payloads : List (Option (List ℕ))) → bytes_eq s.name images_name ≡ true →
+    IsNew s.name (names s.later) →
     root_children_entries (node s.name s.own s.children s.later) payloads
     ≡ (begin_entries s.name (properties_by_name s.own) ++ (images_entries s.children payloads ++ NodeEnds ∷ []))
     ++ root_children_entries s.later payloads
 root-images s payloads is new =
+    let own : DescribedNode = plain_node (properties_by_name s.own) in
+    let images : Nodes PropertyMap = without_payloads (nodes_by_name s.children) in
     let nodes : Nodes PropertyMap = nodes_by_name s.later in
-    let later : List EntryModel = node_entries (described_nodes nodes payloads) in
+    let later : Nodes DescribedNode = described_nodes nodes payloads in
     let here : List EntryModel = begin_entries s.name (properties_by_name s.own) ++ (images_entries s.children payloads ++ NodeEnds ∷ []) in
-    let first = entries-first s.name (plain_node (properties_by_name s.own)) (described_images (without_payloads (nodes_by_name s.children)) payloads) (described_nodes nodes payloads) in
-    let named : node_entries (node s.name (plain_node (properties_by_name s.own)) (described_children s.name (without_payloads (nodes_by_name s.children)) payloads) (described_nodes nodes payloads)) ≡ here ++ later =
-    rw is first in
-    let whole : root_children_entries (node s.name s.own s.children s.later) payloads ≡ here ++ later = rw is named in
-    let same_names : names nodes ≡ names s.later = names-with_each from_entries (with_each properties_of s.later) ∙ names-with_each properties_of s.later in
+    let first = entries-first s.name own (described_images images payloads) later in
+    let named : node_entries (node s.name own (described_children s.name images payloads) later) ≡ here ++ node_entries later =
+        rw is first in
+    let whole : root_children_entries (node s.name s.own s.children s.later) payloads ≡ here ++ node_entries later = rw is named in
+    let same_names : names nodes ≡ names s.later =
+        names-with_each from_entries (with_each properties_of s.later) ∙ names-with_each properties_of s.later in
+    let is_images = (bytes_eq-Decides s.name images_name).0 is in
     let none_left : IsNew images_name (names nodes) =
-    subst (IsNew images_name) (sym same_names) (subst (λ name. IsNew name (names s.later)) ((bytes_eq-Decides s.name images_name).0 is) new) in
-    whole ∙ ap (λ nodes. here ++ node_entries (described_nodes nodes payloads)) (sym (others_kept images_name without_payloads nodes none_left))
+        subst (IsNew images_name) (sym same_names) (subst (λ name. IsNew name (names s.later)) is_images new) in
+    whole ∙ ap (λ nodes. here ++ node_entries (described_nodes nodes payloads))
+    (sym (others_kept images_name without_payloads nodes none_left))
 
 -- any other,
 pub root-other : (s : Sibling FileNode) (payloads : List (Option (List ℕ))) → bytes_eq s.name images_name ≡ false →
-    root_children_entries (node s.name s.own s.children s.later) payloads ≡ plain_entries (alone s) ++ root_children_entries s.later payloads
+    root_children_entries (node s.name s.own s.children s.later) payloads
+    ≡ plain_entries (alone s) ++ root_children_entries s.later payloads
 root-other s payloads is =
+    let own : DescribedNode = plain_node (properties_by_name s.own) in
+    let children : Nodes PropertyMap = nodes_by_name s.children in
     let nodes : Nodes PropertyMap = with_children_of images_name without_payloads (nodes_by_name s.later) in
-    let first = entries-first s.name (plain_node (properties_by_name s.own)) (with_each plain_node (nodes_by_name s.children)) (described_nodes nodes payloads) in
-    let named : node_entries (node s.name (plain_node (properties_by_name s.own)) (described_children s.name (nodes_by_name s.children) payloads) (described_nodes nodes payloads)) ≡ plain_entries (alone s) ++ root_children_entries s.later payloads =
-    rw is first in
+    let later : Nodes DescribedNode = described_nodes nodes payloads in
+    let first = entries-first s.name own (with_each plain_node children) later in
+    let named : node_entries (node s.name own (described_children s.name children payloads) later)
+        ≡ plain_entries (alone s) ++ root_children_entries s.later payloads = rw is first in
     rw is named
 
 -- and none.

@@ -1,4 +1,4 @@
-use Rattle.std.proofs.Common.{◌≡◌, T, not, cond, List, None, sym, ap, ◌∙◌, nat_cmp}
+use Rattle.std.proofs.Common.{◌≡◌, ℕ, T, not, cond, List, None, Equal, sym, ap, ◌∙◌, nat_cmp}
 use Rattle.std.specs.Cmp.Lexicographic.{slice_cmp}
 use Rattle.std.specs.FinMap.{entries, from_sorted, get, entries-from_sorted, entries_sorted, is_sorted, get-from_sorted, same_entries_map}
 use Rattle.std.specs.FinMap.Entries.{where_key, find-where_key, is_sorted-where_key}
@@ -14,12 +14,18 @@ use Rattle.bi_fit.proofs.PayloadProperties.{same, get-without}
 abbrev pub others_of : List Property → List Property
 others_of properties = where_key (slice_cmp nat_cmp) (λ name. not (is_payload_name name)) properties
 
+-- Names that no order tells apart are both among them or both not.
+same_kept : (name other : List ℕ) → slice_cmp nat_cmp name other ≡ Equal → not (is_payload_name other) ≡ not (is_payload_name name)
+same_kept name other tied = ap (λ name. not (is_payload_name name)) (sym (order_tells name other tied))
+
 pub entries_without : (properties : PropertyMap) → entries (without_payload properties) ≡ others_of (entries properties)
 entries_without properties =
     ap entries (same _ _ (λ name.
     get-without properties name
-    ∙ ap (λ o. cond (not (is_payload_name name)) o None) (ap (λ properties. get properties name) (sym whole) ∙ get-from_sorted (slice_cmp nat_cmp) (entries properties) name (entries_sorted properties))
-    ∙ sym (find-where_key (slice_cmp nat_cmp) (λ name. not (is_payload_name name)) name (λ other tied. ap (λ name. not (is_payload_name name)) (sym (order_tells name other tied))) (entries properties))
+    ∙ ap (λ o. cond (not (is_payload_name name)) o None)
+    (ap (λ properties. get properties name) (sym whole)
+    ∙ get-from_sorted (slice_cmp nat_cmp) (entries properties) name (entries_sorted properties))
+    ∙ sym (find-where_key (slice_cmp nat_cmp) (λ name. not (is_payload_name name)) name (same_kept name) (entries properties))
     ∙ sym (get-from_sorted (slice_cmp nat_cmp) kept name is_sorted_kept)))
     ∙ entries-from_sorted (slice_cmp nat_cmp) kept is_sorted_kept
   where
@@ -30,4 +36,5 @@ entries_without properties =
     whole = same_entries_map _ _ (entries-from_sorted (slice_cmp nat_cmp) (entries properties) (entries_sorted properties))
 
     is_sorted_kept : T (is_sorted (slice_cmp nat_cmp) kept)
-    is_sorted_kept = is_sorted-where_key (slice_cmp nat_cmp) (λ name. not (is_payload_name name)) (entries properties) (entries_sorted properties)
+    is_sorted_kept =
+        is_sorted-where_key (slice_cmp nat_cmp) (λ name. not (is_payload_name name)) (entries properties) (entries_sorted properties)

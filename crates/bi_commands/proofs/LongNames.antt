@@ -189,12 +189,14 @@ properties_shown IsOwn (node name own children later) images payloads are has ap
         rw is (same_node name own _ _ _ _ (plain_properties children) (rest (rw is at has)))
 
 -- The lines of a tree are at least as long as the long names of its properties,
-tree_long : (tree : ImageTree) → IsImageTree tree → long_bytes (names_of_nodes (as_nodes tree.root)) ≤ length (flat_map line (tree_lines tree))
+tree_long : (tree : ImageTree) → IsImageTree tree →
+    long_bytes (names_of_nodes (as_nodes tree.root)) ≤ length (flat_map line (tree_lines tree))
 tree_long tree is =
     let nodes : Nodes DescribedNode = described_nodes tree.root.children tree.payloads in
     let own : List Words = own_lines (path []) (plain_node tree.root.own) in
     let below : List Words = node_lines [] nodes in
-    let same = ap (λ nodes. long_bytes (names_of_nodes nodes)) (properties_shown ArePropertiesByName tree.root.children is.images tree.payloads is.is_tree.children is.has_images is.apart) in
+    let shown = properties_shown ArePropertiesByName tree.root.children is.images tree.payloads is.is_tree.children is.has_images is.apart in
+    let same = ap (λ nodes. long_bytes (names_of_nodes nodes)) shown in
     let lines = ap length (flat_map-append line own below) ∙ length-append (flat_map line own) (flat_map line below) in
     let names = long_bytes_of_node [] tree.root.own tree.root.children none in
     let one = own_long (path []) (plain_node tree.root.own) in
@@ -202,7 +204,8 @@ tree_long tree is =
     omega (arith, same, lines, names, one, two)
 
 -- and so is the description.
-long_names_described : (tree : ImageTree) → IsImageTree tree → long_bytes (names_of_nodes (as_nodes tree.root)) ≤ length (description (OfFit tree))
+long_names_described : (tree : ImageTree) → IsImageTree tree →
+    long_bytes (names_of_nodes (as_nodes tree.root)) ≤ length (description (OfFit tree))
 long_names_described tree is =
     let kind : Words = codes "kind" ∷ codes "fit" ∷ [] in
     let cpu : Words = codes "boot-cpu" ∷ decimal tree.cpu ∷ [] in

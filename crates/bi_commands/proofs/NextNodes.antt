@@ -13,7 +13,7 @@ abbrev pub HasNextOrder : NameOrder → Option NodeRef → Type 0
 HasNextOrder order next = IfSome next (λ node. IsNameOrder (table_of_node node) order)
 
 -- It is if this node is of the same blob as another of which it is.
-pub next_in_order : (order : NameOrder) (table : List TableItem) (next : Option NodeRef) → IfSome next (λ node. table_of_node node ≡ table) →
-    IsNameOrder table order → HasNextOrder order next
-next_in_order order table None same is = same
-next_in_order order table (Some node) same is = subst (λ table. IsNameOrder table order) (sym same) is
+pub next_in_order : {order : NameOrder} {table : List TableItem} (next : Option NodeRef) →
+    IfSome next (λ node. table_of_node node ≡ table) → IsNameOrder table order → HasNextOrder order next
+next_in_order None same is = same
+next_in_order {order = order} (Some node) same is = subst (λ table. IsNameOrder table order) (sym same) is

@@ -412,11 +412,14 @@ names_of_nodes nodes = used_names (events (with_each entries nodes))
 
 -- They are those of the first node, of the nodes below it, and of the nodes after it.
 pub names_of_nodes-first : (name : List ℕ) (own : PropertyMap) (children later : Nodes PropertyMap) →
-    names_of_nodes (node name own children later) ≡ map (λ property. property.0) (entries own) ++ (names_of_nodes children ++ names_of_nodes later)
+    names_of_nodes (node name own children later)
+    ≡ map (λ property. property.0) (entries own) ++ (names_of_nodes children ++ names_of_nodes later)
 names_of_nodes-first name own children later =
-    flat_map-append event_names (map NodeProperty (entries own)) (events (with_each entries children) ++ (NodeEnd ∷ events (with_each entries later)))
-    ∙ ap (λ names. names ++ used_names (events (with_each entries children) ++ (NodeEnd ∷ events (with_each entries later)))) (names_of_properties (entries own))
-    ∙ ap (λ names. map (λ property. property.0) (entries own) ++ names) (flat_map-append event_names (events (with_each entries children)) (NodeEnd ∷ events (with_each entries later)))
+    let below : List Event = events (with_each entries children) in
+    let after : List Event = NodeEnd ∷ events (with_each entries later) in
+    flat_map-append event_names (map NodeProperty (entries own)) (below ++ after)
+    ∙ ap (λ names. names ++ used_names (below ++ after)) (names_of_properties (entries own))
+    ∙ ap (λ names. map (λ property. property.0) (entries own) ++ names) (flat_map-append event_names below after)
 
 module _ (content : FitModel) where
   -- Names of properties of the file are short or among others, if those of the tree that it means are among these.
