@@ -142,9 +142,9 @@ impl<'a> Fit<'a> {
         self.give_invariant();
         let blob: &Blob<'b> = self.blob();
         let images: &[Image<'b>] = self.images();
-        let order: NameOrder<'b> = self.name_order(alloc, limits.file())?;
+        let order = NameOrder::new(alloc, blob, limits.file())?;
         let names = order.names.to_vec(alloc)?;
-        let mut doc: Doc<'b> = Doc::with_names(alloc, blob.boot_cpu(), names)?;
+        let mut doc = Doc::with_names(alloc, blob.boot_cpu(), names)?;
         add_reservations(&mut doc, blob)?;
         let parts = TextParts {
             order: &order,

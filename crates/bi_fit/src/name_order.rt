@@ -44,7 +44,20 @@ impl<'a> Fit<'a> {
         ensures failed { IfErr result (IsFaultOrNoMemory
             (λ fault. (fault ≡ too_large limit) × HasLongerNames limit (root_of self.now.blob))) }
     {
-        let blob = self.blob();
+        NameOrder::new(alloc, self.blob(), limit)
+    }
+}
+
+impl<'a> NameOrder<'a> {
+    ghost use Rattle.bi_fit.specs.NameOrders.{IsNameOrder};
+
+    /// Does what `Fit::name_order` does, for a blob.
+    pub(crate) fn new(alloc: Global, blob: &Blob<'a>, limit: u32) -> Result<NameOrder<'a>, Error>
+        ensures order { IfOk result (IsNameOrder blob.now.table) }
+        ensures short { IfOk result (λ order. length (flat_map name_if_long order.names) ≤ limit) }
+        ensures failed { IfErr result (IsFaultOrNoMemory
+            (λ fault. (fault ≡ too_large limit) × HasLongerNames limit (root_of blob.now))) }
+    {
         check_long_names(blob.names(), limit)?;
         let mut names = Vec::with_capacity(alloc, blob.names().len())?;
         names.extend_from_slice(blob.names())?;

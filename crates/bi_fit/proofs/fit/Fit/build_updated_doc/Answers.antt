@@ -20,12 +20,12 @@ returns-in_err-order-clause-failed c =
     let longer : Fault → Type 0 = λ fault. (fault ≡ too_large c.file.result) × HasLongerNames c.file.result (root_of c.blob-blob.result.now) in
     let late = IsTextFault c.args.limits c.args.form (with_changes c.args.changes (tree_of c.args.self.now)) in
     refusal_passed_on c.from_residual.result c.in_err-order.field-0.0 longer longer late c.from_residual.ensures.1 c.in_err-order.ensures.failed c.in_err-order.ensures.failed
-    (λ fault one other. too_long_names c.args.self.now c.args.form c.args.changes c.args.limits c.file.result c.file.ensures.value c.args.self.now.blob refl fault one)
+    (λ fault one other. too_long_names c.args.self.now c.args.form c.args.changes c.args.limits c.file.result c.file.ensures.value c.blob-blob.result.now c.blob-blob.ensures fault one)
 
 pub add_tree-requires-clause-order : goal.add_tree-requires-clause-order
 add_tree-requires-clause-order c = record {
   same_names = ap (λ document. document.names) (c.in_ok-add_reservations.ensures.added ∙ ap (λ document. with_reservations document c.blob-blob.result.now.reservations) c.in_ok-doc.ensures.empty) ∙ c.in_ok-names.ensures;
-  is_order = subst (λ table. IsNameOrder table c.in_ok-order.order) (sym (c.root.ensures.same_table ∙ ap (λ blob. blob.table) c.blob-blob.ensures)) c.in_ok-order.ensures.order;
+  is_order = subst (λ table. IsNameOrder table c.in_ok-order.order) (sym c.root.ensures.same_table) c.in_ok-order.ensures.order;
 }
 
 pub add_tree-requires-clause-images : goal.add_tree-requires-clause-images
