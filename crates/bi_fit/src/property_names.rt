@@ -85,9 +85,6 @@ impl ChangedNumbers {
     pub(crate) fn is_payload(self, rank: usize) -> bool
         ensures { result ≡ is_payload_rank self rank }
     {
-        rank == self.payload
-            || rank == self.offset
-            || rank == self.position
-            || rank == self.size
+        rank == self.payload || rank == self.offset || rank == self.position || rank == self.size
     }
 }

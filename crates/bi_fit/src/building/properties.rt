@@ -40,8 +40,16 @@ pub(super) fn root_properties<'a, 'b>(
         ≡ among built_names (from_entries (built_root_properties (head_model head.entry)))) }
 {
     let mut properties = PropertyMap::new(alloc, names);
-    insert(&mut properties, PropertyName::Timestamp, Value::Cell(head.time))?;
-    insert(&mut properties, PropertyName::Description, Value::Text(head.description))?;
+    insert(
+        &mut properties,
+        PropertyName::Timestamp,
+        Value::Cell(head.time),
+    )?;
+    insert(
+        &mut properties,
+        PropertyName::Description,
+        Value::Text(head.description),
+    )?;
     insert(&mut properties, PropertyName::AddressCells, Value::Cell(1))?;
     Ok(properties)
 }
@@ -61,11 +69,31 @@ pub(super) fn image_properties<'a, 'b>(
     let mut properties = PropertyMap::new(alloc, names);
     insert_cell(&mut properties, PropertyName::Entry, image.entry)?;
     insert_cell(&mut properties, PropertyName::Load, image.load)?;
-    insert(&mut properties, PropertyName::ImageType, Value::Text(image.key.type_name().as_bytes()))?;
-    insert(&mut properties, PropertyName::Os, Value::Text(image.os.as_bytes()))?;
-    insert(&mut properties, PropertyName::Description, Value::Text(head.description))?;
-    insert(&mut properties, PropertyName::Compression, Value::Text(image.compression.as_bytes()))?;
-    insert(&mut properties, PropertyName::Arch, Value::Text(image.arch.as_bytes()))?;
+    insert(
+        &mut properties,
+        PropertyName::ImageType,
+        Value::Text(image.key.type_name().as_bytes()),
+    )?;
+    insert(
+        &mut properties,
+        PropertyName::Os,
+        Value::Text(image.os.as_bytes()),
+    )?;
+    insert(
+        &mut properties,
+        PropertyName::Description,
+        Value::Text(head.description),
+    )?;
+    insert(
+        &mut properties,
+        PropertyName::Compression,
+        Value::Text(image.compression.as_bytes()),
+    )?;
+    insert(
+        &mut properties,
+        PropertyName::Arch,
+        Value::Text(image.arch.as_bytes()),
+    )?;
     Ok(properties)
 }
 
@@ -79,7 +107,11 @@ pub(super) fn default_properties<'a, 'b>(
         ≡ among built_names (from_entries ((default_name, text_value configuration_name) ∷ []))) }
 {
     let mut properties = PropertyMap::new(alloc, names);
-    insert(&mut properties, PropertyName::Default, Value::Text(CONFIGURATION_NAME))?;
+    insert(
+        &mut properties,
+        PropertyName::Default,
+        Value::Text(CONFIGURATION_NAME),
+    )?;
     Ok(properties)
 }
 
@@ -103,7 +135,11 @@ pub(super) fn configuration_properties<'a, 'b>(
     insert_list(&mut properties, Key::Ramdisk, &lists.ramdisk)?;
     insert_list(&mut properties, Key::Fdt, &lists.fdt)?;
     insert_list(&mut properties, Key::Kernel, &lists.kernel)?;
-    insert(&mut properties, PropertyName::Description, Value::Text(head.description))?;
+    insert(
+        &mut properties,
+        PropertyName::Description,
+        Value::Text(head.description),
+    )?;
     Ok(properties)
 }
 
@@ -119,7 +155,11 @@ pub(super) fn sha256_properties<'a, 'b>(
 {
     let mut properties = PropertyMap::new(alloc, names);
     insert(&mut properties, PropertyName::Value, Value::Slice(digest))?;
-    insert(&mut properties, PropertyName::Algo, Value::Text(Algo::Sha256.name().as_bytes()))?;
+    insert(
+        &mut properties,
+        PropertyName::Algo,
+        Value::Text(Algo::Sha256.name().as_bytes()),
+    )?;
     Ok(properties)
 }
 
