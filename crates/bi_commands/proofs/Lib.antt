@@ -29,12 +29,12 @@ pub mod DifferenceFacts
 pub mod TextFacts
 pub mod LineSets
 pub mod LongNames
-pub mod LongNamesOfFiles
 pub mod DescribedLines
 pub mod ComparedTexts
 pub mod ComparedImages
 pub mod ReadableDescriptions
-pub mod PropertiesByName
+pub mod KeptProperties
+pub mod NextNodes
 pub mod EntriesOfNodes
 pub mod DescribedFiles
 pub mod ListedFiles

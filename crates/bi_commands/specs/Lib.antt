@@ -12,7 +12,6 @@ pub mod Comparing
 pub mod Extracting
 pub mod LimitedSinks
 pub mod Listing
-pub mod LongNames
 pub mod ImagePayloads
 pub mod MadeEntries
 pub mod Parts
@@ -28,7 +27,6 @@ pub mod KnownConcerns
 pub mod KnownDescriptions
 pub mod KnownDifferences
 pub mod KnownTexts
-pub mod SortedProperties
 pub mod TreeEntries
 pub mod UpdatedFileLaws
 pub mod UpdatedFiles

@@ -18,7 +18,6 @@ mod image_payload;
 mod legacy;
 mod limited_sink;
 mod lines;
-mod long_names;
 mod nodes;
 mod properties;
 

@@ -299,20 +299,26 @@ some_without_payloads name other (node n own children later) (inr (inr after)) =
 abbrev SomeNamed : List ℕ → Nodes FileNode → Type 0
 SomeNamed name nodes = SomeOwn (λ own. HasName name (properties_of own)) nodes
 
--- So a name of a property of the file is one of the tree of the text, unless it is that of a property of a payload.
-some_in_text : (form : Form) (changes : Changes) (content : FitModel) (name : List ℕ) → is_payload_name name ≡ false →
-    SomeNamed name (as_nodes (root_of content.blob)) →
-    SomeOwn (HasName name) (as_nodes (normal_tree form (with_changes changes (tree_of content))))
-some_in_text form changes content name other (inl here) =
-    let own = properties_of (root_of content.blob).own in
-    inl (name_in_order name _ (key_with_time name changes.time (from_entries own) (key_by_name name own here)))
-some_in_text form changes content name other (inr (inr after)) = absurd after
-some_in_text form changes content name other (inr (inl below)) =
-    let payloads = (tree_of content).payloads in
+-- So a name of a property of the file is one of the tree that it means, unless it is that of a property of a payload,
+some_in_tree : (content : FitModel) (name : List ℕ) → is_payload_name name ≡ false → SomeNamed name (as_nodes (root_of content.blob)) →
+    SomeOwn (HasKey name) (as_nodes (tree_of content).root)
+some_in_tree content name other (inl here) = inl (key_by_name name (properties_of (root_of content.blob).own) here)
+some_in_tree content name other (inr (inr after)) = absurd after
+some_in_tree content name other (inr (inl below)) =
     let in_lists = some_with_each (λ own. HasName name (properties_of own)) (HasName name) properties_of (λ own has. has) (root_of content.blob).children below in
     let by_name = some_with_each (HasName name) (HasKey name) from_entries (key_by_name name) _ in_lists in
-    let without = some_with_children_of (HasKey name) images_name without_payloads (some_without_payloads name other) _ by_name in
-    let changed = some_with_new_digests name changes.hashes payloads _ without in
+    inr (inl (some_with_children_of (HasKey name) images_name without_payloads (some_without_payloads name other) _ by_name))
+
+-- and one of the tree of the text.
+some_in_text : (form : Form) (changes : Changes) (content : FitModel) (name : List ℕ) →
+    SomeOwn (HasKey name) (as_nodes (tree_of content).root) →
+    SomeOwn (HasName name) (as_nodes (normal_tree form (with_changes changes (tree_of content))))
+some_in_text form changes content name (inl here) =
+    inl (name_in_order name _ (key_with_time name changes.time (tree_of content).root.own here))
+some_in_text form changes content name (inr (inr after)) = absurd after
+some_in_text form changes content name (inr (inl below)) =
+    let payloads = (tree_of content).payloads in
+    let changed = some_with_new_digests name changes.hashes payloads _ below in
     let whole = some_with_children_of (HasKey name) images_name (with_payloads form 0 payloads) (some_with_payloads name form 0 payloads) _ changed in
     inr (inl (some_with_each (HasKey name) (HasName name) entries (name_in_order name) _ whole))
 
@@ -400,6 +406,48 @@ no_longer_than_all [] = omega arith
 no_longer_than_all (name ∷ later) =
     omega (arith, length-name_if_long name, no_longer_than_all later, sum_by-cons long_length name later, sum_by-cons (λ name. length name + 1) name later)
 
+-- The names of the properties of nodes, in their order.
+abbrev pub names_of_nodes : Nodes PropertyMap → List (List ℕ)
+names_of_nodes nodes = used_names (events (with_each entries nodes))
+
+-- They are those of the first node, of the nodes below it, and of the nodes after it.
+pub names_of_nodes-first : (name : List ℕ) (own : PropertyMap) (children later : Nodes PropertyMap) →
+    names_of_nodes (node name own children later)
+    ≡ map (λ property. property.0) (entries own) ++ (names_of_nodes children ++ names_of_nodes later)
+names_of_nodes-first name own children later =
+    let below : List Event = events (with_each entries children) in
+    let after : List Event = NodeEnd ∷ events (with_each entries later) in
+    flat_map-append event_names (map NodeProperty (entries own)) (below ++ after)
+    ∙ ap (λ names. names ++ used_names (below ++ after)) (names_of_properties (entries own))
+    ∙ ap (λ names. map (λ property. property.0) (entries own) ++ names) (flat_map-append event_names below after)
+
+module _ (content : FitModel) where
+  -- Names of properties of the file are short or among others, if those of the tree that it means are among these.
+  short_or_among : (others : List (List ℕ)) →
+      ((name : List ℕ) → SomeOwn (HasKey name) (as_nodes (tree_of content).root) → Contains others name) →
+      (names : List (List ℕ)) → AreNamesIn names (root_of content.blob) → AreShortOrAmong others names
+  short_or_among others among [] are = tt
+  short_or_among others among (name ∷ later) are =
+      (where_payload (is_payload_name name) refl, short_or_among others among later are.1)
+    where
+      where_payload : (b : Bool) → is_payload_name name ≡ b → (long_length name ≡ 0) ⊎ Contains others name
+      where_payload true is = inl (ap length (payload_name_short name is))
+      where_payload false is =
+          let (property, has, same) = are.0 in
+          let of_file = subst (λ name. SomeNamed name (as_nodes (root_of content.blob))) same (some_in_events (as_nodes (root_of content.blob)) property has) in
+          inr (among name (some_in_tree content name is of_file))
+
+  -- Different long names of properties of a file are together no longer than those of the tree that it means.
+  pub long_names_of_tree : (names : List (List ℕ)) → AreDistinct names → AreNamesIn names (root_of content.blob) →
+      length (flat_map name_if_long names) ≤ length (flat_map name_if_long (names_of_nodes (as_nodes (tree_of content).root)))
+  long_names_of_tree names distinct are =
+      let nodes = as_nodes (tree_of content).root in
+      let others = names_of_nodes nodes in
+      let among : (name : List ℕ) → SomeOwn (HasKey name) nodes → Contains others name =
+      λ name some. some_used name (with_each entries nodes) (some_with_each (HasKey name) (HasName name) entries (name_in_order name) nodes some) in
+      let long_ones = no_longer_than_others names others distinct (short_or_among others among names are) in
+      omega (arith, length-flat_map name_if_long names, length-flat_map name_if_long others, long_ones)
+
 module _ (content : FitModel) (form : Form) (changes : Changes) where
   abbrev text_events : List Event
   text_events = events_of (normal_tree form (with_changes changes (tree_of content)))
@@ -407,19 +455,11 @@ module _ (content : FitModel) (form : Form) (changes : Changes) where
   abbrev text_names : List (List ℕ)
   text_names = distinct_names (used_names text_events)
 
-  -- Names of properties of the file are short or in the text.
-  short_or_in_text : (names : List (List ℕ)) → AreNamesIn names (root_of content.blob) → AreShortOrAmong text_names names
-  short_or_in_text [] are = tt
-  short_or_in_text (name ∷ later) are =
-      (where_payload (is_payload_name name) refl, short_or_in_text later are.1)
-    where
-      where_payload : (b : Bool) → is_payload_name name ≡ b → (long_length name ≡ 0) ⊎ Contains text_names name
-      where_payload true is = inl (ap length (payload_name_short name is))
-      where_payload false is =
-          let (property, has, same) = are.0 in
-          let of_file = subst (λ name. SomeNamed name (as_nodes (root_of content.blob))) same (some_in_events (as_nodes (root_of content.blob)) property has) in
-          let some = some_in_text form changes content name is of_file in
-          inr (distinct_names-all (used_names text_events) name (some_used name (as_nodes (normal_tree form (with_changes changes (tree_of content)))) some))
+  -- The names of the properties of the tree are in the text.
+  in_text : (name : List ℕ) → SomeOwn (HasKey name) (as_nodes (tree_of content).root) → Contains text_names name
+  in_text name some =
+      distinct_names-all (used_names text_events) name
+      (some_used name (as_nodes (normal_tree form (with_changes changes (tree_of content)))) (some_in_text form changes content name some))
 
   -- The text of the tree of a file, with these changes, is at least as long as long names of properties of the file together, of
   -- which no two are the same.
@@ -428,7 +468,7 @@ module _ (content : FitModel) (form : Form) (changes : Changes) where
   long_names_within names distinct are =
       let tree = with_changes changes (tree_of content) in
       let lengths = text_of_events_has_length tree.cpu tree.reservations text_events in
-      let long_ones = no_longer_than_others names text_names distinct (short_or_in_text names are) in
+      let long_ones = no_longer_than_others names text_names distinct (short_or_among content text_names in_text names are) in
       omega (arith, length-flat_map name_if_long names, long_ones, no_longer_than_all text_names, lengths.strings, lengths.is_length, length-fit_text form tree)
 
   -- So the text is too long where such names have more bytes than the limit.

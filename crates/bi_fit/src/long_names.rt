@@ -34,7 +34,7 @@ pub(crate) fn check_long_names(names: &[&[u8]], limit: u32) -> Result<(), Fault>
 /// Returns a name of 64 bytes or more, and no bytes in place of a shorter one. Names may share
 /// bytes, so long ones can have more bytes together than the file, and their comparisons can take
 /// long.
-pub fn long_name(name: &[u8]) -> &[u8]
+fn long_name(name: &[u8]) -> &[u8]
     ensures { result.now ≡ name_if_long name.entry.now }
 {
     if name.len() < LEAST_LENGTH {

@@ -14,7 +14,6 @@ use super::entries::Entry;
 use super::image_nodes::entries_of;
 use super::limited_sink::LimitedSink;
 use super::lines::{most_open, put_tree};
-use super::long_names::check_long_names;
 use crate::common_lines::put_reservations;
 use crate::payload_bounds::check_payloads;
 use crate::words::{Word, put_lines};
@@ -38,8 +37,8 @@ pub(super) fn describe_fit<S: Sink>(
         (IsImageError limits (OfFit (tree_of fit.now))) sink.old sink.new) }
 {
     check_payloads(fit.images(), limits.file())?;
-    check_long_names(fit.blob().root(), limits.file())?;
-    let entries = entries_of(alloc, fit)?;
+    let order = fit.name_order(alloc, limits.file())?;
+    let entries = entries_of(alloc, fit, &order)?;
     let mut names = vec![in alloc; b"".as_slice(); most_open(&entries)]?;
     let mut measure = LimitedSink::new(limits.file());
     put_fit(fit.blob(), &entries, &mut names, &mut measure)?;

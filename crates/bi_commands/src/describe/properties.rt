@@ -1,72 +1,58 @@
-//! The properties of nodes in a description.
+//! The entries of the properties of nodes.
 
-ghost use Rattle.std.specs.Prelude.{◌≡◌, ◌++◌, map, OnOk, IfOk};
-ghost use Rattle.std.specs.FinMap.{entries as entries_of};
-ghost use Rattle.bi_fdt.specs.Views.{node_of};
-ghost use Rattle.bi_fit.specs.NormalNodes.{properties_by_name};
+ghost use Rattle.std.specs.Prelude.{◌≡◌, ◌++◌, map, OnOk};
+ghost use Rattle.bi_fdt.specs.Views.{node_of, table_of_node};
+ghost use Rattle.bi_fit.specs.NormalNodes.{HasDistinctNames, properties_by_name};
 ghost use Rattle.bi_fit.specs.ImageTree.{without_payload};
-ghost use Rattle.bi_fit.specs.Names.{is_payload_name as is_payload_name_of};
-ghost use Rattle.bi_commands.specs.SortedProperties.{IsSorted, by_name};
-ghost use Rattle.bi_commands.specs.TreeEntries.{PropertyEntry, as_entry};
+ghost use Rattle.bi_fit.specs.NameOrders.{IsNameOrder};
+ghost use Rattle.bi_commands.specs.MadeEntries.{property_entries};
+ghost use Rattle.bi_commands.specs.TreeEntries.{as_entry};
 
 use super::entries::Entry;
 use bi_fdt::NodeRef;
-use std::alloc::{AllocError, Global};
-use std::collections::BTreeMap;
+use bi_fit::{NameOrder, is_payload_name};
+use std::alloc::AllocError;
 
-/// The properties of a node by name, in byte order of the names.
-pub(super) type ByName<'a> = BTreeMap<&'a [u8], &'a [u8]>;
-
-/// Returns the properties of a node. The first of several with one name counts.
-pub(super) fn properties_of<'a>(
-    alloc: Global,
-    node: NodeRef<'a, '_>,
-) -> Result<ByName<'a>, AllocError>
-    ensures all { IfOk result (λ properties. by_name properties.entries
-        ≡ properties_by_name (node_of node.entry).own) }
-    ensures ordered { IfOk result (λ properties. IsSorted properties.entries) }
-{
-    let mut properties = BTreeMap::new(alloc);
-    // The first property of a name is inserted last, so its value stays.
-    for index in (0..node.property_count()).rev() {
-        if let Some((name, value)) = node.property_at(index) {
-            properties.insert(name, value)?;
-        }
-    }
-    Ok(properties)
-}
-
-/// Appends an entry for each property, in byte order of their names.
+/// Appends the entries of the properties of a node, in byte order of their names.
 pub(super) fn add_properties<'a>(
     entries: &mut Vec<Entry<'a>>,
-    properties: &ByName<'a>,
+    node: NodeRef<'a, '_>,
+    order: &NameOrder<'a>,
 ) -> Result<(), AllocError>
-    requires { IsSorted properties.now.entries }
+    requires order { IsNameOrder (table_of_node node) order.now }
+    requires distinct { HasDistinctNames (node_of node).own }
     ensures { OnOk result (map as_entry entries.new.items ≡ map as_entry entries.old.items
-        ++ map PropertyEntry (entries_of (by_name properties.entry.now.entries))) }
+        ++ property_entries (properties_by_name (node_of node.entry).own)) }
 {
-    for (name, value) in properties {
-        entries.push(Entry::Property { name, value })?;
+    for (_, property) in node.properties_in(&order.properties) {
+        entries.push(Entry::Property {
+            name: property.name,
+            value: property.value,
+        })?;
     }
     Ok(())
 }
 
-/// Removes the four properties that hold a payload or name its region.
-pub(super) fn remove_payload(properties: &mut ByName<'_>)
-    requires { IsSorted properties.old.entries }
-    ensures kept { by_name properties.new.entries
-        ≡ without_payload (by_name properties.old.entries) }
-    ensures ordered { IsSorted properties.new.entries }
+/// Appends the entries of the properties of an image node but for the four that hold a payload or
+/// name its region, in byte order of their names.
+pub(super) fn add_image_properties<'a>(
+    entries: &mut Vec<Entry<'a>>,
+    node: NodeRef<'a, '_>,
+    order: &NameOrder<'a>,
+) -> Result<(), AllocError>
+    requires order { IsNameOrder (table_of_node node) order.now }
+    requires distinct { HasDistinctNames (node_of node).own }
+    ensures { OnOk result (map as_entry entries.new.items ≡ map as_entry entries.old.items
+        ++ property_entries (without_payload (properties_by_name (node_of node.entry).own))) }
 {
-    properties.retain(|name, _| !is_payload_name(name));
-}
-
-/// Returns whether a property of this name holds a payload or names its region.
-fn is_payload_name(name: &[u8]) -> bool
-    ensures { result ≡ is_payload_name_of name.now }
-{
-    name == b"data".as_slice()
-        || name == b"data-offset".as_slice()
-        || name == b"data-position".as_slice()
-        || name == b"data-size".as_slice()
+    for (_, property) in node.properties_in(&order.properties) {
+        if is_payload_name(property.name) {
+            continue;
+        }
+        entries.push(Entry::Property {
+            name: property.name,
+            value: property.value,
+        })?;
+    }
+    Ok(())
 }

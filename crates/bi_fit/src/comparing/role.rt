@@ -3,7 +3,7 @@
 ghost use Rattle.std.specs.Prelude.{◌≡◌};
 ghost use Rattle.bi_fit.specs.ComparedNodes.{role_below, is_compared};
 
-use crate::document::is_payload_name;
+use crate::payload_names::is_payload_name;
 
 /// What a node of a flattened image tree is.
 #[derive(Clone, Copy)]

@@ -10,7 +10,6 @@ ghost use Rattle.bi_lay.specs.Contents.{with_event, name_numbered};
 ghost use Rattle.bi_lay.specs.Values.{value_bytes};
 ghost use Rattle.bi_fdt.specs.Numbers.{IsNumberOf};
 ghost use Rattle.bi_fdt.specs.Views.{node_of, table_of_node};
-ghost use Rattle.bi_fit.specs.Names.{is_payload_name as is_payload_name_of};
 ghost use Rattle.bi_fit.specs.ImageTree.{without_payload};
 ghost use Rattle.bi_fit.specs.Text.{with_payload};
 ghost use Rattle.bi_fit.specs.Updating.{with_time};
@@ -79,8 +78,6 @@ impl<'a, 'b> PropertyMap<'a, 'b> {
         ensures { IfOk result (λ properties. properties
             ≡ among order.entry.now.names (properties_by_name (node_of node.entry).own)) }
     {
-        // The call gives the proof that the names are in byte order.
-        let _ = order.names.ranks();
         let properties = node.properties_in(&order.properties);
         let entries = entries_of(alloc, node.property_count(), properties)?;
         Ok(PropertyMap {
@@ -257,14 +254,4 @@ fn has_rank_at(entries: &[(usize, Value<'_>)], index: usize, rank: usize) -> boo
         Some(entry) => entry.0 == rank,
         None => false,
     }
-}
-
-/// Returns whether a property of this name holds a payload or names its region.
-pub(crate) fn is_payload_name(name: &[u8]) -> bool
-    ensures { result ≡ is_payload_name_of name.now }
-{
-    name == b"data".as_slice()
-        || name == b"data-offset".as_slice()
-        || name == b"data-position".as_slice()
-        || name == b"data-size".as_slice()
 }

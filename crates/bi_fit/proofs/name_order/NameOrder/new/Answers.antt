@@ -1,5 +1,8 @@
 use Rattle.std.proofs.Common.{◌≡◌, length, sym, ap, subst, ◌∙◌, arith}
+use Rattle.std.specs.Cmp.Lexicographic.{slice_cmp}
 use Rattle.std.specs.List.{AllZip, flat_map}
+use Rattle.std.specs.List.Sorted.{IsStrictlySortedBy}
+use Rattle.std.specs.Ordering.{nat_cmp}
 use Rattle.std.proofs.lemmas.Slice.Zip.{AllZip-long}
 use Rattle.bi_base.specs.Slices.{bytes_of}
 use Rattle.bi_blob.specs.Tree.{AreDistinct}
@@ -48,6 +51,7 @@ returns-clause-order c =
     let at = goal.at.returns-clause-order c in
     let table = c.args.blob.now.table in
     record {
+      sorted = subst (IsStrictlySortedBy (slice_cmp nat_cmp)) (sym c.new-2.ensures) (ranked at.In_ok-ranked).in_order;
       in_order = record {
         keys = c.in_ok-keys.keys.items;
         numbered = subst (λ names. AreNumbered names table c.in_ok-keys.keys.items) (sym c.new-2.ensures) (numbered at.In_ok-keys (ranked at.In_ok-ranked));

@@ -12,7 +12,7 @@ invariant_of-result c =
     let by : AreByNumber names (node_of c.args.node).own.properties c.properties_in-properties.result =
     c.properties_in-properties.ensures.by_number names c.requires.order.in_order c.requires.distinct in
     record {
-      in_order = c.ranks.ensures.in_order;
+      in_order = c.requires.order.sorted;
       within = entries_within names c.properties_in-properties.result c.in_ok-entries.entries.items c.in_ok-entries.ensures by.numbered;
       ascending = entries_ascend c.properties_in-properties.result c.in_ok-entries.entries.items c.in_ok-entries.ensures by.ascending;
     }
@@ -23,5 +23,5 @@ returns c =
     let by : AreByNumber names (node_of c.args.node).own.properties c.properties_in-properties.result =
     c.properties_in-properties.ensures.by_number names c.requires.order.in_order c.requires.distinct in
     ap (among names)
-    (entries_by_name names c.ranks.ensures.in_order c.properties_in-properties.result c.in_ok-entries.entries.items c.in_ok-entries.ensures by.numbered by.ascending
-    (properties_of (node_of c.args.node).own) (c.properties_in-properties.ensures.by_name names c.requires.order.in_order c.requires.distinct c.ranks.ensures.in_order))
+    (entries_by_name names c.requires.order.sorted c.properties_in-properties.result c.in_ok-entries.entries.items c.in_ok-entries.ensures by.numbered by.ascending
+    (properties_of (node_of c.args.node).own) (c.properties_in-properties.ensures.by_name names c.requires.order.in_order c.requires.distinct c.requires.order.sorted))
