@@ -1,4 +1,4 @@
-use Rattle.std.proofs.Common.{◌≡◌, ℕ, List, [], ◌∷◌, map, sym, ap, subst, ◌∙◌}
+use Rattle.std.proofs.Common.{◌≡◌, ℕ, List, [], ◌∷◌, map, sym, subst, ◌∙◌}
 use Rattle.bi_blob.specs.Events.{NodeProperty}
 use Rattle.bi_blob.specs.Following.{stage_of_events, MayHaveNextProperty}
 use Rattle.bi_lay.specs.declared.items.Value.{Value}

@@ -1,10 +1,9 @@
-use Rattle.std.proofs.Common.{◌≡◌, ℕ, Bool, true, false, List, [], ◌∷◌, Ordering, Less, Equal, Greater, is_lt, nat_cmp, refl, sym, true≢false}
+use Rattle.std.proofs.Common.{◌≡◌, ℕ, Bool, true, List, [], ◌∷◌, Ordering, Less, Equal, Greater, is_lt, nat_cmp, refl, sym, true≢false}
 use Rattle.std.specs.Prelude.{◌&&◌}
 use Rattle.std.specs.Cmp.Lexicographic.{slice_cmp}
-use Rattle.std.specs.List.{AllByRecursion, list_all}
+use Rattle.std.specs.List.{AllByRecursion}
 use Rattle.std.specs.List.Sorted.{IsStrictlySortedBy}
 use Rattle.std.proofs.lemmas.Bool.{and_parts}
-use Rattle.bi_fit.specs.declared.property_names.ChangedNumbers.{ChangedNumbers}
 use Rattle.bi_fit.specs.ChangedNames.{AreRankedNames}
 use Rattle.bi_fit.specs.BuiltNames.{built_names}
 

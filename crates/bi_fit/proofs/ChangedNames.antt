@@ -1,11 +1,9 @@
 use Rattle.std.proofs.Common.{◌≡◌, ◌⊎◌, ℕ, zero, suc, Bool, true, false, inl, inr, List, [], ◌∷◌, ◌++◌, length, fold, bytes_eq, All, Contains, IsPermutation, get_or}
-use Rattle.std.proofs.Common.{Some, slice_get, refl, sym, ap, subst, ◌∙◌, append_assoc, append-nil, true≢false, nat_cmp}
+use Rattle.std.proofs.Common.{refl, sym, ap, subst, ◌∙◌, append_assoc, append-nil, true≢false}
 use Rattle.std.specs.Prelude.{◌||◌, if◌then◌else◌, slice_index_or}
 use Rattle.std.specs.Borrow.{Bor}
 use Rattle.bi_base.specs.Slices.{bytes_of}
-use Rattle.std.specs.Cmp.Lexicographic.{slice_cmp}
-use Rattle.std.specs.List.{AllByRecursion, AllZip, flat_map}
-use Rattle.std.specs.List.Sorted.{IsStrictlySortedBy}
+use Rattle.std.specs.List.{AllByRecursion, AllZip}
 use Rattle.std.proofs.lemmas.List.Elements.{All-head, All-tail, Contains-get_or}
 use Rattle.std.proofs.lemmas.List.Sorted.{All-permutation}
 use Rattle.std.proofs.lemmas.Slice.Eq.{bytes_eq-Decides}
@@ -13,7 +11,6 @@ use Rattle.bi_base.proofs.ListMembers.{each-append, each-contains, Contains-firs
 use Rattle.bi_blob.specs.Layout.{is_among}
 use Rattle.bi_blob.specs.Tree.{IsNew, AreDistinct}
 use Rattle.bi_blob.proofs.Blobs.OpenNodes.{AreDistinct-push}
-use Rattle.bi_blob.proofs.Texts.FirstUse.{among_found}
 use Rattle.bi_fdt.specs.Numbers.{IsNumberOf, AreNumbered, BeginsWith}
 use Rattle.bi_fdt.specs.Table.{TableItem, NodeItem, PropertyItem}
 use Rattle.bi_fit.specs.declared.property_names.ChangedNumbers.{ChangedNumbers}

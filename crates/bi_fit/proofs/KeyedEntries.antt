@@ -1,6 +1,6 @@
 use Rattle.std.proofs.Common.{◌≡◌, ℕ, ◌<◌, T, List, [], ◌∷◌, length, map, Less, is_lt, refl, sym, ap, ap₂, subst, ◌∙◌, nat_cmp}
 use Rattle.std.specs.Cmp.Lexicographic.{slice_cmp}
-use Rattle.std.specs.FinMap.{from_sorted, from_entries, entries, is_sorted, same_entries_map, entries-from_sorted}
+use Rattle.std.specs.FinMap.{from_sorted, from_entries, is_sorted, same_entries_map, entries-from_sorted}
 use Rattle.std.specs.FinMap.Entries.{below_all}
 use Rattle.std.specs.List.{AllByRecursion, AllZip}
 use Rattle.std.specs.List.Sorted.{IsStrictlySortedBy}
@@ -11,8 +11,7 @@ use Rattle.bi_blob.specs.Tree.{Property, property_of}
 use Rattle.bi_blob.proofs.Texts.NormalEvents.{both_hold}
 use Rattle.bi_lay.specs.Contents.{name_numbered}
 use Rattle.bi_lay.specs.declared.items.Value.{Value}
-use Rattle.bi_lay.specs.Values.{value_bytes}
-use Rattle.bi_fdt.specs.Numbers.{HasNumber, IsNumberOf}
+use Rattle.bi_fdt.specs.Numbers.{HasNumber}
 use Rattle.bi_fdt.specs.Order.{KeyedProperty, sorted_properties}
 use Rattle.bi_fit.specs.PropertyMaps.{named, AreRanksWithin, IsEntryOf}
 use Rattle.bi_fit.proofs.RankedProperties.{named_in_order}

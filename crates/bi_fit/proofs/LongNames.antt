@@ -1,7 +1,7 @@
 use Rattle.std.proofs.Common.{◌≡◌, ◌⊎◌, ℕ, ◌+◌, ◌≤◌, ◌||◌, Bool, true, false, cond, not, nat_le, inl, inr, List, [], ◌∷◌, ◌++◌, Option, Some, None, length, map}
 use Rattle.std.proofs.Common.{Contains, filter, flat_map, bytes_eq, nat_cmp, refl, sym, ap, subst, ◌∙◌, arith}
 use Rattle.std.specs.Prelude.{if◌then◌else◌}
-use Rattle.std.proofs.Common.{All, Less, Equal, true≢false}
+use Rattle.std.proofs.Common.{Less, Equal, true≢false}
 use Rattle.std.specs.List.Sorted.{IsStrictlySortedBy}
 use Rattle.std.specs.Cmp.{tied_itself}
 use Rattle.std.proofs.lemmas.Map.Keys.{sorted_head, sorted_tail}
@@ -13,7 +13,7 @@ use Rattle.std.specs.Option.{is_some}
 use Rattle.std.specs.Ordering.{eq_by_cmp, is_lt}
 use Rattle.std.proofs.lemmas.Cmp.{eq_by_cmp_equiv, nat_list_cmp_total}
 use Rattle.std.proofs.lemmas.List.Concat.{flat_map-append, length-flat_map}
-use Rattle.std.proofs.lemmas.List.Elements.{All-head, All-tail, Contains-append_left, Contains-append_right, Contains-append_cases}
+use Rattle.std.proofs.lemmas.List.Elements.{Contains-append_left, Contains-append_right, Contains-append_cases}
 use Rattle.std.proofs.lemmas.List.Filters.{sum_by-filter_both}
 use Rattle.std.proofs.lemmas.List.Sums.{sum_by-cons, get_or-le-sum_by}
 use Rattle.std.proofs.lemmas.Map.Text.{is_eq-slice_cmp}

@@ -1,19 +1,11 @@
-use Rattle.std.proofs.Common.{◌≡◌, ◌≢◌, ℕ, zero, suc, Bool, true, false, cond, not, T, List, [], ◌∷◌, ◌++◌, map, ◌++◌, take, drop, set, filter, bytes_eq}
-use Rattle.std.proofs.Common.{Ordering, Less, Equal, Greater, is_lt, Option, Some, None, slice_get, slice_index_or, refl, sym, ap, ap₂, subst, ◌∙◌, nat_cmp, true≢false, length, ◌≤◌, arith}
+use Rattle.std.proofs.Common.{◌≡◌, ◌≢◌, ℕ, Bool, true, false, cond, not, T, List, [], ◌∷◌, map, bytes_eq}
+use Rattle.std.proofs.Common.{Some, None, refl, sym, ap, subst, ◌∙◌, nat_cmp}
 use Rattle.std.specs.Cmp.Lexicographic.{slice_cmp}
-use Rattle.std.specs.List.{AllByRecursion, insert as insert_at}
-use Rattle.std.specs.FinMap.{get, empty, insert, from_entries, from_sorted, is_sorted, put, find, same_entries_map, entries-from_sorted}
+use Rattle.std.specs.FinMap.{get, empty, insert, from_entries, from_sorted, is_sorted, put, same_entries_map, entries-from_sorted}
 use Rattle.std.specs.FinMap.{entries-insert, get-empty, get-from_sorted}
-use Rattle.std.specs.FinMap.Entries.{by_order, where_key, find-where_key, is_sorted-where_key, is_sorted-put}
-use Rattle.std.specs.Cmp.{tied_itself}
-use Rattle.std.specs.Option.{option_to_list}
+use Rattle.std.specs.FinMap.Entries.{where_key, find-where_key, is_sorted-where_key, is_sorted-put}
 use Rattle.std.proofs.lemmas.Cmp.{nat_list_cmp_total}
 use Rattle.std.proofs.lemmas.Slice.Eq.{bytes_eq-Decides}
-use Rattle.std.proofs.lemmas.List.{take-append-drop}
-use Rattle.std.proofs.lemmas.Grind.{flat_map-append}
-use Rattle.std.proofs.lemmas.Option.{get_or_from_slice_get}
-use Rattle.bi_lay.specs.Values.{value_bytes}
-use Rattle.bi_base.proofs.ListMembers.{each-append, each-front, each-back}
 use Rattle.bi_blob.specs.Tree.{Property, PropertyMap, IsNew, AreDistinct}
 use Rattle.bi_blob.proofs.Texts.PropertyOrder.{order_tells}
 use Rattle.bi_fit.specs.Names.{is_payload_name}

@@ -1,13 +1,13 @@
-use Rattle.std.proofs.Common.{◌≡◌, ℕ, zero, suc, ◌<◌, ◌≤◌, Bool, true, false, cond, not, nat_le, T, List, [], ◌∷◌, length, map, set, filter, bytes_eq}
-use Rattle.std.proofs.Common.{true≢false, Ordering, Less, Equal, Greater, Option, Some, None, slice_get, refl, sym, ap, ap₂, subst, ◌∙◌, nat_cmp, arith}
+use Rattle.std.proofs.Common.{◌≡◌, ℕ, zero, suc, ◌<◌, ◌≤◌, Bool, true, false, cond, not, nat_le, T, List, [], ◌∷◌, length, set, filter, bytes_eq}
+use Rattle.std.proofs.Common.{true≢false, Ordering, Less, Equal, Greater, Some, slice_get, refl, sym, ap, ap₂, subst, ◌∙◌, nat_cmp, arith}
 use Rattle.std.specs.Prelude.{◌==◌, ◌&&◌, ◌||◌, if◌then◌else◌}
 use Rattle.std.specs.Cmp.{tied_itself, nat_cmp_is, ranks as nat_cmp_order}
 use Rattle.std.specs.Cmp.Lexicographic.{slice_cmp}
 use Rattle.std.specs.FinMap.{from_sorted, insert, is_sorted, put}
 use Rattle.std.specs.FinMap.Entries.{by_order, below_all, where_key}
-use Rattle.std.specs.List.{AllByRecursion, insert as insert_at}
+use Rattle.std.specs.List.{insert as insert_at}
 use Rattle.std.specs.List.Sorted.{IsStrictlySortedBy}
-use Rattle.std.specs.Ordering.{ordering_reverse, MatchOrdering, is_lt, is_eq}
+use Rattle.std.specs.Ordering.{ordering_reverse, MatchOrdering, is_lt}
 use Rattle.std.proofs.Math.Bool.{or-false}
 use Rattle.std.proofs.lemmas.Bool.{le-leb, leb-true}
 use Rattle.std.proofs.lemmas.Bool.Decides.{Decides-eqb, same_from_decides}
@@ -17,7 +17,6 @@ use Rattle.std.proofs.lemmas.Map.Keys.{sorted_head, sorted_tail}
 use Rattle.std.proofs.lemmas.Option.{get_or_from_slice_get, slice_get_within, slice_get-get_or}
 use Rattle.std.proofs.lemmas.Slice.Eq.{bytes_eq-Decides}
 use Rattle.bi_base.proofs.ListMembers.{each-contains}
-use Rattle.bi_blob.proofs.Texts.PropertyOrder.{order_tells}
 use Rattle.bi_lay.specs.Contents.{name_numbered}
 use Rattle.bi_lay.specs.declared.items.Value.{Value}
 use Rattle.bi_lay.specs.Values.{value_bytes}
@@ -26,7 +25,7 @@ use Rattle.bi_fit.specs.declared.property_names.ChangedNumbers.{ChangedNumbers}
 use Rattle.bi_fit.specs.Names.{is_payload_name}
 use Rattle.bi_fit.specs.ChangedNames.{AreRankedNames, is_payload_rank}
 use Rattle.bi_fit.specs.PropertyMapModels.{among, with_property_value}
-use Rattle.bi_fit.proofs.PropertyMaps.{from_sorted-put, kept_of, from_sorted-kept}
+use Rattle.bi_fit.proofs.PropertyMaps.{from_sorted-put, from_sorted-kept}
 use Rattle.bi_fit.specs.ImageTree.{without_payload}
 use Rattle.bi_fit.specs.PropertyMaps.{named, AreRanksWithin, index_of_rank, is_entry_ranked}
 
@@ -192,16 +191,6 @@ module _ (names : List (List ℕ)) (ordered : IsStrictlySortedBy (slice_cmp nat_
     by_name-filter entries are ascending =
         ap (λ l. from_sorted {R = slice_cmp nat_cmp} l) (named-filter entries are)
         ∙ from_sorted-kept (named names entries) (named_in_order entries are ascending)
-
-    -- Their ranks stay those of names.
-    pub within-filter : (entries : List (ℕ × Value)) → AreRanksWithin names entries → AreRanksWithin names (filter keeps_value entries)
-    within-filter [] are = tt
-    within-filter (entry ∷ entries) are = where_kept (keeps_value entry) (within-filter entries are.1)
-      where
-        where_kept : (b : Bool) → AreRanksWithin names (filter keeps_value entries) →
-            AreRanksWithin names (cond b (entry ∷ filter keeps_value entries) (filter keeps_value entries))
-        where_kept true rest = (are.0, rest)
-        where_kept false rest = rest
 
 -- ---- the place of a rank
 

@@ -1,8 +1,8 @@
 //! The properties of the nodes of a tree to be built.
 
-ghost use Rattle.std.specs.Prelude.{◌≡◌, ◌++◌, ◌∷◌, [], ℕ, List, OnOk, IfOk};
+ghost use Rattle.std.specs.Prelude.{◌≡◌, IsTrue, ◌++◌, ◌∷◌, [], ℕ, List, OnOk, IfOk};
 ghost use Rattle.std.specs.FinMap.{from_entries};
-ghost use Rattle.bi_blob.specs.Layout.{strings_of};
+ghost use Rattle.bi_blob.specs.Layout.{is_among, strings_of};
 ghost use Rattle.bi_blob.specs.Tree.{Property};
 ghost use Rattle.bi_fit.specs.Building.{ImageSpecModel, list_property};
 ghost use Rattle.bi_fit.specs.Building.{built_root_properties, built_image_properties};
@@ -13,11 +13,11 @@ ghost use Rattle.bi_fit.specs.BuiltNodes.{AreKeyLists, with_cell_property};
 ghost use Rattle.bi_fit.specs.NamedImages.{head_model, named_model};
 ghost use Rattle.bi_fit.specs.PropertyMapModels.{among, with_property_value};
 ghost use Rattle.bi_lay.specs.Values.{value_bytes};
-ghost use Rattle.bi_fit.specs.BuiltNames.{built_name, built_names};
+ghost use Rattle.bi_fit.specs.BuiltNames.{built_names};
 ghost use Rattle.bi_fit.specs.Building.{sha256_properties as sha256_properties_of};
 
 use crate::building::lists::KeyLists;
-use crate::building::names::PropertyName;
+use crate::building::names::index_of;
 use crate::building::{Head, NamedImage};
 use crate::document::PropertyMap;
 use crate::key::Key;
@@ -40,17 +40,13 @@ pub(super) fn root_properties<'a, 'b>(
         ≡ among built_names (from_entries (built_root_properties (head_model head.entry)))) }
 {
     let mut properties = PropertyMap::new(alloc, names);
+    insert(&mut properties, b"timestamp", Value::Cell(head.time))?;
     insert(
         &mut properties,
-        PropertyName::Timestamp,
-        Value::Cell(head.time),
-    )?;
-    insert(
-        &mut properties,
-        PropertyName::Description,
+        b"description",
         Value::Text(head.description),
     )?;
-    insert(&mut properties, PropertyName::AddressCells, Value::Cell(1))?;
+    insert(&mut properties, b"#address-cells", Value::Cell(1))?;
     Ok(properties)
 }
 
@@ -67,33 +63,25 @@ pub(super) fn image_properties<'a, 'b>(
         (built_image_properties (head_model head.entry) (named_model image.now)))) }
 {
     let mut properties = PropertyMap::new(alloc, names);
-    insert_cell(&mut properties, PropertyName::Entry, image.entry)?;
-    insert_cell(&mut properties, PropertyName::Load, image.load)?;
+    insert_cell(&mut properties, b"entry", image.entry)?;
+    insert_cell(&mut properties, b"load", image.load)?;
     insert(
         &mut properties,
-        PropertyName::ImageType,
+        b"type",
         Value::Text(image.key.type_name().as_bytes()),
     )?;
+    insert(&mut properties, b"os", Value::Text(image.os.as_bytes()))?;
     insert(
         &mut properties,
-        PropertyName::Os,
-        Value::Text(image.os.as_bytes()),
-    )?;
-    insert(
-        &mut properties,
-        PropertyName::Description,
+        b"description",
         Value::Text(head.description),
     )?;
     insert(
         &mut properties,
-        PropertyName::Compression,
+        b"compression",
         Value::Text(image.compression.as_bytes()),
     )?;
-    insert(
-        &mut properties,
-        PropertyName::Arch,
-        Value::Text(image.arch.as_bytes()),
-    )?;
+    insert(&mut properties, b"arch", Value::Text(image.arch.as_bytes()))?;
     Ok(properties)
 }
 
@@ -107,11 +95,7 @@ pub(super) fn default_properties<'a, 'b>(
         ≡ among built_names (from_entries ((default_name, text_value configuration_name) ∷ []))) }
 {
     let mut properties = PropertyMap::new(alloc, names);
-    insert(
-        &mut properties,
-        PropertyName::Default,
-        Value::Text(CONFIGURATION_NAME),
-    )?;
+    insert(&mut properties, b"default", Value::Text(CONFIGURATION_NAME))?;
     Ok(properties)
 }
 
@@ -137,7 +121,7 @@ pub(super) fn configuration_properties<'a, 'b>(
     insert_list(&mut properties, Key::Kernel, &lists.kernel)?;
     insert(
         &mut properties,
-        PropertyName::Description,
+        b"description",
         Value::Text(head.description),
     )?;
     Ok(properties)
@@ -154,37 +138,41 @@ pub(super) fn sha256_properties<'a, 'b>(
         ≡ among built_names (from_entries (sha256_properties_of digest.entry.now))) }
 {
     let mut properties = PropertyMap::new(alloc, names);
-    insert(&mut properties, PropertyName::Value, Value::Slice(digest))?;
+    insert(&mut properties, b"value", Value::Slice(digest))?;
     insert(
         &mut properties,
-        PropertyName::Algo,
+        b"algo",
         Value::Text(Algo::Sha256.name().as_bytes()),
     )?;
     Ok(properties)
 }
 
-/// Adds a property, or gives the property of this name another value.
+/// Adds a property, or gives the property of this name another value. The name is one of those of a
+/// tree to be built.
 fn insert<'a>(
     properties: &mut PropertyMap<'a, '_>,
-    name: PropertyName,
+    name: &[u8],
     value: Value<'a>,
 ) -> Result<(), AllocError>
-    requires { properties.old.names ≡ built_names }
+    requires names { properties.old.names ≡ built_names }
+    requires known { IsTrue (is_among name.now built_names) }
     ensures { OnOk result (properties.new
-        ≡ with_property_value (built_name name) (value_bytes value.entry) properties.old) }
+        ≡ with_property_value name.entry.now (value_bytes value.entry) properties.old) }
 {
-    properties.insert(name.rank(), value)
+    let rank = index_of(properties.names().as_slice(), name);
+    properties.insert(rank, value)
 }
 
 /// Adds a property of one cell, if there is a number.
 fn insert_cell<'a>(
     properties: &mut PropertyMap<'a, '_>,
-    name: PropertyName,
+    name: &[u8],
     number: Option<u32>,
 ) -> Result<(), AllocError>
-    requires { properties.old.names ≡ built_names }
+    requires names { properties.old.names ≡ built_names }
+    requires known { IsTrue (is_among name.now built_names) }
     ensures { OnOk result
-        (properties.new ≡ with_cell_property (built_name name) number properties.old) }
+        (properties.new ≡ with_cell_property name.entry.now number properties.old) }
 {
     match number {
         Some(number) => insert(properties, name, Value::Cell(number)),
@@ -209,5 +197,5 @@ fn insert_list<'a>(
     if list.is_empty() {
         return Ok(());
     }
-    insert(properties, PropertyName::of_key(key), Value::Slice(list))
+    insert(properties, key.name().as_bytes(), Value::Slice(list))
 }

@@ -86,6 +86,13 @@ impl<'a, 'b> PropertyMap<'a, 'b> {
         })
     }
 
+    /// Returns the names that the properties may have.
+    pub(crate) fn names(&self) -> &'b PropertyNames<'a>
+        ensures { result.now ≡ self.now.names }
+    {
+        self.names
+    }
+
     /// Adds a property, or gives the property of this name another value. The name is given by its
     /// rank. Compares the rank with those before it.
     ///

@@ -1,8 +1,8 @@
-use Rattle.std.proofs.Common.{[], ◌∷◌, ◌++◌, length, sym, ap, subst, ◌∙◌, ◌≡◌}
+use Rattle.std.proofs.Common.{[], ◌∷◌, ◌++◌, length, sym, ap, ◌∙◌, ◌≡◌}
 use Rattle.std.specs.Prelude.{if◌then◌else◌}
 use Rattle.std.proofs.lemmas.List.{length-map}
 use Rattle.bi_base.specs.Slices.{bytes_of}
-use Rattle.bi_fdt.specs.Numbers.{IsNumberOf, names_of_table}
+use Rattle.bi_fdt.specs.Numbers.{names_of_table}
 use Rattle.bi_fit.proofs.ChangedNames.{bytes_push, number_last, among_numbered, not_among}
 use Rattle.bi_fit.proofs.name_order.number_name.Goals as goal
 

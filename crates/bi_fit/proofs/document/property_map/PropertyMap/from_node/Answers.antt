@@ -1,4 +1,4 @@
-use Rattle.std.proofs.Common.{◌≡◌, ap}
+use Rattle.std.proofs.Common.{ap}
 use Rattle.bi_fdt.specs.Order.{AreByNumber}
 use Rattle.bi_fdt.specs.Views.{node_of}
 use Rattle.bi_blob.specs.Tree.{properties_of}
