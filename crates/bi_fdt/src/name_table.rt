@@ -17,7 +17,7 @@ ghost use Rattle.bi_fdt.specs.TreeNames.{HasMoreNamesOf};
 
 use crate::blob::Blob;
 use crate::name_parts::NameParts;
-use crate::name_tails::{NO_BLOCKS, block_numbers, tail_at};
+use crate::name_tails::{block_numbers, tail_at};
 use crate::strings::{STRIDE, ends_of_names};
 use crate::table::Entry;
 use bi_base::cell_at;
@@ -29,9 +29,9 @@ use std::alloc::{AllocError, Global};
 #[derive(Drop)]
 pub(crate) struct NameTable<'a> {
     /// The blocks of the names at the multiples of 64, each with the number of those after it.
-    tails: NameParts<'a>,
+    pub(crate) tails: NameParts<'a>,
     /// The head of each name, with the number of its tail.
-    heads: NameParts<'a>,
+    pub(crate) heads: NameParts<'a>,
     pub(crate) names: Vec<&'a [u8]>,
 }
 
@@ -84,15 +84,6 @@ impl<'a> NameTable<'a> {
             self.names.push(name).unwrap();
         }
         Ok(number)
-    }
-
-    /// Returns the number of a name of less than 128 bytes, if it is there.
-    pub(crate) fn find(&self, name: &'a [u8]) -> Option<usize>
-        requires table { IsNameTable self.now }
-        requires short { length name.now < 128 }
-        ensures { FindsNumber (names_in_table self.now) name.now result }
-    {
-        self.heads.find(NO_BLOCKS, name)
     }
 
     /// Returns for each name the number that it has in another table, if it is there. Each block
