@@ -42,6 +42,10 @@ pub record AreMoreParts (old new : List NamePart) : Type 0 where
   pub once : AreOnce old → AreOnce new
   pub order : AreInOrder old → AreInOrder new
 
+-- Parts of borrowed bytes.
+abbrev pub parts_of : List (ℕ × Bor (List ℕ)) → List NamePart
+parts_of parts = map (λ part. (part.0, part.1.now)) parts
+
 -- The parts that the fields hold.
 abbrev pub name_parts_of : Inside → List NamePart
 name_parts_of inside = map (λ part. (part.0, part.1.now)) inside.parts.items

@@ -24,12 +24,12 @@ use crate::fields::{
     boot_cpuid_phys, off_dt_strings, off_dt_struct, off_mem_rsvmap, size_dt_strings, totalsize,
 };
 use crate::header::{check_header, structure_end};
+use crate::kept_names::KeptNames;
 use crate::node::NodeRef;
 use crate::reservations::{PAIR_SIZE, count_reservations};
 use crate::strings::Strings;
 use crate::structure::read_tree;
 use crate::table::{Entry, name_numbers};
-use crate::used_names::UsedNames;
 use bi_base::{Error, Fault, Limits, two_cells_at};
 use std::alloc::{AllocError, Global};
 use std::marker::Model;
@@ -41,7 +41,7 @@ pub struct Blob<'a> {
     file: &'a [u8],
     reservation_count: usize,
     entries: Vec<Entry>,
-    names: UsedNames<'a>,
+    names: KeptNames<'a>,
 }
 
 impl<'a> Model for Blob<'a> {
@@ -66,7 +66,7 @@ impl<'a> Model for Blob<'a> {
 
     ghost invariant = { λ blob.
         IsBlobHeld blob.file.now blob.reservation_count blob.entries.items
-        × AreTableNames blob.file.now blob.entries.items blob.names.used };
+        × AreTableNames blob.file.now blob.entries.items blob.names };
 }
 
 impl<'a> Blob<'a> {
@@ -101,7 +101,7 @@ impl<'a> Blob<'a> {
             file,
             reservation_count,
             entries,
-            names,
+            names: names.into_kept(),
         })
     }
 
@@ -187,10 +187,9 @@ impl<'a> Blob<'a> {
         name_numbers(alloc, &self.entries)
     }
 
-    /// Returns the number of the given name, which has fewer than 128 bytes. Returns None if and
-    /// only if no property has this name. Takes log n comparisons, for n names.
-    pub fn name_number(&self, name: &'a [u8]) -> Option<usize>
-        requires { length name.now < 128 }
+    /// Returns the number of the given name. Returns None if and only if no property has this name.
+    /// Takes time linear in the number of the names.
+    pub fn name_number(&self, name: &[u8]) -> Option<usize>
         ensures { FindsNumber (names_of_table self.now.table) name.now result }
     {
         self.names.find(name)

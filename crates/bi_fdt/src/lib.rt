@@ -6,6 +6,7 @@ mod blocks;
 mod fields;
 mod growing;
 mod header;
+mod kept_names;
 pub mod laws;
 mod marked_names;
 mod name_parts;

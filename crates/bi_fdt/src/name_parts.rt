@@ -27,7 +27,7 @@ impl<'a> Model for NameParts<'a> {
 }
 
 impl<'a> NameParts<'a> {
-    ghost use Rattle.bi_fdt.specs.NameParts.{AreOnce, AreInOrder, IsPlaced, FindsPart};
+    ghost use Rattle.bi_fdt.specs.NameParts.{AreOnce, AreInOrder, IsPlaced, FindsPart, parts_of};
     ghost use Rattle.bi_fdt.specs.OtherNames.{AreOtherNumbers, AreFoundAmong};
     ghost use Rattle.bi_fdt.specs.OtherNames.{FindsAfter, FindsTail};
 
@@ -39,6 +39,29 @@ impl<'a> NameParts<'a> {
             parts: Vec::new(alloc),
             numbers: PartNumbers::new(alloc, parts)?,
         })
+    }
+
+    /// Returns these parts, of which none is there twice. Fails if memory runs out.
+    pub(crate) fn of_parts(
+        alloc: Global,
+        parts: &[(usize, &'a [u8])],
+    ) -> Result<NameParts<'a>, AllocError>
+        requires { AreOnce (parts_of parts.now) }
+        ensures { IfOk result (λ made. made ≡ parts_of parts.now) }
+    {
+        let mut made = NameParts::new(alloc, parts.len())?;
+        for (tail, bytes) in parts {
+            made.add(*tail, bytes)?;
+        }
+        Ok(made)
+    }
+
+    /// Returns the parts. The number of each is its index.
+    pub(crate) fn into_parts(self) -> Vec<(usize, &'a [u8])>
+        ensures { parts_of result.items ≡ self.entry }
+    {
+        let NameParts { parts, numbers: _ } = self;
+        parts
     }
 
     /// Adds a part if it is not there yet, and returns its number. The part has these bytes, and

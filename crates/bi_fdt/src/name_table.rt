@@ -10,7 +10,7 @@ ghost use Rattle.bi_fdt.specs.Numbers.{FindsNumber};
 ghost use Rattle.bi_fdt.specs.Strings.{AreEnds};
 
 use crate::name_parts::NameParts;
-use crate::name_tails::{NO_BLOCKS, block_numbers};
+use crate::name_tails::block_numbers;
 use crate::strings::STRIDE;
 use std::alloc::{AllocError, Global};
 
@@ -22,9 +22,9 @@ const USUAL_LENGTH: usize = 8;
 #[derive(Drop)]
 pub(crate) struct NameTable<'a> {
     /// The blocks of the names at the multiples of 64, each with the number of those after it.
-    tails: NameParts<'a>,
+    pub(crate) tails: NameParts<'a>,
     /// The head of each name, with the number of its tail.
-    heads: NameParts<'a>,
+    pub(crate) heads: NameParts<'a>,
     pub(crate) names: Vec<&'a [u8]>,
 }
 
@@ -78,15 +78,6 @@ impl<'a> NameTable<'a> {
             self.names.push(name).unwrap();
         }
         Ok(number)
-    }
-
-    /// Returns the number of a name of less than 128 bytes, if it is there.
-    pub(crate) fn find(&self, name: &'a [u8]) -> Option<usize>
-        requires table { IsNameTable self.now }
-        requires short { length name.now < 128 }
-        ensures { FindsNumber (names_in_table self.now) name.now result }
-    {
-        self.heads.find(NO_BLOCKS, name)
     }
 
     /// Returns for each name the number that it has in another table, if it is there. Each block

@@ -15,7 +15,7 @@ use crate::strings::{STRIDE, index_of_later_blocks};
 use std::alloc::{AllocError, Global};
 
 /// The number of no blocks.
-pub(crate) const NO_BLOCKS: usize = 0;
+const NO_BLOCKS: usize = 0;
 
 /// Returns the number that the blocks of the name at offset `at` have together, which ends at
 /// `end`, from that of the name at 64 bytes later. Fails if memory runs out.

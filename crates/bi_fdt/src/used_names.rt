@@ -1,13 +1,12 @@
 //! The names of the properties of a blob, each with its number.
 
-ghost use Rattle.std.specs.Prelude.{◌≡◌, ◌<◌, [], length, IfOk, OnOk, OnErr};
-ghost use Rattle.std.specs.List.{AllZip};
-ghost use Rattle.bi_base.specs.Slices.{bytes_of};
+ghost use Rattle.std.specs.Prelude.{◌≡◌, [], length, IfOk, OnOk, OnErr};
 ghost use Rattle.bi_blob.specs.Tokens.{name_from};
 ghost use Rattle.bi_blob.specs.Tree.{AreDistinct};
 ghost use Rattle.bi_blob.specs.BlobFaults.{HasName};
-ghost use Rattle.bi_fdt.specs.Numbers.{IsNumberOf, FindsNumber, with_used_name};
+ghost use Rattle.bi_fdt.specs.Numbers.{IsNumberOf, with_used_name};
 
+use crate::kept_names::KeptNames;
 use crate::name_table::NameTable;
 use crate::name_tails::tail_at;
 use crate::strings::Strings;
@@ -70,32 +69,15 @@ impl<'a> UsedNames<'a> {
         self.table.add(name, tail)
     }
 
-    /// Returns the number of a name of less than 128 bytes, if it was used.
-    pub(crate) fn find(&self, name: &'a [u8]) -> Option<usize>
-        requires { length name.now < 128 }
-        ensures { FindsNumber self.now.used name.now result }
+    /// Returns the names as they are kept.
+    pub(crate) fn into_kept(self) -> KeptNames<'a>
+        ensures { result ≡ self.entry.used }
     {
-        self.table.find(name)
-    }
-
-    /// Returns for each name the number that it has among others, if it is there. Fails if memory
-    /// runs out.
-    pub(crate) fn in_terms_of(
-        &self,
-        alloc: Global,
-        other: &UsedNames<'a>,
-    ) -> Result<Vec<Option<usize>>, AllocError>
-        ensures { IfOk result (λ numbers.
-            AllZip (FindsNumber other.now.used) self.now.used numbers.items) }
-    {
-        self.table.in_terms_of(alloc, &other.table)
-    }
-
-    /// Returns the names. The number of each is its index.
-    pub(crate) fn names(&self) -> &[&'a [u8]]
-        ensures names { bytes_of result.now ≡ self.now.used }
-        ensures distinct { AreDistinct self.now.used }
-    {
-        &self.table.names
+        let UsedNames {
+            strings: _,
+            blocks: _,
+            table,
+        } = self;
+        KeptNames::new(table)
     }
 }

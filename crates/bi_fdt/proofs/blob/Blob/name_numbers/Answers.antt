@@ -20,5 +20,5 @@ pub returns : goal.returns
 returns c =
     subst (λ (table : List TableItem). IfOk c.name_numbers.result (λ numbers. AreNumbered (names_of_table table) table numbers.items))
     (ap (λ (blob : Blob). blob.table) c.self.view_is)
-    (numbered c.self.inside.file.now c.self.inside.entries.items c.deref.result.now c.self.inside.names.used c.name_numbers.result
+    (numbered c.self.inside.file.now c.self.inside.entries.items c.deref.result.now c.self.inside.names c.name_numbers.result
     c.self.invariant.1 c.deref.ensures.value c.name_numbers.ensures)

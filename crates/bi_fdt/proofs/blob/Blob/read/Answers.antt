@@ -1,10 +1,11 @@
-use Rattle.std.proofs.Common.{◌≡◌, ℕ, List, subst, arith, rules}
+use Rattle.std.proofs.Common.{◌≡◌, ℕ, List, sym, subst, arith, rules}
 use Rattle.bi_base.specs.Cells.{AreBytes}
 use Rattle.bi_base.specs.Errors.{IsFaultOrNoMemory}
 use Rattle.bi_base.proofs.Refusals.{error_passed_on}
 use Rattle.bi_blob.specs.Blob.{tree_blocks}
 use Rattle.bi_blob.specs.BlobFaults.{IsStructureFault}
 use Rattle.bi_fdt.specs.Reading.{HasTable}
+use Rattle.bi_fdt.specs.TableNames.{AreTableNames}
 use Rattle.bi_fdt.specs.declared.table.Entry.{Entry}
 use Rattle.bi_fdt.proofs.BlobViews.{only_fault, refused_in_tree, is_held, is_read_blob}
 use Rattle.bi_blob.proofs.Blobs.BeforeTree.{first_fault}
@@ -35,7 +36,7 @@ invariant_of-result c =
     (subst (λ b. HasTable b c.from.result entries used) c.tree_blocks-blocks.ensures.blocks c.in_ok-entries.ensures.ok) in (
       is_held c.args.limits c.args.file.now c.in_ok-reservation_count.reservation_count entries used
           c.in_ok-reservation_count.ensures.header c.in_ok-reservation_count.ensures.reservations table,
-      table.named,
+      subst (AreTableNames c.args.file.now entries) (sym c.into_kept.ensures) table.named,
     )
 
 pub returns-clause-read : goal.returns-clause-read
