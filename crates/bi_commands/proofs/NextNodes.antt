@@ -1,7 +1,7 @@
 use Rattle.std.proofs.Common.{◌≡◌, List, Option, Some, None, sym, subst}
 use Rattle.std.specs.Prelude.{IfSome}
 use Rattle.bi_fdt.specs.declared.node.NodeRef.{NodeRef}
-use Rattle.bi_fdt.specs.Table.{TableItem}
+use Rattle.bi_fdt.specs.TableItems.{TableItem}
 use Rattle.bi_fdt.specs.Views.{table_of_node}
 use Rattle.bi_fit.specs.declared.name_order.NameOrder.{NameOrder}
 use Rattle.bi_fit.specs.NameOrders.{IsNameOrder}

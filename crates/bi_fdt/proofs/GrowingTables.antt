@@ -15,7 +15,8 @@ use Rattle.bi_fdt.specs.declared.table.Entry.{Entry}
 use Rattle.bi_fdt.specs.declared.table.Entry.TheVariants as entry
 use Rattle.bi_fdt.specs.declared.table.NodeEntry.{NodeEntry}
 use Rattle.bi_fdt.specs.declared.table.PropertyEntry.{PropertyEntry}
-use Rattle.bi_fdt.specs.Table.{TableItem, NodeItem, PropertyItem, count_inside, property_in, item_in, items_of, AreLinked}
+use Rattle.bi_fdt.specs.Table.{property_in, item_in, AreLinked}
+use Rattle.bi_fdt.specs.TableItems.{TableItem, NodeItem, PropertyItem, count_inside, items_of}
 use Rattle.bi_fdt.specs.Growth.{AreOpen, IsGrowing, IsFinished, EndsInside}
 use Rattle.bi_fdt.specs.Numbers.{IsNumberOf, with_used_name}
 use Rattle.bi_fdt.specs.PropertyMarks.{HasMarked, AreMarksBelow}

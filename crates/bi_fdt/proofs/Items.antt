@@ -6,7 +6,7 @@ use Rattle.bi_blob.specs.Tree.{Nodes, none, node, Root, FileProperty, FileNode, 
 use Rattle.bi_blob.specs.Events.{FileEvent, FileNodeStart, FileNodeProperty, FileNodeEnd, file_events, file_events_of}
 use Rattle.bi_blob.specs.OpenNodes.{OpenFileNode, events_of_open_node, events_of_open_nodes}
 use Rattle.bi_blob.proofs.Blobs.OpenNodes.{no_children}
-use Rattle.bi_fdt.specs.Table.{TableItem, NodeItem, PropertyItem, items_of, count_inside}
+use Rattle.bi_fdt.specs.TableItems.{TableItem, NodeItem, PropertyItem, items_of, count_inside}
 
 -- The items of the events of nodes are the items of the nodes, and all items of an open node after its beginning are inside it.
 

@@ -20,7 +20,8 @@ use Rattle.bi_fdt.specs.Fields.{IsNodeOf}
 use Rattle.bi_fdt.specs.Numbers.{HasNumber}
 use Rattle.bi_fdt.specs.Order.{KeyedProperty, with_indices_from, pairs_of_node, AreInOrder, IsNumberOrder, with_property, keyed_properties}
 use Rattle.bi_fdt.specs.Order.{AreByNumber}
-use Rattle.bi_fdt.specs.Table.{TableItem, NodeItem, PropertyItem, first_properties, item_in}
+use Rattle.bi_fdt.specs.Table.{item_in}
+use Rattle.bi_fdt.specs.TableItems.{TableItem, NodeItem, PropertyItem, first_properties}
 use Rattle.bi_fdt.specs.Views.{HasNodeAt, node_in}
 use Rattle.bi_fdt.proofs.DistinctNumbers.{distinct_numbers}
 use Rattle.bi_fdt.proofs.NameOrders.{first_dropped}

@@ -9,7 +9,8 @@ use Rattle.bi_fdt.specs.declared.table.Entry.{Entry}
 use Rattle.bi_fdt.specs.declared.table.Entry.TheVariants as entry
 use Rattle.bi_fdt.specs.declared.table.NodeEntry.{NodeEntry}
 use Rattle.bi_fdt.specs.declared.table.PropertyEntry.{PropertyEntry}
-use Rattle.bi_fdt.specs.Table.{TableItem, NodeItem, PropertyItem, first_properties, count_inside, node_name_in, property_in, item_in, IsLinked, AreLinked}
+use Rattle.bi_fdt.specs.Table.{node_name_in, property_in, item_in, IsLinked, AreLinked}
+use Rattle.bi_fdt.specs.TableItems.{TableItem, NodeItem, PropertyItem, first_properties, count_inside}
 use Rattle.bi_fdt.proofs.Items.{inside-deeper, inside-stops}
 
 -- The numbers in the entries of a table still fit after one more node, after one more property of the innermost open node, and after its

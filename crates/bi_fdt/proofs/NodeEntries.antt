@@ -10,7 +10,8 @@ use Rattle.bi_fdt.specs.declared.table.Entry.{Entry}
 use Rattle.bi_fdt.specs.declared.table.Entry.TheVariants as entry
 use Rattle.bi_fdt.specs.declared.table.NodeEntry.{NodeEntry}
 use Rattle.bi_fdt.specs.declared.table.PropertyEntry.{PropertyEntry}
-use Rattle.bi_fdt.specs.Table.{TableItem, NodeItem, PropertyItem, first_properties, nodes_of, items_of, count_inside, node_name_in, item_in, IsLinked}
+use Rattle.bi_fdt.specs.Table.{node_name_in, item_in, IsLinked}
+use Rattle.bi_fdt.specs.TableItems.{TableItem, NodeItem, PropertyItem, first_properties, nodes_of, items_of, count_inside}
 use Rattle.bi_fdt.specs.Table.{AreLinked}
 use Rattle.bi_fdt.specs.Content.{begins_with_node}
 use Rattle.bi_fdt.specs.Fields.{IsNodeOf}

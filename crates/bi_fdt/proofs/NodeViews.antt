@@ -11,7 +11,8 @@ use Rattle.bi_fdt.specs.declared.table.Entry.{Entry}
 use Rattle.bi_fdt.specs.declared.table.Entry.TheVariants as entry
 use Rattle.bi_fdt.specs.declared.table.NodeEntry.{NodeEntry}
 use Rattle.bi_fdt.specs.declared.table.PropertyEntry.{PropertyEntry}
-use Rattle.bi_fdt.specs.Table.{TableItem, NodeItem, PropertyItem, first_properties, nodes_of, count_inside, node_name_in, property_in, item_in}
+use Rattle.bi_fdt.specs.Table.{node_name_in, property_in, item_in}
+use Rattle.bi_fdt.specs.TableItems.{TableItem, NodeItem, PropertyItem, first_properties, nodes_of, count_inside}
 use Rattle.bi_fdt.specs.Content.{begins_with_node, first_sibling}
 use Rattle.bi_fdt.specs.Fields.{IsNodeOf}
 use Rattle.bi_fdt.proofs.TableTrees.{nodes-same, nodes-above, nodes-deeper, nodes-table}

@@ -6,7 +6,7 @@ use Rattle.bi_blob.proofs.Blobs.OpenNodes.{AreDistinct-push}
 use Rattle.bi_fdt.specs.NameParts.{NamePart, AreOnce, IsNewPart, IsPlaced, AreMoreParts}
 use Rattle.bi_fdt.specs.NameTails.{IsHead, AreHeads, AreBlockNumbers}
 use Rattle.bi_fdt.specs.Numbers.{BeginsWith, IsNumbered, AreNumbered}
-use Rattle.bi_fdt.specs.Table.{TableItem, NodeItem, PropertyItem}
+use Rattle.bi_fdt.specs.TableItems.{TableItem, NodeItem, PropertyItem}
 use Rattle.bi_fdt.proofs.NameParts.{slice_get-begin, once_more}
 use Rattle.bi_fdt.proofs.NameTails.{IsTail-kept, AreAllBlocks-kept, same_name_of_head, one_head}
 

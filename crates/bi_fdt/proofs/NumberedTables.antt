@@ -2,7 +2,7 @@ use Rattle.std.proofs.Common.{◌≡◌, ℕ, zero, suc, ◌+◌, List, [], ◌�
 use Rattle.std.specs.List.{AllZip}
 use Rattle.std.proofs.lemmas.Option.{none-some}
 use Rattle.bi_fdt.specs.declared.table.NodeEntry.{NodeEntry}
-use Rattle.bi_fdt.specs.Table.{TableItem, NodeItem, PropertyItem, first_properties}
+use Rattle.bi_fdt.specs.TableItems.{TableItem, NodeItem, PropertyItem, first_properties}
 use Rattle.bi_fdt.specs.Content.{first_sibling}
 use Rattle.bi_fdt.specs.Fields.{IsNodeOf}
 use Rattle.bi_fdt.specs.Numbers.{HasNumber, IsNumberOf, AreNumbered}

@@ -20,7 +20,8 @@ use Rattle.bi_fdt.specs.Content.{begins_with_node}
 use Rattle.bi_fdt.specs.Fields.{IsNodeOf}
 use Rattle.bi_fdt.specs.Order.{with_indices_from, pairs_of_node, AreInOrder, IsPropertyOrder}
 use Rattle.bi_fdt.specs.Reading.{IsTable}
-use Rattle.bi_fdt.specs.Table.{TableItem, NodeItem, PropertyItem, first_properties, item_in}
+use Rattle.bi_fdt.specs.Table.{item_in}
+use Rattle.bi_fdt.specs.TableItems.{TableItem, NodeItem, PropertyItem, first_properties}
 use Rattle.bi_fdt.specs.Views.{HasNodeAt, node_in}
 use Rattle.bi_fdt.proofs.DistinctKeys.{first_not_less}
 use Rattle.bi_fdt.proofs.NodeEntries.{items_here, no_property, node_of_table}

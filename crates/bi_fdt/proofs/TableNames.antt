@@ -9,7 +9,8 @@ use Rattle.bi_fdt.specs.declared.table.Entry.TheVariants as entry
 use Rattle.bi_fdt.specs.declared.table.NodeEntry.{NodeEntry}
 use Rattle.bi_fdt.specs.declared.table.PropertyEntry.{PropertyEntry}
 use Rattle.bi_fdt.specs.Numbers.{IsNumberOf, IsNumbered, AreNumbered, BeginsWith, with_used_name, names_after, names_of_table}
-use Rattle.bi_fdt.specs.Table.{TableItem, NodeItem, PropertyItem, item_in, property_in}
+use Rattle.bi_fdt.specs.Table.{item_in, property_in}
+use Rattle.bi_fdt.specs.TableItems.{TableItem, NodeItem, PropertyItem}
 use Rattle.bi_fdt.specs.TableNames.{name_number_of, AreTableNames}
 use Rattle.bi_fdt.proofs.Links.{items-set}
 use Rattle.bi_fdt.proofs.NumberedNames.{AllZip-append, AreNumbered-more}

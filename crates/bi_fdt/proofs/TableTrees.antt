@@ -4,7 +4,7 @@ use Rattle.std.proofs.lemmas.Bool.{lt-ltb, le-ltb, eq-eqb, ne_eqb}
 use Rattle.std.proofs.lemmas.List.{append_assoc, append-nil}
 use Rattle.bi_blob.specs.Tree.{Nodes, none, node, Root, FileProperty, FileNode, as_nodes}
 use Rattle.bi_blob.specs.Events.{file_events_of}
-use Rattle.bi_fdt.specs.Table.{TableItem, NodeItem, PropertyItem, first_properties, nodes_of, items_of}
+use Rattle.bi_fdt.specs.TableItems.{TableItem, NodeItem, PropertyItem, first_properties, nodes_of, items_of}
 use Rattle.bi_fdt.specs.Content.{root_in, first_as_root}
 use Rattle.bi_fdt.proofs.Items.{table_of, node_items, items_of-nodes}
 

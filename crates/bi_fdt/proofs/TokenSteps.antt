@@ -23,7 +23,7 @@ use Rattle.bi_blob.proofs.Blobs.TreeOrFault.{fault_there}
 use Rattle.bi_fdt.specs.declared.growing.Growing.{Growing}
 use Rattle.bi_fdt.specs.declared.tokens.Reading.{Reading}
 use Rattle.bi_fdt.specs.Blocks.{IsNumberAt, node_name_checks, property_token_checks}
-use Rattle.bi_fdt.specs.Table.{items_of}
+use Rattle.bi_fdt.specs.TableItems.{items_of}
 use Rattle.bi_fdt.specs.Growth.{IsFinished, EndsInside, EndsChild, EndsRoot, IsEnding}
 use Rattle.bi_fdt.specs.Reading.{IsReading, IsTable, IsAfter, IsAhead}
 use Rattle.bi_fdt.proofs.Items.{items_of-append}

@@ -4,7 +4,7 @@ use Rattle.bi_blob.specs.Tree.{Root, FileNode, FileProperty}
 use Rattle.bi_blob.specs.Events.{FileEvent, FileNodeStart, FileNodeProperty, FileNodeEnd, file_events_of}
 use Rattle.bi_blob.proofs.Blobs.OpenNodes.{All-push}
 use Rattle.bi_fdt.proofs.Items.{table_of}
-use Rattle.bi_fdt.specs.Table.{TableItem, NodeItem, PropertyItem, items_of}
+use Rattle.bi_fdt.specs.TableItems.{TableItem, NodeItem, PropertyItem, items_of}
 use Rattle.bi_fdt.specs.Numbers.{with_used_name, names_after, names_of_table}
 use Rattle.bi_fdt.specs.TreeNames.{IsNameIn, AreNamesIn}
 use Rattle.bi_blob.specs.Layout.{is_among}

@@ -10,7 +10,7 @@ use Rattle.bi_blob.proofs.Blobs.OpenNodes.{AreDistinct-push}
 use Rattle.bi_blob.proofs.NameSets.{new_by_test, held_by_test}
 use Rattle.bi_fdt.specs.NameTables.{HasAtMostMore}
 use Rattle.bi_fdt.specs.Numbers.{IsNumberOf, IsNumbered, AreNumbered, with_used_name, names_after}
-use Rattle.bi_fdt.specs.Table.{TableItem, NodeItem, PropertyItem}
+use Rattle.bi_fdt.specs.TableItems.{TableItem, NodeItem, PropertyItem}
 
 -- Names that were used are there once, at their numbers.
 

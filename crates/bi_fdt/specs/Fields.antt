@@ -4,7 +4,8 @@ use Rattle.bi_blob.specs.BlobFaults.{HasReservations}
 use Rattle.bi_blob.specs.Events.{FileEvent}
 use Rattle.bi_fdt.specs.declared.table.Entry.{Entry}
 use Rattle.bi_fdt.specs.declared.table.NodeEntry.{NodeEntry}
-use Rattle.bi_fdt.specs.Table.{TableItem, NodeItem, node_name_in, item_in, items_of}
+use Rattle.bi_fdt.specs.Table.{node_name_in, item_in}
+use Rattle.bi_fdt.specs.TableItems.{TableItem, NodeItem, items_of}
 use Rattle.bi_fdt.specs.Table.{IsLinked}
 use Rattle.bi_fdt.specs.Reading.{IsTable}
 use Rattle.bi_fdt.specs.Content.{root_in}

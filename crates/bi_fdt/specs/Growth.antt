@@ -11,7 +11,8 @@ use Rattle.bi_fdt.specs.declared.table.PropertyEntry.{PropertyEntry}
 use Rattle.bi_fdt.specs.declared.growing.Growing.{Growing}
 use Rattle.bi_fdt.specs.declared.growing.OpenNode.{OpenNode}
 use Rattle.bi_fdt.specs.PropertyMarks.{HasMarked, AreMarksBelow}
-use Rattle.bi_fdt.specs.Table.{item_in, items_of, property_in, AreLinked}
+use Rattle.bi_fdt.specs.Table.{item_in, property_in, AreLinked}
+use Rattle.bi_fdt.specs.TableItems.{items_of}
 use Rattle.bi_fdt.specs.TableNames.{AreTableNames}
 
 -- A tree while its tokens are read.

@@ -1,7 +1,7 @@
 use Rattle.std.specs.Prelude.{◌≡◌, ◌↔◌, ℕ, List, Some, slice_get}
 use Rattle.bi_blob.specs.Tree.{FileProperty, AreDistinct}
 use Rattle.bi_fdt.specs.Numbers.{AreNumbered, names_of_table}
-use Rattle.bi_fdt.specs.Table.{TableItem, PropertyItem}
+use Rattle.bi_fdt.specs.TableItems.{TableItem, PropertyItem}
 
 -- Laws about the names of the properties of a table.
 

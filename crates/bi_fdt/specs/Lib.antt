@@ -1,6 +1,7 @@
 pub mod Header
 pub mod Blocks
 pub mod Properties
+pub mod TableItems
 pub mod Table
 pub mod Numbers
 pub mod TableNames

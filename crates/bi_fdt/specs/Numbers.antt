@@ -6,7 +6,7 @@ use Rattle.std.specs.List.{AllZip}
 use Rattle.std.specs.List.Sorted.{IsStrictlySortedBy}
 use Rattle.bi_blob.specs.Layout.{is_among}
 use Rattle.bi_blob.specs.Tree.{FileProperty, IsNew}
-use Rattle.bi_fdt.specs.Table.{TableItem, NodeItem, PropertyItem}
+use Rattle.bi_fdt.specs.TableItems.{TableItem, NodeItem, PropertyItem}
 
 -- The numbers of the names of properties, by which names are compared without reading them. The
 -- number of a name is its index in a list that has each name once.

@@ -10,7 +10,7 @@ use Rattle.bi_blob.specs.Tree.{FileProperty, Property as NamedValue}
 use Rattle.bi_fdt.specs.declared.table.Property.{Property}
 use Rattle.bi_fdt.specs.Numbers.{HasNumber, AreNumbered}
 use Rattle.bi_fdt.specs.Properties.{file_property_of}
-use Rattle.bi_fdt.specs.Table.{TableItem, NodeItem, PropertyItem}
+use Rattle.bi_fdt.specs.TableItems.{TableItem, NodeItem, PropertyItem}
 use Rattle.bi_fdt.specs.Views.{HasNodeAt, node_in}
 
 -- The properties of each node of a table in the order of keys, one for each item of the table.

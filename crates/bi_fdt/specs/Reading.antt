@@ -5,7 +5,8 @@ use Rattle.bi_blob.specs.Blob.{TreeBlocks, HoldsTree}
 use Rattle.bi_blob.specs.OpenNodes.{OpenFileNode, IsOpenAt, OpenTree, WholeTree}
 use Rattle.bi_fdt.specs.declared.table.Entry.{Entry}
 use Rattle.bi_fdt.specs.declared.tokens.Reading.{Reading}
-use Rattle.bi_fdt.specs.Table.{item_in, items_of, AreLinked}
+use Rattle.bi_fdt.specs.Table.{item_in, AreLinked}
+use Rattle.bi_fdt.specs.TableItems.{items_of}
 use Rattle.bi_fdt.specs.TableNames.{AreTableNames}
 use Rattle.bi_fdt.specs.Growth.{IsGrowing}
 

@@ -3,7 +3,7 @@ use Rattle.bi_blob.specs.Tree.{FileNode}
 use Rattle.bi_blob.specs.Lookups.{Sibling}
 use Rattle.bi_fdt.specs.declared.node.NodeRef.{NodeRef}
 use Rattle.bi_fdt.specs.Content.{begins_with_node, first_sibling}
-use Rattle.bi_fdt.specs.Table.{TableItem}
+use Rattle.bi_fdt.specs.TableItems.{TableItem}
 
 -- What a reference to a node of a blob refers to.
 

@@ -3,7 +3,8 @@
 ghost use Rattle.std.specs.Prelude.{◌≡◌, drop, length, map, List};
 ghost use Rattle.std.specs.Iterator.{at_most};
 ghost use Rattle.bi_blob.specs.Tree.{FileProperty};
-ghost use Rattle.bi_fdt.specs.Table.{item_in, first_properties};
+ghost use Rattle.bi_fdt.specs.Table.{item_in};
+ghost use Rattle.bi_fdt.specs.TableItems.{first_properties};
 ghost use Rattle.bi_fdt.specs.Properties.{GivesProperty};
 
 use crate::table::{Entry, Property};

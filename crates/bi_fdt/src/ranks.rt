@@ -6,7 +6,7 @@ ghost use Rattle.bi_base.specs.Slices.{bytes_of};
 ghost use Rattle.bi_blob.specs.Tree.{AreDistinct};
 ghost use Rattle.bi_fdt.specs.Numbers.{AreNumbered, IsNumberOf};
 ghost use Rattle.bi_fdt.specs.Ranks.{AreRanksOf, IsNameOrder, slices_in, names_in};
-ghost use Rattle.bi_fdt.specs.Table.{TableItem};
+ghost use Rattle.bi_fdt.specs.TableItems.{TableItem};
 
 use bi_base::are_bytes;
 use bi_blob::name_prefix;

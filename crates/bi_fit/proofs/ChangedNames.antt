@@ -12,7 +12,7 @@ use Rattle.bi_blob.specs.Layout.{is_among}
 use Rattle.bi_blob.specs.Tree.{IsNew, AreDistinct}
 use Rattle.bi_blob.proofs.Blobs.OpenNodes.{AreDistinct-push}
 use Rattle.bi_fdt.specs.Numbers.{IsNumberOf, AreNumbered, BeginsWith}
-use Rattle.bi_fdt.specs.Table.{TableItem, NodeItem, PropertyItem}
+use Rattle.bi_fdt.specs.TableItems.{TableItem, NodeItem, PropertyItem}
 use Rattle.bi_fit.specs.declared.property_names.ChangedNumbers.{ChangedNumbers}
 use Rattle.bi_fit.specs.ChangedNames.{AreChangedNumbers, changed_names, with_missing, with_changed_names}
 use Rattle.bi_fit.proofs.BuiltNames.{in_order}

@@ -3,7 +3,7 @@ use Rattle.std.specs.Cmp.Lexicographic.{slice_cmp}
 use Rattle.std.specs.List.Sorted.{IsStrictlySortedBy}
 use Rattle.std.specs.Ordering.{nat_cmp}
 use Rattle.bi_fdt.specs.declared.node.NodeRef.{NodeRef}
-use Rattle.bi_fdt.specs.Table.{TableItem}
+use Rattle.bi_fdt.specs.TableItems.{TableItem}
 use Rattle.bi_fdt.specs.Views.{table_of_node}
 use Rattle.bi_fdt.specs.Order.{IsNumberOrder}
 use Rattle.bi_fit.specs.declared.name_order.NameOrder.{NameOrder}

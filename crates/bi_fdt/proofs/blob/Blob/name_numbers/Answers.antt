@@ -4,7 +4,8 @@ use Rattle.std.specs.declared.alloc.AllocError.{AllocError}
 use Rattle.bi_fdt.specs.declared.table.Entry.{Entry}
 use Rattle.bi_fdt.specs.Content.{Blob}
 use Rattle.bi_fdt.specs.Numbers.{AreNumbered, names_of_table}
-use Rattle.bi_fdt.specs.Table.{TableItem, item_in}
+use Rattle.bi_fdt.specs.Table.{item_in}
+use Rattle.bi_fdt.specs.TableItems.{TableItem}
 use Rattle.bi_fdt.specs.TableNames.{name_number_of, AreTableNames}
 use Rattle.bi_fdt.proofs.TableNames.{numbers_of_table}
 use Rattle.bi_fdt.proofs.blob.Blob.name_numbers.Goals as goal

@@ -8,7 +8,7 @@ use Rattle.bi_blob.proofs.NameSets.{HoldsNames-none, HoldsNames-insert, HoldsNam
 use Rattle.bi_blob.specs.OpenNodes.{OpenFileNode}
 use Rattle.bi_fdt.specs.declared.growing.Growing.{Growing}
 use Rattle.bi_fdt.specs.declared.growing.OpenNode.{OpenNode}
-use Rattle.bi_fdt.specs.Table.{NodeItem}
+use Rattle.bi_fdt.specs.TableItems.{NodeItem}
 use Rattle.bi_fdt.specs.Growth.{IsGrowing, IsChildTaken}
 use Rattle.bi_fdt.proofs.OpenEntries.{AreOpen-held}
 use Rattle.bi_fdt.proofs.GrowingTables.{growing_begun, open_nodes_within, outer_count}

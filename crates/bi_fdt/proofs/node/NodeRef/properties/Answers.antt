@@ -1,6 +1,7 @@
 use Rattle.std.proofs.Common.{◌≡◌, ◌+◌, ◌-◌, ◌<◌, ◌≤◌, ◌^◌, length, map, take, drop, sym, ap, ◌∙◌, arith, rules}
 use Rattle.std.proofs.lemmas.List.{length-map}
-use Rattle.bi_fdt.specs.Table.{item_in, first_properties}
+use Rattle.bi_fdt.specs.Table.{item_in}
+use Rattle.bi_fdt.specs.TableItems.{first_properties}
 use Rattle.bi_fdt.proofs.NodeViews.{properties_within, properties_there}
 use Rattle.bi_fdt.proofs.node.NodeRef.properties.Goals as goal
 
