@@ -1,7 +1,6 @@
-use Rattle.std.proofs.Common.{◌≡◌, List, Option, Some, None, sym, subst}
+use Rattle.std.proofs.Common.{◌≡◌, Option, Some, None, sym, subst}
 use Rattle.std.specs.Prelude.{IfSome}
 use Rattle.bi_fdt.specs.declared.node.NodeRef.{NodeRef}
-use Rattle.bi_fdt.specs.TableItems.{TableItem}
 use Rattle.bi_fdt.specs.Views.{table_of_node}
 use Rattle.bi_fit.specs.declared.name_order.NameOrder.{NameOrder}
 use Rattle.bi_fit.specs.NameOrders.{IsNameOrder}
@@ -12,8 +11,8 @@ use Rattle.bi_fit.specs.NameOrders.{IsNameOrder}
 abbrev pub HasNextOrder : NameOrder → Option NodeRef → Type 0
 HasNextOrder order next = IfSome next (λ node. IsNameOrder (table_of_node node) order)
 
--- It is if this node is of the same blob as another of which it is.
-pub next_in_order : {order : NameOrder} {table : List TableItem} (next : Option NodeRef) →
-    IfSome next (λ node. table_of_node node ≡ table) → IsNameOrder table order → HasNextOrder order next
-next_in_order None same is = same
-next_in_order {order = order} (Some node) same is = subst (λ table. IsNameOrder table order) (sym same) is
+-- It is if the next node is of the same blob as a node of whose blob the order is.
+pub next_in_order : {order : NameOrder} (node : NodeRef) (next : Option NodeRef) →
+    IfSome next (λ other. table_of_node other ≡ table_of_node node) → IsNameOrder (table_of_node node) order → HasNextOrder order next
+next_in_order node None same is = same
+next_in_order {order = order} node (Some next) same is = subst (λ table. IsNameOrder table order) (sym same) is

@@ -29,7 +29,7 @@ use Rattle.bi_fdt.proofs.DistinctKeys.{same_name, distinct_names}
 -- ---- ranks
 
 -- Of names in byte order, the first is before the one at an index.
-first_before : (first : List ℕ) (names : List (List ℕ)) → IsStrictlySortedBy (slice_cmp nat_cmp) (first ∷ names) →
+pub first_before : (first : List ℕ) (names : List (List ℕ)) → IsStrictlySortedBy (slice_cmp nat_cmp) (first ∷ names) →
     (index : ℕ) (name : List ℕ) → slice_get names index ≡ Some name → slice_cmp nat_cmp first name ≡ Less
 first_before first names ordered index name there =
     subst (λ n. slice_cmp nat_cmp first n ≡ Less) (get_or_from_slice_get names index name name there)

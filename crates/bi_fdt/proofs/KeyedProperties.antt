@@ -18,13 +18,13 @@ use Rattle.bi_blob.specs.Tree.{FileProperty, property_of, AreDistinct}
 use Rattle.bi_fdt.specs.declared.table.NodeEntry.{NodeEntry}
 use Rattle.bi_fdt.specs.Fields.{IsNodeOf}
 use Rattle.bi_fdt.specs.Numbers.{HasNumber}
-use Rattle.bi_fdt.specs.Order.{KeyedProperty, with_indices_from, pairs_of_node, AreInOrder, IsNumberOrder, with_property, keyed_properties}
+use Rattle.bi_fdt.specs.Order.{KeyedProperty, with_indices_from, pairs_of_node, AreInOrder, IsNumberOrder, with_keyed_property, keyed_properties}
 use Rattle.bi_fdt.specs.Order.{AreByNumber}
 use Rattle.bi_fdt.specs.Table.{item_in}
 use Rattle.bi_fdt.specs.TableItems.{TableItem, NodeItem, PropertyItem, first_properties}
 use Rattle.bi_fdt.specs.Views.{HasNodeAt, node_in}
 use Rattle.bi_fdt.proofs.DistinctNumbers.{distinct_numbers}
-use Rattle.bi_fdt.proofs.NameOrders.{first_dropped}
+use Rattle.bi_fdt.proofs.GrowingTables.{get_at}
 use Rattle.bi_fdt.proofs.NodeEntries.{drop-next}
 use Rattle.bi_fdt.specs.Content.{first_sibling}
 use Rattle.std.specs.Ordering.{nat_cmp}
@@ -69,7 +69,7 @@ pairs_match table (NodeItem depth place name ∷ items) index (key ∷ keys) her
 pairs_match table (PropertyItem property ∷ items) index [] here long = absurd (omega arith)
 pairs_match table (PropertyItem property ∷ items) index (key ∷ keys) here long =
     let next : index + 1 ≡ index + 1 + 0 = omega arith in (
-      first_dropped table index (PropertyItem property) items here,
+      get_at table items index (PropertyItem property) here,
       pairs_match table items (index + 1) keys (ap (λ n. drop n table) next ∙ drop-next table items index 0 (PropertyItem property) here)
           (omega arith),
     )
@@ -99,7 +99,7 @@ keyed_all : (table : List TableItem) (pairs : Pairs) → AllByRecursion (HasProp
     keyed_properties table pairs ≡ map (λ pair. (pair.0, property_at table pair)) pairs
 keyed_all table [] all = refl
 keyed_all table (pair ∷ pairs) all =
-    ap (λ found. with_property pair.0 found (keyed_properties table pairs)) all.0.1
+    ap (λ found. with_keyed_property pair.0 found (keyed_properties table pairs)) all.0.1
     ∙ ap (λ property. (pair.0, property) ∷ keyed_properties table pairs) (sym (is_property_at table pair all.0.0 all.0.1))
     ∙ ap (λ l. (pair.0, property_at table pair) ∷ l) (keyed_all table pairs all.1)
 
@@ -236,10 +236,10 @@ node_by_number file table index n there is_node names order is distinct = record
 -- What the properties at the indices from a place on begin with.
 keyed_here : (table : List TableItem) (pairs : Pairs) (place : ℕ) (d : ℕ × ℕ) → place < length pairs →
     keyed_properties table (drop place pairs)
-    ≡ with_property (get_or pairs place d).0 (slice_get table (get_or pairs place d).1) (keyed_properties table (drop (place + 1) pairs))
+    ≡ with_keyed_property (get_or pairs place d).0 (slice_get table (get_or pairs place d).1) (keyed_properties table (drop (place + 1) pairs))
 keyed_here table pairs place d within =
     ap (keyed_properties table) (drop-cons pairs place d within)
-    ∙ ap (λ n. with_property (get_or pairs place d).0 (slice_get table (get_or pairs place d).1) (keyed_properties table (drop n pairs)))
+    ∙ ap (λ n. with_keyed_property (get_or pairs place d).0 (slice_get table (get_or pairs place d).1) (keyed_properties table (drop n pairs)))
     (sym (add-one place))
 
 -- The item of an entry.
@@ -255,18 +255,18 @@ module _ (file : List ℕ) (entries : List Entry) (pairs : Pairs) (place : ℕ) 
   pub none_past : length entries ≤ pair.1 → keyed_properties (map (item_in file) entries) (drop place pairs) ≡ []
   none_past past =
       keyed_here (map (item_in file) entries) pairs place d within
-      ∙ ap (λ p. with_property p.0 (slice_get (map (item_in file) entries) p.1) (keyed_properties (map (item_in file) entries) (drop
+      ∙ ap (λ p. with_keyed_property p.0 (slice_get (map (item_in file) entries) p.1) (keyed_properties (map (item_in file) entries) (drop
       (place + 1) pairs))) is
-      ∙ ap (λ found. with_property pair.0 found (keyed_properties (map (item_in file) entries) (drop (place + 1) pairs)))
+      ∙ ap (λ found. with_keyed_property pair.0 found (keyed_properties (map (item_in file) entries) (drop (place + 1) pairs)))
       (slice_get_past (map (item_in file) entries) pair.1 (omega (arith, past, length-map entries (item_in file))))
 
   -- The item of an entry is what decides.
   pub keyed_item : (e f : Entry) → pair.1 < length entries → get_or entries pair.1 f ≡ e →
       keyed_properties (map (item_in file) entries) (drop place pairs)
-      ≡ with_property pair.0 (Some (item_in file e)) (keyed_properties (map (item_in file) entries) (drop (place + 1) pairs))
+      ≡ with_keyed_property pair.0 (Some (item_in file e)) (keyed_properties (map (item_in file) entries) (drop (place + 1) pairs))
   keyed_item e f inside entry_is =
       keyed_here (map (item_in file) entries) pairs place d within
-      ∙ ap (λ p. with_property p.0 (slice_get (map (item_in file) entries) p.1) (keyed_properties (map (item_in file) entries) (drop
+      ∙ ap (λ p. with_keyed_property p.0 (slice_get (map (item_in file) entries) p.1) (keyed_properties (map (item_in file) entries) (drop
       (place + 1) pairs))) is
-      ∙ ap (λ found. with_property pair.0 found (keyed_properties (map (item_in file) entries) (drop (place + 1) pairs)))
+      ∙ ap (λ found. with_keyed_property pair.0 found (keyed_properties (map (item_in file) entries) (drop (place + 1) pairs)))
       (item_there file entries pair.1 e f inside entry_is)

@@ -19,6 +19,7 @@ use Rattle.bi_base.specs.Slices.{bytes_of}
 use Rattle.bi_blob.specs.NamesByPrefix.{prefix_of_name}
 use Rattle.bi_blob.specs.Tree.{AreDistinct}
 use Rattle.bi_blob.proofs.NamePrefixes.{prefixes_keep_order}
+use Rattle.bi_fdt.proofs.GrowingTables.{get_at}
 use Rattle.bi_fdt.specs.Numbers.{IsNumberOf}
 use Rattle.bi_fdt.specs.Ranks.{NumberedName, with_numbers_from, slices_in, names_in, IsNameOrder, AreRanksOf}
 use Rattle.bi_fdt.proofs.NodeEntries.{drop-next}
@@ -97,9 +98,9 @@ sorted_names (one ∷ order) prefixes ascending k d least within =
     ∙ first_not_less _ (nat_cmp later.2 sooner.2) (ascending k one least long)
 
 -- The names are the same, in another order.
-pub same_names : (names : List Slice) (order : List NumberedName) → IsPermutation (with_numbers_from 0 names) order →
+pub same_sorted_names : (names : List Slice) (order : List NumberedName) → IsPermutation (with_numbers_from 0 names) order →
     IsPermutation (bytes_of names) (names_in order)
-same_names names order moved =
+same_sorted_names names order moved =
     subst (λ l. IsPermutation l (names_in order)) (names_in-numbers 0 names)
     (IsPermutation-map (λ (one : NumberedName). one.1.now) (with_numbers_from 0 names) order moved)
 
@@ -116,7 +117,7 @@ order_sorted names order sorted distinct are prefixes moved ascending =
       in_order = distinct_ascend nat_list_cmp_total (names_in sorted)
           (sorted_names sorted (All-permutation HasItsPrefix order sorted moved prefixes) ascending)
           (IsDistinct-IsPermutation same_name (eq_by_cmp_equiv nat_list_cmp_total).symm (bytes_of names) (names_in sorted)
-          (same_names names sorted from_names) (distinct_names (bytes_of names) distinct));
+          (same_sorted_names names sorted from_names) (distinct_names (bytes_of names) distinct));
     }
 
 -- There are as many.
@@ -125,14 +126,6 @@ pub length_order : (names : List Slice) (order : List NumberedName) → IsPermut
 length_order names order moved = length_permutation (with_numbers_from 0 names) order moved ∙ length-numbers 0 names
 
 -- ---- the rank of each number
-
--- Where a list goes on with an element, the element is there.
-pub first_dropped : {X : Type 0} (xs : List X) (index : ℕ) (x : X) (later : List X) → drop index xs ≡ x ∷ later →
-    slice_get xs index ≡ Some x
-first_dropped [] zero x later at = absurd cc
-first_dropped [] (suc index) x later at = absurd cc
-first_dropped (y ∷ xs) zero x later at = let same : y ≡ x = cc in ap (λ z. Some z) same
-first_dropped (y ∷ xs) (suc index) x later at = first_dropped xs index x later at
 
 -- A number is that of its name among these.
 abbrev IsNumbered : List (List ℕ) → NumberedName → Type 0
@@ -144,7 +137,7 @@ numbered_from all number [] here = All-nil (IsNumbered all)
 numbered_from all number (name ∷ names) here =
     let next : number + 1 ≡ number + 1 + 0 = omega arith in
     All-cons (IsNumbered all) (prefix_of_name name.now, name, number) (with_numbers_from (number + 1) names)
-    (first_dropped all number name.now (bytes_of names) here)
+    (get_at all (bytes_of names) number name.now here)
     (numbered_from all (number + 1) names (ap (λ n. drop n all) next ∙ drop-next all (bytes_of names) number 0 name.now here))
 
 pub all_numbered : (names : List Slice) (order : List NumberedName) → IsPermutation (with_numbers_from 0 names) order →
@@ -235,6 +228,6 @@ ranks_are names order here there sorted ranks is same are other ranked =
     let bytes : names_in order ≡ bytes_of sorted = sym (ap bytes_of are ∙ bytes_of-slices here ∙ ap names_in same) in
     record {
       in_order = subst (IsStrictlySortedBy (slice_cmp nat_cmp)) bytes is.in_order;
-      same_names = subst (IsPermutation (bytes_of names)) bytes (same_names names order is.permutation);
+      same_names = subst (IsPermutation (bytes_of names)) bytes (same_sorted_names names order is.permutation);
       ranked = subst (λ l. AllZip (IsNumberOf l) (bytes_of names) ranks) (ap names_in other ∙ bytes) ranked;
     }

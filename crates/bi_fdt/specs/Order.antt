@@ -50,17 +50,17 @@ pub record IsNumberOrder (names : List (List ℕ)) (table : List TableItem) (ord
   pub ordered : IsPropertyOrder table keys order
 
 -- A property of this key before others, if an item of a table is one.
-abbrev pub with_property : (key : ℕ) → Option TableItem → List KeyedProperty → List KeyedProperty
-with_property key None later = []
-with_property key (Some (NodeItem depth place name)) later = []
-with_property key (Some (PropertyItem property)) later = (key, property) ∷ later
+abbrev pub with_keyed_property : (key : ℕ) → Option TableItem → List KeyedProperty → List KeyedProperty
+with_keyed_property key None later = []
+with_keyed_property key (Some (NodeItem depth place name)) later = []
+with_keyed_property key (Some (PropertyItem property)) later = (key, property) ∷ later
 
 -- The properties at the indices of these pairs in a table, up to the first index that is none of a
 -- property.
 abbrev pub keyed_properties : List TableItem → List (ℕ × ℕ) → List KeyedProperty
 keyed_properties table [] = []
 keyed_properties table (keyed ∷ later) =
-    with_property keyed.0 (slice_get table keyed.1) (keyed_properties table later)
+    with_keyed_property keyed.0 (slice_get table keyed.1) (keyed_properties table later)
 
 -- A call that takes the first of some properties and leaves the others, or returns None if none are
 -- left.

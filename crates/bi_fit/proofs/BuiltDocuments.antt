@@ -55,9 +55,9 @@ built_image_node form begin head image =
     (built_hash_node image.payload) none
 
 -- The names of the properties of a node to be built are those of the document.
-pub same_names : (names : List (List ℕ)) (properties : PropertyMapModel) (own : PropertyMap) → names ≡ built_names → properties ≡ among built_names own →
+pub same_built_names : (names : List (List ℕ)) (properties : PropertyMapModel) (own : PropertyMap) → names ≡ built_names → properties ≡ among built_names own →
     names ≡ properties.names
-same_names names properties own are is = are ∙ sym (ap (λ m. m.names) is)
+same_built_names names properties own are is = are ∙ sym (ap (λ m. m.names) is)
 
 -- The properties of an image node to be built give no payload.
 pub properties_apart : (head : HeadModel) (image : ImageSpecModel) →

@@ -22,7 +22,8 @@ use Rattle.bi_fit.proofs.LongNames.{long_length, AreShortOrAmong, distinct_in_or
 -- are those of the file.
 
 -- A number stays when names are added at the end,
-number_append : (names more : List (List ℕ)) (name : List ℕ) (number : ℕ) → IsNumberOf names name number → IsNumberOf (names ++ more) name number
+pub number_append : (names more : List (List ℕ)) (name : List ℕ) (number : ℕ) → IsNumberOf names name number →
+    IsNumberOf (names ++ more) name number
 number_append [] more name number is = absurd cc
 number_append (first ∷ names) more name zero is = is
 number_append (first ∷ names) more name (suc number) is = number_append names more name number is

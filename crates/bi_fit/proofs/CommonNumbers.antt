@@ -8,6 +8,7 @@ use Rattle.bi_blob.specs.Tree.{FileProperty, IsNew, AreDistinct}
 use Rattle.bi_blob.proofs.Blobs.OpenNodes.{AreDistinct-push, All-push}
 use Rattle.bi_fdt.specs.Numbers.{HasNumber, IsNumberOf, FindsNumber}
 use Rattle.bi_fdt.specs.Order.{KeyedProperty, AreByNumber}
+use Rattle.bi_fit.proofs.ChangedNames.{number_append}
 use Rattle.bi_fit.specs.CommonNumbers.{HaveNumbersAfter}
 
 -- Names that are not among others get the numbers after theirs.
@@ -18,17 +19,11 @@ numbers_from next [] = []
 numbers_from next (Some number ∷ found) = number ∷ numbers_from next found
 numbers_from next (None ∷ found) = next ∷ numbers_from (next + 1) found
 
--- A name keeps its number if others are added at the end.
-number_stays : (names more : List (List ℕ)) (number : ℕ) (name : List ℕ) → IsNumberOf names name number →
-    IsNumberOf (names ++ more) name number
-number_stays [] more number name is = absurd cc
-number_stays (first ∷ later) more zero name is = is
-number_stays (first ∷ later) more (suc number) name is = number_stays later more number name is
-
+-- Names keep their numbers if others are added at the end.
 all_stay : (names more : List (List ℕ)) (keyed : List KeyedProperty) → AllByRecursion (λ one. HasNumber names one.1 one.0) keyed →
     AllByRecursion (λ one. HasNumber (names ++ more) one.1 one.0) keyed
 all_stay names more [] all = tt
-all_stay names more (one ∷ keyed) all = (number_stays names more one.0 one.1.name all.0, all_stay names more keyed all.1)
+all_stay names more (one ∷ keyed) all = (number_append names more one.1.name one.0 all.0, all_stay names more keyed all.1)
 
 -- So properties in the order of their numbers are in that order by the longer list too.
 pub order_stays : (names more : List (List ℕ)) (properties : List FileProperty) (keyed : List KeyedProperty) →
@@ -79,7 +74,7 @@ module _ (names : List (List ℕ)) where
   numbers_after more (name ∷ others) [] next distinct others_distinct new are counts = absurd are
   numbers_after more (name ∷ others) (Some number ∷ found) next distinct others_distinct new are counts =
       let rest = numbers_after more others found next distinct others_distinct.1 new.1 are.1 counts in
-      (rest.0, rest.1, (number_stays (names ++ more) rest.0 number name (number_stays names more number name are.0), rest.2))
+      (rest.0, rest.1, (number_append (names ++ more) rest.0 name number (number_append names more name number are.0), rest.2))
   numbers_after more (name ∷ others) (None ∷ found) next distinct others_distinct new are counts =
       let pushed : (names ++ more) ++ name ∷ [] ≡ names ++ (more ++ name ∷ []) = append_assoc names more (name ∷ []) in
       let still : AreDistinct (names ++ (more ++ name ∷ [])) =

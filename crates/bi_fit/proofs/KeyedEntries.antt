@@ -13,7 +13,7 @@ use Rattle.bi_lay.specs.Contents.{name_numbered}
 use Rattle.bi_lay.specs.declared.items.Value.{Value}
 use Rattle.bi_fdt.specs.Numbers.{HasNumber}
 use Rattle.bi_fdt.specs.Order.{KeyedProperty, sorted_properties}
-use Rattle.bi_fit.specs.PropertyMaps.{named, AreRanksWithin, IsEntryOf}
+use Rattle.bi_fit.specs.PropertyMaps.{named_values, AreRanksWithin, IsEntryOf}
 use Rattle.bi_fit.proofs.RankedProperties.{named_in_order}
 
 -- The entries of the properties of a node, whose keys are the ranks of their names, are the properties by name.
@@ -55,7 +55,7 @@ module _ (names : List (List ℕ)) where
 
   -- They have the names and the values of the properties.
   entries_named : (keyed : List KeyedProperty) (items : List (ℕ × Value)) → AllZip IsEntryOf keyed items →
-      AllByRecursion (λ one. HasNumber names one.1 one.0) keyed → named names items ≡ map (λ one. property_of one.1) keyed
+      AllByRecursion (λ one. HasNumber names one.1 one.0) keyed → named_values names items ≡ map (λ one. property_of one.1) keyed
   entries_named [] [] are numbered = refl
   entries_named [] (item ∷ items) are numbered = absurd are
   entries_named (one ∷ keyed) [] are numbered = absurd are
@@ -70,9 +70,9 @@ module _ (names : List (List ℕ)) where
       (keyed : List KeyedProperty) (items : List (ℕ × Value)) → AllZip IsEntryOf keyed items →
       AllByRecursion (λ one. HasNumber names one.1 one.0) keyed → IsStrictlySortedBy nat_cmp (keys_of keyed) →
       (properties : List Property) → map (λ one. property_of one.1) keyed ≡ sorted_properties properties →
-      from_sorted {R = slice_cmp nat_cmp} (named names items) ≡ from_entries properties
+      from_sorted {R = slice_cmp nat_cmp} (named_values names items) ≡ from_entries properties
   entries_by_name ordered keyed items are numbered ascend properties sorted =
       same_entries_map _ _
-      (entries-from_sorted (slice_cmp nat_cmp) (named names items)
+      (entries-from_sorted (slice_cmp nat_cmp) (named_values names items)
       (named_in_order names ordered items (entries_within keyed items are numbered) (entries_ascend keyed items are ascend))
       ∙ entries_named keyed items are numbered ∙ sorted)

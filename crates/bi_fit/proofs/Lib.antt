@@ -33,13 +33,11 @@ pub mod FileLists
 pub mod SignatureCounts
 pub mod AddedEvents
 pub mod PropertyMaps
-pub mod DistinctNumbers
-pub mod MovedPairs
 pub mod ComparedValues
-pub mod CommonNumbers
 pub mod RankedProperties
 pub mod KeyedEntries
 pub mod ChangedNames
+pub mod CommonNumbers
 pub mod AddedProperties
 pub mod NodeEvents
 pub mod PayloadEnds

@@ -22,22 +22,15 @@ use Rattle.bi_lay.specs.declared.items.Value.{Value}
 use Rattle.bi_lay.specs.Values.{value_bytes}
 use Rattle.bi_fdt.specs.Numbers.{IsNumberOf}
 use Rattle.bi_fit.specs.declared.property_names.ChangedNumbers.{ChangedNumbers}
+use Rattle.bi_fdt.proofs.ByName.{first_before}
 use Rattle.bi_fit.specs.Names.{is_payload_name}
 use Rattle.bi_fit.specs.ChangedNames.{AreRankedNames, is_payload_rank}
 use Rattle.bi_fit.specs.PropertyMapModels.{among, with_property_value}
 use Rattle.bi_fit.proofs.PropertyMaps.{from_sorted-put, from_sorted-kept}
 use Rattle.bi_fit.specs.ImageTree.{without_payload}
-use Rattle.bi_fit.specs.PropertyMaps.{named, AreRanksWithin, index_of_rank, is_entry_ranked}
+use Rattle.bi_fit.specs.PropertyMaps.{named_values, AreRanksWithin, index_of_rank, is_entry_ranked}
 
 -- Properties by the ranks of their names are in the order of their names, also as one is inserted, changed or left out.
-
--- Of names in byte order, the first is before the one at an index.
-first_before : (first : List ℕ) (names : List (List ℕ)) → IsStrictlySortedBy (slice_cmp nat_cmp) (first ∷ names) →
-    (index : ℕ) (name : List ℕ) → slice_get names index ≡ Some name → slice_cmp nat_cmp first name ≡ Less
-first_before first names ordered index name there =
-    subst (λ n. slice_cmp nat_cmp first n ≡ Less) (get_or_from_slice_get names index name name there)
-    (each-contains (λ n. slice_cmp nat_cmp first n ≡ Less) names _ (sorted_head (slice_cmp nat_cmp) first names ordered)
-    (Contains-get_or names index name (slice_get_within names index name there)))
 
 -- Names in byte order are in the order of their ranks.
 ranks_match : (names : List (List ℕ)) → IsStrictlySortedBy (slice_cmp nat_cmp) names → (rank other : ℕ) (name other_name : List ℕ) →
@@ -97,38 +90,38 @@ module _ (names : List (List ℕ)) (ordered : IsStrictlySortedBy (slice_cmp nat_
 
   -- Ranks that are in order are those of names in order.
   below-named : (rank : ℕ) → rank < length names → (entries : List (ℕ × Value)) → AreRanksWithin names entries →
-      below_all (slice_cmp nat_cmp) (name_numbered names rank) (named names entries) ≡ below_all nat_cmp rank entries
+      below_all (slice_cmp nat_cmp) (name_numbered names rank) (named_values names entries) ≡ below_all nat_cmp rank entries
   below-named rank within [] are = refl
   below-named rank within (entry ∷ entries) are =
       ap₂ (λ o rest. is_lt o && rest) (rank_cmp rank entry.0 within are.0) (below-named rank within entries are.1)
 
   sorted-named : (entries : List (ℕ × Value)) → AreRanksWithin names entries →
-      is_sorted (slice_cmp nat_cmp) (named names entries) ≡ is_sorted nat_cmp entries
+      is_sorted (slice_cmp nat_cmp) (named_values names entries) ≡ is_sorted nat_cmp entries
   sorted-named [] are = refl
   sorted-named (entry ∷ entries) are = ap₂ ◌&&◌ (below-named entry.0 are.0 entries are.1) (sorted-named entries are.1)
 
   pub named_in_order : (entries : List (ℕ × Value)) → AreRanksWithin names entries → T (is_sorted nat_cmp entries) →
-      T (is_sorted (slice_cmp nat_cmp) (named names entries))
+      T (is_sorted (slice_cmp nat_cmp) (named_values names entries))
   named_in_order entries are ascending = subst T (sym (sorted-named entries are)) ascending
 
   module _ (rank : ℕ) (within : rank < length names) (value : Value) where
     -- One more rank is one more name.
     pub named-put : (entries : List (ℕ × Value)) → AreRanksWithin names entries →
-        named names (put nat_cmp rank value entries) ≡ put (slice_cmp nat_cmp) (name_numbered names rank) (value_bytes value) (named names entries)
+        named_values names (put nat_cmp rank value entries) ≡ put (slice_cmp nat_cmp) (name_numbered names rank) (value_bytes value) (named_values names entries)
     named-put [] are = refl
     named-put (entry ∷ entries) are =
-        subst (λ o. named names (put nat_cmp rank value (entry ∷ entries))
-        ≡ by_order o ((name_numbered names rank, value_bytes value) ∷ named names (entry ∷ entries))
-        ((name_numbered names entry.0, value_bytes value) ∷ named names entries)
-        ((name_numbered names entry.0, value_bytes entry.1) ∷ put (slice_cmp nat_cmp) (name_numbered names rank) (value_bytes value) (named names entries)))
+        subst (λ o. named_values names (put nat_cmp rank value (entry ∷ entries))
+        ≡ by_order o ((name_numbered names rank, value_bytes value) ∷ named_values names (entry ∷ entries))
+        ((name_numbered names entry.0, value_bytes value) ∷ named_values names entries)
+        ((name_numbered names entry.0, value_bytes entry.1) ∷ put (slice_cmp nat_cmp) (name_numbered names rank) (value_bytes value) (named_values names entries)))
         (sym (rank_cmp rank entry.0 within are.0)) (by_cmp (nat_cmp rank entry.0) (named-put entries are.1))
       where
         by_cmp : (o : Ordering) →
-            named names (put nat_cmp rank value entries) ≡ put (slice_cmp nat_cmp) (name_numbered names rank) (value_bytes value) (named names entries) →
-            named names (by_order o ((rank, value) ∷ entry ∷ entries) ((entry.0, value) ∷ entries) (entry ∷ put nat_cmp rank value entries))
-            ≡ by_order o ((name_numbered names rank, value_bytes value) ∷ named names (entry ∷ entries))
-            ((name_numbered names entry.0, value_bytes value) ∷ named names entries)
-            ((name_numbered names entry.0, value_bytes entry.1) ∷ put (slice_cmp nat_cmp) (name_numbered names rank) (value_bytes value) (named names entries))
+            named_values names (put nat_cmp rank value entries) ≡ put (slice_cmp nat_cmp) (name_numbered names rank) (value_bytes value) (named_values names entries) →
+            named_values names (by_order o ((rank, value) ∷ entry ∷ entries) ((entry.0, value) ∷ entries) (entry ∷ put nat_cmp rank value entries))
+            ≡ by_order o ((name_numbered names rank, value_bytes value) ∷ named_values names (entry ∷ entries))
+            ((name_numbered names entry.0, value_bytes value) ∷ named_values names entries)
+            ((name_numbered names entry.0, value_bytes entry.1) ∷ put (slice_cmp nat_cmp) (name_numbered names rank) (value_bytes value) (named_values names entries))
         by_cmp Less rest = refl
         by_cmp Equal rest = refl
         by_cmp Greater rest = ap (λ l. (name_numbered names entry.0, value_bytes entry.1) ∷ l) rest
@@ -147,12 +140,12 @@ module _ (names : List (List ℕ)) (ordered : IsStrictlySortedBy (slice_cmp nat_
     -- The map has the property of this name.
     pub model-put : (entries items : List (ℕ × Value)) → items ≡ put nat_cmp rank value entries → AreRanksWithin names entries →
         T (is_sorted nat_cmp entries) → (name : List ℕ) → IsNumberOf names name rank →
-        among names (from_sorted (named names items)) ≡ with_property_value name (value_bytes value) (among names (from_sorted (named names entries)))
+        among names (from_sorted (named_values names items)) ≡ with_property_value name (value_bytes value) (among names (from_sorted (named_values names entries)))
     model-put entries items is are ascending name is_name =
-        ap (λ l. among names (from_sorted (named names l))) is
+        ap (λ l. among names (from_sorted (named_values names l))) is
         ∙ ap (λ l. among names (from_sorted l)) (named-put entries are)
-        ∙ ap (among names) (from_sorted-put (named names entries) (name_numbered names rank) (value_bytes value) (named_in_order entries are ascending))
-        ∙ ap (λ n. among names (insert (from_sorted (named names entries)) n (value_bytes value))) (get_or_from_slice_get names rank name [] is_name)
+        ∙ ap (among names) (from_sorted-put (named_values names entries) (name_numbered names rank) (value_bytes value) (named_in_order entries are ascending))
+        ∙ ap (λ n. among names (insert (from_sorted (named_values names entries)) n (value_bytes value))) (get_or_from_slice_get names rank name [] is_name)
 
   module _ (ranks : ChangedNumbers) (ranked : AreRankedNames names ranks) where
     -- A rank is that of a property that holds a payload or names its region if the name is.
@@ -169,28 +162,28 @@ module _ (names : List (List ℕ)) (ordered : IsStrictlySortedBy (slice_cmp nat_
 
     -- The entries that are kept are the properties that are.
     pub named-filter : (entries : List (ℕ × Value)) → AreRanksWithin names entries →
-        named names (filter keeps_value entries) ≡ where_key (slice_cmp nat_cmp) (λ name. not (is_payload_name name)) (named names entries)
+        named_values names (filter keeps_value entries) ≡ where_key (slice_cmp nat_cmp) (λ name. not (is_payload_name name)) (named_values names entries)
     named-filter [] are = refl
     named-filter (entry ∷ entries) are =
-        subst (λ b. named names (cond (keeps_value entry) (entry ∷ filter keeps_value entries) (filter keeps_value entries))
-        ≡ cond (not b) ((name_numbered names entry.0, value_bytes entry.1) ∷ where_key (slice_cmp nat_cmp) (λ name. not (is_payload_name name)) (named names entries))
-        (where_key (slice_cmp nat_cmp) (λ name. not (is_payload_name name)) (named names entries)))
+        subst (λ b. named_values names (cond (keeps_value entry) (entry ∷ filter keeps_value entries) (filter keeps_value entries))
+        ≡ cond (not b) ((name_numbered names entry.0, value_bytes entry.1) ∷ where_key (slice_cmp nat_cmp) (λ name. not (is_payload_name name)) (named_values names entries))
+        (where_key (slice_cmp nat_cmp) (λ name. not (is_payload_name name)) (named_values names entries)))
         (payload_rank entry.0 are.0) (where_kept (keeps_value entry) (named-filter entries are.1))
       where
         where_kept : (b : Bool) →
-            named names (filter keeps_value entries) ≡ where_key (slice_cmp nat_cmp) (λ name. not (is_payload_name name)) (named names entries) →
-            named names (cond b (entry ∷ filter keeps_value entries) (filter keeps_value entries))
-            ≡ cond b ((name_numbered names entry.0, value_bytes entry.1) ∷ where_key (slice_cmp nat_cmp) (λ name. not (is_payload_name name)) (named names entries))
-            (where_key (slice_cmp nat_cmp) (λ name. not (is_payload_name name)) (named names entries))
+            named_values names (filter keeps_value entries) ≡ where_key (slice_cmp nat_cmp) (λ name. not (is_payload_name name)) (named_values names entries) →
+            named_values names (cond b (entry ∷ filter keeps_value entries) (filter keeps_value entries))
+            ≡ cond b ((name_numbered names entry.0, value_bytes entry.1) ∷ where_key (slice_cmp nat_cmp) (λ name. not (is_payload_name name)) (named_values names entries))
+            (where_key (slice_cmp nat_cmp) (λ name. not (is_payload_name name)) (named_values names entries))
         where_kept true rest = ap (λ l. (name_numbered names entry.0, value_bytes entry.1) ∷ l) rest
         where_kept false rest = rest
 
     -- So the map of those that are kept is that of the properties that are.
     pub by_name-filter : (entries : List (ℕ × Value)) → AreRanksWithin names entries → T (is_sorted nat_cmp entries) →
-        from_sorted {R = slice_cmp nat_cmp} (named names (filter keeps_value entries)) ≡ without_payload (from_sorted (named names entries))
+        from_sorted {R = slice_cmp nat_cmp} (named_values names (filter keeps_value entries)) ≡ without_payload (from_sorted (named_values names entries))
     by_name-filter entries are ascending =
         ap (λ l. from_sorted {R = slice_cmp nat_cmp} l) (named-filter entries are)
-        ∙ from_sorted-kept (named names entries) (named_in_order entries are ascending)
+        ∙ from_sorted-kept (named_values names entries) (named_in_order entries are ascending)
 
 -- ---- the place of a rank
 

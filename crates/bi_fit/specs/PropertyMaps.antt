@@ -16,8 +16,8 @@ use Rattle.bi_fit.specs.PropertyMapModels.{PropertyMapModel}
 -- What the map of a node's properties holds, and what is true of it.
 
 -- The names and values of properties, each of which is given by the rank of its name.
-abbrev pub named : List (List ℕ) → List (ℕ × Value) → List Property
-named names entries = map (λ entry. (name_numbered names entry.0, value_bytes entry.1)) entries
+abbrev pub named_values : List (List ℕ) → List (ℕ × Value) → List Property
+named_values names entries = map (λ entry. (name_numbered names entry.0, value_bytes entry.1)) entries
 
 -- The ranks are those of names.
 abbrev pub AreRanksWithin : List (List ℕ) → List (ℕ × Value) → Type 0
@@ -31,7 +31,7 @@ IsEntryOf keyed entry = (keyed.0 ≡ entry.0) × (keyed.1.value ≡ value_bytes 
 abbrev pub property_map_model : Fields → PropertyMapModel
 property_map_model properties = record {
   names = properties.names.now;
-  by_name = from_sorted (named properties.names.now properties.entries.items);
+  by_name = from_sorted (named_values properties.names.now properties.entries.items);
 }
 
 -- What is true of the fields: the names are in byte order, and the ranks ascend.

@@ -27,7 +27,7 @@ loop-payload-init c =
     let s = node_of c.args.node in
     let all : nodes_from (option_map node_of c.first_child-next.result) ≡ s.children = ap nodes_from c.first_child-next.ensures.child ∙ nodes_from_first s.children in
     rw all (record {
-      order = next_in_order c.first_child-next.result c.first_child-next.ensures.same_table c.requires.order;
+      order = next_in_order c.args.node c.first_child-next.result c.first_child-next.ensures.same_table c.requires.order;
       distinct = c.requires.distinct;
       left = refl;
     })
@@ -69,7 +69,7 @@ loop-payload-preserved c =
     let distinct : EachOwn HasDistinctNames (nodes_from (Some s)) = subst (EachOwn HasDistinctNames) here c.loop-payload.invariant.distinct in
     let order : IsNameOrder (table_of_node c.in-Some.child) c.args.order.now = subst (HasNextOrder c.args.order.now) c.in-Some.is c.loop-payload.invariant.order in
     rw rest (record {
-      order = next_in_order c.next_sibling-next.result c.next_sibling-next.ensures.same_table order;
+      order = next_in_order c.in-Some.child c.next_sibling-next.result c.next_sibling-next.ensures.same_table order;
       distinct = distinct.2;
       left = appended_first start (image_entries s payload) (images_entries s.later later) target (map as_entry c.add_image.new.entries.items) left c.in_ok-add_image.ensures;
     })

@@ -20,7 +20,7 @@ loop-next-init c =
     let s = node_of c.args.root in
     let all : nodes_from (option_map node_of c.first_child-next.result) ≡ s.children = ap nodes_from c.first_child-next.ensures.child ∙ nodes_from_first s.children in
     rw all (record {
-      order = next_in_order c.first_child-next.result c.first_child-next.ensures.same_table c.requires.order;
+      order = next_in_order c.args.root c.first_child-next.result c.first_child-next.ensures.same_table c.requires.order;
       distinct = c.requires.distinct;
       names = c.requires.names;
       left = refl;
@@ -81,7 +81,7 @@ loop-next-preserved c =
           (ap (λ l. start ++ l) (sym (root-other s payloads (same ∙ w.if-eq.false))) ∙ all) w.in_ok-add_node.ensures)
     ] in
     rw rest (record {
-      order = next_in_order c.next_sibling-next.result c.next_sibling-next.ensures.same_table order;
+      order = next_in_order c.in-Some.child c.next_sibling-next.result c.next_sibling-next.ensures.same_table order;
       distinct = distinct.2;
       names = names.1;
       left = left;

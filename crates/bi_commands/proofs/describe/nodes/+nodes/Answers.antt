@@ -17,7 +17,7 @@ add_children-loop-next-init t c =
     let s = node_of c.args.node in
     let all : nodes_from (option_map node_of c.first_child-next.result) ≡ s.children = ap nodes_from c.first_child-next.ensures.child ∙ nodes_from_first s.children in
     rw all (record {
-      order = next_in_order c.first_child-next.result c.first_child-next.ensures.same_table c.requires.order;
+      order = next_in_order c.args.node c.first_child-next.result c.first_child-next.ensures.same_table c.requires.order;
       distinct = c.requires.distinct;
       left = refl;
       shallow = omega arith;
@@ -60,7 +60,7 @@ add_children-loop-next-preserved t c =
     let distinct : EachOwn HasDistinctNames (nodes_from (Some s)) = subst (EachOwn HasDistinctNames) here c.loop-next.invariant.distinct in
     let order : IsNameOrder (table_of_node c.in-Some.child) c.args.order.now = subst (HasNextOrder c.args.order.now) c.in-Some.is c.loop-next.invariant.order in
     rw rest (record {
-      order = next_in_order c.next_sibling-next.result c.next_sibling-next.ensures.same_table order;
+      order = next_in_order c.in-Some.child c.next_sibling-next.result c.next_sibling-next.ensures.same_table order;
       distinct = distinct.2;
       left = appended_first (map as_entry c.loop-next.entries.items) (plain_entries (alone s)) (plain_entries s.later) target (map as_entry c.add_node.new.entries.items) left c.in_ok-add_node.ensures;
       shallow = omega arith;

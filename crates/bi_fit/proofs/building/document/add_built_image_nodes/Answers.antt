@@ -10,7 +10,7 @@ use Rattle.bi_fit.proofs.NodeEvents.{IsAdding, may_add_first, adding_later}
 use Rattle.bi_fit.specs.Building.{built_image_properties, sha256_properties}
 use Rattle.bi_fit.specs.NamedImages.{head_model, named_model, named_models}
 use Rattle.bi_fit.specs.BuiltNodes.{built_payloads, built_image_nodes}
-use Rattle.bi_fit.proofs.BuiltDocuments.{built_hash_node, placed_properties, built_image_node, nodes_later, nodes_at, same_names}
+use Rattle.bi_fit.proofs.BuiltDocuments.{built_hash_node, placed_properties, built_image_node, nodes_later, nodes_at, same_built_names}
 use Rattle.bi_fit.proofs.BuiltDocuments.{same_built_image}
 use Rattle.bi_fit.proofs.BuiltPayloads.{no_named_image, built_payloads_from, digest_at}
 use Rattle.bi_fit.proofs.building.document.add_built_image_nodes.Goals as goal
@@ -31,10 +31,10 @@ add_image_node-requires c =
     within_sized c.args.form end (Some image.payload) (built_payloads (named_models (drop (index + 1) images)))
     (subst (AreWithin c.args.form end) (built_payloads_from images index no_named_image c.loop-index-test.true) c.loop-index.invariant.within) in
     record {
-      names = same_names c.loop-index.doc.names c.in_ok-image_properties.field-0 (from_entries (built_image_properties head image)) c.loop-index.invariant.names c.in_ok-image_properties.ensures;
+      names = same_built_names c.loop-index.doc.names c.in_ok-image_properties.field-0 (from_entries (built_image_properties head image)) c.loop-index.invariant.names c.in_ok-image_properties.ensures;
       small = c.loop-index.invariant.small;
       sized = subst (λ form. HasCellSize form (Some image.payload)) (sym c.loop-index.invariant.form) sized;
-      children = same_names c.loop-index.doc.names c.in_ok-hash.hash (from_entries (sha256_properties (get_or c.args.parts.digests.now index []))) c.loop-index.invariant.names c.in_ok-hash.ensures;
+      children = same_built_names c.loop-index.doc.names c.in_ok-hash.hash (from_entries (sha256_properties (get_or c.args.parts.digests.now index []))) c.loop-index.invariant.names c.in_ok-hash.ensures;
       may = subst (λ nodes. MayAdd c.loop-index.doc (events nodes)) (sym same)
           (may_add_first c.loop-index.doc target image.name (entries (placed_properties c.args.form (up4 end) head image)) (built_hash_node image.payload) later
           (subst (IsAdding c.loop-index.doc target) (nodes_at c.args.form end head images index no_named_image c.loop-index-test.true) c.loop-index.invariant.adding));

@@ -8,7 +8,7 @@ use Rattle.bi_fit.specs.Names.{configurations_name, default_name}
 use Rattle.bi_fit.proofs.AddedEvents.{may_begin, may_have_children, may_end, whole_added}
 use Rattle.bi_fit.specs.NamedImages.{head_model, named_models}
 use Rattle.bi_fit.specs.BuiltNodes.{built_configuration_node}
-use Rattle.bi_fit.proofs.BuiltDocuments.{same_names}
+use Rattle.bi_fit.proofs.BuiltDocuments.{same_built_names}
 use Rattle.bi_fit.proofs.building.document.add_configurations.Goals as goal
 
 -- The properties of the node of the configuration.
@@ -16,7 +16,7 @@ abbrev own : PropertyMap
 own = from_entries ((default_name, text_value configuration_name) ∷ [])
 
 pub begin_with-requires-clause-names : goal.begin_with-requires-clause-names
-begin_with-requires-clause-names c = same_names c.args.doc.now.names c.in_ok-properties.properties own c.requires.doc_names c.in_ok-properties.ensures
+begin_with-requires-clause-names c = same_built_names c.args.doc.now.names c.in_ok-properties.properties own c.requires.doc_names c.in_ok-properties.ensures
 
 pub begin_with-requires-clause-may : goal.begin_with-requires-clause-may
 begin_with-requires-clause-may c =
@@ -30,7 +30,7 @@ begin_with-requires-clause-may c =
 pub add_leaf-requires-clause-names : goal.add_leaf-requires-clause-names
 add_leaf-requires-clause-names c =
     let images = named_models c.args.parts.images.now in
-    same_names c.begin_with.new.doc.names c.in_ok-properties-2.properties (from_entries (built_configuration_properties (head_model c.args.parts.head) images))
+    same_built_names c.begin_with.new.doc.names c.in_ok-properties-2.properties (from_entries (built_configuration_properties (head_model c.args.parts.head) images))
     (ap (λ document. document.names) c.in_ok-begin_with.ensures.added ∙ c.requires.doc_names) (c.in_ok-properties-2.ensures images c.requires.prepared.lists)
 
 pub add_leaf-requires-clause-may : goal.add_leaf-requires-clause-may

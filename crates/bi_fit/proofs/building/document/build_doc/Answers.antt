@@ -5,7 +5,7 @@ use Rattle.bi_fit.specs.Documents.{document_of}
 use Rattle.bi_fit.specs.NormalNodes.{MayAdd, with_events, begin_events}
 use Rattle.bi_fit.specs.NamedImages.{head_model, named_models}
 use Rattle.bi_fit.proofs.BuiltDocuments.{root_begin, may_begin_root, may_add_images, may_add_configurations, may_end_root, is_document}
-use Rattle.bi_fit.proofs.BuiltDocuments.{is_closed, same_names}
+use Rattle.bi_fit.proofs.BuiltDocuments.{is_closed, same_built_names}
 use Rattle.bi_lay.specs.Contents.{empty_with_names}
 use Rattle.bi_base.specs.Slices.{bytes_of}
 use Rattle.bi_fit.specs.BuiltNames.{built_names}
@@ -21,7 +21,7 @@ started c =
 
 pub begin_with-requires-clause-names : goal.begin_with-requires-clause-names
 begin_with-requires-clause-names c =
-    same_names c.in_ok-doc.doc.names c.in_ok-properties.properties (from_entries (built_root_properties (head_model c.args.parts.head)))
+    same_built_names c.in_ok-doc.doc.names c.in_ok-properties.properties (from_entries (built_root_properties (head_model c.args.parts.head)))
     (ap (λ document. document.names) (started (goal.at.begin_with-requires-clause-names c).In_ok-doc)) c.in_ok-properties.ensures
 
 pub begin_with-requires-clause-may : goal.begin_with-requires-clause-may
