@@ -32,11 +32,11 @@ check "a contract that cites a lemma of a crate below is found" \
 check "a definition that cites a lemma is found" \
     is_found bi_fit/specs/Text.antt 'use Rattle.bi_blob.proofs.Blobs.Faults.{one_blob_fault}'
 check "a contract that cites the table of a blob is found" \
-    is_found bi_fit/src/nodes.rt 'ghost use Rattle.bi_fdt.specs.Table.{nodes_of};'
+    is_found bi_fit/src/nodes.rt 'ghost use Rattle.bi_fdt.specs.Table.{item_in};'
 check "a proof that cites the table of a blob is found" \
-    is_found bi_fit/proofs/PayloadAreas.antt 'use Rattle.bi_fdt.specs.Table.{TableItem, nodes_of}'
+    is_found bi_fit/proofs/PayloadAreas.antt 'use Rattle.bi_fdt.specs.Table.{item_in}'
 check "a proof that cites a lemma about the table of a blob is found" \
-    is_found bi_fit/proofs/PayloadAreas.antt 'use Rattle.bi_fdt.proofs.TableTrees.{nodes-same}'
+    is_found bi_fit/proofs/PayloadAreas.antt 'use Rattle.bi_fdt.proofs.GrowingTables.{get_at}'
 check "a proof that cites a private type is found" \
     is_found bi_norm/proofs/NormalForms.antt 'use Rattle.bi_fdt.specs.declared.table.Entry.TheVariants as entry'
 check "a proof that cites the answers of a function is found" \

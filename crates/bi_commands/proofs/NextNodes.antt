@@ -8,11 +8,11 @@ use Rattle.bi_fit.specs.NameOrders.{IsNameOrder}
 -- The order of the names of a node's blob is that of the nodes after it.
 
 -- The order is of the blob of the next node, if there is one.
-abbrev pub HasNextOrder : NameOrder → Option NodeRef → Type 0
-HasNextOrder order next = IfSome next (λ node. IsNameOrder (table_of_node node) order)
+abbrev pub HasOrderOfNext : NameOrder → Option NodeRef → Type 0
+HasOrderOfNext order next = IfSome next (λ node. IsNameOrder (table_of_node node) order)
 
 -- It is if the next node is of the same blob as a node of whose blob the order is.
 pub next_in_order : {order : NameOrder} (node : NodeRef) (next : Option NodeRef) →
-    IfSome next (λ other. table_of_node other ≡ table_of_node node) → IsNameOrder (table_of_node node) order → HasNextOrder order next
+    IfSome next (λ other. table_of_node other ≡ table_of_node node) → IsNameOrder (table_of_node node) order → HasOrderOfNext order next
 next_in_order node None same is = same
 next_in_order {order = order} node (Some next) same is = subst (λ table. IsNameOrder table order) (sym same) is

@@ -22,7 +22,7 @@ use Rattle.bi_blob.proofs.Texts.NormalEvents.{both_hold}
 use Rattle.bi_blob.proofs.Texts.PropertyOrder.{order_tells}
 use Rattle.bi_fdt.specs.Numbers.{HasNumber}
 use Rattle.bi_fdt.specs.Order.{KeyedProperty, AreByNumber, sorted_properties}
-use Rattle.bi_fdt.proofs.DistinctKeys.{same_name, distinct_names}
+use Rattle.bi_fdt.proofs.DistinctKeys.{one_name_each, names_stay_distinct}
 
 -- Properties in the order of the ranks of their names are in byte order of their names.
 
@@ -79,23 +79,23 @@ ascending_properties names ascend (one ∷ keyed) numbered rise =
 -- ---- by name, in any order
 
 -- What is found by a name among properties of distinct names is found in any order.
-found_moved : (properties moved : List Property) → IsPermutation properties moved → IsDistinct same_name (keys_of moved) →
-    (name value : List ℕ) → lookup (same_name name) properties ≡ Some value → lookup (same_name name) moved ≡ Some value
+found_moved : (properties moved : List Property) → IsPermutation properties moved → IsDistinct one_name_each (keys_of moved) →
+    (name value : List ℕ) → lookup (one_name_each name) properties ≡ Some value → lookup (one_name_each name) moved ≡ Some value
 found_moved properties moved move distinct name value is =
     lookup-from_Contains (eq_by_cmp_equiv nat_list_cmp_total) name value moved distinct
     (Contains-permutation properties moved (name, value) move
     (Contains-from_lookup (λ x y equal. (bytes_eq-Decides x y).0 (sym (is_eq-slice_cmp x y) ∙ equal)) name value properties is))
 
-lookup_moved : (properties moved : List Property) → IsPermutation properties moved → IsDistinct same_name (keys_of properties) →
-    (name : List ℕ) → lookup (same_name name) moved ≡ lookup (same_name name) properties
+lookup_moved : (properties moved : List Property) → IsPermutation properties moved → IsDistinct one_name_each (keys_of properties) →
+    (name : List ℕ) → lookup (one_name_each name) moved ≡ lookup (one_name_each name) properties
 lookup_moved properties moved move distinct name =
-    by_result (lookup (same_name name) properties) refl (lookup (same_name name) moved) refl
+    by_result (lookup (one_name_each name) properties) refl (lookup (one_name_each name) moved) refl
   where
-    by_result : (found : Option (List ℕ)) → lookup (same_name name) properties ≡ found → (other : Option (List ℕ)) →
-        lookup (same_name name) moved ≡ other → lookup (same_name name) moved ≡ lookup (same_name name) properties
+    by_result : (found : Option (List ℕ)) → lookup (one_name_each name) properties ≡ found → (other : Option (List ℕ)) →
+        lookup (one_name_each name) moved ≡ other → lookup (one_name_each name) moved ≡ lookup (one_name_each name) properties
     by_result (Some value) is other other_is =
         found_moved properties moved move
-        (IsDistinct-IsPermutation same_name (eq_by_cmp_equiv nat_list_cmp_total).symm (keys_of properties) (keys_of moved)
+        (IsDistinct-IsPermutation one_name_each (eq_by_cmp_equiv nat_list_cmp_total).symm (keys_of properties) (keys_of moved)
         (IsPermutation-map (λ (property : Property). property.0) properties moved move) distinct) name value is
         ∙ sym is
     by_result None is (Some value) other_is =
@@ -103,9 +103,9 @@ lookup_moved properties moved move distinct name =
     by_result None is None other_is = other_is ∙ sym is
 
 -- A look-up finds what a scan finds.
-find_is : (name : List ℕ) (properties : List Property) → find (slice_cmp nat_cmp) name properties ≡ lookup (same_name name) properties
+find_is : (name : List ℕ) (properties : List Property) → find (slice_cmp nat_cmp) name properties ≡ lookup (one_name_each name) properties
 find_is name [] = refl
-find_is name (property ∷ properties) = ap (cond (same_name name property.0) (Some property.1)) (find_is name properties)
+find_is name (property ∷ properties) = ap (cond (one_name_each name property.0) (Some property.1)) (find_is name properties)
 
 -- The same properties in byte order are those by name.
 sorted_by_name : (properties moved : List Property) → AreDistinct (map (λ property. property.0) properties) →
@@ -115,7 +115,7 @@ sorted_by_name properties moved distinct is_moved sorted =
     ∙ ap entries (same_map nat_list_cmp_total order_tells (from_sorted moved) (from_entries properties) (λ name.
     get-from_sorted (slice_cmp nat_cmp) moved name sorted
     ∙ find_is name moved
-    ∙ lookup_moved properties moved is_moved (distinct_names (map (λ (property : Property). property.0) properties) distinct) name
+    ∙ lookup_moved properties moved is_moved (names_stay_distinct (map (λ (property : Property). property.0) properties) distinct) name
     ∙ sym (find_is name properties)
     ∙ sym (get-from_entries nat_list_cmp_total properties name)))
 
@@ -137,12 +137,12 @@ named_moved properties keyed moved =
 pub found_by_name : (properties : List FileProperty) (keyed : List KeyedProperty) → IsPermutation properties (map (λ one. one.1) keyed) →
     AreDistinct (map (λ property. property.0) (map property_of properties)) → (name : List ℕ) →
     get (from_entries {R = slice_cmp nat_cmp} (map property_of properties)) name
-    ≡ lookup (same_name name) (map (λ one. property_of one.1) keyed)
+    ≡ lookup (one_name_each name) (map (λ one. property_of one.1) keyed)
 found_by_name properties keyed moved distinct name =
     get-from_entries nat_list_cmp_total (map property_of properties) name
     ∙ find_is name (map property_of properties)
     ∙ sym (lookup_moved (map property_of properties) (named keyed) (named_moved properties keyed moved)
-    (distinct_names (map (λ (property : Property). property.0) (map property_of properties)) distinct) name)
+    (names_stay_distinct (map (λ (property : Property). property.0) (map property_of properties)) distinct) name)
 
 -- The properties of a node by the ranks of their names are in byte order.
 pub by_rank_by_name : (names : List (List ℕ)) (properties : List FileProperty) (keyed : List KeyedProperty) →

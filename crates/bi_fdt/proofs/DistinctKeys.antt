@@ -46,20 +46,21 @@ first_not_less Equal later is = refl
 first_not_less Greater later is = refl
 
 -- Whether two names are equal, by their order.
-abbrev pub same_name : List ℕ → List ℕ → Bool
-same_name = eq_by_cmp (slice_cmp nat_cmp)
+abbrev pub one_name_each : List ℕ → List ℕ → Bool
+one_name_each = eq_by_cmp (slice_cmp nat_cmp)
 
 -- A name is none of those among which it is new,
-names_differ : (name : List ℕ) (others : List (List ℕ)) → IsNew name others → AllByRecursion (λ other. same_name name other ≡ false) others
+names_differ : (name : List ℕ) (others : List (List ℕ)) → IsNew name others →
+    AllByRecursion (λ other. one_name_each name other ≡ false) others
 names_differ name [] new = tt
 names_differ name (other ∷ others) new = (by_test (bytes_eq name other) refl, names_differ name others new.1)
   where
-    by_test : (b : Bool) → bytes_eq name other ≡ b → same_name name other ≡ false
+    by_test : (b : Bool) → bytes_eq name other ≡ b → one_name_each name other ≡ false
     by_test true equal = absurd (new.0 (sym ((bytes_eq-Decides name other).0 equal)))
     by_test false differ = is_eq-slice_cmp name other ∙ differ
 
 -- so distinct names differ.
-pub distinct_names : (names : List (List ℕ)) → AreDistinct names → IsDistinct same_name names
+pub names_stay_distinct : (names : List (List ℕ)) → AreDistinct names → IsDistinct one_name_each names
 unfolding IsDistinct
-distinct_names [] distinct = tt
-distinct_names (name ∷ names) distinct = (names_differ name names distinct.0, distinct_names names distinct.1)
+names_stay_distinct [] distinct = tt
+names_stay_distinct (name ∷ names) distinct = (names_differ name names distinct.0, names_stay_distinct names distinct.1)

@@ -16,16 +16,17 @@ not_among name (first ∷ later) zero new is = new.0 (same_Some first name is)
 not_among name (first ∷ later) (suc number) new is = not_among name later number new.1 is
 
 -- A name of distinct names has one number.
-pub one_number : (names : List (List ℕ)) → AreDistinct names → (number other : ℕ) (name : List ℕ) → slice_get names number ≡ Some name →
+pub one_number_of_name : (names : List (List ℕ)) → AreDistinct names → (number other : ℕ) (name : List ℕ) →
+    slice_get names number ≡ Some name →
     slice_get names other ≡ Some name → number ≡ other
-one_number [] distinct number other name is other_is = absurd cc
-one_number (first ∷ later) distinct zero zero name is other_is = refl
-one_number (first ∷ later) distinct zero (suc other) name is other_is =
+one_number_of_name [] distinct number other name is other_is = absurd cc
+one_number_of_name (first ∷ later) distinct zero zero name is other_is = refl
+one_number_of_name (first ∷ later) distinct zero (suc other) name is other_is =
     absurd (not_among first later other distinct.0 (other_is ∙ sym is))
-one_number (first ∷ later) distinct (suc number) zero name is other_is =
+one_number_of_name (first ∷ later) distinct (suc number) zero name is other_is =
     absurd (not_among first later number distinct.0 (is ∙ sym other_is))
-one_number (first ∷ later) distinct (suc number) (suc other) name is other_is =
-    ap suc (one_number later distinct.1 number other name is other_is)
+one_number_of_name (first ∷ later) distinct (suc number) (suc other) name is other_is =
+    ap suc (one_number_of_name later distinct.1 number other name is other_is)
 
 -- The number of a name is not that of another name.
 numbers_differ : (names : List (List ℕ)) (name : List ℕ) (number : ℕ) → slice_get names number ≡ Some name →

@@ -236,7 +236,8 @@ node_by_number file table index n there is_node names order is distinct = record
 -- What the properties at the indices from a place on begin with.
 keyed_here : (table : List TableItem) (pairs : Pairs) (place : ℕ) (d : ℕ × ℕ) → place < length pairs →
     keyed_properties table (drop place pairs)
-    ≡ with_keyed_property (get_or pairs place d).0 (slice_get table (get_or pairs place d).1) (keyed_properties table (drop (place + 1) pairs))
+    ≡ with_keyed_property (get_or pairs place d).0 (slice_get table (get_or pairs place d).1)
+    (keyed_properties table (drop (place + 1) pairs))
 keyed_here table pairs place d within =
     ap (keyed_properties table) (drop-cons pairs place d within)
     ∙ ap (λ n. with_keyed_property (get_or pairs place d).0 (slice_get table (get_or pairs place d).1) (keyed_properties table (drop n pairs)))

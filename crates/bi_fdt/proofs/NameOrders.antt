@@ -1,4 +1,4 @@
-use Rattle.std.proofs.Common.{◌≡◌, ℕ, zero, suc, ◌+◌, ◌<◌, List, [], ◌∷◌, ◌++◌, length, take, drop, get_or, Some, slice_get, All, Bor}
+use Rattle.std.proofs.Common.{◌≡◌, ℕ, suc, ◌+◌, ◌<◌, List, [], ◌∷◌, ◌++◌, length, take, drop, get_or, Some, slice_get, All, Bor}
 use Rattle.std.proofs.Common.{IsPermutation, is_lt, inl, inr, refl, sym, ap, subst, ◌∙◌, arith, get_or-set_same, get_or-set_other}
 use Rattle.std.proofs.Math.ListN.{set, drop_of_length-le}
 use Rattle.std.proofs.Math.Seq.{drop-cons}
@@ -21,9 +21,9 @@ use Rattle.bi_blob.specs.Tree.{AreDistinct}
 use Rattle.bi_blob.proofs.NamePrefixes.{prefixes_keep_order}
 use Rattle.bi_fdt.proofs.GrowingTables.{get_at}
 use Rattle.bi_fdt.specs.Numbers.{IsNumberOf}
-use Rattle.bi_fdt.specs.Ranks.{NumberedName, with_numbers_from, slices_in, names_in, IsNameOrder, AreRanksOf}
+use Rattle.bi_fdt.specs.Ranks.{NumberedName, with_numbers_from, slices_in, names_in, IsOrderOfNames, AreRanksOf}
 use Rattle.bi_fdt.proofs.NodeEntries.{drop-next}
-use Rattle.bi_fdt.proofs.DistinctKeys.{distinct_ascend, first_not_less, same_name, distinct_names}
+use Rattle.bi_fdt.proofs.DistinctKeys.{distinct_ascend, first_not_less, one_name_each, names_stay_distinct}
 
 -- Distinct names with their numbers, after a sort, are in byte order, and the index of each is its rank.
 
@@ -109,15 +109,15 @@ pub order_sorted : (names : List Slice) (order sorted : List NumberedName) → A
     order ≡ with_numbers_from 0 names → All HasItsPrefix order → IsPermutation order sorted →
     IsSortedBy (λ a b. is_lt (ordering_then (ordering_then (nat_cmp a.0 b.0) (slice_cmp nat_cmp a.1.now b.1.now))
     (nat_cmp a.2 b.2))) sorted →
-    IsNameOrder names sorted
+    IsOrderOfNames names sorted
 order_sorted names order sorted distinct are prefixes moved ascending =
     let from_names : IsPermutation (with_numbers_from 0 names) sorted = subst (λ l. IsPermutation l sorted) are moved in
     record {
       permutation = from_names;
       in_order = distinct_ascend nat_list_cmp_total (names_in sorted)
           (sorted_names sorted (All-permutation HasItsPrefix order sorted moved prefixes) ascending)
-          (IsDistinct-IsPermutation same_name (eq_by_cmp_equiv nat_list_cmp_total).symm (bytes_of names) (names_in sorted)
-          (same_sorted_names names sorted from_names) (distinct_names (bytes_of names) distinct));
+          (IsDistinct-IsPermutation one_name_each (eq_by_cmp_equiv nat_list_cmp_total).symm (bytes_of names) (names_in sorted)
+          (same_sorted_names names sorted from_names) (names_stay_distinct (bytes_of names) distinct));
     }
 
 -- There are as many.
@@ -146,9 +146,9 @@ all_numbered names order moved =
     All-permutation (IsNumbered (bytes_of names)) (with_numbers_from 0 names) order moved (numbered_from (bytes_of names) 0 names refl)
 
 -- So each is less than their count.
-pub number_within : (names : List Slice) (order : List NumberedName) → IsPermutation (with_numbers_from 0 names) order →
+pub number_in_order_within : (names : List Slice) (order : List NumberedName) → IsPermutation (with_numbers_from 0 names) order →
     (count : ℕ) → count ≡ length order → (k : ℕ) (d : NumberedName) → k < length order → (get_or order k d).2 < count
-number_within names order moved count is k d within =
+number_in_order_within names order moved count is k d within =
     let below : (get_or order k d).2 < length (bytes_of names) =
     slice_get_within (bytes_of names) (get_or order k d).2 (get_or order k d).1.now (all_numbered names order moved k d within) in
     omega (arith, below, length-map names (λ (slice : Slice). slice.now), length_order names order moved)
@@ -174,7 +174,7 @@ rank_more names order ranks k e moved long within are j d before = elim (cases_e
   number = (get_or order k e).2
 
   here : number < length ranks
-  here = number_within names order moved (length ranks) long k e within
+  here = number_in_order_within names order moved (length ranks) long k e within
 
   there : slice_get (names_in order) k ≡ Some (get_or order k e).1.now
   there =
@@ -221,7 +221,7 @@ bytes_of-slices (one ∷ order) = ap (λ l. one.1.now ∷ l) (bytes_of-slices or
 
 -- The names in this order, and their ranks by it.
 pub ranks_are : (names : List Slice) (order here there : List NumberedName) (sorted : List Slice) (ranks : List ℕ) →
-    IsNameOrder names order →
+    IsOrderOfNames names order →
     here ≡ order → sorted ≡ slices_in here → there ≡ order → AllZip (IsNumberOf (names_in there)) (bytes_of names) ranks →
     AreRanksOf (bytes_of names) (bytes_of sorted) ranks
 ranks_are names order here there sorted ranks is same are other ranked =

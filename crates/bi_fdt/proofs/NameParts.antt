@@ -3,10 +3,10 @@ use Rattle.std.proofs.Common.{slice_get, ◌≤◌, refl, sym, ap, subst, ◌∙
 use denote.Ref.{Bor}
 use Rattle.std.proofs.lemmas.List.{append_assoc, append-nil}
 use Rattle.std.proofs.lemmas.Option.{none-some, same_Some}
-use Rattle.bi_fdt.specs.NameParts.{NamePart, AreOnce, AreInOrder, IsNewPart, IsPlaced, AreMoreParts}
+use Rattle.bi_fdt.specs.NameParts.{NamePart, AreOnce, AreAfterTails, IsNewPart, IsPlaced, AreMoreParts}
 use Rattle.bi_fdt.specs.Numbers.{BeginsWith}
 use Rattle.bi_fdt.specs.PartNumbers.{is_same_key}
-use Rattle.bi_fdt.proofs.PartNumbers.{part_of, same_part, equal_part}
+use Rattle.bi_fdt.proofs.PartNumbers.{part_of_slice, same_part, equal_part}
 
 -- Parts of names keep their numbers, and a map has the numbers of exactly these parts.
 
@@ -39,32 +39,34 @@ slice_get-begin all front begins index x is = ap (λ l. slice_get l index) begin
 
 -- The numbers with one more part are those of no others.
 pub found_more : (old new : ℕ × Bor (List ℕ) → Option ℕ) (parts : List NamePart) (added : ℕ × Bor (List ℕ))
-    → ((part : ℕ × Bor (List ℕ)) (number : ℕ) → old part ≡ Some number → slice_get parts number ≡ Some (part_of part))
-    → ((part : ℕ × Bor (List ℕ)) → new part ≡ cond (is_same_key added part) (Some (length parts)) (old part)) → (part : ℕ × Bor (List ℕ)) (number : ℕ)
-    → new part ≡ Some number → slice_get (parts ++ part_of added ∷ []) number ≡ Some (part_of part)
+    → ((part : ℕ × Bor (List ℕ)) (number : ℕ) → old part ≡ Some number → slice_get parts number ≡ Some (part_of_slice part))
+    → ((part : ℕ × Bor (List ℕ)) → new part ≡ cond (is_same_key added part) (Some (length parts)) (old part)) →
+    (part : ℕ × Bor (List ℕ)) (number : ℕ)
+    → new part ≡ Some number → slice_get (parts ++ part_of_slice added ∷ []) number ≡ Some (part_of_slice part)
 found_more old new parts added found updates part number is = by (is_same_key added part) refl where
   now : cond (is_same_key added part) (Some (length parts)) (old part) ≡ Some number
   now = sym (updates part) ∙ is
 
-  by : (test : Bool) → is_same_key added part ≡ test → slice_get (parts ++ part_of added ∷ []) number ≡ Some (part_of part)
+  by : (test : Bool) → is_same_key added part ≡ test → slice_get (parts ++ part_of_slice added ∷ []) number ≡ Some (part_of_slice part)
   by true same =
       let last : length parts ≡ number = same_Some _ _ (ap (λ b. cond b (Some (length parts)) (old part)) (sym same) ∙ now) in
-      ap (slice_get (parts ++ part_of added ∷ [])) (sym last) ∙ slice_get-last parts (part_of added) ∙ ap Some (same_part added part same)
+      ap (slice_get (parts ++ part_of_slice added ∷ [])) (sym last) ∙ slice_get-last parts (part_of_slice added) ∙ ap Some (same_part added part same)
   by false other =
-      slice_get-longer parts (part_of added ∷ []) number (part_of part)
+      slice_get-longer parts (part_of_slice added ∷ []) number (part_of_slice part)
       (found part number (ap (λ b. cond b (Some (length parts)) (old part)) (sym other) ∙ now))
 
 -- The numbers with one more part, which had none, are those of all.
 pub listed_more : (old new : ℕ × Bor (List ℕ) → Option ℕ) (parts : List NamePart) (added : ℕ × Bor (List ℕ))
-    → ((part : ℕ × Bor (List ℕ)) (number : ℕ) → slice_get parts number ≡ Some (part_of part) → old part ≡ Some number)
+    → ((part : ℕ × Bor (List ℕ)) (number : ℕ) → slice_get parts number ≡ Some (part_of_slice part) → old part ≡ Some number)
     → ((part : ℕ × Bor (List ℕ)) → new part ≡ cond (is_same_key added part) (Some (length parts)) (old part)) → old added ≡ None
-    → (part : ℕ × Bor (List ℕ)) (number : ℕ) → slice_get (parts ++ part_of added ∷ []) number ≡ Some (part_of part) → new part ≡ Some number
+    → (part : ℕ × Bor (List ℕ)) (number : ℕ) → slice_get (parts ++ part_of_slice added ∷ []) number ≡ Some (part_of_slice part) →
+    new part ≡ Some number
 listed_more old new parts added listed updates lacks part number is =
-    updates part ∙ elim (slice_get-pushed parts (part_of added) number (part_of part) is) [
+    updates part ∙ elim (slice_get-pushed parts (part_of_slice added) number (part_of_slice part) is) [
       | inl there ↦ other there (is_same_key added part) refl
       | inr last ↦ ap (λ b. cond b (Some (length parts)) (old part)) (equal_part added part last.1) ∙ ap Some (sym last.0)
     ] where
-      other : slice_get parts number ≡ Some (part_of part) → (test : Bool) → is_same_key added part ≡ test
+      other : slice_get parts number ≡ Some (part_of_slice part) → (test : Bool) → is_same_key added part ≡ test
           → cond (is_same_key added part) (Some (length parts)) (old part) ≡ Some number
       other there true same =
           absurd (none-some number (sym lacks ∙ listed added number (there ∙ ap Some (sym (same_part added part same)))))
@@ -72,8 +74,8 @@ listed_more old new parts added listed updates lacks part number is =
 
 -- A part that has no number is new.
 pub lacks_part : (numbers : ℕ × Bor (List ℕ) → Option ℕ) (parts : List NamePart) (part : ℕ × Bor (List ℕ))
-    → ((part : ℕ × Bor (List ℕ)) (number : ℕ) → slice_get parts number ≡ Some (part_of part) → numbers part ≡ Some number)
-    → numbers part ≡ None → IsNewPart (part_of part) parts
+    → ((part : ℕ × Bor (List ℕ)) (number : ℕ) → slice_get parts number ≡ Some (part_of_slice part) → numbers part ≡ Some number)
+    → numbers part ≡ None → IsNewPart (part_of_slice part) parts
 lacks_part numbers parts part listed lacks index there = none-some index (sym lacks ∙ listed part index there)
 
 -- The same parts.
@@ -81,7 +83,7 @@ pub AreMoreParts-same : (old new : List NamePart) → new ≡ old → AreMorePar
 AreMoreParts-same old new same = record {
   begin = ([], same ∙ sym (append-nil old));
   once = λ once. subst AreOnce (sym same) once;
-  order = λ order. subst AreInOrder (sym same) order;
+  order = λ order. subst AreAfterTails (sym same) order;
 }
 
 -- One more part.
@@ -99,7 +101,7 @@ once_more parts part new once other m n at_m at_n =
     ]
 
 -- It is in order if the blocks after it are.
-order_more : (parts : List NamePart) (part : NamePart) → part.0 ≤ length parts → AreInOrder parts → AreInOrder (parts ++ part ∷ [])
+order_more : (parts : List NamePart) (part : NamePart) → part.0 ≤ length parts → AreAfterTails parts → AreAfterTails (parts ++ part ∷ [])
 order_more parts part fits order index other at = elim (slice_get-pushed parts part index other at) [
   | inl there ↦ order index other there
   | inr last ↦ subst (λ (other : NamePart). other.0 ≤ index) last.1 (omega (arith, fits, last.0))
@@ -113,7 +115,7 @@ placed_more old part index new fits placed = elim placed [
   | inr added ↦ record {
     begin = (part ∷ [], added.2);
     once = λ once. subst AreOnce (sym added.2) (once_more old part added.0 once);
-    order = λ order. subst AreInOrder (sym added.2) (order_more old part fits order);
+    order = λ order. subst AreAfterTails (sym added.2) (order_more old part fits order);
   }
 ]
 

@@ -52,7 +52,8 @@ picked_number others (first ∷ names) (key ∷ keys) (suc number) name are is =
 
 -- The keys at the numbers of properties are their numbers by the other list.
 pub picked_numbers : (others names : List (List ℕ)) (keys : List ℕ) → AllZip (IsNumberOf others) names keys →
-    (table : List TableItem) (numbers : List ℕ) → AreNumbered names table numbers → AreNumbered others table (map (slice_index keys) numbers)
+    (table : List TableItem) (numbers : List ℕ) → AreNumbered names table numbers →
+    AreNumbered others table (map (slice_index keys) numbers)
 picked_numbers others names keys keyed [] [] are = tt
 picked_numbers others names keys keyed [] (number ∷ numbers) are = elim are [ ]
 picked_numbers others names keys keyed (item ∷ table) [] are = elim are [ ]

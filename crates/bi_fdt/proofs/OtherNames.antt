@@ -3,7 +3,7 @@ use Rattle.std.proofs.Common.{refl, sym, ap, subst, ◌∙◌, arith}
 use Rattle.std.specs.List.{AllZip}
 use Rattle.std.proofs.lemmas.Option.{none-some, same_Some, some_pair_parts}
 use Rattle.bi_blob.specs.Tree.{IsNew}
-use Rattle.bi_fdt.specs.NameParts.{NamePart, AreOnce, AreInOrder}
+use Rattle.bi_fdt.specs.NameParts.{NamePart, AreOnce, AreAfterTails}
 use Rattle.bi_fdt.specs.NameTails.{AreBlocksNumbered, IsTail, IsHead, AreHeads, head_length}
 use Rattle.bi_fdt.specs.Numbers.{FindsNumber}
 use Rattle.bi_fdt.specs.OtherNames.{FindsBlocks, HasOtherNumber, AreOtherNumbers, FindsAfter, FindsTail, AreFoundAmong}
@@ -53,7 +53,7 @@ part_other parts others once index later block tail found there after finds (suc
 -- One more number.
 pub others_more : (parts others : List NamePart) (numbers more : List (Option ℕ)) (index later : ℕ) (block : List ℕ)
     (tail found : Option ℕ) →
-    AreOnce others → AreInOrder parts → slice_get parts index ≡ Some (later, block) → length numbers ≡ index + 1 →
+    AreOnce others → AreAfterTails parts → slice_get parts index ≡ Some (later, block) → length numbers ≡ index + 1 →
     ((number : ℕ) (found : Option ℕ) → slice_get numbers number ≡ Some found → HasOtherNumber parts others number found) →
     ((value : Option ℕ) → slice_get numbers later ≡ Some value → tail ≡ value) → FindsTail others tail block found →
     more ≡ numbers ++ found ∷ [] →

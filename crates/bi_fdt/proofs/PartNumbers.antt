@@ -20,15 +20,15 @@ use Rattle.bi_fdt.specs.declared.part_numbers.PartNumbers.{PartNumbers}
 -- The numbers of parts are in the maps that the parts choose.
 
 -- A part of borrowed bytes.
-abbrev pub part_of : ℕ × Bor (List ℕ) → ℕ × List ℕ
-part_of part = (part.0, part.1.now)
+abbrev pub part_of_slice : ℕ × Bor (List ℕ) → ℕ × List ℕ
+part_of_slice part = (part.0, part.1.now)
 
 -- A map from the keys of parts to numbers.
 abbrev pub Bucket : Type 0
 Bucket = BTreeMap (ℕ × ℕ × Bor (List ℕ)) ℕ
 
 -- Keys are equal in the order of a map if and only if the parts are.
-pub same_part : (a b : ℕ × Bor (List ℕ)) → is_same_key a b ≡ true → part_of a ≡ part_of b
+pub same_part : (a b : ℕ × Bor (List ℕ)) → is_same_key a b ≡ true → part_of_slice a ≡ part_of_slice b
 same_part a b is =
     ap (λ (key : (ℕ × ℕ) × List ℕ). (key.0.0, key.1))
     (exact_pairs (λ x y. ordering_then (nat_cmp x.0 y.0) (nat_cmp x.1 y.1)) (slice_cmp nat_cmp)
@@ -39,7 +39,7 @@ same_part a b is =
       equal Equal is = refl
       equal Greater is = absurd (true≢false (sym is))
 
-pub equal_part : (a b : ℕ × Bor (List ℕ)) → part_of a ≡ part_of b → is_same_key a b ≡ true
+pub equal_part : (a b : ℕ × Bor (List ℕ)) → part_of_slice a ≡ part_of_slice b → is_same_key a b ≡ true
 equal_part a b same =
     ap (λ (part : ℕ × List ℕ). is_eq (to part)) (sym same)
     ∙ ap (λ o. is_eq (ordering_then (ordering_then o (nat_cmp (prefix_of_name a.1.now) (prefix_of_name a.1.now))) (slice_cmp nat_cmp a.1.now a.1.now)))
@@ -71,7 +71,7 @@ number_from buckets index part = option_and_then (λ bucket. get by_prefix bucke
 
 -- If the map that a part chooses is known, so is the number of the part.
 pub number_at : (numbers : PartNumbers) (part : ℕ × Bor (List ℕ)) (index : ℕ) (bucket : Bucket)
-    → index ≡ bucket_of (bucket_count numbers) (part_of part) → slice_get numbers.buckets.items index ≡ Some bucket
+    → index ≡ bucket_of (bucket_count numbers) (part_of_slice part) → slice_get numbers.buckets.items index ≡ Some bucket
     → number_in numbers part ≡ get by_prefix bucket (key_of_part part)
 number_at numbers part index bucket chosen is =
     ap (λ at. number_from numbers.buckets.items at part) (sym chosen)
@@ -79,12 +79,12 @@ number_at numbers part index bucket chosen is =
 
 -- One map has one more part, which chose it: so the other parts have the numbers that they had.
 pub number_more : (buckets : List Bucket) (index : ℕ) (old new : Bucket) (count : ℕ) (added : ℕ × Bor (List ℕ)) (number : ℕ)
-    → index < length buckets → slice_get buckets index ≡ Some old → index ≡ bucket_of count (part_of added)
+    → index < length buckets → slice_get buckets index ≡ Some old → index ≡ bucket_of count (part_of_slice added)
     → Updates by_prefix old new (key_of_part added) (Some number) → (part : ℕ × Bor (List ℕ))
-    → number_from (slice_set buckets index new) (bucket_of count (part_of part)) part
-    ≡ cond (is_same_key added part) (Some number) (number_from buckets (bucket_of count (part_of part)) part)
+    → number_from (slice_set buckets index new) (bucket_of count (part_of_slice part)) part
+    ≡ cond (is_same_key added part) (Some number) (number_from buckets (bucket_of count (part_of_slice part)) part)
 number_more buckets index old new count added number within was chosen updates part =
-    elim (eqb_tells (bucket_of count (part_of part)) index) [
+    elim (eqb_tells (bucket_of count (part_of_slice part)) index) [
       | inl same ↦
           ap (λ at. number_from (slice_set buckets index new) at part) same.1
           ∙ ap look (slice_get-set_same buckets index new within)
@@ -92,12 +92,12 @@ number_more buckets index old new count added number within was chosen updates p
           ∙ ap (λ before. cond (is_same_key added part) (Some number) before) (sym (ap look was))
           ∙ ap (λ at. cond (is_same_key added part) (Some number) (number_from buckets at part)) (sym same.1)
       | inr other ↦
-          ap look (slice_get-set_other buckets index (bucket_of count (part_of part)) new other.1)
-          ∙ ap (λ test. cond test (Some number) (number_from buckets (bucket_of count (part_of part)) part)) (sym (differs other.1 (is_same_key added part) refl))
+          ap look (slice_get-set_other buckets index (bucket_of count (part_of_slice part)) new other.1)
+          ∙ ap (λ test. cond test (Some number) (number_from buckets (bucket_of count (part_of_slice part)) part)) (sym (differs other.1 (is_same_key added part) refl))
     ] where
       look : Option Bucket → Option ℕ
       look found = option_and_then (λ bucket. get by_prefix bucket (key_of_part part)) found
 
-      differs : bucket_of count (part_of part) ≢ index → (test : Bool) → is_same_key added part ≡ test → test ≡ false
+      differs : bucket_of count (part_of_slice part) ≢ index → (test : Bool) → is_same_key added part ≡ test → test ≡ false
       differs other true same = absurd (other (ap (bucket_of count) (sym (same_part added part same)) ∙ sym chosen))
       differs other false same = refl

@@ -18,8 +18,8 @@ AreOnce parts = (part : NamePart) (m n : ℕ) → slice_get parts m ≡ Some par
     → slice_get parts n ≡ Some part → m ≡ n
 
 -- The blocks after each part have the number of a part before it, or are none.
-abbrev pub AreInOrder : List NamePart → Type 0
-AreInOrder parts = (index : ℕ) (part : NamePart) → slice_get parts index ≡ Some part → part.0 ≤ index
+abbrev pub AreAfterTails : List NamePart → Type 0
+AreAfterTails parts = (index : ℕ) (part : NamePart) → slice_get parts index ≡ Some part → part.0 ≤ index
 
 -- A part is not in a list.
 abbrev pub IsNewPart : NamePart → List NamePart → Type 0
@@ -40,11 +40,11 @@ IsPlaced old part index new = ((slice_get old index ≡ Some part) × (new ≡ o
 pub record AreMoreParts (old new : List NamePart) : Type 0 where
   pub begin : BeginsWith new old
   pub once : AreOnce old → AreOnce new
-  pub order : AreInOrder old → AreInOrder new
+  pub order : AreAfterTails old → AreAfterTails new
 
 -- Parts of borrowed bytes.
-abbrev pub parts_of : List (ℕ × Bor (List ℕ)) → List NamePart
-parts_of parts = map (λ part. (part.0, part.1.now)) parts
+abbrev pub parts_of_slices : List (ℕ × Bor (List ℕ)) → List NamePart
+parts_of_slices parts = map (λ part. (part.0, part.1.now)) parts
 
 -- The parts that the fields hold.
 abbrev pub name_parts_of : Inside → List NamePart

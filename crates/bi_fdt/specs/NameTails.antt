@@ -3,7 +3,7 @@ use Rattle.std.specs.Prelude.{take, drop, Some, slice_get, slice_index_or}
 use Rattle.std.specs.List.{AllZip}
 use Rattle.bi_blob.specs.Tokens.{name_from}
 use Rattle.bi_blob.specs.Tree.{AreDistinct}
-use Rattle.bi_fdt.specs.NameParts.{NamePart, AreOnce, AreInOrder}
+use Rattle.bi_fdt.specs.NameParts.{NamePart, AreOnce, AreAfterTails}
 
 -- Heads and tails of names. The tail of a name is all blocks of 64 bytes that the name ends with
 -- but the first, and its head is the bytes before them, less than 128. A tail is a list of parts
@@ -47,7 +47,7 @@ pub record IsHead (tails : List NamePart) (part : NamePart) (name : List ℕ) : 
 -- These are the heads of distinct names.
 pub record AreHeads (tails heads : List NamePart) (names : List (List ℕ)) : Type 0 where
   pub tails_once : AreOnce tails
-  pub tails_order : AreInOrder tails
+  pub tails_order : AreAfterTails tails
   pub heads_once : AreOnce heads
   pub each : AllZip (IsHead tails) heads names
   pub distinct : AreDistinct names

@@ -1,9 +1,6 @@
 use Rattle.std.specs.Prelude.{◌≡◌, ⊤, ℕ, List, [], ◌∷◌, ◌++◌, Option, Some, slice_get}
 use Rattle.std.specs.Prelude.{if◌then◌else◌, MatchOption}
-use Rattle.std.specs.Ordering.{nat_cmp}
-use Rattle.std.specs.Cmp.Lexicographic.{slice_cmp}
 use Rattle.std.specs.List.{AllZip}
-use Rattle.std.specs.List.Sorted.{IsStrictlySortedBy}
 use Rattle.bi_blob.specs.Layout.{is_among}
 use Rattle.bi_blob.specs.Tree.{FileProperty, IsNew}
 use Rattle.bi_fdt.specs.TableItems.{TableItem, NodeItem, PropertyItem}
@@ -46,12 +43,6 @@ IsNumbered names (PropertyItem property) number = HasNumber names property numbe
 -- table.
 abbrev pub AreNumbered : List (List ℕ) → List TableItem → List ℕ → Type 0
 AreNumbered names table numbers = AllZip (IsNumbered names) table numbers
-
--- The numbers are ranks: the names are in byte order, so that a greater name has a greater number.
-pub record AreRanks (names : List (List ℕ)) (table : List TableItem) (ranks : List ℕ) : Type 0
-  where
-    pub in_order : IsStrictlySortedBy (slice_cmp nat_cmp) names
-    pub numbered : AreNumbered names table ranks
 
 -- A list begins with another. Names keep their numbers when names are added at the end.
 abbrev pub BeginsWith : {Item : Type 0} → List Item → List Item → Type 0

@@ -35,6 +35,6 @@ abbrev pub names_in : List NumberedName → List (List ℕ)
 names_in numbered = map (λ one. one.1.now) numbered
 
 -- These are names with their numbers, which are their indices, in byte order.
-pub record IsNameOrder (names : List (Bor (List ℕ))) (order : List NumberedName) : Type 0 where
+pub record IsOrderOfNames (names : List (Bor (List ℕ))) (order : List NumberedName) : Type 0 where
   pub permutation : IsPermutation (with_numbers_from 0 names) order
   pub in_order : IsStrictlySortedBy (slice_cmp nat_cmp) (names_in order)

@@ -24,15 +24,15 @@ pub(crate) struct KeptNames<'a> {
 impl<'a> Model for KeptNames<'a> {
     ghost use Rattle.std.specs.Prelude.{ℕ, List};
     ghost use Rattle.bi_base.specs.Slices.{bytes_of};
-    ghost use Rattle.bi_fdt.specs.NameParts.{parts_of};
+    ghost use Rattle.bi_fdt.specs.NameParts.{parts_of_slices};
     ghost use Rattle.bi_fdt.specs.NameTails.{AreHeads};
 
     ghost Value = { List (List ℕ) };
 
     ghost view = { λ names. bytes_of names.names.items };
 
-    ghost invariant = { λ names. AreHeads (parts_of names.tails.items)
-        (parts_of names.heads.items) (bytes_of names.names.items) };
+    ghost invariant = { λ names. AreHeads (parts_of_slices names.tails.items)
+        (parts_of_slices names.heads.items) (bytes_of names.names.items) };
 }
 
 impl<'a> KeptNames<'a> {

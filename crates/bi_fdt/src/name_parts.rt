@@ -27,7 +27,7 @@ impl<'a> Model for NameParts<'a> {
 }
 
 impl<'a> NameParts<'a> {
-    ghost use Rattle.bi_fdt.specs.NameParts.{AreOnce, AreInOrder, IsPlaced, FindsPart, parts_of};
+    ghost use Rattle.bi_fdt.specs.NameParts.{AreOnce, AreAfterTails, IsPlaced, FindsPart, parts_of_slices};
     ghost use Rattle.bi_fdt.specs.OtherNames.{AreOtherNumbers, AreFoundAmong};
     ghost use Rattle.bi_fdt.specs.OtherNames.{FindsAfter, FindsTail};
 
@@ -46,8 +46,8 @@ impl<'a> NameParts<'a> {
         alloc: Global,
         parts: &[(usize, &'a [u8])],
     ) -> Result<NameParts<'a>, AllocError>
-        requires { AreOnce (parts_of parts.now) }
-        ensures { IfOk result (λ made. made ≡ parts_of parts.now) }
+        requires { AreOnce (parts_of_slices parts.now) }
+        ensures { IfOk result (λ made. made ≡ parts_of_slices parts.now) }
     {
         let mut made = NameParts::new(alloc, parts.len())?;
         for (tail, bytes) in parts {
@@ -58,7 +58,7 @@ impl<'a> NameParts<'a> {
 
     /// Returns the parts. The number of each is its index.
     pub(crate) fn into_parts(self) -> Vec<(usize, &'a [u8])>
-        ensures { parts_of result.items ≡ self.entry }
+        ensures { parts_of_slices result.items ≡ self.entry }
     {
         let NameParts { parts, numbers: _ } = self;
         parts
@@ -115,7 +115,7 @@ impl<'a> NameParts<'a> {
         alloc: Global,
         others: &NameParts<'a>,
     ) -> Result<Vec<Option<usize>>, AllocError>
-        requires order { AreInOrder self.now }
+        requires order { AreAfterTails self.now }
         requires once { AreOnce others.now }
         ensures { IfOk result (λ numbers. AreOtherNumbers self.now others.now numbers.items) }
     {

@@ -3,7 +3,6 @@
 ghost use Rattle.std.specs.Prelude.{◌≡◌, ◌<◌, ◌^◌, ℕ, List, drop, length, slice_get, IsTrue};
 ghost use Rattle.std.specs.Prelude.{IfSome, Some, map};
 ghost use Rattle.std.specs.Cmp.Lexicographic.{slice_cmp};
-ghost use Rattle.std.specs.List.{AllZip};
 ghost use Rattle.std.specs.List.Sorted.{IsStrictlySortedBy};
 ghost use Rattle.std.specs.Option.{option_map};
 ghost use Rattle.std.specs.Ordering.{nat_cmp};
@@ -12,7 +11,6 @@ ghost use Rattle.bi_blob.specs.Lookups.{siblings, root_node, node_at, node_named
 ghost use Rattle.bi_blob.specs.Lookups.{property_named};
 ghost use Rattle.bi_fdt.specs.Properties.{file_property_of};
 ghost use Rattle.bi_fdt.specs.Content.{root_of, begins_with_node};
-ghost use Rattle.bi_fdt.specs.Numbers.{HasNumber, AreNumbered};
 
 use crate::blob::Blob;
 use crate::order::{OrderedProperties, PropertyOrder};
@@ -134,20 +132,6 @@ impl<'a, 'b> NodeRef<'a, 'b> {
             self.blob.entries(),
             &order.pairs()[begin..end],
         )
-    }
-
-    /// Returns the numbers of the names of the properties, in their order in the file. `numbers`
-    /// are those of all nodes and properties of the blob, as `NameNumbers::number` returns them. It
-    /// may only be called if there are as many of them.
-    pub fn name_numbers<'n>(self, numbers: &'n [usize]) -> &'n [usize]
-        requires { length numbers.now ≡ length (table_of_node self) }
-        ensures { (names : List (List ℕ))
-            → AreNumbered names (table_of_node self.entry) numbers.entry.now
-            → AllZip (HasNumber names) (node_of self.entry).own.properties result.now }
-    {
-        let begin = self.index + 1;
-        let end = begin + self.entry().property_count as usize;
-        &numbers[begin..end]
     }
 
     /// Returns the name and value of property `index`, counted from 0, in the order of the file.

@@ -5,7 +5,7 @@ ghost use Rattle.std.specs.List.{AllZip};
 ghost use Rattle.bi_base.specs.Slices.{bytes_of};
 ghost use Rattle.bi_blob.specs.Tree.{AreDistinct};
 ghost use Rattle.bi_fdt.specs.Numbers.{AreNumbered, IsNumberOf};
-ghost use Rattle.bi_fdt.specs.Ranks.{AreRanksOf, IsNameOrder, slices_in, names_in};
+ghost use Rattle.bi_fdt.specs.Ranks.{AreRanksOf, IsOrderOfNames, slices_in, names_in};
 ghost use Rattle.bi_fdt.specs.TableItems.{TableItem};
 
 use bi_base::are_bytes;
@@ -28,7 +28,7 @@ fn order_names<'a>(
     names: &[&'a [u8]],
 ) -> Result<Vec<(u64, &'a [u8], usize)>, AllocError>
     requires { AreDistinct (bytes_of names.now) }
-    ensures { IfOk result (λ order. IsNameOrder names.now order.items) }
+    ensures { IfOk result (λ order. IsOrderOfNames names.now order.items) }
 {
     let mut order = Vec::with_capacity(alloc, names.len())?;
     for (number, name) in names.iter().enumerate() {
@@ -56,7 +56,7 @@ fn ranks_of_order(
     names: &[&[u8]],
     order: &[(u64, &[u8], usize)],
 ) -> Result<Vec<usize>, AllocError>
-    requires { IsNameOrder names.now order.now }
+    requires { IsOrderOfNames names.now order.now }
     ensures { IfOk result (λ ranks.
         AllZip (IsNumberOf (names_in order.now)) (bytes_of names.now) ranks.items) }
 {

@@ -55,7 +55,8 @@ built_image_node form begin head image =
     (built_hash_node image.payload) none
 
 -- The names of the properties of a node to be built are those of the document.
-pub same_built_names : (names : List (List ℕ)) (properties : PropertyMapModel) (own : PropertyMap) → names ≡ built_names → properties ≡ among built_names own →
+pub same_built_names : (names : List (List ℕ)) (properties : PropertyMapModel) (own : PropertyMap) → names ≡ built_names →
+    properties ≡ among built_names own →
     names ≡ properties.names
 same_built_names names properties own are is = are ∙ sym (ap (λ m. m.names) is)
 
@@ -84,7 +85,8 @@ pub same_built_image : (one form : Form) (begin : ℕ) (head : HeadModel) (image
     (made hash : PropertyMapModel) (digest : List ℕ) →
     one ≡ form → made ≡ among built_names (from_entries (built_image_properties head image)) →
     hash ≡ among built_names (from_entries (sha256_properties digest)) → digest ≡ digest_of Sha256 image.payload →
-    node image.name (entries (with_payload one begin (Some image.payload) (without_payload made.by_name))) (leaf hash_node_name hash.by_name) none
+    node image.name (entries (with_payload one begin (Some image.payload) (without_payload made.by_name)))
+    (leaf hash_node_name hash.by_name) none
     ≡ built_image_node form begin head image
 same_built_image one form begin head image made hash digest same_form is_made is_hash is_digest =
     ap (λ (hash : PropertyMapModel). node image.name (entries (with_payload one begin (Some image.payload) (without_payload made.by_name))) (leaf hash_node_name hash.by_name) none) is_hash
@@ -169,7 +171,8 @@ module _ (form : Form) (head : HeadModel) (images : List ImageSpecModel) where
           may_end_root = may_end started root_begin root_children begun filled is_begun all_children may_all
 
           -- and the document is that of the tree.
-          pub is_document : (ended : Doc) → ended ≡ with_event filled NodeEnd → HaveSameContent ended (document_of form (built_tree head images))
+          pub is_document : (ended : Doc) → ended ≡ with_event filled NodeEnd →
+              HaveSameContent ended (document_of form (built_tree head images))
           is_document ended is_ended =
               let is : ended ≡ with_events (empty_with_names 0 built_names) (whole started root_begin root_children) =
               is_ended ∙ whole_added started root_begin root_children begun filled is_begun all_children

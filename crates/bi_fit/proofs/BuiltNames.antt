@@ -14,7 +14,8 @@ abbrev is_first : List ℕ → List (List ℕ) → Bool
 is_first name [] = true
 is_first name (other ∷ others) = is_lt (slice_cmp nat_cmp name other) && is_first name others
 
-first_is : (name : List ℕ) (others : List (List ℕ)) → is_first name others ≡ true → AllByRecursion (λ other. slice_cmp nat_cmp name other ≡ Less) others
+first_is : (name : List ℕ) (others : List (List ℕ)) → is_first name others ≡ true →
+    AllByRecursion (λ other. slice_cmp nat_cmp name other ≡ Less) others
 first_is name [] is = tt
 first_is name (other ∷ others) is =
     let parts = and_parts (is_lt (slice_cmp nat_cmp name other)) (is_first name others) is in
@@ -30,16 +31,16 @@ abbrev are_in_order : List (List ℕ) → Bool
 are_in_order [] = true
 are_in_order (name ∷ names) = is_first name names && are_in_order names
 
-pub in_order : (names : List (List ℕ)) → are_in_order names ≡ true → IsStrictlySortedBy (slice_cmp nat_cmp) names
+pub names_in_order : (names : List (List ℕ)) → are_in_order names ≡ true → IsStrictlySortedBy (slice_cmp nat_cmp) names
 unfolding IsStrictlySortedBy
-in_order [] are = tt
-in_order (name ∷ names) are =
+names_in_order [] are = tt
+names_in_order (name ∷ names) are =
     let parts = and_parts (is_first name names) (are_in_order names) are in
-    (first_is name names parts.0, in_order names parts.1)
+    (first_is name names parts.0, names_in_order names parts.1)
 
 -- These are the ranks of those that a text changes.
 pub built_ranked : AreRankedNames built_names (record { payload = 4; offset = 5; position = 6; size = 7; time = 19; digest = 21 })
 built_ranked = record {
-  in_order = in_order built_names refl;
+  in_order = names_in_order built_names refl;
   numbers = record { payload = refl; offset = refl; position = refl; size = refl; time = refl; digest = refl };
 }

@@ -15,7 +15,7 @@ use Rattle.bi_fdt.specs.Numbers.{IsNumberOf, AreNumbered, BeginsWith}
 use Rattle.bi_fdt.specs.TableItems.{TableItem, NodeItem, PropertyItem}
 use Rattle.bi_fit.specs.declared.property_names.ChangedNumbers.{ChangedNumbers}
 use Rattle.bi_fit.specs.ChangedNames.{AreChangedNumbers, changed_names, with_missing, with_changed_names}
-use Rattle.bi_fit.proofs.BuiltNames.{in_order}
+use Rattle.bi_fit.proofs.BuiltNames.{names_in_order}
 use Rattle.bi_fit.proofs.LongNames.{long_length, AreShortOrAmong, distinct_in_order}
 
 -- The names of a file with those that a text adds, changes or leaves out are distinct, have their numbers, and the long ones among them
@@ -194,7 +194,7 @@ module _ (base : List (List ℕ)) where
   -- The names are distinct,
   pub changed_distinct : AreDistinct base → AreDistinct (with_changed_names base)
   changed_distinct distinct =
-      distinct_all base changed_names (distinct_in_order changed_names (in_order changed_names refl)) distinct (each_itself changed_names)
+      distinct_all base changed_names (distinct_in_order changed_names (names_in_order changed_names refl)) distinct (each_itself changed_names)
 
   -- and begin with those of the file.
   pub changed_begin : BeginsWith (with_changed_names base) base

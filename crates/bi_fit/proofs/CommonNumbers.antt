@@ -122,9 +122,9 @@ module _ (found : List (Option ℕ)) (count index next : ℕ) (numbers more : Li
   here = ap (λ l. numbers ++ numbers_from next l) (sym (drop-cons found index d within)) ∙ begun
 
   -- A number that is found,
-  pub found_more : (number : ℕ) → get_or found index d ≡ Some number → more ≡ numbers ++ number ∷ [] →
+  pub common_more : (number : ℕ) → get_or found index d ≡ Some number → more ≡ numbers ++ number ∷ [] →
       AreBegun found count (index + 1) next more
-  found_more number is pushed =
+  common_more number is pushed =
       ap (λ l. l ++ numbers_from next (drop (index + 1) found)) pushed
       ∙ append_assoc numbers (number ∷ []) (numbers_from next (drop (index + 1) found))
       ∙ ap (λ k. numbers ++ number ∷ numbers_from next (drop k found)) (add-one index)

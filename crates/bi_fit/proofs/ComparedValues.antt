@@ -19,8 +19,8 @@ use Rattle.bi_blob.proofs.Texts.NormalEvents.{both_hold}
 use Rattle.bi_fdt.specs.Numbers.{HasNumber}
 use Rattle.bi_fdt.specs.Order.{KeyedProperty, AreByNumber}
 use Rattle.bi_fdt.proofs.ByName.{found_by_name}
-use Rattle.bi_fdt.proofs.DistinctKeys.{same_name}
-use Rattle.bi_fdt.proofs.DistinctNumbers.{one_number}
+use Rattle.bi_fdt.proofs.DistinctKeys.{one_name_each}
+use Rattle.bi_fdt.proofs.DistinctNumbers.{one_number_of_name}
 use Rattle.bi_fit.specs.declared.comparing.role.Role.{Role}
 use Rattle.bi_fit.specs.declared.comparing.role.Role.TheVariants.{RootNode, RootChild, ImageNode, OtherNode}
 use Rattle.bi_fit.specs.NormalNodes.{HasDistinctNames, properties_by_name}
@@ -67,10 +67,10 @@ get-compared OtherNode own name = refl
 
 -- Properties in any order have by a name what a look-up finds.
 named_is : (name : List ℕ) (keyed : List KeyedProperty) →
-    lookup (same_name name) (map (λ one. property_of one.1) keyed) ≡ value_named name keyed
+    lookup (one_name_each name) (map (λ one. property_of one.1) keyed) ≡ value_named name keyed
 named_is name [] = refl
 named_is name (one ∷ keyed) =
-    ap (λ b. cond b (Some one.1.value) (lookup (same_name name) (map (λ one. property_of one.1) keyed))) (is_eq-slice_cmp name one.1.name)
+    ap (λ b. cond b (Some one.1.value) (lookup (one_name_each name) (map (λ one. property_of one.1) keyed))) (is_eq-slice_cmp name one.1.name)
     ∙ ap (cond (bytes_eq name one.1.name) (Some one.1.value)) (named_is name keyed)
 
 got : (role : Role) (own : FileNode) (keyed : List KeyedProperty) → HasDistinctNames own →
@@ -114,7 +114,7 @@ module _ (names : List (List ℕ)) (distinct : AreDistinct names) (role : Role) 
       slice_get names wanted ≡ Some name → (wanted == number) ≡ bytes_eq name property_name
   same_test number wanted property_name name is wanted_is = same_from_decides (wanted == number) (bytes_eq name property_name)
       (Decides-eqb wanted number) (
-        (λ true. one_number names distinct wanted number name wanted_is (is
+        (λ true. one_number_of_name names distinct wanted number name wanted_is (is
             ∙ ap (λ n. Some n) (sym ((bytes_eq-Decides name property_name).0 true)))),
         (λ equal.
             (bytes_eq-Decides name property_name).1

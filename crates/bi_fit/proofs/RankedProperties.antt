@@ -39,7 +39,8 @@ ranks_match : (names : List (List ℕ)) → IsStrictlySortedBy (slice_cmp nat_cm
 ranks_match [] ordered rank other name other_name there other_there = absurd cc
 ranks_match (first ∷ names) ordered zero zero name other_name there other_there =
     let same : name ≡ other_name = cc in
-    let tied : slice_cmp nat_cmp name other_name ≡ Equal = subst (λ n. slice_cmp nat_cmp name n ≡ Equal) same (tied_itself nat_list_cmp_total name) in
+    let tied : slice_cmp nat_cmp name other_name ≡ Equal = subst (λ n. slice_cmp nat_cmp name n ≡ Equal) same
+      (tied_itself nat_list_cmp_total name) in
     rw tied refl
 ranks_match (first ∷ names) ordered zero (suc other) name other_name there other_there =
     let same : first ≡ name = cc in
@@ -55,7 +56,8 @@ ranks_match (first ∷ names) ordered (suc rank) zero name other_name there othe
     let below : zero < suc rank = omega arith in
     rw greater below
 ranks_match (first ∷ names) ordered (suc rank) (suc other) name other_name there other_there =
-    more (slice_cmp nat_cmp name other_name) (ranks_match names (sorted_tail (slice_cmp nat_cmp) first names ordered) rank other name other_name there other_there)
+    more (slice_cmp nat_cmp name other_name)
+      (ranks_match names (sorted_tail (slice_cmp nat_cmp) first names ordered) rank other name other_name there other_there)
   where
     more : (o : Ordering) → MatchOrdering o (rank < other) (rank ≡ other) (other < rank) →
         MatchOrdering o (suc rank < suc other) (suc rank ≡ suc other) (suc other < suc rank)
@@ -81,7 +83,8 @@ module _ (names : List (List ℕ)) (ordered : IsStrictlySortedBy (slice_cmp nat_
         (λ equal.
             let tied : slice_cmp nat_cmp (name_numbered names rank) (name_numbered names other) ≡ Equal =
             subst (λ n. slice_cmp nat_cmp (name_numbered names rank) n ≡ Equal)
-            ((bytes_eq-Decides (name_numbered names rank) name).0 equal ∙ sym there) (tied_itself nat_list_cmp_total (name_numbered names rank)) in
+            ((bytes_eq-Decides (name_numbered names rank) name).0 equal ∙ sym there)
+              (tied_itself nat_list_cmp_total (name_numbered names rank)) in
             subst (λ o. MatchOrdering o (rank < other) (rank ≡ other) (other < rank)) tied
             (ranks_match names ordered rank other (name_numbered names rank) (name_numbered names other)
             (slice_get-get_or names rank [] within) (slice_get-get_or names other [] (slice_get_within names other name is)))),
@@ -107,21 +110,26 @@ module _ (names : List (List ℕ)) (ordered : IsStrictlySortedBy (slice_cmp nat_
   module _ (rank : ℕ) (within : rank < length names) (value : Value) where
     -- One more rank is one more name.
     pub named-put : (entries : List (ℕ × Value)) → AreRanksWithin names entries →
-        named_values names (put nat_cmp rank value entries) ≡ put (slice_cmp nat_cmp) (name_numbered names rank) (value_bytes value) (named_values names entries)
+        named_values names (put nat_cmp rank value entries) ≡ put (slice_cmp nat_cmp) (name_numbered names rank) (value_bytes value)
+          (named_values names entries)
     named-put [] are = refl
     named-put (entry ∷ entries) are =
         subst (λ o. named_values names (put nat_cmp rank value (entry ∷ entries))
         ≡ by_order o ((name_numbered names rank, value_bytes value) ∷ named_values names (entry ∷ entries))
         ((name_numbered names entry.0, value_bytes value) ∷ named_values names entries)
-        ((name_numbered names entry.0, value_bytes entry.1) ∷ put (slice_cmp nat_cmp) (name_numbered names rank) (value_bytes value) (named_values names entries)))
+        ((name_numbered names entry.0, value_bytes entry.1) ∷ put (slice_cmp nat_cmp) (name_numbered names rank) (value_bytes value)
+          (named_values names entries)))
         (sym (rank_cmp rank entry.0 within are.0)) (by_cmp (nat_cmp rank entry.0) (named-put entries are.1))
       where
         by_cmp : (o : Ordering) →
-            named_values names (put nat_cmp rank value entries) ≡ put (slice_cmp nat_cmp) (name_numbered names rank) (value_bytes value) (named_values names entries) →
-            named_values names (by_order o ((rank, value) ∷ entry ∷ entries) ((entry.0, value) ∷ entries) (entry ∷ put nat_cmp rank value entries))
+            named_values names (put nat_cmp rank value entries) ≡ put (slice_cmp nat_cmp) (name_numbered names rank)
+              (value_bytes value) (named_values names entries) →
+            named_values names (by_order o ((rank, value) ∷ entry ∷ entries) ((entry.0, value) ∷ entries) (entry
+              ∷ put nat_cmp rank value entries))
             ≡ by_order o ((name_numbered names rank, value_bytes value) ∷ named_values names (entry ∷ entries))
             ((name_numbered names entry.0, value_bytes value) ∷ named_values names entries)
-            ((name_numbered names entry.0, value_bytes entry.1) ∷ put (slice_cmp nat_cmp) (name_numbered names rank) (value_bytes value) (named_values names entries))
+            ((name_numbered names entry.0, value_bytes entry.1) ∷ put (slice_cmp nat_cmp) (name_numbered names rank)
+              (value_bytes value) (named_values names entries))
         by_cmp Less rest = refl
         by_cmp Equal rest = refl
         by_cmp Greater rest = ap (λ l. (name_numbered names entry.0, value_bytes entry.1) ∷ l) rest
@@ -132,7 +140,8 @@ module _ (names : List (List ℕ)) (ordered : IsStrictlySortedBy (slice_cmp nat_
     within-put (entry ∷ entries) are = by_cmp (nat_cmp rank entry.0) (within-put entries are.1)
       where
         by_cmp : (o : Ordering) → AreRanksWithin names (put nat_cmp rank value entries) →
-            AreRanksWithin names (by_order o ((rank, value) ∷ entry ∷ entries) ((entry.0, value) ∷ entries) (entry ∷ put nat_cmp rank value entries))
+            AreRanksWithin names (by_order o ((rank, value) ∷ entry ∷ entries) ((entry.0, value) ∷ entries) (entry
+              ∷ put nat_cmp rank value entries))
         by_cmp Less rest = (within, are)
         by_cmp Equal rest = are
         by_cmp Greater rest = (are.0, rest)
@@ -140,12 +149,15 @@ module _ (names : List (List ℕ)) (ordered : IsStrictlySortedBy (slice_cmp nat_
     -- The map has the property of this name.
     pub model-put : (entries items : List (ℕ × Value)) → items ≡ put nat_cmp rank value entries → AreRanksWithin names entries →
         T (is_sorted nat_cmp entries) → (name : List ℕ) → IsNumberOf names name rank →
-        among names (from_sorted (named_values names items)) ≡ with_property_value name (value_bytes value) (among names (from_sorted (named_values names entries)))
+        among names (from_sorted (named_values names items)) ≡ with_property_value name (value_bytes value) (among names (from_sorted
+          (named_values names entries)))
     model-put entries items is are ascending name is_name =
         ap (λ l. among names (from_sorted (named_values names l))) is
         ∙ ap (λ l. among names (from_sorted l)) (named-put entries are)
-        ∙ ap (among names) (from_sorted-put (named_values names entries) (name_numbered names rank) (value_bytes value) (named_in_order entries are ascending))
-        ∙ ap (λ n. among names (insert (from_sorted (named_values names entries)) n (value_bytes value))) (get_or_from_slice_get names rank name [] is_name)
+        ∙ ap (among names) (from_sorted-put (named_values names entries) (name_numbered names rank)
+          (value_bytes value) (named_in_order entries are ascending))
+        ∙ ap (λ n. among names (insert (from_sorted (named_values names entries)) n (value_bytes value)))
+          (get_or_from_slice_get names rank name [] is_name)
 
   module _ (ranks : ChangedNumbers) (ranked : AreRankedNames names ranks) where
     -- A rank is that of a property that holds a payload or names its region if the name is.
@@ -162,25 +174,30 @@ module _ (names : List (List ℕ)) (ordered : IsStrictlySortedBy (slice_cmp nat_
 
     -- The entries that are kept are the properties that are.
     pub named-filter : (entries : List (ℕ × Value)) → AreRanksWithin names entries →
-        named_values names (filter keeps_value entries) ≡ where_key (slice_cmp nat_cmp) (λ name. not (is_payload_name name)) (named_values names entries)
+        named_values names (filter keeps_value entries) ≡ where_key (slice_cmp nat_cmp) (λ name. not (is_payload_name name))
+          (named_values names entries)
     named-filter [] are = refl
     named-filter (entry ∷ entries) are =
         subst (λ b. named_values names (cond (keeps_value entry) (entry ∷ filter keeps_value entries) (filter keeps_value entries))
-        ≡ cond (not b) ((name_numbered names entry.0, value_bytes entry.1) ∷ where_key (slice_cmp nat_cmp) (λ name. not (is_payload_name name)) (named_values names entries))
+        ≡ cond (not b) ((name_numbered names entry.0, value_bytes entry.1)
+          ∷ where_key (slice_cmp nat_cmp) (λ name. not (is_payload_name name)) (named_values names entries))
         (where_key (slice_cmp nat_cmp) (λ name. not (is_payload_name name)) (named_values names entries)))
         (payload_rank entry.0 are.0) (where_kept (keeps_value entry) (named-filter entries are.1))
       where
         where_kept : (b : Bool) →
-            named_values names (filter keeps_value entries) ≡ where_key (slice_cmp nat_cmp) (λ name. not (is_payload_name name)) (named_values names entries) →
+            named_values names (filter keeps_value entries) ≡ where_key (slice_cmp nat_cmp) (λ name. not (is_payload_name name))
+              (named_values names entries) →
             named_values names (cond b (entry ∷ filter keeps_value entries) (filter keeps_value entries))
-            ≡ cond b ((name_numbered names entry.0, value_bytes entry.1) ∷ where_key (slice_cmp nat_cmp) (λ name. not (is_payload_name name)) (named_values names entries))
+            ≡ cond b ((name_numbered names entry.0, value_bytes entry.1)
+              ∷ where_key (slice_cmp nat_cmp) (λ name. not (is_payload_name name)) (named_values names entries))
             (where_key (slice_cmp nat_cmp) (λ name. not (is_payload_name name)) (named_values names entries))
         where_kept true rest = ap (λ l. (name_numbered names entry.0, value_bytes entry.1) ∷ l) rest
         where_kept false rest = rest
 
     -- So the map of those that are kept is that of the properties that are.
     pub by_name-filter : (entries : List (ℕ × Value)) → AreRanksWithin names entries → T (is_sorted nat_cmp entries) →
-        from_sorted {R = slice_cmp nat_cmp} (named_values names (filter keeps_value entries)) ≡ without_payload (from_sorted (named_values names entries))
+        from_sorted {R = slice_cmp nat_cmp} (named_values names (filter keeps_value entries)) ≡ without_payload (from_sorted
+          (named_values names entries))
     by_name-filter entries are ascending =
         ap (λ l. from_sorted {R = slice_cmp nat_cmp} l) (named-filter entries are)
         ∙ from_sorted-kept (named_values names entries) (named_in_order entries are ascending)
@@ -199,7 +216,8 @@ module _ (rank : ℕ) (value : Value) where
   index_within [] = omega arith
   index_within (entry ∷ entries) = by_test (nat_le rank entry.0) (index_within entries)
     where
-      by_test : (b : Bool) → index_of_rank entries rank ≤ length entries → (if b then 0 else suc (index_of_rank entries rank)) ≤ suc (length entries)
+      by_test : (b : Bool) → index_of_rank entries rank ≤ length entries →
+          (if b then 0 else suc (index_of_rank entries rank)) ≤ suc (length entries)
       by_test true within = omega arith
       by_test false within = omega arith
 
@@ -207,7 +225,8 @@ module _ (rank : ℕ) (value : Value) where
   pub put_new : (entries : List (ℕ × Value)) → is_entry_ranked (slice_get entries (index_of_rank entries rank)) rank ≡ false →
       insert_at entries (index_of_rank entries rank) (rank, value) ≡ put nat_cmp rank value entries
   put_new [] apart = refl
-  put_new (entry ∷ entries) apart = by_cmp (nat_cmp rank entry.0) (nat_cmp_order rank entry.0) refl (nat_le rank entry.0) refl (put_new entries)
+  put_new (entry ∷ entries) apart = by_cmp (nat_cmp rank entry.0) (nat_cmp_order rank entry.0) refl
+    (nat_le rank entry.0) refl (put_new entries)
     where
       by_cmp : (o : Ordering) → MatchOrdering o (rank < entry.0) (rank ≡ entry.0) (entry.0 < rank) → nat_cmp rank entry.0 ≡ o →
           (b : Bool) → nat_le rank entry.0 ≡ b →
@@ -217,19 +236,22 @@ module _ (rank : ℕ) (value : Value) where
       by_cmp Less order is true le rest = rw (is, le) refl
       by_cmp Less order is false le rest = absurd (true≢false (sym (le-leb rank entry.0 (omega arith)) ∙ le))
       by_cmp Equal order is true le rest =
-          absurd (true≢false (sym ((Decides-eqb entry.0 rank).1 (sym order)) ∙ subst (λ b. is_entry_ranked (slice_get (entry ∷ entries) (if b then 0 else suc (index_of_rank entries rank))) rank ≡ false) le apart))
+          absurd (true≢false (sym ((Decides-eqb entry.0 rank).1 (sym order)) ∙ subst (λ b. is_entry_ranked (slice_get (entry ∷ entries)
+            (if b then 0 else suc (index_of_rank entries rank))) rank ≡ false) le apart))
       by_cmp Equal order is false le rest = absurd (true≢false (sym (le-leb rank entry.0 (omega arith)) ∙ le))
       by_cmp Greater order is true le rest = absurd (no_less rank entry.0 order (leb-true rank entry.0 le))
       by_cmp Greater order is false le rest =
           let apart : is_entry_ranked (slice_get entries (index_of_rank entries rank)) rank ≡ false =
-          subst (λ b. is_entry_ranked (slice_get (entry ∷ entries) (if b then 0 else suc (index_of_rank entries rank))) rank ≡ false) le apart in
+          subst (λ b. is_entry_ranked (slice_get (entry ∷ entries) (if b then 0 else suc (index_of_rank entries rank))) rank
+            ≡ false) le apart in
           rw (is, le) (ap (λ l. entry ∷ l) (rest apart))
 
   -- and one in the place of the one of its rank has another value.
   pub put_other : (entries : List (ℕ × Value)) → is_entry_ranked (slice_get entries (index_of_rank entries rank)) rank ≡ true →
       set entries (index_of_rank entries rank) (rank, value) ≡ put nat_cmp rank value entries
   put_other [] there = absurd (true≢false (sym there))
-  put_other (entry ∷ entries) there = by_cmp (nat_cmp rank entry.0) (nat_cmp_order rank entry.0) refl (nat_le rank entry.0) refl (put_other entries)
+  put_other (entry ∷ entries) there = by_cmp (nat_cmp rank entry.0) (nat_cmp_order rank entry.0) refl
+    (nat_le rank entry.0) refl (put_other entries)
     where
       by_cmp : (o : Ordering) → MatchOrdering o (rank < entry.0) (rank ≡ entry.0) (entry.0 < rank) → nat_cmp rank entry.0 ≡ o →
           (b : Bool) → nat_le rank entry.0 ≡ b →
@@ -237,7 +259,8 @@ module _ (rank : ℕ) (value : Value) where
           set entries (index_of_rank entries rank) (rank, value) ≡ put nat_cmp rank value entries) →
           set (entry ∷ entries) (index_of_rank (entry ∷ entries) rank) (rank, value) ≡ put nat_cmp rank value (entry ∷ entries)
       by_cmp Less order is true le rest =
-          let here : (entry.0 == rank) ≡ true = subst (λ b. is_entry_ranked (slice_get (entry ∷ entries) (if b then 0 else suc (index_of_rank entries rank))) rank ≡ true) le there in
+          let here : (entry.0 == rank) ≡ true = subst (λ b. is_entry_ranked (slice_get (entry ∷ entries)
+            (if b then 0 else suc (index_of_rank entries rank))) rank ≡ true) le there in
           absurd (strict rank (subst (λ n. rank < n) ((Decides-eqb entry.0 rank).0 here) order))
       by_cmp Less order is false le rest = absurd (true≢false (sym (le-leb rank entry.0 (omega arith)) ∙ le))
       by_cmp Equal order is true le rest = rw (is, le) (ap (λ n. (n, value) ∷ entries) order)
@@ -245,5 +268,6 @@ module _ (rank : ℕ) (value : Value) where
       by_cmp Greater order is true le rest = absurd (no_less rank entry.0 order (leb-true rank entry.0 le))
       by_cmp Greater order is false le rest =
           let there : is_entry_ranked (slice_get entries (index_of_rank entries rank)) rank ≡ true =
-          subst (λ b. is_entry_ranked (slice_get (entry ∷ entries) (if b then 0 else suc (index_of_rank entries rank))) rank ≡ true) le there in
+          subst (λ b. is_entry_ranked (slice_get (entry ∷ entries) (if b then 0 else suc (index_of_rank entries rank))) rank
+            ≡ true) le there in
           rw (is, le) (ap (λ l. entry ∷ l) (rest there))

@@ -12,7 +12,7 @@ use Rattle.bi_commands.specs.MadeEntries.{image_entries, images_entries}
 use Rattle.bi_fit.specs.NameOrders.{IsNameOrder}
 use Rattle.bi_commands.specs.TreeEntries.{as_entry}
 use Rattle.bi_commands.proofs.EntriesOfNodes.{appended_first, images-first, images-no_nodes, images-no_payloads}
-use Rattle.bi_commands.proofs.NextNodes.{HasNextOrder, next_in_order}
+use Rattle.bi_commands.proofs.NextNodes.{HasOrderOfNext, next_in_order}
 use Rattle.bi_commands.proofs.describe.image_nodes.add_image_nodes.Goals as goal
 
 -- The payloads from one on are that and those after it.
@@ -38,7 +38,7 @@ add_image-requires c =
     let here : nodes_from (option_map node_of c.loop-payload.next) ≡ nodes_from (Some s) = ap (λ next. nodes_from (option_map node_of next)) c.in-Some.is in
     let distinct : EachOwn HasDistinctNames (nodes_from (Some s)) = subst (EachOwn HasDistinctNames) here c.loop-payload.invariant.distinct in
     record {
-      order = subst (HasNextOrder c.args.order.now) c.in-Some.is c.loop-payload.invariant.order;
+      order = subst (HasOrderOfNext c.args.order.now) c.in-Some.is c.loop-payload.invariant.order;
       distinct = (distinct.0, distinct.1, tt);
     }
 
@@ -67,7 +67,7 @@ loop-payload-preserved c =
     let left : start ++ (image_entries s payload ++ images_entries s.later later) ≡ target =
     ap (λ l. start ++ l) (sym (images-first s payload later)) ∙ all in
     let distinct : EachOwn HasDistinctNames (nodes_from (Some s)) = subst (EachOwn HasDistinctNames) here c.loop-payload.invariant.distinct in
-    let order : IsNameOrder (table_of_node c.in-Some.child) c.args.order.now = subst (HasNextOrder c.args.order.now) c.in-Some.is c.loop-payload.invariant.order in
+    let order : IsNameOrder (table_of_node c.in-Some.child) c.args.order.now = subst (HasOrderOfNext c.args.order.now) c.in-Some.is c.loop-payload.invariant.order in
     rw rest (record {
       order = next_in_order c.in-Some.child c.next_sibling-next.result c.next_sibling-next.ensures.same_table order;
       distinct = distinct.2;

@@ -10,7 +10,7 @@ use Rattle.bi_commands.specs.ImagePayloads.{bytes_of_payloads}
 use Rattle.bi_commands.specs.MadeEntries.{plain_entries, begin_entries, images_entries, root_children_entries}
 use Rattle.bi_fit.specs.NameOrders.{IsNameOrder}
 use Rattle.bi_commands.specs.TreeEntries.{NodeEnds, as_entry}
-use Rattle.bi_commands.proofs.NextNodes.{HasNextOrder, next_in_order}
+use Rattle.bi_commands.proofs.NextNodes.{HasOrderOfNext, next_in_order}
 use Rattle.bi_commands.proofs.EntriesOfNodes.{appended_first, root-images, root-other, root-none}
 use Rattle.bi_commands.proofs.describe.image_nodes.add_root_children.Goals as goal
 use Rattle.bi_commands.proofs.describe.image_nodes.add_root_children.Goals.{then-eq+in_ok-add_images, else-eq+in_ok-add_node}
@@ -32,7 +32,7 @@ add_images-requires c =
     let here : nodes_from (option_map node_of c.loop-next.next) ≡ nodes_from (Some s) = ap (λ next. nodes_from (option_map node_of next)) c.in-Some.is in
     let distinct : EachOwn HasDistinctNames (nodes_from (Some s)) = subst (EachOwn HasDistinctNames) here c.loop-next.invariant.distinct in
     record {
-      order = subst (HasNextOrder c.args.order.now) c.in-Some.is c.loop-next.invariant.order;
+      order = subst (HasOrderOfNext c.args.order.now) c.in-Some.is c.loop-next.invariant.order;
       distinct = (distinct.0, distinct.1, tt);
     }
 
@@ -42,7 +42,7 @@ add_node-requires c =
     let here : nodes_from (option_map node_of c.loop-next.next) ≡ nodes_from (Some s) = ap (λ next. nodes_from (option_map node_of next)) c.in-Some.is in
     let distinct : EachOwn HasDistinctNames (nodes_from (Some s)) = subst (EachOwn HasDistinctNames) here c.loop-next.invariant.distinct in
     record {
-      order = subst (HasNextOrder c.args.order.now) c.in-Some.is c.loop-next.invariant.order;
+      order = subst (HasOrderOfNext c.args.order.now) c.in-Some.is c.loop-next.invariant.order;
       distinct = (distinct.0, distinct.1, tt);
     }
 
@@ -67,7 +67,7 @@ loop-next-preserved c =
     subst (λ nodes. start ++ root_children_entries nodes payloads ≡ target) here c.loop-next.invariant.left in
     let distinct : EachOwn HasDistinctNames (nodes_from (Some s)) = subst (EachOwn HasDistinctNames) here c.loop-next.invariant.distinct in
     let names : AreDistinct (names (nodes_from (Some s))) = subst (λ nodes. AreDistinct (names nodes)) here c.loop-next.invariant.names in
-    let order : IsNameOrder (table_of_node c.in-Some.child) c.args.order.now = subst (HasNextOrder c.args.order.now) c.in-Some.is c.loop-next.invariant.order in
+    let order : IsNameOrder (table_of_node c.in-Some.child) c.args.order.now = subst (HasOrderOfNext c.args.order.now) c.in-Some.is c.loop-next.invariant.order in
     let same : bytes_eq s.name images_name ≡ c.eq.result =
     ap (λ name. bytes_eq name images_name) (sym c.name.ensures) ∙ ap (bytes_eq c.name.result.now) (sym c.as_slice.ensures) ∙ sym c.eq.ensures in
     let left : map as_entry c.if-eq.entries.items ++ root_children_entries s.later payloads ≡ target = elim c.if-eq.branch [

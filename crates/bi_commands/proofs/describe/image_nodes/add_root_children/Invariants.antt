@@ -8,13 +8,13 @@ use Rattle.bi_fit.proofs.NodeEvents.{nodes_from}
 use Rattle.bi_commands.specs.ImagePayloads.{bytes_of_payloads}
 use Rattle.bi_commands.specs.MadeEntries.{root_children_entries}
 use Rattle.bi_commands.specs.TreeEntries.{as_entry}
-use Rattle.bi_commands.proofs.NextNodes.{HasNextOrder}
+use Rattle.bi_commands.proofs.NextNodes.{HasOrderOfNext}
 use Rattle.bi_commands.proofs.describe.image_nodes.add_root_children.Given as goal
 
 -- The entries so far and those of the nodes that are left are all.
 abbrev pub invariant-loop-next : goal.invariant-loop-next
 invariant-loop-next l = record {
-  order : HasNextOrder l.order l.next;
+  order : HasOrderOfNext l.order l.next;
   distinct : EachOwn HasDistinctNames (nodes_from (option_map node_of l.next));
   names : AreDistinct (names (nodes_from (option_map node_of l.next)));
   left : map as_entry l.entries.items ++ root_children_entries (nodes_from (option_map node_of l.next)) (bytes_of_payloads l.payloads)

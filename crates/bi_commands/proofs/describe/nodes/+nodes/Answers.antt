@@ -9,7 +9,7 @@ use Rattle.bi_commands.specs.MadeEntries.{plain_entries, begin_entries}
 use Rattle.bi_fit.specs.NameOrders.{IsNameOrder}
 use Rattle.bi_commands.specs.TreeEntries.{as_entry}
 use Rattle.bi_commands.proofs.EntriesOfNodes.{appended_first, plain-first, node_appended}
-use Rattle.bi_commands.proofs.NextNodes.{HasNextOrder, next_in_order}
+use Rattle.bi_commands.proofs.NextNodes.{HasOrderOfNext, next_in_order}
 use Rattle.bi_commands.proofs.describe.nodes.+nodes.Goals as goal
 
 pub add_children-loop-next-init : goal.add_children-loop-next-init
@@ -32,7 +32,7 @@ add_children-add_node-requires t c =
     let distinct : EachOwn HasDistinctNames (nodes_from (Some s)) = subst (EachOwn HasDistinctNames) here c.loop-next.invariant.distinct in (
       omega arith,
       (
-        subst (HasNextOrder c.args.order.now) c.in-Some.is c.loop-next.invariant.order,
+        subst (HasOrderOfNext c.args.order.now) c.in-Some.is c.loop-next.invariant.order,
         (distinct.0, distinct.1, tt),
       ),
     )
@@ -58,7 +58,7 @@ add_children-loop-next-preserved t c =
     let shallow : max (depth s.children + 1) (depth s.later) ≤ depth (node_of c.args.node).children =
     subst (λ nodes. depth nodes ≤ depth (node_of c.args.node).children) here c.loop-next.invariant.shallow in
     let distinct : EachOwn HasDistinctNames (nodes_from (Some s)) = subst (EachOwn HasDistinctNames) here c.loop-next.invariant.distinct in
-    let order : IsNameOrder (table_of_node c.in-Some.child) c.args.order.now = subst (HasNextOrder c.args.order.now) c.in-Some.is c.loop-next.invariant.order in
+    let order : IsNameOrder (table_of_node c.in-Some.child) c.args.order.now = subst (HasOrderOfNext c.args.order.now) c.in-Some.is c.loop-next.invariant.order in
     rw rest (record {
       order = next_in_order c.in-Some.child c.next_sibling-next.result c.next_sibling-next.ensures.same_table order;
       distinct = distinct.2;

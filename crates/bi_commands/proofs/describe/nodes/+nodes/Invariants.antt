@@ -7,7 +7,7 @@ use Rattle.bi_fit.specs.NormalNodes.{HasDistinctNames}
 use Rattle.bi_fit.proofs.NodeEvents.{nodes_from}
 use Rattle.bi_commands.specs.MadeEntries.{plain_entries}
 use Rattle.bi_commands.specs.TreeEntries.{as_entry}
-use Rattle.bi_commands.proofs.NextNodes.{HasNextOrder}
+use Rattle.bi_commands.proofs.NextNodes.{HasOrderOfNext}
 use Rattle.bi_commands.proofs.describe.nodes.+nodes.Given as goal
 
 -- A node calls for its children, and these for each of them.
@@ -20,7 +20,7 @@ decreases-add_node l = 2 * depth (node_of l.node).children + 1
 -- The entries so far and those of the nodes that are left are all.
 abbrev pub invariant-add_children-loop-next : goal.invariant-add_children-loop-next
 invariant-add_children-loop-next l = record {
-  order : HasNextOrder l.order l.next;
+  order : HasOrderOfNext l.order l.next;
   distinct : EachOwn HasDistinctNames (nodes_from (option_map node_of l.next));
   left : map as_entry l.entries.items ++ plain_entries (nodes_from (option_map node_of l.next))
       ≡ map as_entry l.fn.entries.items ++ plain_entries (node_of l.node).children;

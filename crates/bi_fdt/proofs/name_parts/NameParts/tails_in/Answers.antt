@@ -2,7 +2,7 @@ use Rattle.std.proofs.Common.{◌≡◌, ◌+◌, ◌<◌, ℕ, List, [], ◌∷
 use Rattle.std.proofs.lemmas.List.{length-map, get_or-map}
 use Rattle.std.proofs.lemmas.Option.{slice_get-get_or}
 use denote.Ref.{Bor}
-use Rattle.bi_fdt.specs.NameParts.{NamePart, AreOnce, AreInOrder}
+use Rattle.bi_fdt.specs.NameParts.{NamePart, AreOnce, AreAfterTails}
 use Rattle.bi_fdt.specs.OtherNames.{HasOtherNumber, FindsTail}
 use Rattle.bi_fdt.proofs.OtherNames.{others_more}
 use Rattle.bi_fdt.proofs.name_parts.NameParts.tails_in.Goals as goal
@@ -13,7 +13,7 @@ part_of part = (part.0, part.1.now)
 
 -- The numbers with that of the next part.
 next : (items : List (ℕ × Bor (List ℕ))) (d : ℕ × Bor (List ℕ)) (parts others : List NamePart) (numbers now more : List (Option ℕ)) (index : ℕ)
-    (tail found : Option ℕ) → map part_of items ≡ parts → index < length items → AreOnce others → AreInOrder parts → length numbers ≡ index + 1 →
+    (tail found : Option ℕ) → map part_of items ≡ parts → index < length items → AreOnce others → AreAfterTails parts → length numbers ≡ index + 1 →
     ((number : ℕ) (found : Option ℕ) → slice_get numbers number ≡ Some found → HasOtherNumber parts others number found) →
     now ≡ numbers → ((value : Option ℕ) → slice_get now (get_or items index d).0 ≡ Some value → tail ≡ value) →
     FindsTail others tail (get_or items index d).1.now found → more ≡ numbers ++ found ∷ [] →
