@@ -38,7 +38,7 @@ impl<'a> Fit<'a> {
     /// apart in the two files each time.
     ///
     /// The only error is OutOfMemory.
-    pub fn has_same_meaning(&self, alloc: Global, other: &Fit<'a>) -> Result<bool, Error>
+    pub fn has_same_meaning(&self, alloc: Global, other: &Fit<'_>) -> Result<bool, Error>
         ensures compared { IfOk result (λ same. IsTrue same
             ↔ (tree_of self.now ≡ tree_of other.now)) }
         ensures failed { IfErr result (λ error. error ≡ OutOfMemory) }
