@@ -111,13 +111,13 @@ root-images s payloads is new =
     let here : List EntryModel = begin_entries s.name (properties_by_name s.own) ++ (images_entries s.children payloads ++ NodeEnds ∷ []) in
     let first = entries-first s.name own (described_images images payloads) later in
     let named : node_entries (node s.name own (described_children s.name images payloads) later) ≡ here ++ node_entries later =
-        rw is first in
+    rw is first in
     let whole : root_children_entries (node s.name s.own s.children s.later) payloads ≡ here ++ node_entries later = rw is named in
     let same_names : names nodes ≡ names s.later =
-        names-with_each from_entries (with_each properties_of s.later) ∙ names-with_each properties_of s.later in
+    names-with_each from_entries (with_each properties_of s.later) ∙ names-with_each properties_of s.later in
     let is_images = (bytes_eq-Decides s.name images_name).0 is in
     let none_left : IsNew images_name (names nodes) =
-        subst (IsNew images_name) (sym same_names) (subst (λ name. IsNew name (names s.later)) is_images new) in
+    subst (IsNew images_name) (sym same_names) (subst (λ name. IsNew name (names s.later)) is_images new) in
     whole ∙ ap (λ nodes. here ++ node_entries (described_nodes nodes payloads))
     (sym (others_kept images_name without_payloads nodes none_left))
 
@@ -132,7 +132,7 @@ root-other s payloads is =
     let later : Nodes DescribedNode = described_nodes nodes payloads in
     let first = entries-first s.name own (with_each plain_node children) later in
     let named : node_entries (node s.name own (described_children s.name children payloads) later)
-        ≡ plain_entries (alone s) ++ root_children_entries s.later payloads = rw is first in
+    ≡ plain_entries (alone s) ++ root_children_entries s.later payloads = rw is first in
     rw is named
 
 -- and none.

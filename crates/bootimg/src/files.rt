@@ -140,11 +140,7 @@ impl<'a, R: Files> FileSystem for SystemFiles<'a, R> {
         }
     }
 
-    fn create(
-        &mut self,
-        name: &str,
-        replaced: &str,
-    ) -> io::Result<NewFile<SystemFile<R::File>>> {
+    fn create(&mut self, name: &str, replaced: &str) -> io::Result<NewFile<SystemFile<R::File>>> {
         let file = File::create_new(self.runtime, name)?;
         match copy_permissions(self.runtime, replaced, &file) {
             Ok(()) => Ok(NewFile::new(SystemFile { file })),
