@@ -6,7 +6,7 @@ use Rattle.bi_lay.specs.declared.items.Value.TheVariants.{Slice}
 use Rattle.bi_lay.specs.Contents.{Doc, with_event, name_numbered}
 use Rattle.bi_lay.specs.Values.{value_bytes}
 use Rattle.bi_fit.specs.NormalNodes.{MayAdd, with_events}
-use Rattle.bi_fit.specs.PropertyMaps.{named}
+use Rattle.bi_fit.specs.PropertyMaps.{named_values}
 use Rattle.bi_fit.proofs.AddedEvents.{with_events-append, MayAdd-back}
 
 -- The first of the entries that are left to be added to a document may be added, and then the others are left.
@@ -17,8 +17,8 @@ no_map_entry = (0, Slice (record { ref_ptr = (0, 0); now = [] }))
 
 -- Entries are left to be added to a document, which they may be, and it is another with them.
 pub record IsAddingEntries (document target : Doc) (left : List (ℕ × Value)) : Type 0 where
-  pub added : with_events document (map NodeProperty (named document.names left)) ≡ target
-  pub may : MayAdd document (map NodeProperty (named document.names left))
+  pub added : with_events document (map NodeProperty (named_values document.names left)) ≡ target
+  pub may : MayAdd document (map NodeProperty (named_values document.names left))
 
 module _ (document target : Doc) (entry : ℕ × Value) (later : List (ℕ × Value))
     (adding : IsAddingEntries document target (entry ∷ later)) where
@@ -32,6 +32,6 @@ module _ (document target : Doc) (entry : ℕ × Value) (later : List (ℕ × Va
   adding_more more is =
       let property = NodeProperty (name_numbered document.names entry.0, value_bytes entry.1) in
       subst (λ document. IsAddingEntries document target later) (sym is) (record {
-        added = with_events-append document (property ∷ []) (map NodeProperty (named document.names later)) ∙ adding.added;
-        may = MayAdd-back document (property ∷ []) (map NodeProperty (named document.names later)) adding.may;
+        added = with_events-append document (property ∷ []) (map NodeProperty (named_values document.names later)) ∙ adding.added;
+        may = MayAdd-back document (property ∷ []) (map NodeProperty (named_values document.names later)) adding.may;
       })

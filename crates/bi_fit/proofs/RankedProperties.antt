@@ -12,11 +12,9 @@ use Rattle.std.proofs.Math.Bool.{or-false}
 use Rattle.std.proofs.lemmas.Bool.{le-leb, leb-true}
 use Rattle.std.proofs.lemmas.Bool.Decides.{Decides-eqb, same_from_decides}
 use Rattle.std.proofs.lemmas.Cmp.{nat_list_cmp_total}
-use Rattle.std.proofs.lemmas.List.Elements.{Contains-get_or}
-use Rattle.std.proofs.lemmas.Map.Keys.{sorted_head, sorted_tail}
+use Rattle.std.proofs.lemmas.Map.Keys.{sorted_tail}
 use Rattle.std.proofs.lemmas.Option.{get_or_from_slice_get, slice_get_within, slice_get-get_or}
 use Rattle.std.proofs.lemmas.Slice.Eq.{bytes_eq-Decides}
-use Rattle.bi_base.proofs.ListMembers.{each-contains}
 use Rattle.bi_lay.specs.Contents.{name_numbered}
 use Rattle.bi_lay.specs.declared.items.Value.{Value}
 use Rattle.bi_lay.specs.Values.{value_bytes}
@@ -40,7 +38,7 @@ ranks_match [] ordered rank other name other_name there other_there = absurd cc
 ranks_match (first ∷ names) ordered zero zero name other_name there other_there =
     let same : name ≡ other_name = cc in
     let tied : slice_cmp nat_cmp name other_name ≡ Equal = subst (λ n. slice_cmp nat_cmp name n ≡ Equal) same
-      (tied_itself nat_list_cmp_total name) in
+    (tied_itself nat_list_cmp_total name) in
     rw tied refl
 ranks_match (first ∷ names) ordered zero (suc other) name other_name there other_there =
     let same : first ≡ name = cc in
@@ -57,7 +55,7 @@ ranks_match (first ∷ names) ordered (suc rank) zero name other_name there othe
     rw greater below
 ranks_match (first ∷ names) ordered (suc rank) (suc other) name other_name there other_there =
     more (slice_cmp nat_cmp name other_name)
-      (ranks_match names (sorted_tail (slice_cmp nat_cmp) first names ordered) rank other name other_name there other_there)
+    (ranks_match names (sorted_tail (slice_cmp nat_cmp) first names ordered) rank other name other_name there other_there)
   where
     more : (o : Ordering) → MatchOrdering o (rank < other) (rank ≡ other) (other < rank) →
         MatchOrdering o (suc rank < suc other) (suc rank ≡ suc other) (suc other < suc rank)
@@ -84,7 +82,7 @@ module _ (names : List (List ℕ)) (ordered : IsStrictlySortedBy (slice_cmp nat_
             let tied : slice_cmp nat_cmp (name_numbered names rank) (name_numbered names other) ≡ Equal =
             subst (λ n. slice_cmp nat_cmp (name_numbered names rank) n ≡ Equal)
             ((bytes_eq-Decides (name_numbered names rank) name).0 equal ∙ sym there)
-              (tied_itself nat_list_cmp_total (name_numbered names rank)) in
+            (tied_itself nat_list_cmp_total (name_numbered names rank)) in
             subst (λ o. MatchOrdering o (rank < other) (rank ≡ other) (other < rank)) tied
             (ranks_match names ordered rank other (name_numbered names rank) (name_numbered names other)
             (slice_get-get_or names rank [] within) (slice_get-get_or names other [] (slice_get_within names other name is)))),
@@ -111,25 +109,25 @@ module _ (names : List (List ℕ)) (ordered : IsStrictlySortedBy (slice_cmp nat_
     -- One more rank is one more name.
     pub named-put : (entries : List (ℕ × Value)) → AreRanksWithin names entries →
         named_values names (put nat_cmp rank value entries) ≡ put (slice_cmp nat_cmp) (name_numbered names rank) (value_bytes value)
-          (named_values names entries)
+        (named_values names entries)
     named-put [] are = refl
     named-put (entry ∷ entries) are =
         subst (λ o. named_values names (put nat_cmp rank value (entry ∷ entries))
         ≡ by_order o ((name_numbered names rank, value_bytes value) ∷ named_values names (entry ∷ entries))
         ((name_numbered names entry.0, value_bytes value) ∷ named_values names entries)
         ((name_numbered names entry.0, value_bytes entry.1) ∷ put (slice_cmp nat_cmp) (name_numbered names rank) (value_bytes value)
-          (named_values names entries)))
+        (named_values names entries)))
         (sym (rank_cmp rank entry.0 within are.0)) (by_cmp (nat_cmp rank entry.0) (named-put entries are.1))
       where
         by_cmp : (o : Ordering) →
             named_values names (put nat_cmp rank value entries) ≡ put (slice_cmp nat_cmp) (name_numbered names rank)
-              (value_bytes value) (named_values names entries) →
+            (value_bytes value) (named_values names entries) →
             named_values names (by_order o ((rank, value) ∷ entry ∷ entries) ((entry.0, value) ∷ entries) (entry
-              ∷ put nat_cmp rank value entries))
+            ∷ put nat_cmp rank value entries))
             ≡ by_order o ((name_numbered names rank, value_bytes value) ∷ named_values names (entry ∷ entries))
             ((name_numbered names entry.0, value_bytes value) ∷ named_values names entries)
             ((name_numbered names entry.0, value_bytes entry.1) ∷ put (slice_cmp nat_cmp) (name_numbered names rank)
-              (value_bytes value) (named_values names entries))
+            (value_bytes value) (named_values names entries))
         by_cmp Less rest = refl
         by_cmp Equal rest = refl
         by_cmp Greater rest = ap (λ l. (name_numbered names entry.0, value_bytes entry.1) ∷ l) rest
@@ -141,7 +139,7 @@ module _ (names : List (List ℕ)) (ordered : IsStrictlySortedBy (slice_cmp nat_
       where
         by_cmp : (o : Ordering) → AreRanksWithin names (put nat_cmp rank value entries) →
             AreRanksWithin names (by_order o ((rank, value) ∷ entry ∷ entries) ((entry.0, value) ∷ entries) (entry
-              ∷ put nat_cmp rank value entries))
+            ∷ put nat_cmp rank value entries))
         by_cmp Less rest = (within, are)
         by_cmp Equal rest = are
         by_cmp Greater rest = (are.0, rest)
@@ -150,14 +148,14 @@ module _ (names : List (List ℕ)) (ordered : IsStrictlySortedBy (slice_cmp nat_
     pub model-put : (entries items : List (ℕ × Value)) → items ≡ put nat_cmp rank value entries → AreRanksWithin names entries →
         T (is_sorted nat_cmp entries) → (name : List ℕ) → IsNumberOf names name rank →
         among names (from_sorted (named_values names items)) ≡ with_property_value name (value_bytes value) (among names (from_sorted
-          (named_values names entries)))
+        (named_values names entries)))
     model-put entries items is are ascending name is_name =
         ap (λ l. among names (from_sorted (named_values names l))) is
         ∙ ap (λ l. among names (from_sorted l)) (named-put entries are)
         ∙ ap (among names) (from_sorted-put (named_values names entries) (name_numbered names rank)
-          (value_bytes value) (named_in_order entries are ascending))
+        (value_bytes value) (named_in_order entries are ascending))
         ∙ ap (λ n. among names (insert (from_sorted (named_values names entries)) n (value_bytes value)))
-          (get_or_from_slice_get names rank name [] is_name)
+        (get_or_from_slice_get names rank name [] is_name)
 
   module _ (ranks : ChangedNumbers) (ranked : AreRankedNames names ranks) where
     -- A rank is that of a property that holds a payload or names its region if the name is.
@@ -175,21 +173,21 @@ module _ (names : List (List ℕ)) (ordered : IsStrictlySortedBy (slice_cmp nat_
     -- The entries that are kept are the properties that are.
     pub named-filter : (entries : List (ℕ × Value)) → AreRanksWithin names entries →
         named_values names (filter keeps_value entries) ≡ where_key (slice_cmp nat_cmp) (λ name. not (is_payload_name name))
-          (named_values names entries)
+        (named_values names entries)
     named-filter [] are = refl
     named-filter (entry ∷ entries) are =
         subst (λ b. named_values names (cond (keeps_value entry) (entry ∷ filter keeps_value entries) (filter keeps_value entries))
         ≡ cond (not b) ((name_numbered names entry.0, value_bytes entry.1)
-          ∷ where_key (slice_cmp nat_cmp) (λ name. not (is_payload_name name)) (named_values names entries))
+        ∷ where_key (slice_cmp nat_cmp) (λ name. not (is_payload_name name)) (named_values names entries))
         (where_key (slice_cmp nat_cmp) (λ name. not (is_payload_name name)) (named_values names entries)))
         (payload_rank entry.0 are.0) (where_kept (keeps_value entry) (named-filter entries are.1))
       where
         where_kept : (b : Bool) →
             named_values names (filter keeps_value entries) ≡ where_key (slice_cmp nat_cmp) (λ name. not (is_payload_name name))
-              (named_values names entries) →
+            (named_values names entries) →
             named_values names (cond b (entry ∷ filter keeps_value entries) (filter keeps_value entries))
             ≡ cond b ((name_numbered names entry.0, value_bytes entry.1)
-              ∷ where_key (slice_cmp nat_cmp) (λ name. not (is_payload_name name)) (named_values names entries))
+            ∷ where_key (slice_cmp nat_cmp) (λ name. not (is_payload_name name)) (named_values names entries))
             (where_key (slice_cmp nat_cmp) (λ name. not (is_payload_name name)) (named_values names entries))
         where_kept true rest = ap (λ l. (name_numbered names entry.0, value_bytes entry.1) ∷ l) rest
         where_kept false rest = rest
@@ -197,7 +195,7 @@ module _ (names : List (List ℕ)) (ordered : IsStrictlySortedBy (slice_cmp nat_
     -- So the map of those that are kept is that of the properties that are.
     pub by_name-filter : (entries : List (ℕ × Value)) → AreRanksWithin names entries → T (is_sorted nat_cmp entries) →
         from_sorted {R = slice_cmp nat_cmp} (named_values names (filter keeps_value entries)) ≡ without_payload (from_sorted
-          (named_values names entries))
+        (named_values names entries))
     by_name-filter entries are ascending =
         ap (λ l. from_sorted {R = slice_cmp nat_cmp} l) (named-filter entries are)
         ∙ from_sorted-kept (named_values names entries) (named_in_order entries are ascending)
@@ -226,7 +224,7 @@ module _ (rank : ℕ) (value : Value) where
       insert_at entries (index_of_rank entries rank) (rank, value) ≡ put nat_cmp rank value entries
   put_new [] apart = refl
   put_new (entry ∷ entries) apart = by_cmp (nat_cmp rank entry.0) (nat_cmp_order rank entry.0) refl
-    (nat_le rank entry.0) refl (put_new entries)
+      (nat_le rank entry.0) refl (put_new entries)
     where
       by_cmp : (o : Ordering) → MatchOrdering o (rank < entry.0) (rank ≡ entry.0) (entry.0 < rank) → nat_cmp rank entry.0 ≡ o →
           (b : Bool) → nat_le rank entry.0 ≡ b →
@@ -237,13 +235,13 @@ module _ (rank : ℕ) (value : Value) where
       by_cmp Less order is false le rest = absurd (true≢false (sym (le-leb rank entry.0 (omega arith)) ∙ le))
       by_cmp Equal order is true le rest =
           absurd (true≢false (sym ((Decides-eqb entry.0 rank).1 (sym order)) ∙ subst (λ b. is_entry_ranked (slice_get (entry ∷ entries)
-            (if b then 0 else suc (index_of_rank entries rank))) rank ≡ false) le apart))
+          (if b then 0 else suc (index_of_rank entries rank))) rank ≡ false) le apart))
       by_cmp Equal order is false le rest = absurd (true≢false (sym (le-leb rank entry.0 (omega arith)) ∙ le))
       by_cmp Greater order is true le rest = absurd (no_less rank entry.0 order (leb-true rank entry.0 le))
       by_cmp Greater order is false le rest =
           let apart : is_entry_ranked (slice_get entries (index_of_rank entries rank)) rank ≡ false =
           subst (λ b. is_entry_ranked (slice_get (entry ∷ entries) (if b then 0 else suc (index_of_rank entries rank))) rank
-            ≡ false) le apart in
+          ≡ false) le apart in
           rw (is, le) (ap (λ l. entry ∷ l) (rest apart))
 
   -- and one in the place of the one of its rank has another value.
@@ -251,7 +249,7 @@ module _ (rank : ℕ) (value : Value) where
       set entries (index_of_rank entries rank) (rank, value) ≡ put nat_cmp rank value entries
   put_other [] there = absurd (true≢false (sym there))
   put_other (entry ∷ entries) there = by_cmp (nat_cmp rank entry.0) (nat_cmp_order rank entry.0) refl
-    (nat_le rank entry.0) refl (put_other entries)
+      (nat_le rank entry.0) refl (put_other entries)
     where
       by_cmp : (o : Ordering) → MatchOrdering o (rank < entry.0) (rank ≡ entry.0) (entry.0 < rank) → nat_cmp rank entry.0 ≡ o →
           (b : Bool) → nat_le rank entry.0 ≡ b →
@@ -260,7 +258,7 @@ module _ (rank : ℕ) (value : Value) where
           set (entry ∷ entries) (index_of_rank (entry ∷ entries) rank) (rank, value) ≡ put nat_cmp rank value (entry ∷ entries)
       by_cmp Less order is true le rest =
           let here : (entry.0 == rank) ≡ true = subst (λ b. is_entry_ranked (slice_get (entry ∷ entries)
-            (if b then 0 else suc (index_of_rank entries rank))) rank ≡ true) le there in
+          (if b then 0 else suc (index_of_rank entries rank))) rank ≡ true) le there in
           absurd (strict rank (subst (λ n. rank < n) ((Decides-eqb entry.0 rank).0 here) order))
       by_cmp Less order is false le rest = absurd (true≢false (sym (le-leb rank entry.0 (omega arith)) ∙ le))
       by_cmp Equal order is true le rest = rw (is, le) (ap (λ n. (n, value) ∷ entries) order)
@@ -269,5 +267,5 @@ module _ (rank : ℕ) (value : Value) where
       by_cmp Greater order is false le rest =
           let there : is_entry_ranked (slice_get entries (index_of_rank entries rank)) rank ≡ true =
           subst (λ b. is_entry_ranked (slice_get (entry ∷ entries) (if b then 0 else suc (index_of_rank entries rank))) rank
-            ≡ true) le there in
+          ≡ true) le there in
           rw (is, le) (ap (λ l. entry ∷ l) (rest there))

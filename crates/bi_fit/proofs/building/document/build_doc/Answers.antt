@@ -1,7 +1,6 @@
 use Rattle.std.proofs.Common.{◌≡◌, [], sym, ap, subst, ◌∙◌}
 use Rattle.std.specs.FinMap.{from_entries}
-use Rattle.bi_fit.specs.Building.{built_tree, built_root_properties}
-use Rattle.bi_fit.specs.Documents.{document_of}
+use Rattle.bi_fit.specs.Building.{built_root_properties}
 use Rattle.bi_fit.specs.NormalNodes.{MayAdd, with_events, begin_events}
 use Rattle.bi_fit.specs.NamedImages.{head_model, named_models}
 use Rattle.bi_fit.proofs.BuiltDocuments.{root_begin, may_begin_root, may_add_images, may_add_configurations, may_end_root, is_document}

@@ -4,7 +4,7 @@ use Rattle.std.specs.FinMap.{entries, entries-from_sorted}
 use Rattle.std.proofs.Math.Seq.{drop-cons}
 use Rattle.bi_blob.specs.Events.{NodeProperty}
 use Rattle.bi_fit.specs.NormalNodes.{MayAdd, with_events}
-use Rattle.bi_fit.specs.PropertyMaps.{named}
+use Rattle.bi_fit.specs.PropertyMaps.{named_values}
 use Rattle.bi_fit.proofs.RankedProperties.{named_in_order}
 use Rattle.bi_fit.proofs.AddedProperties.{no_map_entry, IsAddingEntries, may_add_entry, adding_more}
 use Rattle.bi_fit.proofs.document.property_map.PropertyMap.add_to.Goals as goal
@@ -12,10 +12,10 @@ use Rattle.bi_fit.proofs.document.property_map.PropertyMap.add_to.Goals as goal
 pub loop-entry-init : goal.loop-entry-init
 loop-entry-init c =
     let fields = c.self.inside in
-    let all : named c.args.doc.now.names c.deref-entry-items.result.now ≡ entries c.args.self.now.by_name =
-    ap (λ names. named names c.deref-entry-items.result.now) (c.requires.names ∙ sym (ap (λ m. m.names) c.self.view_is))
-    ∙ ap (named fields.names.now) c.deref-entry-items.ensures.value
-    ∙ sym (entries-from_sorted (slice_cmp nat_cmp) (named fields.names.now fields.entries.items)
+    let all : named_values c.args.doc.now.names c.deref-entry-items.result.now ≡ entries c.args.self.now.by_name =
+    ap (λ names. named_values names c.deref-entry-items.result.now) (c.requires.names ∙ sym (ap (λ m. m.names) c.self.view_is))
+    ∙ ap (named_values fields.names.now) c.deref-entry-items.ensures.value
+    ∙ sym (entries-from_sorted (slice_cmp nat_cmp) (named_values fields.names.now fields.entries.items)
     (named_in_order fields.names.now c.self.invariant.in_order fields.entries.items c.self.invariant.within c.self.invariant.ascending))
     ∙ ap (λ m. entries m.by_name) c.self.view_is in
     record {

@@ -1,7 +1,7 @@
 use Rattle.std.proofs.Common.{◌<◌, T, length, sym, subst, ap, ◌∙◌, nat_cmp, rules}
 use Rattle.std.specs.Cmp.Lexicographic.{slice_cmp}
 use Rattle.std.specs.FinMap.{from_sorted, is_sorted}
-use Rattle.bi_fit.specs.PropertyMaps.{named, AreRanksWithin}
+use Rattle.bi_fit.specs.PropertyMaps.{named_values, AreRanksWithin}
 use Rattle.std.specs.FinMap.Entries.{is_sorted-where_key}
 use Rattle.std.proofs.lemmas.Fn.{filter_same}
 use Rattle.bi_base.proofs.ListMembers.{each-filter}
@@ -30,6 +30,6 @@ returns c =
     let entries = c.self.inside.entries.items in
     let keeps = keeps_value names c.self.invariant.in_order c.ranks-ranks.result c.ranks-ranks.ensures in
     let kept = filter_same _ keeps _ (λ x b f' t. search rules) _ _ c.retain.ensures.filtered in
-    ap (λ l. among names (from_sorted {R = slice_cmp nat_cmp} (named names l))) kept
+    ap (λ l. among names (from_sorted {R = slice_cmp nat_cmp} (named_values names l))) kept
     ∙ (ap (among names) (by_name-filter names c.self.invariant.in_order c.ranks-ranks.result c.ranks-ranks.ensures entries c.self.invariant.within c.self.invariant.ascending)
     ∙ ap (λ m. among m.names (without_payload m.by_name)) c.self.view_is)
