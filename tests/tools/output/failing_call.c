@@ -27,7 +27,13 @@ static int fails(const char *name)
         return fails(#name) ? -1 : next arguments; \
     }
 
-CALL(ssize_t, write, (int file, const void *bytes, size_t size), (file, bytes, size))
+/* Standard error can be written. */
+ssize_t write(int file, const void *bytes, size_t size)
+{
+    ssize_t (*next)(int, const void *, size_t) = (ssize_t(*)(int, const void *, size_t))dlsym(RTLD_NEXT, "write");
+    return file > 2 && fails("write") ? -1 : next(file, bytes, size);
+}
+
 CALL(int, fsync, (int file), (file))
 CALL(int, fchmod, (int file, mode_t mode), (file, mode))
 CALL(int, rename, (const char *name, const char *new_name), (name, new_name))
