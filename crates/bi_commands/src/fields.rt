@@ -2,14 +2,16 @@
 
 ghost use Rattle.std.specs.Prelude.{◌≡◌, ◌<◌, ◌≤◌, ◌∷◌, flat_map, length, map, true};
 ghost use Rattle.std.specs.Fmt.{decimal, digit_glyph};
+ghost use Rattle.std.specs.Option.{option_map};
 ghost use Rattle.std.specs.List.{join_with_byte};
 ghost use Rattle.bi_base.specs.Cells.{cell, cell8};
 ghost use Rattle.bi_base.specs.Sinks.{Wrote};
 ghost use Rattle.bi_commands.specs.Descriptions.{path};
 ghost use Rattle.bi_commands.specs.FitListing.{hexadecimal_64};
+ghost use Rattle.bi_commands.specs.Reports.{shown_or_none, value_word};
 ghost use Rattle.bi_commands.specs.Shown.{hexadecimal, line, shown_text, shown_byte};
 ghost use Rattle.bi_commands.specs.ValueTexts.{hexadecimal_digits};
-ghost use Rattle.bi_commands.specs.WrittenWords.{bytes_of_names, word_text, words_of};
+ghost use Rattle.bi_commands.specs.Fields.{bytes_of_names, field_text, words_of};
 
 mod values;
 
@@ -18,9 +20,9 @@ use bi_base::{Error, Sink};
 use itoa::Buffer;
 use values::put_value;
 
-/// A word of a line.
+/// A field of a line: a word, or the words for a value.
 #[derive(Clone, Copy)]
-pub(crate) enum Word<'a, 'b> {
+pub(crate) enum Field<'a, 'b> {
     /// This text.
     Text(&'a [u8]),
     /// A name, as it is printed.
@@ -33,14 +35,37 @@ pub(crate) enum Word<'a, 'b> {
     Hexadecimal64(u64),
     /// A digest, as two hexadecimal digits for each byte.
     Sha256([u8; 32]),
+    /// Bytes, as two hexadecimal digits for each.
+    Digits(&'a [u8]),
     /// The path of a node, by the names of the nodes on the way to it.
     Path(&'b [&'a [u8]]),
     /// The value of a property, which may be more than one word. It is not empty.
     Value(&'a [u8]),
 }
 
+/// Returns the field for a name that may not be there: `-` if it is not.
+pub(crate) fn name_or_none<'a>(name: Option<&'a [u8]>) -> Field<'a, 'a>
+    ensures { field_text result
+        ≡ shown_or_none (option_map (λ name. name.now) name.entry) }
+{
+    match name {
+        Some(name) => Field::Shown(name),
+        None => Field::Text(b"-"),
+    }
+}
+
+/// Returns the field for the digits of a value: `-` if it is empty or not there.
+pub(crate) fn digits_or_none<'a>(value: Option<&'a [u8]>) -> Field<'a, 'a>
+    ensures { field_text result ≡ value_word (option_map (λ value. value.now) value.entry) }
+{
+    match value {
+        None | Some([]) => Field::Text(b"-"),
+        Some(value) => Field::Digits(value),
+    }
+}
+
 /// Appends lines of two words each. Fails as the sink does.
-pub(crate) fn put_lines<S: Sink>(lines: &[[Word; 2]], sink: &mut S) -> Result<(), Error>
+pub(crate) fn put_lines<S: Sink>(lines: &[[Field; 2]], sink: &mut S) -> Result<(), Error>
     ensures { Wrote S.appends S.fails sink.old (flat_map line (map words_of lines.now)) result
         sink.new }
 {
@@ -51,59 +76,60 @@ pub(crate) fn put_lines<S: Sink>(lines: &[[Word; 2]], sink: &mut S) -> Result<()
 }
 
 /// Appends a line: words, with a space between each two, and a newline. Fails as the sink does.
-pub(crate) fn put_line<S: Sink>(words: &[Word], sink: &mut S) -> Result<(), Error>
+pub(crate) fn put_line<S: Sink>(words: &[Field], sink: &mut S) -> Result<(), Error>
     ensures { Wrote S.appends S.fails sink.old (line (words_of words.now)) result sink.new }
 {
-    put_words(words, sink)?;
+    put_fields(words, sink)?;
     sink.put(b"\n")
 }
 
 /// Appends words, with a space between each two. Fails as the sink does.
-pub(crate) fn put_words<S: Sink>(words: &[Word], sink: &mut S) -> Result<(), Error>
+pub(crate) fn put_fields<S: Sink>(words: &[Field], sink: &mut S) -> Result<(), Error>
     ensures { Wrote S.appends S.fails sink.old (join_with_byte 32 (words_of words.now)) result
         sink.new }
 {
     match words {
         [] => Ok(()),
         [first, later @ ..] => {
-            put_word(*first, sink)?;
-            put_later_words(later, sink)
+            put_field(*first, sink)?;
+            put_later_fields(later, sink)
         }
     }
 }
 
 /// Appends words, each after a space. Fails as the sink does.
-fn put_later_words<S: Sink>(words: &[Word], sink: &mut S) -> Result<(), Error>
-    ensures { Wrote S.appends S.fails sink.old (flat_map (λ word. 32 ∷ word_text word) words.now)
+fn put_later_fields<S: Sink>(words: &[Field], sink: &mut S) -> Result<(), Error>
+    ensures { Wrote S.appends S.fails sink.old (flat_map (λ word. 32 ∷ field_text word) words.now)
         result sink.new }
 {
     for word in words {
-        put_later_word(*word, sink)?;
+        put_later_field(*word, sink)?;
     }
     Ok(())
 }
 
 /// Appends a word after a space. Fails as the sink does.
-pub(crate) fn put_later_word<S: Sink>(word: Word, sink: &mut S) -> Result<(), Error>
-    ensures { Wrote S.appends S.fails sink.old (32 ∷ word_text word.entry) result sink.new }
+pub(crate) fn put_later_field<S: Sink>(word: Field, sink: &mut S) -> Result<(), Error>
+    ensures { Wrote S.appends S.fails sink.old (32 ∷ field_text word.entry) result sink.new }
 {
     sink.put(b" ")?;
-    put_word(word, sink)
+    put_field(word, sink)
 }
 
 /// Appends a word. Fails as the sink does.
-fn put_word<S: Sink>(word: Word, sink: &mut S) -> Result<(), Error>
-    ensures { Wrote S.appends S.fails sink.old (word_text word.entry) result sink.new }
+fn put_field<S: Sink>(word: Field, sink: &mut S) -> Result<(), Error>
+    ensures { Wrote S.appends S.fails sink.old (field_text word.entry) result sink.new }
 {
     match word {
-        Word::Text(text) => sink.put(text),
-        Word::Shown(name) => put_shown(name, sink),
-        Word::Decimal(number) => put_decimal(number, sink),
-        Word::Hexadecimal(number) => put_hexadecimal(number, sink),
-        Word::Hexadecimal64(number) => put_hexadecimal_64(number, sink),
-        Word::Sha256(digest) => put_digits(&digest, sink),
-        Word::Path(names) => put_path(names, sink),
-        Word::Value(value) => put_value(value, sink),
+        Field::Text(text) => sink.put(text),
+        Field::Shown(name) => put_shown(name, sink),
+        Field::Decimal(number) => put_decimal(number, sink),
+        Field::Hexadecimal(number) => put_hexadecimal(number, sink),
+        Field::Hexadecimal64(number) => put_hexadecimal_64(number, sink),
+        Field::Sha256(digest) => put_digits(&digest, sink),
+        Field::Digits(bytes) => put_digits(bytes, sink),
+        Field::Path(names) => put_path(names, sink),
+        Field::Value(value) => put_value(value, sink),
     }
 }
 

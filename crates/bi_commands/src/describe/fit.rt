@@ -17,7 +17,7 @@ use super::lines::{most_open, put_tree};
 use super::long_names::check_long_names;
 use crate::common_lines::put_reservations;
 use crate::payload_bounds::check_payloads;
-use crate::words::{Word, put_lines};
+use crate::fields::{Field, put_lines};
 use bi_base::{Error, Limits, Sink};
 use bi_fdt::Blob;
 use bi_fit::Fit;
@@ -72,8 +72,8 @@ fn put_head<S: Sink>(boot_cpu: u32, sink: &mut S) -> Result<(), Error>
 {
     put_lines(
         &[
-            [Word::Text(b"kind"), Word::Text(b"fit")],
-            [Word::Text(b"boot-cpu"), Word::Decimal(u64::from(boot_cpu))],
+            [Field::Text(b"kind"), Field::Text(b"fit")],
+            [Field::Text(b"boot-cpu"), Field::Decimal(u64::from(boot_cpu))],
         ],
         sink,
     )

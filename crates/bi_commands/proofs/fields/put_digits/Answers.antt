@@ -4,7 +4,7 @@ use Rattle.std.proofs.lemmas.Grind.{flat_map-append}
 use Rattle.bi_commands.specs.Shown.{digits_of_byte}
 use Rattle.bi_commands.specs.ValueTexts.{hexadecimal_digits}
 use Rattle.bi_commands.proofs.LineChains.{one_more_appended}
-use Rattle.bi_commands.proofs.words.put_digits.Goals as goal
+use Rattle.bi_commands.proofs.fields.put_digits.Goals as goal
 
 pub loop-piece-preserved : goal.loop-piece-preserved
 loop-piece-preserved g c =

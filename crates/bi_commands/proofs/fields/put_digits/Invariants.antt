@@ -1,7 +1,7 @@
 use Rattle.std.proofs.Common.{◌≡◌, ◌++◌, List, ℕ}
 use Rattle.std.specs.Slice.Iter.{chunks_rest, chunks_size}
 use Rattle.bi_commands.specs.ValueTexts.{hexadecimal_digits}
-use Rattle.bi_commands.proofs.words.put_digits.Given as goal
+use Rattle.bi_commands.proofs.fields.put_digits.Given as goal
 
 -- The digits of the bytes before the remaining ones were appended.
 abbrev pub invariant-loop-piece : goal.invariant-loop-piece

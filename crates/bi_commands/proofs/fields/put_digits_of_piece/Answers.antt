@@ -2,7 +2,7 @@ use Rattle.std.proofs.Common.{sym, subst, ◌∙◌, arith}
 use Rattle.bi_base.specs.Sinks.{Wrote}
 use Rattle.bi_commands.proofs.ImageReports.{hex_of_bytes}
 use Rattle.bi_commands.proofs.DescriptionPieces.{known_ok}
-use Rattle.bi_commands.proofs.words.put_digits_of_piece.Goals as goal
+use Rattle.bi_commands.proofs.fields.put_digits_of_piece.Goals as goal
 
 pub returns : goal.returns
 returns g c =

@@ -2,7 +2,7 @@ use Rattle.std.proofs.Common.{◌∷◌, [], refl}
 use Rattle.bi_base.specs.Cells.{cell8}
 use Rattle.bi_commands.specs.ValueTexts.{hexadecimal_digits}
 use Rattle.bi_commands.proofs.LineChains.{first_of_all_fails, last_writes}
-use Rattle.bi_commands.proofs.words.put_hexadecimal_64.Goals as goal
+use Rattle.bi_commands.proofs.fields.put_hexadecimal_64.Goals as goal
 
 pub returns-in_err-put : goal.returns-in_err-put
 returns-in_err-put g c =

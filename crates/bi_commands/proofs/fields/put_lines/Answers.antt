@@ -2,8 +2,8 @@ use Rattle.std.proofs.Common.{[], sym, take, arith, subst}
 use Rattle.std.proofs.lemmas.List.Folds.{flat_map-map}
 use Rattle.bi_base.proofs.SinkLaws.{failed_within, passed_on}
 use Rattle.bi_commands.specs.Shown.{line}
-use Rattle.bi_commands.specs.WrittenWords.{words_of}
-use Rattle.bi_commands.proofs.words.put_lines.Goals as goal
+use Rattle.bi_commands.specs.Fields.{words_of}
+use Rattle.bi_commands.proofs.fields.put_lines.Goals as goal
 
 pub returns-in_err-put_line : goal.returns-in_err-put_line
 returns-in_err-put_line g c =

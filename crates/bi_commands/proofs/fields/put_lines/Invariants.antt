@@ -1,7 +1,7 @@
 use Rattle.std.proofs.Common.{take, flat_map, map}
 use Rattle.bi_commands.specs.Shown.{line}
-use Rattle.bi_commands.specs.WrittenWords.{words_of}
-use Rattle.bi_commands.proofs.words.put_lines.Given as goal
+use Rattle.bi_commands.specs.Fields.{words_of}
+use Rattle.bi_commands.proofs.fields.put_lines.Given as goal
 
 -- The lines before this one were appended.
 abbrev pub invariant-loop-words : goal.invariant-loop-words

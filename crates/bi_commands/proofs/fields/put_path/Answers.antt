@@ -1,7 +1,7 @@
 use Rattle.std.proofs.Common.{subst, arith}
 use Rattle.bi_base.specs.Sinks.{Wrote}
 use Rattle.bi_commands.proofs.DescriptionPieces.{steps_are_path}
-use Rattle.bi_commands.proofs.words.put_path.Goals as goal
+use Rattle.bi_commands.proofs.fields.put_path.Goals as goal
 
 pub returns-in-len1-up : goal.returns-in-len1-up
 returns-in-len1-up g c =

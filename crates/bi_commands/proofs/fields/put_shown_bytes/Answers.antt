@@ -1,7 +1,7 @@
 use Rattle.std.proofs.Common.{arith}
 use Rattle.bi_base.proofs.SinkLaws.{failed_within, passed_on}
 use Rattle.bi_commands.specs.Shown.{shown_byte}
-use Rattle.bi_commands.proofs.words.put_shown_bytes.Goals as goal
+use Rattle.bi_commands.proofs.fields.put_shown_bytes.Goals as goal
 
 pub returns-in_err-put_shown_byte : goal.returns-in_err-put_shown_byte
 returns-in_err-put_shown_byte g c =

@@ -1,7 +1,7 @@
 use Rattle.std.proofs.Common.{◌∷◌, [], refl}
 use Rattle.bi_commands.specs.Shown.{shown_text}
 use Rattle.bi_commands.proofs.LineChains.{first_of_all_fails, last_writes}
-use Rattle.bi_commands.proofs.words.put_step.Goals as goal
+use Rattle.bi_commands.proofs.fields.put_step.Goals as goal
 
 pub returns-in_err-put : goal.returns-in_err-put
 returns-in_err-put g c =

@@ -1,7 +1,7 @@
 use Rattle.std.proofs.Common.{[], arith}
 use Rattle.bi_base.proofs.SinkLaws.{failed_within, passed_on}
 use Rattle.bi_commands.proofs.DescriptionPieces.{step_of}
-use Rattle.bi_commands.proofs.words.put_steps.Goals as goal
+use Rattle.bi_commands.proofs.fields.put_steps.Goals as goal
 
 pub returns-in_err-put_step : goal.returns-in_err-put_step
 returns-in_err-put_step g c =

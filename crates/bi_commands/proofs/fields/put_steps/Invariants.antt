@@ -1,6 +1,6 @@
 use Rattle.std.proofs.Common.{take}
 use Rattle.bi_commands.proofs.DescriptionPieces.{steps_of}
-use Rattle.bi_commands.proofs.words.put_steps.Given as goal
+use Rattle.bi_commands.proofs.fields.put_steps.Given as goal
 
 -- The names before this one were appended.
 abbrev pub invariant-loop-name : goal.invariant-loop-name

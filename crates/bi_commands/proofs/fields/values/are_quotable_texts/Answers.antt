@@ -1,6 +1,6 @@
 use Rattle.std.proofs.Common.{sym, ◌∙◌}
 use Rattle.bi_commands.proofs.QuotedValues.{texts_tested}
-use Rattle.bi_commands.proofs.words.values.are_quotable_texts.Goals as goal
+use Rattle.bi_commands.proofs.fields.values.are_quotable_texts.Goals as goal
 
 pub returns-then-ends_with : goal.returns-then-ends_with
 returns-then-ends_with c =

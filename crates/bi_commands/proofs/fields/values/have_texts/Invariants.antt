@@ -1,6 +1,6 @@
 use Rattle.std.proofs.Common.{◌≡◌, drop, false}
 use Rattle.bi_commands.specs.DescribedValues.{end_texts}
-use Rattle.bi_commands.proofs.words.values.have_texts.Given as goal
+use Rattle.bi_commands.proofs.fields.values.have_texts.Given as goal
 
 -- The remaining bytes decide.
 abbrev pub invariant-loop-byte : goal.invariant-loop-byte

@@ -1,7 +1,7 @@
 use Rattle.std.proofs.Common.{◌∷◌, [], refl}
 use Rattle.bi_commands.specs.ValueTexts.{hexadecimal_digits}
 use Rattle.bi_commands.proofs.LineChains.{first_of_all_fails, last_writes}
-use Rattle.bi_commands.proofs.words.values.put_bytes.Goals as goal
+use Rattle.bi_commands.proofs.fields.values.put_bytes.Goals as goal
 
 pub returns-in_err-put : goal.returns-in_err-put
 returns-in_err-put g c =

@@ -1,7 +1,7 @@
 use Rattle.std.proofs.Common.{arith}
 use Rattle.bi_base.proofs.SinkLaws.{failed_within, passed_on}
 use Rattle.bi_commands.specs.DescribedValues.{quoted_byte}
-use Rattle.bi_commands.proofs.words.values.put_quoted_bytes.Goals as goal
+use Rattle.bi_commands.proofs.fields.values.put_quoted_bytes.Goals as goal
 
 pub returns-in_err-put_quoted_byte : goal.returns-in_err-put_quoted_byte
 returns-in_err-put_quoted_byte g c =

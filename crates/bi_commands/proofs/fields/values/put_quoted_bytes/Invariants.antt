@@ -1,6 +1,6 @@
 use Rattle.std.proofs.Common.{take, flat_map}
 use Rattle.bi_commands.specs.DescribedValues.{quoted_byte}
-use Rattle.bi_commands.proofs.words.values.put_quoted_bytes.Given as goal
+use Rattle.bi_commands.proofs.fields.values.put_quoted_bytes.Given as goal
 
 -- The bytes before this one were appended.
 abbrev pub invariant-loop-byte : goal.invariant-loop-byte

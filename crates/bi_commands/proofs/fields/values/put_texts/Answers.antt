@@ -1,7 +1,7 @@
 use Rattle.std.proofs.Common.{◌∷◌, ◌++◌, [], refl, flat_map}
 use Rattle.bi_commands.specs.DescribedValues.{quoted_byte}
 use Rattle.bi_commands.proofs.LineChains.{first_of_all_fails, next_fails, last_writes}
-use Rattle.bi_commands.proofs.words.values.put_texts.Goals as goal
+use Rattle.bi_commands.proofs.fields.values.put_texts.Goals as goal
 
 pub returns-in_err-put : goal.returns-in_err-put
 returns-in_err-put g c =

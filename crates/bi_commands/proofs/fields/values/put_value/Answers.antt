@@ -1,7 +1,7 @@
 use Rattle.std.proofs.Common.{sym, subst, ◌∙◌}
 use Rattle.bi_base.specs.Sinks.{Wrote}
 use Rattle.bi_commands.proofs.QuotedValues.{words_of_texts, words_of_bytes}
-use Rattle.bi_commands.proofs.words.values.put_value.Goals as goal
+use Rattle.bi_commands.proofs.fields.values.put_value.Goals as goal
 
 pub returns-then-are_quotable_texts : goal.returns-then-are_quotable_texts
 returns-then-are_quotable_texts g c =
