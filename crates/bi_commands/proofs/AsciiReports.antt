@@ -148,10 +148,34 @@ report_is_ascii limits file text report = by report.meaning report.means report.
         let last : HasAscii (flat_map report_line (Summary counts ∷ [])) =
         both (report_line (Summary counts)) []
         (ascii_line
-        (codes "summary" ∷ codes "good" ∷ _ ∷ codes "bad" ∷ _ ∷ codes "unknown-algorithm" ∷ _ ∷ codes "no-payload" ∷ _ ∷ codes "malformed" ∷ _ ∷ [])
-        (by_test (codes "summary") refl, (by_test (codes "good") refl, (decimal_shown counts.good, (by_test (codes "bad") refl, (decimal_shown counts.bad,
-        (by_test (codes "unknown-algorithm") refl, (decimal_shown counts.unknown_algorithm, (by_test (codes "no-payload") refl, (decimal_shown counts.no_payload,
-        (by_test (codes "malformed") refl, (decimal_shown counts.malformed, tt)))))))))))) tt in
+        (codes "summary" ∷ codes "good" ∷ _ ∷ codes "bad" ∷ _ ∷ codes "unknown-algorithm" ∷ _ ∷ codes "no-payload" ∷ _ ∷ codes "malformed" ∷ _ ∷ []) (
+          by_test (codes "summary") refl,
+          (
+            by_test (codes "good") refl,
+            (
+              decimal_shown counts.good,
+              (
+                by_test (codes "bad") refl,
+                (
+                  decimal_shown counts.bad,
+                  (
+                    by_test (codes "unknown-algorithm") refl,
+                    (
+                      decimal_shown counts.unknown_algorithm,
+                      (
+                        by_test (codes "no-payload") refl,
+                        (
+                          decimal_shown counts.no_payload,
+                          (by_test (codes "malformed") refl, (decimal_shown counts.malformed, tt)),
+                        ),
+                      ),
+                    ),
+                  ),
+                ),
+              ),
+            ),
+          ),
+        )) tt in
         subst IsAscii (sym is)
         (is_ascii (report_of (OfFit tree))
         (hash_lines_shown hashes (Summary counts ∷ []) (all_hashes (images_of tree) (tree_images tree (file_means_image_tree file tree means.is_file))) last))

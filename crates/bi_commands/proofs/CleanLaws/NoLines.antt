@@ -4,7 +4,7 @@ use Rattle.std.specs.Prelude.{if◌then◌else◌}
 use Rattle.std.specs.List.{AllByRecursion, list_any}
 use Rattle.bi_base.proofs.ListMembers.{Contains-none, Contains-cases, Contains-first, Contains-others}
 use Rattle.bi_commands.specs.declared.check.Allowed.{Allowed}
-use Rattle.bi_commands.specs.Checking.{Concern, allows, concern_lines}
+use Rattle.bi_commands.specs.Checking.{Concern, allows, concern_lines, kind_of}
 use Rattle.bi_commands.proofs.ConcernLines.{lines_allowed, lines_append, lines_one}
 
 -- Concerns have no line exactly if each of them has none, and a concern that comes from a test has none exactly if it is allowed or the

@@ -113,7 +113,10 @@ fn put_line_of<S: Sink>(concern: Concern, sink: &mut S) -> Result<(), Error>
             put_line(&fields, sink)
         }
         Concern::BadDefault(default) => put_line(&[Field::Text(kind), name_or_none(default)], sink),
-        Concern::TrailingBytes(count) => put_line(&[Field::Text(kind), Field::Decimal(count as u64)], sink),
+        Concern::TrailingBytes(count) => put_line(
+            &[Field::Text(kind), Field::Decimal(count as u64)],
+            sink,
+        ),
     }
 }
 

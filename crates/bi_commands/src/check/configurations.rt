@@ -71,7 +71,11 @@ fn put_key<'a, S: Sink>(
         Listed::Images(_names) => Ok(()),
         Listed::BadList => put_concern(Concern::BadKey(node.name(), key), allowed, sink),
         Listed::Missing(index) => {
-            put_concern(Concern::MissingImage(node.name(), key, index), allowed, sink)
+            put_concern(
+                Concern::MissingImage(node.name(), key, index),
+                allowed,
+                sink,
+            )
         }
     }
 }

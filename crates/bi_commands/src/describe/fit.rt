@@ -16,8 +16,8 @@ use super::limited_sink::LimitedSink;
 use super::lines::{most_open, put_tree};
 use super::long_names::check_long_names;
 use crate::common_lines::put_reservations;
-use crate::payload_bounds::check_payloads;
 use crate::fields::{Field, put_lines};
+use crate::payload_bounds::check_payloads;
 use bi_base::{Error, Limits, Sink};
 use bi_fdt::Blob;
 use bi_fit::Fit;
@@ -73,7 +73,10 @@ fn put_head<S: Sink>(boot_cpu: u32, sink: &mut S) -> Result<(), Error>
     put_lines(
         &[
             [Field::Text(b"kind"), Field::Text(b"fit")],
-            [Field::Text(b"boot-cpu"), Field::Decimal(u64::from(boot_cpu))],
+            [
+                Field::Text(b"boot-cpu"),
+                Field::Decimal(u64::from(boot_cpu)),
+            ],
         ],
         sink,
     )

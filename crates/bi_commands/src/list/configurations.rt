@@ -15,8 +15,8 @@ ghost use Rattle.bi_commands.specs.ReadListing.{key_lines};
 ghost use Rattle.bi_commands.specs.Shown.{line, shown_text};
 
 use super::fit::KEYS;
+use crate::fields::{Field, put_fields, put_later_field, put_line};
 use crate::listed::{Listed, listed_under};
-use crate::fields::{Field, put_later_field, put_line, put_fields};
 use bi_base::{Error, Sink};
 use bi_fdt::NodeRef;
 use bi_fit::{Fit, Key, split_name};
@@ -33,7 +33,11 @@ pub(super) fn put_configurations<S: Sink>(fit: &Fit, sink: &mut S) -> Result<(),
 }
 
 /// Appends the lines of each child of a node, as those of a configuration. Fails as the sink does.
-fn put_children<'a, S: Sink>(fit: &Fit<'a>, parent: NodeRef<'a, '_>, sink: &mut S) -> Result<(), Error>
+fn put_children<'a, S: Sink>(
+    fit: &Fit<'a>,
+    parent: NodeRef<'a, '_>,
+    sink: &mut S,
+) -> Result<(), Error>
     ensures { Wrote S.appends S.fails sink.old
         (flat_map (configuration_node_lines fit.now.images)
         (siblings (node_of parent.entry).children)) result sink.new }
@@ -48,7 +52,11 @@ fn put_children<'a, S: Sink>(fit: &Fit<'a>, parent: NodeRef<'a, '_>, sink: &mut 
 
 /// Appends the lines of a configuration: its name, and its keys in their order. Fails as the sink
 /// does.
-fn put_configuration<'a, S: Sink>(fit: &Fit<'a>, node: NodeRef<'a, '_>, sink: &mut S) -> Result<(), Error>
+fn put_configuration<'a, S: Sink>(
+    fit: &Fit<'a>,
+    node: NodeRef<'a, '_>,
+    sink: &mut S,
+) -> Result<(), Error>
     ensures { Wrote S.appends S.fails sink.old
         (configuration_node_lines fit.now.images (node_of node.entry)) result sink.new }
 {

@@ -83,7 +83,11 @@ fn put_image<S: Sink>(image: &Image, sink: &mut S) -> Result<(), Error>
             put_payload(name, payload, "data-position", offset, sink)
         }
         _ => put_line(
-            &[Field::Text(b"image"), Field::Shown(name), Field::Text(b"none")],
+            &[
+                Field::Text(b"image"),
+                Field::Shown(name),
+                Field::Text(b"none"),
+            ],
             sink,
         ),
     }

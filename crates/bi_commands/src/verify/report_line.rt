@@ -42,7 +42,11 @@ fn put_checksum<S: Sink>(name: &[u8], sink: &mut S) -> Result<(), Error>
         sink.new }
 {
     put_line(
-        &[Field::Text(name), Field::Text(b"crc32"), Field::Text(b"good")],
+        &[
+            Field::Text(name),
+            Field::Text(b"crc32"),
+            Field::Text(b"good"),
+        ],
         sink,
     )
 }

@@ -43,8 +43,13 @@ loop-image-preserved c =
       placed = subst (λ file. AreAtTheirPlaces file later) (sym digests) placed.1;
       counted = one_image_counted (node_of c.in-Some.node) _ _ image _ later _ c.loop-image.counts c.count_image.new.counts _ here images (c.region.ensures c.loop-image.digests placed.0).bytes
           c.in_ok-count_image.ensures.counts c.loop-image.invariant.counted;
-      few = omega (arith, c.in_ok-count_image.ensures.few, c.loop-image.invariant.few, ap (λ entries. length (children_of_each entries)) here,
-      length-append (siblings (node_of c.in-Some.node).children) (children_of_each (siblings_from (option_map node_of c.next_sibling-next.result))));
+      few = omega (
+        arith,
+        c.in_ok-count_image.ensures.few,
+        c.loop-image.invariant.few,
+        ap (λ entries. length (children_of_each entries)) here,
+        length-append (siblings (node_of c.in-Some.node).children) (children_of_each (siblings_from (option_map node_of c.next_sibling-next.result))),
+      );
     }
 
 pub count_image-requires-clause-few : goal.count_image-requires-clause-few
