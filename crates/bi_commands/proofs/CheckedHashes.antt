@@ -8,7 +8,7 @@ use Rattle.bi_commands.specs.Checking.{is_strong, payload_concerns, protection_c
 use Rattle.bi_commands.specs.ReadChecking.{good_algorithm}
 use Rattle.bi_commands.specs.Reports.{is_verdict, shown_or_none}
 use Rattle.bi_commands.specs.Shown.{shown_text}
-use Rattle.bi_commands.proofs.ConcernLines.{lines_append, lines_flat_map}
+use Rattle.bi_commands.proofs.ConcernLines.{lines_allowed, lines_append, lines_flat_map}
 use Rattle.bi_commands.proofs.FitLines.{joined_after}
 
 -- A payload without a Good verdict has one concern, so has one whose Good verdicts are of no strong algorithm, and one with a Good verdict
@@ -77,3 +77,12 @@ good_text hash is = rw is refl
 
 pub no_text : (hash : CheckedHash) → is_good hash ≡ false → good_algorithm hash ≡ []
 no_text hash is = rw is refl
+
+-- A payload with a Good verdict has no line where weak ones are allowed.
+pub weak_allowed : (allowed : Allowed) (image : List ℕ) (hashes : List CheckedHash) → list_any is_good hashes ≡ true →
+    allowed.weak_hash ≡ true →
+    concern_lines allowed (protection_concerns image hashes) ≡ []
+weak_allowed allowed image hashes some is = by (list_any is_strong hashes) refl where
+  by : (b : Bool) → list_any is_strong hashes ≡ b → concern_lines allowed (protection_concerns image hashes) ≡ []
+  by true strong = ap (concern_lines allowed) (strong_only image hashes some strong)
+  by false none = ap (concern_lines allowed) (weak_only image hashes some none) ∙ lines_allowed allowed (WeakHash image (filter is_good hashes)) is
