@@ -1,5 +1,6 @@
 use Rattle.std.proofs.Common.{◌≡◌, ◌++◌, ◌+◌, ◌<◌, ◌∙◌, ℕ, Bool, List, [], ◌∷◌, Option, Result, Ok, Err, length, map, take, drop, get_or, ap, inl}
 use Rattle.std.proofs.Common.{inr, refl, subst, sym, add-one}
+use Rattle.std.specs.Prelude.{suc}
 use Rattle.std.specs.List.{AllZip, list_any}
 use Rattle.std.proofs.Math.Seq.{drop-cons}
 use Rattle.std.proofs.lemmas.List.{append-nil, take-append-drop, take_more}
@@ -48,7 +49,7 @@ one_value_each IsRead [] [] old new were = refl
 one_value_each IsRead [] (v ∷ values) old new were = absurd were
 one_value_each IsRead (s ∷ sources) [] old new were = absurd were
 one_value_each IsRead (s ∷ sources) (v ∷ values) old new were =
-    ap (λ n. 1 + n) (one_value_each IsRead sources values were.0 new were.2)
+    ap suc (one_value_each IsRead sources values were.0 new were.2)
 
 -- ---- parts
 
