@@ -53,6 +53,16 @@ def alternatives(path):
     return [path[: match.start()] + part + path[match.end() :] for part in match[1].split(",")] if match else [path]
 
 
+def paragraphs(text):
+    """The paragraphs, items of lists and rows of tables of a page, each in one line."""
+    found = [""]
+    for line in text.splitlines():
+        if not line.strip() or re.match(r"\||#|```|\s*(?:[-*]|\d+\.) ", line):
+            found.append("")
+        found[-1] += " " + line.strip()
+    return found
+
+
 def wrong_paths(root, text):
     for written in PATH.findall(text):
         parts = re.split(r"[/.]", written)
@@ -61,9 +71,9 @@ def wrong_paths(root, text):
         for path in alternatives(written):
             if not glob.glob(os.path.join(root, path)):
                 yield f"no file {path}"
-    for line in text.splitlines():
+    for paragraph in paragraphs(text):
         directory = None
-        for written in re.findall(r"`([^`]*)`", line):
+        for written in re.findall(r"`([^`]*)`", paragraph):
             if re.fullmatch(r"crates/\w+/specs/\w+\.antt", written):
                 directory = os.path.dirname(written)
             elif directory and re.fullmatch(r"[A-Z]\w*\.antt", written):
@@ -95,7 +105,7 @@ def words(text):
 
 
 def wrong_code(root, text):
-    for head, code in re.findall(r"^([^\n]*):\n\n```rust\n(.*?)^```$", text, re.M | re.S):
+    for head, code in re.findall(r"^((?:[^\n]+\n)*[^\n]*):\n\n```rust\n(.*?)^```$", text, re.M | re.S):
         sources = re.findall(r"`(crates/[^`]*\.rt)`", head)
         if not sources:
             continue

@@ -1,16 +1,19 @@
-"""Checks the tables of docs/PROMISES.md against the contracts and the definitions of a workspace.
+"""Checks docs/PROMISE_TABLES.md and docs/PROMISES.md against the contracts and the definitions of a workspace.
 
 promises.py ROOT: ROOT/crates.txt names the crates, which are in ROOT/crates. Prints what is wrong with a row, a line for each, and
-fails if there is anything. A row of a table is `| promise | functions | definitions |`, below a heading that begins with the crate:
+fails if there is anything. A row is an item of the lists of docs/PROMISE_TABLES.md, below a heading that begins with the crate. Its
+cells are the text of the item and the items below it, each of which may be wrapped. A promise has the items `By:`, its functions, and
+`With:`, its definitions:
 
 - the functions are `name`, `Type::name`, `module::name` or `module::Type::name`, each perhaps followed by a colon and the labels of
   clauses, and separated by semicolons. Each is a public function of the crate, and has an `ensures` of each label;
 - the definitions are `Module.name`, or `crate/Module.name` for another crate, each perhaps followed by names of fields in round
   brackets. Each is in that module of specs/, and the clauses of the row cite it, or cite a definition that does, and so on.
 
-Each function that a library exports, and each of its labels, has to be in a row. A row of a table of wrong definitions is
-`| wrong definition | functions |`, and each of these functions is a public one of the crate. The reading order names the files of
-definitions that the contract of `normalise` leads to, and no other.
+Each function that a library exports, and each of its labels, has to be in a row. A wrong definition has the item `Refused by:`, and
+each function that this names is a public one of the crate. Each item of both lists has these items and no other. In docs/PROMISES.md
+the reading order names the files of definitions that the contract of `normalise` leads to, and no other, and each line of the blocks
+of code with a contract or a definition is in the sources.
 
 promises.py ROOT --definitions: prints each definition of specs/, with the comment before it.
 """
@@ -29,8 +32,8 @@ CLAUSE = re.compile(r"(?P<kind>requires|ensures)\*?\s+(?:(?P<label>\w+)\s+)?\{")
 GHOST_USE = re.compile(r"^ *(?:ghost )?use Rattle\.(?P<crate>\w+)\.specs\.(?P<module>[\w.]+)\.\{(?P<names>[^}]*)\}", re.M)
 DECLARATION = re.compile(r"^(?:(?:pattern|unfoldable|abbrev|pub|record|data) )+(?P<name>[^\s:({]+)")
 WORD = re.compile(r"[\w◌-]+(?:-\w+)*")
-TABLE = "| Promise | Function: clause | Definition |"
-WRONG_TABLE = "| Wrong definition | Refused by |"
+PROMISES = "The promises", ["By", "With"]
+WRONG = "Wrong definitions that the laws refuse", ["Refused by"]
 
 
 def uses_of(text):
@@ -174,30 +177,51 @@ def reachable(crates, clauses):
     return found
 
 
-def rows_of(text, head):
-    """The line, the crate and the cells of each row of the tables with this head."""
-    crate, in_table = None, False
+def items_of(text):
+    """The number of its first line, its indentation and its text in one line of each item of the lists of a page, and of each heading,
+    whose indentation is -1."""
+    items, inside = [], False
     for number, line in enumerate(text.splitlines(), 1):
+        item = re.match(r"( *)- (.*)", line)
         if line.startswith("#"):
-            crate = (re.match(r"#+ `(\w+)`", line) or [None, None])[1]
-        if not line.startswith("|"):
-            in_table = False
-        elif line == head:
-            in_table = True
-        elif in_table and not line.startswith("|---"):
-            yield number, crate, [cell.strip() for cell in line.strip("|").split(" | ")]
+            items.append([number, -1, line])
+        elif item:
+            items.append([number, len(item[1]), item[2].strip()])
+        elif inside and line.startswith(" "):
+            items[-1][2] += " " + line.strip()
+        inside = bool(item) or (inside and line.startswith(" "))
+    return items
+
+
+def rows_of(text, kind):
+    """The line, the crate and the cells of each item of the lists of this kind. The cells are None if it has other items below it."""
+    (title, labels), crate, section, found = kind, None, None, []
+    for number, indentation, item in items_of(text):
+        if indentation == -1:
+            section = item[3:] if item.startswith("## ") else section
+            crate = (re.match(r"#+ `(\w+)`", item) or [None, None])[1]
+        elif section == title and indentation == 0:
+            found.append((number, crate, [item]))
+        elif section == title:
+            found[-1][2].append(item)
+    for number, crate, (first, *rest) in found:
+        pairs = [item.partition(": ") for item in rest]
+        yield number, crate, [first, *(cell for _, _, cell in pairs)] if [label for label, _, _ in pairs] == labels else None
 
 
 def check_wrong_row(crates, crate, cells):
-    """Yields what is wrong with a row of a table of wrong definitions."""
+    """Yields what is wrong with a row on a wrong definition."""
+    if crate not in crates or not cells or not re.search(r"`\w+`", cells[-1]):
+        yield "this is no row of two cells below the heading of a crate"
+        return
     for function in re.findall(r"`(\w+)`", cells[-1]):
-        if crate not in crates or not any(key[2] == function for key in crates[crate].functions):
+        if not any(key[2] == function for key in crates[crate].functions):
             yield f"no public function `{function}` with a contract is in {crate}"
 
 
 def check_row(crates, crate, cells, named):
     """Yields what is wrong with a row. Adds the functions and labels that it names to `named`."""
-    if crate not in crates or len(cells) != 3:
+    if crate not in crates or not cells:
         yield "this is no row of three cells below the heading of a crate"
         return
     clauses = []
@@ -234,7 +258,7 @@ def check_row(crates, crate, cells, named):
 def check_reading_order(crates, text):
     """Yields the files of definitions that the reading order lacks, or has too many."""
     named, directory = set(), None
-    section = re.search(r"^## A reading order\n(.*?)^\d+\. .*?^(?=[^\d\n])", text, re.M | re.S)[0]
+    section = re.search(r"^## A reading order\n.*?^\d+\. .*?^(?=[^\d\s])", text, re.M | re.S)[0]
     for written in re.findall(r"`([\w/]+\.antt)`", section):
         crate, _, file = written.partition("/specs/")
         directory = crate.split("/")[-1] if file else directory
@@ -246,17 +270,29 @@ def check_reading_order(crates, text):
         yield f"the reading order {'lacks' if (crate, module) in found else 'has'} crates/{crate}/specs/{module}.antt"
 
 
+def check_quotes(crates, text):
+    """Yields the lines of code that the page quotes and the sources do not have."""
+    quoted = [block for kind, block in re.findall(r"^```(rust|text)\n(.*?)^```$", text, re.M | re.S) if kind == "rust" or "pub record" in block]
+    norm = crates["bi_norm"].directory
+    sources = set((read(f"{norm}/src/normal_form.rt") + read(f"{norm}/specs/NormalForm.antt")).splitlines())
+    if len(quoted) != 2:
+        yield "it does not quote a contract and a definition"
+    for line in "".join(quoted).splitlines():
+        if line not in sources:
+            yield f"this line is not in the sources: {line.strip()}"
+
+
 def check(root):
     """Prints what is wrong with the tables, and returns how much."""
     crates = {name: Crate(root, name) for name in crates_of(root)}
-    text = read(f"{root}/docs/PROMISES.md")
+    tables, page = read(f"{root}/docs/PROMISE_TABLES.md"), read(f"{root}/docs/PROMISES.md")
     wrong, rows, named = [], 0, set()
-    for number, crate, cells in rows_of(text, TABLE):
+    for number, crate, cells in rows_of(tables, PROMISES):
         rows += 1
-        wrong += [f"docs/PROMISES.md:{number}: {reason}" for reason in check_row(crates, crate, cells, named)]
-    for number, crate, cells in rows_of(text, WRONG_TABLE):
-        wrong += [f"docs/PROMISES.md:{number}: {reason}" for reason in check_wrong_row(crates, crate, cells)]
-    wrong += [f"docs/PROMISES.md: {reason}" for reason in check_reading_order(crates, text)]
+        wrong += [f"docs/PROMISE_TABLES.md:{number}: {reason}" for reason in check_row(crates, crate, cells, named)]
+    for number, crate, cells in rows_of(tables, WRONG):
+        wrong += [f"docs/PROMISE_TABLES.md:{number}: {reason}" for reason in check_wrong_row(crates, crate, cells)]
+    wrong += [f"docs/PROMISES.md: {reason}" for reason in [*check_reading_order(crates, page), *check_quotes(crates, page)]]
     for crate in crates.values():
         for key in sorted(crate.exported):
             for label in crate.functions[key]:

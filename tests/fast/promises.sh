@@ -1,9 +1,9 @@
 #!/bin/sh
-# Checks docs/PROMISES.md: each function, clause and definition that a row names is in the sources, the clauses of a row lead to its
-# definitions, and each function that a library exports is in a row, with each of its clauses. The reading order names the files of
-# definitions that the contract of `normalise` leads to. tests/fast/promises.py does this. Then breaks the page, a contract or a definition
-# in a copy, in each way in turn, and shows that this is found. The script needs no prover. It needs python3, and installs Debian's if
-# it is missing and the script runs as root.
+# Checks docs/PROMISE_TABLES.md: each function, clause and definition that a row names is in the sources, the clauses of a row lead to its
+# definitions, and each function that a library exports is in a row, with each of its clauses. Checks docs/PROMISES.md: the reading order
+# names the files of definitions that the contract of `normalise` leads to, and the claim is quoted as it is in the sources.
+# tests/fast/promises.py does this. Then breaks a page, a contract or a definition in a copy, in each way in turn, and shows that this is
+# found. The script needs no prover. It needs python3, and installs Debian's if it is missing and the script runs as root.
 #
 # promises.sh --definitions: prints each definition of the crates, with the comment before it.
 set -u
@@ -16,7 +16,7 @@ if [ "${1-}" = --definitions ]; then
     exec python3 "$root/tests/fast/promises.py" "$root" --definitions
 fi
 work_in_new_directory
-copy_here crates.txt 'crates/*/src' 'crates/*/specs' docs/PROMISES.md
+copy_here crates.txt 'crates/*/src' 'crates/*/specs' docs/PROMISES.md docs/PROMISE_TABLES.md
 
 check "the tables are those of the sources" python3 "$root/tests/fast/promises.py" copy
 [ "$failed" = 0 ] || finish
@@ -61,15 +61,23 @@ check "a field that is not there is found" \
     is_found crates/bi_norm/specs/NormalForm.antt 'pub distinguishes :' 'pub tells :' \
     '`NormalForm.IsNormalForm` has no field `distinguishes`'
 check "a missing row is found" \
-    is_found docs/PROMISES.md '`same_meaning`: `compared`, `failed`; ' '' 'no row has `comparing::same_meaning`: `compared` of bi_norm'
+    is_found docs/PROMISE_TABLES.md '`same_meaning`: `compared`, `failed`; ' '' 'no row has `comparing::same_meaning`: `compared` of bi_norm'
 check "a wrong definition that no function refuses is found" \
-    is_found docs/PROMISES.md '`firmware_text` |
-' '`firmware` |
+    is_found docs/PROMISE_TABLES.md '  - Refused by: `firmware_text`
+' '  - Refused by: `firmware`
 ' 'no public function `firmware` with a contract is in bi_legacy'
 check "a file that the reading order lacks is found" \
     is_found docs/PROMISES.md '`Strings.antt`: the bytes' 'The bytes' 'the reading order lacks crates/bi_base/specs/Strings.antt'
 check "a file that it has for no reason is found" \
     is_found docs/PROMISES.md '`Crc.antt`' '`Crc.antt` and `CrcTables.antt`' 'the reading order has crates/bi_base/specs/CrcTables.antt'
+check "a definition that is quoted wrongly is found" \
+    is_found docs/PROMISES.md '(normal_text form other ≡ text)' '(normal_text form other ≡ file)' 'this line is not in the sources: → (normal'
+check "a row without definitions is found" \
+    is_found docs/PROMISE_TABLES.md '  - With: `NormalForm.IsNormalForm` (`is_own`)
+' '' 'this is no row of three cells below the heading of a crate'
+check "a wrong definition that nothing refuses is found" \
+    is_found docs/PROMISE_TABLES.md '  - Refused by: `firmware_text`
+' '' 'this is no row of two cells below the heading of a crate'
 check "a row of an unknown crate is found" \
-    is_found docs/PROMISES.md '### `bi_norm`:' '### `bi_normal`:' 'this is no row of three cells below the heading of a crate'
+    is_found docs/PROMISE_TABLES.md '### `bi_norm`:' '### `bi_normal`:' 'this is no row of three cells below the heading of a crate'
 finish

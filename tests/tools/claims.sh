@@ -170,7 +170,8 @@ counts() {
     sed -n "s/^axioms $1: .*(\([0-9]*\) of the .*/\1/p" "$root/crates/bootimg/out/build.log" | tail -n 1
 }
 named() {
-    sed -n "s/^| \`$1\` (\([0-9]*\) of .*) | \(.*\) |\$/\1 \2/p" "$root/docs/PROMISES.md" | awk '{ print $1, gsub("`", "") / 2 }'
+    awk -v name="- \`$1\` (" 'index($0, name) == 1 { on = 1; print; next } !/^  / { on = 0 } on' "$root/docs/PROMISES.md" | tr '\n' ' ' |
+        sed 's/^- `[^`]*` (\([0-9]*\) of [^:]*: /\1 /' | awk '{ print $1, gsub("`", "") / 2 }'
 }
 for library in libc os; do
     name=$library
