@@ -8,7 +8,7 @@ is one:
 - the code in PROOFS.md after a paragraph that names a source and ends with a colon is in that source;
 - each check in a table of FORMATS.md has the name of a definition;
 - no line is left from a merge;
-- README.md has at most 180 lines.
+- README.md has at most 150 lines.
 """
 
 import glob
@@ -140,7 +140,7 @@ def main(root):
     wrong += [f"docs/PROOFS.md: {reason}" for reason in wrong_code(root, read(os.path.join(root, "docs/PROOFS.md")))]
     wrong += [f"docs/FORMATS.md: {reason}" for reason in wrong_checks(root, read(os.path.join(root, "docs/FORMATS.md")))]
     lines = len(read(os.path.join(root, "README.md")).splitlines())
-    wrong += [f"README.md: {lines} lines"] if lines > 180 else []
+    wrong += [f"README.md: {lines} lines"] if lines > 150 else []
     print("\n".join(wrong + [f"{len(pages)} pages"]))
     return bool(wrong)
 

@@ -13,7 +13,7 @@ cells are the text of the item and the items below it, each of which may be wrap
 Each function that a library exports, and each of its labels, has to be in a row. A wrong definition has the item `Refused by:`, and
 each function that this names is a public one of the crate. Each item of both lists has these items and no other. In docs/PROMISES.md
 the reading order names the files of definitions that the contract of `normalise` leads to, and no other, and each line of the blocks
-of code with a contract or a definition is in the sources.
+of code with a contract or a definition is in the sources, and so is the one of README.md.
 
 promises.py ROOT --definitions: prints each definition of specs/, with the comment before it.
 """
@@ -270,13 +270,14 @@ def check_reading_order(crates, text):
         yield f"the reading order {'lacks' if (crate, module) in found else 'has'} crates/{crate}/specs/{module}.antt"
 
 
-def check_quotes(crates, text):
-    """Yields the lines of code that the page quotes and the sources do not have."""
-    quoted = [block for kind, block in re.findall(r"^```(rust|text)\n(.*?)^```$", text, re.M | re.S) if kind == "rust" or "pub record" in block]
+def check_quotes(crates, text, count):
+    """Yields the lines of a contract or a definition that the page quotes and the sources do not have, if it does not quote this many."""
+    blocks = re.findall(r"^```(rust|text)\n(.*?)^```$", text, re.M | re.S)
+    quoted = [block for kind, block in blocks if kind == "rust" or re.search(r"^ *pub ", block, re.M)]
     norm = crates["bi_norm"].directory
     sources = set((read(f"{norm}/src/normal_form.rt") + read(f"{norm}/specs/NormalForm.antt")).splitlines())
-    if len(quoted) != 2:
-        yield "it does not quote a contract and a definition"
+    if len(quoted) != count:
+        yield f"it does not quote {count} contracts or definitions"
     for line in "".join(quoted).splitlines():
         if line not in sources:
             yield f"this line is not in the sources: {line.strip()}"
@@ -292,7 +293,8 @@ def check(root):
         wrong += [f"docs/PROMISE_TABLES.md:{number}: {reason}" for reason in check_row(crates, crate, cells, named)]
     for number, crate, cells in rows_of(tables, WRONG):
         wrong += [f"docs/PROMISE_TABLES.md:{number}: {reason}" for reason in check_wrong_row(crates, crate, cells)]
-    wrong += [f"docs/PROMISES.md: {reason}" for reason in [*check_reading_order(crates, page), *check_quotes(crates, page)]]
+    wrong += [f"docs/PROMISES.md: {reason}" for reason in [*check_reading_order(crates, page), *check_quotes(crates, page, 2)]]
+    wrong += [f"README.md: {reason}" for reason in check_quotes(crates, read(f"{root}/README.md"), 1)]
     for crate in crates.values():
         for key in sorted(crate.exported):
             for label in crate.functions[key]:

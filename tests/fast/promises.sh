@@ -1,7 +1,7 @@
 #!/bin/sh
 # Checks docs/PROMISE_TABLES.md: each function, clause and definition that a row names is in the sources, the clauses of a row lead to its
 # definitions, and each function that a library exports is in a row, with each of its clauses. Checks docs/PROMISES.md: the reading order
-# names the files of definitions that the contract of `normalise` leads to, and the claim is quoted as it is in the sources.
+# names the files of definitions that the contract of `normalise` leads to, and the claim is quoted there and in README.md as it is in the sources.
 # tests/fast/promises.py does this. Then breaks a page, a contract or a definition in a copy, in each way in turn, and shows that this is
 # found. The script needs no prover. It needs python3, and installs Debian's if it is missing and the script runs as root.
 #
@@ -16,7 +16,7 @@ if [ "${1-}" = --definitions ]; then
     exec python3 "$root/tests/fast/promises.py" "$root" --definitions
 fi
 work_in_new_directory
-copy_here crates.txt 'crates/*/src' 'crates/*/specs' docs/PROMISES.md docs/PROMISE_TABLES.md
+copy_here crates.txt 'crates/*/src' 'crates/*/specs' README.md docs/PROMISES.md docs/PROMISE_TABLES.md
 
 check "the tables are those of the sources" python3 "$root/tests/fast/promises.py" copy
 [ "$failed" = 0 ] || finish
@@ -72,6 +72,8 @@ check "a file that it has for no reason is found" \
     is_found docs/PROMISES.md '`Crc.antt`' '`Crc.antt` and `CrcTables.antt`' 'the reading order has crates/bi_base/specs/CrcTables.antt'
 check "a definition that is quoted wrongly is found" \
     is_found docs/PROMISES.md '(normal_text form other ≡ text)' '(normal_text form other ≡ file)' 'this line is not in the sources: → (normal'
+check "a claim of README that is quoted wrongly is found" \
+    is_found README.md '↔ (other ≡ meaning)' '↔ ⊤' 'README.md: this line is not in the sources: → (normal'
 check "a row without definitions is found" \
     is_found docs/PROMISE_TABLES.md '  - With: `NormalForm.IsNormalForm` (`is_own`)
 ' '' 'this is no row of three cells below the heading of a crate'

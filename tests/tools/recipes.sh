@@ -1,8 +1,9 @@
 #!/bin/sh
 # Runs every command in a ```console block of README.md, of examples/README.md and of the pages in docs/ but CONFORMANCE.md, whose
 # commands conformance.sh runs, from the top of the checkout, and compares what it prints with what the block shows. The commands
-# of a file share one shell. At the end nothing is untracked in the checkout that was not so before. It needs python3 and, for the
-# examples, Debian's u-boot-tools and device-tree-compiler, and installs them if one is missing and it runs as root.
+# of a file share one shell. A command that ends with a backslash continues in the next line. At the end nothing is untracked in the
+# checkout that was not so before. It needs python3 and, for the examples and the tutorial, Debian's u-boot-tools, device-tree-compiler,
+# openssl and git, and installs them if one is missing and it runs as root.
 set -u
 
 root=$(cd "$(dirname "$0")/../.." && pwd)
@@ -10,6 +11,8 @@ root=$(cd "$(dirname "$0")/../.." && pwd)
 
 need u-boot-tools mkimage
 need device-tree-compiler fdtget fdtput
+need openssl openssl
+need git git
 need python3 python3
 need_program
 work_in_new_directory
@@ -32,6 +35,8 @@ def commands(text):
         for line in block.splitlines():
             if line.startswith("$ "):
                 found.append([line[2:], ""])
+            elif found[-1][0].endswith("\\"):
+                found[-1][0] += "\n" + line
             else:
                 found[-1][1] += line + "\n"
     return found
