@@ -1,6 +1,6 @@
 # SPDX-License-Identifier: MIT
 # Copyright (c) 2026 the bootimg authors
-"""Boot images of U-Boot: legacy images and flattened image trees (FIT).
+"""Boot images of U-Boot: legacy images and FITs (flattened image trees).
 
 Each function takes the bytes of a file and returns bytes or text. It calls the shared library of
 bootimg, which is proved: two accepted images of the same kind have the same normal form if and only
@@ -11,11 +11,11 @@ A file is `bytes` or any other object with a contiguous buffer: a `bytearray`, a
 `mmap`. It is not copied. Its bytes must not change during a call.
 
 `limit` is the greatest number of bytes of a file, and of an image, payload or description that is
-made: 64 to LIMIT. `depth` is the greatest depth of a flattened image tree, with the root counted: 1
-to DEPTH. A call raises Refused if a file is refused: with TooLarge for a file that is longer than
-`limit`, or else with the cause of the first check of its format that fails. It raises WrongArgument
-if a number is out of its range or a key or kind is unknown, NotFound if there is nothing to
-extract, and OutOfMemory if an allocation fails.
+made: 64 to LIMIT. `depth` is the greatest depth of a FIT, with the root counted: 1 to DEPTH. A call
+raises Refused if a file is refused: with TooLarge for a file that is longer than `limit`, or else
+with the cause of the first check of its format that fails. It raises WrongArgument if a number is
+out of its range or a key or kind is unknown, NotFound if there is nothing to extract, and
+OutOfMemory if an allocation fails.
 
 `python3 -m bootimg COMMAND ..` writes what `bootimg COMMAND ..` writes, and ends with the same
 status, for the commands that read images. It has no `-o` and no `--escaped`, and its message about
@@ -131,8 +131,8 @@ class NotFound(BootimgError, LookupError):
 
 
 class Report(NamedTuple):
-    """The report on the checksums and digests of a file, and whether each verdict in it is good,
-    even if there is none."""
+    """The report on the checksums and digests of a file, and True if every verdict in it is good,
+    or if there are none."""
 
     text: str
     all_good: bool
@@ -319,8 +319,8 @@ def kind(file: Buffer) -> str:
 def normalise(
     file: Buffer, external: bool = False, limit: int = LIMIT, depth: int = DEPTH
 ) -> bytes:
-    """Returns the normal form of a file. With `external`, the payloads of a flattened image tree
-    are after the blob. Raises Refused with TooLarge if the normal form is longer than `limit`."""
+    """Returns the normal form of a file. With `external`, the payloads of a FIT are after the blob.
+    Raises Refused with TooLarge if the normal form is longer than `limit`."""
     return normalise_and_count(file, external, limit, depth)[0]
 
 
@@ -378,8 +378,7 @@ def extract_part(
 def extract_image(
     file: Buffer, name: bytes | str, limit: int = LIMIT, depth: int = DEPTH
 ) -> memoryview:
-    """Returns the payload of the image of this name in a flattened image tree, as a view of the
-    file."""
+    """Returns the payload of the image with the given name in a FIT, as a view of the file."""
     return _region("extract_image", (file, _name_of(name)), _number(limit), _number(depth))
 
 
@@ -391,9 +390,9 @@ def extract_config(
     limit: int = LIMIT,
     depth: int = DEPTH,
 ) -> memoryview:
-    """Returns a payload that the configuration of this name lists under a key, one of KEYS, as a
-    view of the file. `index` is its index in the list, counted from 0. Without a name it is the
-    default configuration."""
+    """Returns a payload that the configuration with the given name lists under a key, one of KEYS,
+    as a view of the file. `index` is its index in the list, counted from 0. Without a name it is
+    the default configuration."""
     numbers = (_index_of(key, KEYS), _number(index), _number(limit), _number(depth))
     if name is None:
         return _region("extract_default", (file,), *numbers)
@@ -439,9 +438,9 @@ def check(
 
 
 def convert(file: Buffer, limit: int = LIMIT, depth: int = DEPTH) -> bytes:
-    """Returns the flattened image tree that a legacy image is converted to. Raises Refused with
-    BadMagic for a file that is not a legacy image, with NoCodeName, EmptyPart or TooManyParts for
-    an image that cannot be converted, and with TooLarge if the output is longer than `limit`."""
+    """Returns the FIT that a legacy image is converted to. Raises Refused with BadMagic for a file
+    that is not a legacy image, with NoCodeName, EmptyPart or TooManyParts for an image that cannot
+    be converted, and with TooLarge if the output is longer than `limit`."""
     return _fill("convert", _size_of(file) + 4096, (file,), _number(limit), _number(depth))[0]
 
 
@@ -496,7 +495,7 @@ def _parser() -> argparse.ArgumentParser:
         ("compare", "write what differs between two images"),
         ("verify", "write the verdict on each checksum and digest"),
         ("check", "write a line for each thing that is not protected"),
-        ("convert", "write the flattened image tree of a legacy image"),
+        ("convert", "write the FIT of a legacy image"),
     ):
         command = commands.add_parser(name, help=help, allow_abbrev=False)
         command.add_argument("--limit", type=_whole_number, default=LIMIT, metavar="N")

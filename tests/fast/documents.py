@@ -4,11 +4,11 @@ is one:
 - each link leads to a file, and to a heading of it;
 - each path in backticks that begins with a directory of the workspace is there, but for what is built (`out`), and each file of specs/
   that is named after the directory of a crate;
-- TESTING.md has each script of tests/ in the table of its group, and PERFORMANCE.md each of bench/, and no other;
+- TESTING.md has each script of tests/ in the list of its group, and PERFORMANCE.md each of bench/, and no other;
 - the code in PROOFS.md after a paragraph that names a source and ends with a colon is in that source;
 - each check in a table of FORMATS.md has the name of a definition;
-- no line is left from a merge;
-- README.md has at most 150 lines.
+- CONFORMANCE.md has the totals of tests/conformance/tools.md, and names each file there on which a tool crashed;
+- no line is left from a merge.
 """
 
 import glob
@@ -82,11 +82,12 @@ def wrong_paths(root, text):
 
 
 def wrong_scripts(root, page, scripts):
-    """The paths of scripts that the tables of a page lack, or have too many. A script without a directory is in that of the heading."""
+    """The paths of scripts that the rows of tables and items of lists of a page lack, or have too many. A script without a directory is
+    in that of the heading."""
     there, directory = set(), None
     for line in read(os.path.join(root, page)).splitlines():
         heading = re.match(r"#+ (?:`([^`]*)`)?", line)
-        row = re.match(r"\| `([^` ]*\.(?:sh|py))[ `]", line)
+        row = re.match(r"[|-] `([^` ]*\.(?:sh|py))[ `]", line)
         if heading:
             directory = heading[1]
         elif row and "/" in row[1]:
@@ -122,6 +123,17 @@ def wrong_checks(root, text):
                 yield f"no check {name}"
 
 
+def wrong_outcomes(page, tables):
+    """The totals of the tables of other tools that a page lacks, and the files with a crash that it does not name."""
+    totals, _, rows = tables.partition("<!-- table -->\n")[2].partition("\n\n")
+    if not rows or totals not in page:
+        yield "the totals are not those of tests/conformance/tools.md"
+    for line in rows.splitlines():
+        name = line.split(" | ")[0].strip("| ")
+        if "**crashed**" in line and name not in page:
+            yield f"{name} is not named"
+
+
 def lines_of_merges(text):
     for line in re.findall(r"^(?:<{7}|>{7})(?: .*)?$", text, re.M):
         yield f"this line is left from a merge: {line}"
@@ -139,8 +151,8 @@ def main(root):
         wrong += [f"{page}: {reason}" for reason in wrong_scripts(root, page, scripts)]
     wrong += [f"docs/PROOFS.md: {reason}" for reason in wrong_code(root, read(os.path.join(root, "docs/PROOFS.md")))]
     wrong += [f"docs/FORMATS.md: {reason}" for reason in wrong_checks(root, read(os.path.join(root, "docs/FORMATS.md")))]
-    lines = len(read(os.path.join(root, "README.md")).splitlines())
-    wrong += [f"README.md: {lines} lines"] if lines > 150 else []
+    page, tables = (read(os.path.join(root, path)) for path in ("docs/CONFORMANCE.md", "tests/conformance/tools.md"))
+    wrong += [f"docs/CONFORMANCE.md: {reason}" for reason in wrong_outcomes(page, tables)]
     print("\n".join(wrong + [f"{len(pages)} pages"]))
     return bool(wrong)
 

@@ -1,4 +1,4 @@
-"""Finds names and texts of a workspace that docs/WORDS.md does not want, and fails if one of them is not explained.
+"""Finds names and texts of a workspace that CONTRIBUTING.md does not want, and fails if one of them is not explained.
 
 words.py ROOT: ROOT/crates.txt names the crates, which are in ROOT/crates; ROOT/tests/fast/words.exceptions explains what may stay.
 It finds:

@@ -1,6 +1,6 @@
 #!/bin/sh
-# Reads the names of all definitions, lemmas and clauses, and the statements of all lemmas: one word for one thing, as docs/WORDS.md
-# has them. tests/fast/words.py says what is looked for; tests/fast/words.exceptions explains what may stay. Then breaks each rule in a
+# Reads the names of all definitions, lemmas and clauses, and the statements of all lemmas: one word for one thing, by the rules of CONTRIBUTING.md.
+# tests/fast/words.py says what is looked for; tests/fast/words.exceptions explains what may stay. Then breaks each rule in a
 # copy of the crates, and shows that this is found. The script needs no prover. It needs python3, and installs Debian's if it is missing
 # and the script runs as root.
 set -u

@@ -1,16 +1,16 @@
 #!/bin/sh
 # Tries the vectors of tests/conformance: over the program as both compilers build it, over the reference in python3, and over five
 # programs with one fault each, which have to fail. Both builds also do with changed files what the reference does. The calls that read
-# an image return the fault of each file, in the program tests/tools/read_image. The table in
-# docs/CONFORMANCE.md has to be the one that tests/conformance/tools prints; that is tried only with the versions of the tools that the
-# document names. The script needs python3 and Debian's u-boot-tools and device-tree-compiler, and installs them if one is missing and
+# an image return the fault of each file, in the program tests/tools/read_image. The tables in
+# tests/conformance/tools.md must be those that tests/conformance/tools prints; that is tried only with the versions of the tools
+# that the file names. The script needs python3 and Debian's u-boot-tools and device-tree-compiler, and installs them if one is missing and
 # it runs as root.
 set -u
 
 root=$(cd "$(dirname "$0")/../.." && pwd)
 . "$root/tests/kit"
 suite=$root/tests/conformance
-document=$root/docs/CONFORMANCE.md
+tables=$suite/tools.md
 
 need python3 python3
 need u-boot-tools mkimage dumpimage
@@ -76,15 +76,15 @@ check "a wrong offset is found" fails "legacy: part-" offset "legacy: part-1: li
 check "output beside a refusal is found" fails "kernel: " output "legacy: kernel: list --limit 72"
 check "a line that is left out is found" fails ": check" line "meanings: kernel-loose: check"
 
-# The table, and the versions that it was made with.
+# The tables, and the versions that they were made with.
 versions=$("$suite/tools" --versions)
-if ! grep -Fq "$versions" "$document"; then
-    echo "left out: the table of docs/CONFORMANCE.md, which is not of $versions"
+if ! grep -Fqx "$versions" "$tables"; then
+    echo "left out: the tables of tests/conformance/tools.md, which are not of $versions"
 elif ! setarch -R true; then
-    echo "left out: the table of docs/CONFORMANCE.md, since setarch -R does not run here"
+    echo "left out: the tables of tests/conformance/tools.md, since setarch -R does not run here"
 else
     "$suite/tools" > table
-    sed -n '/^<!-- table -->$/,/^<!-- end of table -->$/p' "$document" | sed '1d;$d' > stored
-    check "the table of docs/CONFORMANCE.md" diff stored table
+    sed '1,/^<!-- table -->$/d' "$tables" > stored
+    check "the tables of tests/conformance/tools.md" diff stored table
 fi
 finish

@@ -63,12 +63,13 @@ lint() {
 check "mandoc finds nothing wrong in the page" lint
 mandoc -Tascii "$page" | sed 's/.\x08//g' > text
 
-# The version is that of the page, of the newest changes, of the header for C, and of what is packed of it. The logic is that of the installed kit.
+# The version is that of the page, of the newest changes that are released, of the header for C, and of what is packed of it. The logic is that of the installed kit.
 "$root/bootimg" --version > version
 version=$(cut -d ' ' -f 2 version)
 logic=$(rt version | cut -d ' ' -f 2-)
 check "the program has the version of the page" grep -Fqx "This page is that of version $version." "$page"
-check "and of the newest changes" sh -c 'grep -m 1 "^## \[" "$0" | grep -Fq "## [$1] "' "$root/CHANGELOG.md" "$version"
+check "and of the newest changes" sh -c 'grep "^## \[" "$0" | grep -Fvx "## [Unreleased]" | head -n 1 | grep -Fq "## [$1] "' \
+    "$root/CHANGELOG.md" "$version"
 check "and of the header for C" grep -Fqx "#define BOOTIMG_VERSION \"$version\"" "$root/include/bootimg.h"
 check "and of its file for pkg-config" grep -Fqx "Version: $version" "$root/bootimg.pc.in"
 check "and of the module for Python" grep -Fqx "__version__ = \"$version\"" "$root/python/bootimg/__init__.py"
