@@ -1,8 +1,8 @@
 #!/bin/sh
 # Compares the manual page and the completions for bash, zsh and fish with the program: each command, each option and each value of an
-# option is in each of them, and nothing else; each cause of a refusal and each other line of a failure is in the page. The completions
-# have files for the commands that take one. The script needs Debian's mandoc, zsh and fish, and installs those that are missing if it
-# runs as root. Without zsh or fish it leaves out their completions.
+# option is in each of them, and nothing else; each command is in README.md; each cause of a refusal and each other line of a failure is
+# in the page. The completions have files for the commands that take one. The script needs Debian's mandoc, zsh and fish, and installs
+# those that are missing if it runs as root. Without zsh or fish it leaves out their completions.
 set -u
 
 root=$(cd "$(dirname "$0")/../.." && pwd)
@@ -83,6 +83,9 @@ awk '/^\.Ss Commands/ { on = 1 } /^\.Ss Options/ { on = 0 } on && /^\.It Cm/ { p
 check "the page has the commands of the program" same commands page.commands
 awk '/^\.Sh SYNOPSIS/ { on = 1 } /^\.Sh DESCRIPTION/ { on = 0 } on && /^\.Cm/ { print $2 }' "$page" > synopsis.commands
 check "the synopsis has them" same commands synopsis.commands
+grep -v '^help$' commands > wanted
+sed -n '/^| Command | Writes |$/,/^$/p' "$root/README.md" | sed 1,2d | cut -d '|' -f 2 | grep -oE '`[a-z][a-z-]*' | tr -d '`' > readme.commands
+check "README.md has them" same wanted readme.commands
 complete bootimg "" | grep -v '^-' > completed
 check "the completion has them" same commands completed
 complete bootimg "" | grep '^-' > completed
