@@ -6,7 +6,7 @@ use Rattle.bi_blob.specs.Tree.{IsNew}
 use Rattle.bi_fdt.specs.NameParts.{NamePart, AreOnce, AreAfterTails}
 use Rattle.bi_fdt.specs.NameTails.{AreBlocksNumbered, IsTail, IsHead, AreHeads, head_length}
 use Rattle.bi_fdt.specs.Numbers.{FindsNumber}
-use Rattle.bi_fdt.specs.OtherNames.{FindsBlocks, HasOtherNumber, AreOtherNumbers, FindsAfter, FindsTail, AreFoundAmong}
+use Rattle.bi_fdt.specs.OtherNames.{FindsBlocks, HasOtherNumber, AreOtherNumbers, FindsAfter, FindsTail, AreFoundAmong, AreOwnNumbers}
 use Rattle.bi_fdt.proofs.NameParts.{slice_get-pushed}
 use Rattle.bi_fdt.proofs.NameTails.{one_number, blocks_number_within}
 use Rattle.bi_fdt.proofs.NumberedNames.{known_name, new_name, heads_length}
@@ -124,3 +124,15 @@ names_found tails heads names other_tails other_heads others numbers found are o
         let tail = value_there numbers there.0.0 (omega (arith, within, kept.count)) in
         name_found other_tails other_heads others there.0.1 name tail.0 number other_are there.2.head
         (kept.each there.0.0 tail.0 tail.1 (length name / 64 - 1) name there.2.tail) (among.each index there.0 tail.0 number there.1 tail.1 at_number)
+
+-- Names are found among names of the same parts, each at its own index.
+pub same_names_found : (tails heads : List NamePart) (names others : List (List ℕ)) (found : List (Option ℕ)) → AreHeads tails heads names →
+    AreHeads tails heads others → AreOwnNumbers (length names) found → AllZip (FindsNumber others) names found
+same_names_found tails heads names others found are other_are own = each_place (FindsNumber others) names found own.count each
+  where
+    each : (index : ℕ) (name : List ℕ) (number : Option ℕ) → slice_get names index ≡ Some name → slice_get found index ≡ Some number →
+        FindsNumber others name number
+    each index name number at_name at_number =
+        let there = head_there tails heads names are.each index name at_name in
+        subst (FindsNumber others name) (sym (own.each index number at_number))
+        (known_name tails heads others there.0 name index other_are there.2 there.1)

@@ -1,12 +1,10 @@
 //! A table of the names of properties.
 
-ghost use Rattle.std.specs.Prelude.{◌≡◌, ◌+◌, ◌/◌, ◌<◌, [], IfOk, OnErr, Some, length, map, slice_get};
-ghost use Rattle.std.specs.Prelude.{take};
-ghost use Rattle.std.specs.List.{AllZip};
+ghost use Rattle.std.specs.Prelude.{◌≡◌, ◌+◌, ◌/◌, ◌<◌, [], IfOk, OnErr, Some, length, map};
+ghost use Rattle.std.specs.Prelude.{slice_get, take};
 ghost use Rattle.bi_fdt.specs.NameTables.{names_in_table, IsNameTable, HasMoreNames};
 ghost use Rattle.bi_fdt.specs.NameTables.{HasAtMostMore};
 ghost use Rattle.bi_fdt.specs.NameTails.{IsTail, AreBlockNumbers, head_length};
-ghost use Rattle.bi_fdt.specs.Numbers.{FindsNumber};
 ghost use Rattle.bi_fdt.specs.Strings.{AreEnds};
 
 use crate::name_parts::NameParts;
@@ -78,22 +76,6 @@ impl<'a> NameTable<'a> {
             self.names.push(name).unwrap();
         }
         Ok(number)
-    }
-
-    /// Returns for each name the number that it has in another table, if it is there. Each block
-    /// and each head is looked up once. Fails if memory runs out.
-    pub(crate) fn in_terms_of(
-        &self,
-        alloc: Global,
-        other: &NameTable<'a>,
-    ) -> Result<Vec<Option<usize>>, AllocError>
-        requires table { IsNameTable self.now }
-        requires other { IsNameTable other.now }
-        ensures { IfOk result (λ numbers. AllZip (FindsNumber (names_in_table other.now))
-            (names_in_table self.now) numbers.items) }
-    {
-        let tails = self.tails.tails_in(alloc, &other.tails)?;
-        self.heads.numbers_in(alloc, &other.heads, &tails)
     }
 }
 

@@ -5,7 +5,7 @@ use denote.Ref.{Bor}
 use Rattle.bi_fdt.specs.NameParts.{NamePart, AreOnce, AreAfterTails}
 use Rattle.bi_fdt.specs.OtherNames.{HasOtherNumber, FindsTail}
 use Rattle.bi_fdt.proofs.OtherNames.{others_more}
-use Rattle.bi_fdt.proofs.name_parts.NameParts.tails_in.Goals as goal
+use Rattle.bi_fdt.proofs.other_names.tails_among.Goals as goal
 
 -- The part of an item.
 abbrev part_of : ℕ × Bor (List ℕ) → NamePart
@@ -31,8 +31,8 @@ loop-tail-preserved c =
     let counted : length c.loop-tail.numbers.items ≡ c.loop-tail.tail-index + 1 = search rules in
     record {
       count = omega (arith, c.in_ok-push-2.ensures.len, c.loop-tail.invariant.count);
-      each = next c.deref-tail-items.result.now _ c.args.self.now c.args.others.now c.loop-tail.numbers.items c.deref.result.now c.push-in-loop-tail.new.self.items c.loop-tail.tail-index
-          c.option_at-later.result c.find_tail.result (ap (map part_of) c.deref-tail-items.ensures.value ∙ c.self.view_is) c.loop-tail-test.true
+      each = next c.deref-tail-items.result.now _ (parts_of_slices c.args.parts.now) c.args.others.now c.loop-tail.numbers.items c.deref.result.now c.push-in-loop-tail.new.self.items c.loop-tail.tail-index
+          c.option_at-later.result c.find_tail.result refl c.loop-tail-test.true
           c.requires.once c.requires.order counted c.loop-tail.invariant.each
           c.deref.ensures.value c.option_at-later.ensures c.find_tail.ensures c.in_ok-push-2.ensures.items;
     }
