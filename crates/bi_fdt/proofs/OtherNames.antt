@@ -8,7 +8,7 @@ use Rattle.bi_fdt.specs.NameTails.{AreBlocksNumbered, IsTail, IsHead, AreHeads, 
 use Rattle.bi_fdt.specs.Numbers.{FindsNumber}
 use Rattle.bi_fdt.specs.OtherNames.{FindsBlocks, HasOtherNumber, AreOtherNumbers, FindsAfter, FindsTail, AreFoundAmong, AreOwnNumbers}
 use Rattle.bi_fdt.proofs.NameParts.{slice_get-pushed}
-use Rattle.bi_fdt.proofs.NameTails.{one_number, blocks_number_within}
+use Rattle.bi_fdt.proofs.NameTails.{one_number, blocks_number_within, same_name_of_head}
 use Rattle.bi_fdt.proofs.NumberedNames.{known_name, new_name, heads_length}
 
 -- Names are found among others by their parts, the last blocks first.
@@ -125,14 +125,23 @@ names_found tails heads names other_tails other_heads others numbers found are o
         name_found other_tails other_heads others there.0.1 name tail.0 number other_are there.2.head
         (kept.each there.0.0 tail.0 tail.1 (length name / 64 - 1) name there.2.tail) (among.each index there.0 tail.0 number there.1 tail.1 at_number)
 
--- Names are found among names of the same parts, each at its own index.
-pub same_names_found : (tails heads : List NamePart) (names others : List (List ℕ)) (found : List (Option ℕ)) → AreHeads tails heads names →
-    AreHeads tails heads others → AreOwnNumbers (length names) found → AllZip (FindsNumber others) names found
-same_names_found tails heads names others found are other_are own = each_place (FindsNumber others) names found own.count each
+-- Names with the same parts are the same.
+pub same_names : (tails heads : List NamePart) (names others : List (List ℕ)) → AllZip (IsHead tails) heads names →
+    AllZip (IsHead tails) heads others → names ≡ others
+same_names tails [] [] [] are other_are = refl
+same_names tails [] [] (other ∷ others) are other_are = absurd other_are
+same_names tails [] (name ∷ names) others are other_are = absurd are
+same_names tails (head ∷ heads) [] others are other_are = absurd are
+same_names tails (head ∷ heads) (name ∷ names) [] are other_are = absurd other_are
+same_names tails (head ∷ heads) (name ∷ names) (other ∷ others) are other_are =
+    ap (λ first. first ∷ names) (same_name_of_head tails head name other are.0 other_are.0)
+    ∙ ap (λ later. other ∷ later) (same_names tails heads names others are.1 other_are.1)
+
+-- Names are found among themselves, each at its own index.
+pub own_names_found : (names : List (List ℕ)) (found : List (Option ℕ)) → AreOwnNumbers (length names) found →
+    AllZip (FindsNumber names) names found
+own_names_found names found own = each_place (FindsNumber names) names found own.count each
   where
     each : (index : ℕ) (name : List ℕ) (number : Option ℕ) → slice_get names index ≡ Some name → slice_get found index ≡ Some number →
-        FindsNumber others name number
-    each index name number at_name at_number =
-        let there = head_there tails heads names are.each index name at_name in
-        subst (FindsNumber others name) (sym (own.each index number at_number))
-        (known_name tails heads others there.0 name index other_are there.2 there.1)
+        FindsNumber names name number
+    each index name number at_name at_number = subst (FindsNumber names name) (sym (own.each index number at_number)) at_name

@@ -1,6 +1,6 @@
 //! The names of the properties of a blob that was read.
 
-ghost use Rattle.std.specs.Prelude.{◌≡◌, IfOk};
+ghost use Rattle.std.specs.Prelude.{◌≡◌, IfOk, true};
 ghost use Rattle.std.specs.List.{AllZip};
 ghost use Rattle.bi_base.specs.Slices.{bytes_of};
 ghost use Rattle.bi_blob.specs.Tree.{AreDistinct};
@@ -74,9 +74,9 @@ impl<'a> KeptNames<'a> {
         None
     }
 
-    /// Returns for each name the number that it has among others, if it is there. Each block and
-    /// each head is looked up once, or not at all if the others are the same names in the same
-    /// order, which is usual in two builds of one image. Fails if memory runs out.
+    /// Returns for each name the number that it has among others, if it is there. If the others
+    /// are the same names in the same order, as in most builds of one image, none is looked up.
+    /// Fails if memory runs out.
     pub(crate) fn in_terms_of(
         &self,
         alloc: Global,
@@ -85,10 +85,32 @@ impl<'a> KeptNames<'a> {
         ensures { IfOk result (λ numbers.
             AllZip (FindsNumber other.now) self.now numbers.items) }
     {
-        if are_same_parts(&self.tails, &other.tails) && are_same_parts(&self.heads, &other.heads) {
+        if self.has_same_parts(other) {
             return own_numbers(alloc, self.names.len());
         }
-        let tails = tails_among(alloc, &self.tails, &NameParts::of_parts(alloc, &other.tails)?)?;
-        parts_among(alloc, &self.heads, &NameParts::of_parts(alloc, &other.heads)?, &tails)
+        self.look_up_in(alloc, other)
+    }
+
+    /// Whether the parts of both are the same, so that the names are.
+    fn has_same_parts(&self, other: &KeptNames<'a>) -> bool
+        ensures { result ≡ true → self.now ≡ other.now }
+    {
+        are_same_parts(&self.tails, &other.tails) && are_same_parts(&self.heads, &other.heads)
+    }
+
+    /// Returns for each name the number that it has among others, if it is there. Each block and
+    /// each head is looked up once. Fails if memory runs out.
+    fn look_up_in(
+        &self,
+        alloc: Global,
+        other: &KeptNames<'a>,
+    ) -> Result<Vec<Option<usize>>, AllocError>
+        ensures { IfOk result (λ numbers.
+            AllZip (FindsNumber other.now) self.now numbers.items) }
+    {
+        let other_tails = NameParts::of_parts(alloc, &other.tails)?;
+        let tails = tails_among(alloc, &self.tails, &other_tails)?;
+        let other_heads = NameParts::of_parts(alloc, &other.heads)?;
+        parts_among(alloc, &self.heads, &other_heads, &tails)
     }
 }

@@ -58,7 +58,11 @@ fn option_at(values: &[Option<usize>], index: usize) -> Option<usize>
 pub(crate) fn own_numbers(alloc: Global, count: usize) -> Result<Vec<Option<usize>>, AllocError>
     ensures { IfOk result (λ numbers. AreOwnNumbers count numbers.items) }
 {
-    (0..count).map(Some).collect(alloc)
+    let mut numbers = Vec::with_capacity(alloc, count)?;
+    for number in 0..count {
+        numbers.push(Some(number))?;
+    }
+    Ok(numbers)
 }
 
 /// Whether two lists have the same parts in the same order.
