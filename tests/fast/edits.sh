@@ -1,6 +1,6 @@
 #!/bin/sh
 # Checks that each piece of wrong code can be made in the sources: each text of an edit is in its file once, and the sources have the
-# function that it names. Nothing is proved. The tables in tests/prover/wrong_bodies/README.md have the pieces of their crates, and no
+# function that it names. Nothing is proved. The tables in tests/prover/README.md have the pieces of their crates, and no
 # others. Then changes a source and a table in a copy, and shows that this is found. The script needs python3, and installs Debian's
 # if it is missing and the script runs as root.
 set -u
@@ -10,14 +10,14 @@ root=$(cd "$(dirname "$0")/../.." && pwd)
 
 need python3 python3
 work_in_new_directory
-copy_here 'crates/*/src' 'crates/*/must-fail' tests/prover/wrong_bodies
+copy_here 'crates/*/src' 'crates/*/must-fail' tests/prover/wrong_bodies tests/prover/README.md
 
 # can_be_made CRATE EDITS: each edit in this file or directory can be made in this crate of the copy.
 can_be_made() {
     python3 -B "$root/tests/prover/wrong_bodies.py" "copy/crates/$1" "$2"
 }
 
-shown=copy/tests/prover/wrong_bodies/README.md
+shown=copy/tests/prover/README.md
 
 # is_in_table CRATE: the table of this crate has its pieces of wrong code, in the order of their file, and no others.
 is_in_table() {
@@ -26,7 +26,7 @@ is_in_table() {
     diff pieces rows
 }
 
-for edits in copy/tests/prover/wrong_bodies/*.edits; do
+for edits in copy/tests/prover/wrong_bodies/*; do
     crate=$(basename "$edits" .edits)
     check "each wrong body of $crate can be made" can_be_made "$crate" "$edits"
     ! grep -q "^## \`$crate\`" "$shown" || check "each wrong body of $crate is in its table" is_in_table "$crate"

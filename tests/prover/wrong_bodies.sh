@@ -78,7 +78,7 @@ if [ -n "$log_of_ci" ]; then
 elif [ $# = 0 ]; then
     # The crates that take longest are the first.
     export longest=bootimg
-    printf '%s\n' $longest bi_commands bi_norm bi_fit bi_legacy bi_base $(basename -s .edits "$here"/wrong_bodies/*.edits) | awk '!seen[$0]++' |
+    printf '%s\n' $longest bi_commands bi_norm bi_fit bi_legacy bi_base $(basename -s .edits "$here"/wrong_bodies/*) | awk '!seen[$0]++' |
         grep -vxFf "${tried_before:-/dev/null}" | xargs -n 1 -P "$(nproc)" sh -c "$try" sh "$root"
 else
     printf '%s\n' "$@" | xargs -n 1 -P "$(nproc)" sh -c "$try" sh "$root"
