@@ -10,8 +10,7 @@ use crate::fault::Error;
 use crate::sinks::Sink;
 
 /// Returns the number in the cell at offset `at`, which is four bytes, the highest first
-/// (Devicetree Specification, 2.2.4.2: u32). Returns None exactly if the bytes end before the cell
-/// does.
+/// (Devicetree Specification, 2.2.4.2: u32). Returns None if the bytes end before the cell does.
 pub fn be32_at(bytes: &[u8], at: usize) -> Option<u32>
     ensures within { IsSome result ↔ (at + 4 ≤ length bytes.now) }
     ensures value { IfSome result (λ number. number ≡ u32_at bytes.now at) }
@@ -31,8 +30,7 @@ pub fn up4(n: usize) -> usize
 }
 
 /// Returns the number in the two cells at offset `at`, which are eight bytes, the highest first
-/// (Devicetree Specification, 2.2.4.2: u64). Returns None exactly if the bytes end before the two
-/// cells do.
+/// (Devicetree Specification, 2.2.4.2: u64). Returns None if the bytes end before the two cells do.
 #[tactic(auto, unfolding(crate::specs::Cells::u64_at))]
 pub fn be64_at(bytes: &[u8], at: usize) -> Option<u64>
     ensures within { IsSome result ↔ (at + 8 ≤ length bytes.now) }

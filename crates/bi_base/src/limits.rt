@@ -25,8 +25,8 @@ impl Model for Limits {
 }
 
 impl Limits {
-    /// Returns the limits with these bounds. Returns None exactly if `file` is not 64 to
-    /// 0x7fffffff, or `depth` is not 1 to 64.
+    /// Returns the limits with these bounds. Returns None if `file` is not 64 to 0x7fffffff, or
+    /// `depth` is not 1 to 64.
     pub fn new(file: u32, depth: u8) -> Option<Limits>
         ensures in_range { IsSome result ↔ IsInRange file depth }
         ensures value { IfSome result (λ limits. limits ≡ record { file = file; depth = depth }) }

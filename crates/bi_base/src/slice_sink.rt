@@ -37,7 +37,7 @@ impl<'a> Sink for SliceSink<'a> {
     ghost fails = { SliceFails };
 
     /// Writes these bytes after those that were written. The only error is `WriteFailed`, which
-    /// comes exactly if the slice has no room for them, and nothing was written then.
+    /// comes if the slice has no room for them, and nothing was written then.
     fn put(&mut self, bytes: &[u8]) -> Result<(), Error>
         ensures wrote { Wrote ⟦<SliceSink<'a> as Sink>⟧.appends ⟦<SliceSink<'a> as Sink>⟧.fails
             self.old bytes.now result self.new }

@@ -15,13 +15,13 @@ use Rattle.std.proofs.lemmas.Map.Text.{is_eq-slice_cmp}
 use Rattle.bi_blob.specs.Tree.{IsNew}
 use Rattle.bi_blob.specs.NameSets.{HoldsNames}
 
--- A set of names holds a name exactly if it was inserted, and inserting one keeps the others.
+-- A set of names holds a name if and only if it was inserted, and inserting one keeps the others.
 
 -- The order of names.
 abbrev pub name_cmp : Bor (List ℕ) → Bor (List ℕ) → Ordering
 name_cmp x y = slice_cmp nat_cmp x.now y.now
 
--- Names in an order that compares something of them first, and then their bytes, are equal exactly if the bytes are.
+-- Names in an order that compares something of them first, and then their bytes, are equal if and only if the bytes are.
 pub is_eq-before : (before : List ℕ → List ℕ → Ordering) → ((name : List ℕ) → before name name ≡ Equal) → (m n : List ℕ) →
     is_eq (ordering_then (before m n) (slice_cmp nat_cmp m n)) ≡ bytes_eq m n
 is_eq-before before itself m n = by_order (slice_cmp nat_cmp m n) refl ∙ is_eq-slice_cmp m n where

@@ -240,8 +240,8 @@ ContentMayBeOrdered =
     → IsContent cpu reservations root
     → MayBeOrdered cpu reservations root
 
--- Normal texts, one of which is not too long, are the same exactly if their boot processors, memory
--- reservations and trees are, with the properties of each node by name.
+-- Normal texts, one of which is not too long, are the same if and only if their boot processors,
+-- memory reservations and trees are, with the properties of each node by name.
 abbrev pub NormalTextTellsContent : Type 0
 NormalTextTellsContent =
     (cpu other_cpu : ℕ) (reservations other_reservations : List Reservation)
@@ -256,8 +256,8 @@ NormalTextTellsContent =
     (tree_without_order other_root)
 
 -- Two normal texts, neither of which is too long, are each followed by other bytes. The files are
--- the same exactly if the boot processors, the memory reservations, the trees, with the properties
--- of each node by name, and the bytes after the texts are.
+-- the same if and only if the boot processors, the memory reservations, the trees, with the
+-- properties of each node by name, and the bytes after the texts are.
 abbrev pub NormalTextWithRestTellsContent : Type 0
 NormalTextWithRestTellsContent =
     (cpu other_cpu : ℕ) (reservations other_reservations : List Reservation)
@@ -278,8 +278,8 @@ pub record HasOneNormalTree (events : List Event) : Type 0 where
   pub tree : HasOneTree most_open_nodes events
   pub is_normal : IsNormal tree.root
 
--- Events are those of one normal tree that a blob can hold exactly if each may follow those before
--- it in a normal text and the last ends the root.
+-- Events are those of one normal tree that a blob can hold if and only if each may follow those
+-- before it in a normal text and the last ends the root.
 abbrev pub NormalEventsHaveOneTree : Type 0
 NormalEventsHaveOneTree =
     (events : List Event) → AreClosedEvents MayFollowInText events ↔ HasOneNormalTree events

@@ -36,7 +36,7 @@ pub fn a_file_is_a_blob_or_has_a_fault()
     ensures { BlobOrFault }
 {}
 
-/// A file of bytes is a blob within limits exactly if it has no fault under them.
+/// A file of bytes is a blob within limits if and only if it has no fault under them.
 pub fn a_file_is_a_blob_where_it_has_no_fault()
     ensures { BlobWhereNoFault }
 {}
@@ -47,7 +47,7 @@ pub fn passed_tokens_are_encoded()
     ensures { PassedWhereEncoded }
 {}
 
-/// Events are those of a tree that a blob can hold, within a limit on depth, exactly if each of
+/// Events are those of a tree that a blob can hold, within a limit on depth, if and only if each of
 /// them may follow those before it and the last ends the root. They are then those of no other tree
 /// (Devicetree Specification, 5.4.2).
 pub fn closed_events_have_one_tree()

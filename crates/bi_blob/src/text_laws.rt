@@ -105,19 +105,19 @@ pub fn content_may_be_ordered()
     ensures { ContentMayBeOrdered }
 {}
 
-/// Two normal texts, one of which has at most 0x7fffffff bytes, are the same exactly if they are of
-/// one boot processor, the same memory reservations and one tree, with nodes in order and
+/// Two normal texts, one of which has at most 0x7fffffff bytes, are the same if and only if they
+/// are of one boot processor, the same memory reservations and one tree, with nodes in order and
 /// properties by name. Two files that each begin with a normal text of at most 0x7fffffff bytes are
-/// equal exactly if this holds of the texts and the bytes after the texts are equal.
+/// equal if and only if this holds of the texts and the bytes after the texts are equal.
 pub fn normal_text_tells_content()
     ensures text { NormalTextTellsContent }
     ensures rest { NormalTextWithRestTellsContent }
 {}
 
 /// Events are those of a tree that a blob can hold, of depth 64 at most and with the properties of
-/// each node in byte order of their names, exactly if each of them may follow those before it in a
-/// normal text and the last ends the root. They are then those of no other tree (profile of this
-/// project; Devicetree Specification, 5.4.2).
+/// each node in byte order of their names, if and only if each of them may follow those before it
+/// in a normal text and the last ends the root. They are then those of no other tree (profile of
+/// this project; Devicetree Specification, 5.4.2).
 pub fn normal_events_have_one_tree()
     ensures { NormalEventsHaveOneTree }
 {}

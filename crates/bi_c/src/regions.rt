@@ -67,7 +67,7 @@ fn find_part(image: &Legacy<'_>, select: Select) -> Result<Region, ExtractError>
 }
 
 /// Returns where the part of this index is in the file that the image was read from. Returns None
-/// exactly if there is no such part.
+/// if there is no such part.
 fn part_at(image: &Legacy<'_>, index: usize) -> Option<Region>
     ensures found { (limits : Limits) (file : List ℕ) → IsReadLegacy limits file image.now →
         IfSome result (λ region. IsChosenAt file
@@ -121,7 +121,7 @@ fn find_by_name(fit: &Fit<'_>, name: &[u8]) -> Result<Region, ExtractError>
 }
 
 /// Returns where the payload of image `index` of a flattened image tree that was read is. Returns
-/// None exactly if there is no such image, or it has no payload.
+/// None if there is no such image, or it has no payload.
 fn payload_at(fit: &Fit<'_>, index: usize) -> Option<Region>
     requires placed { ArePlaced fit.now }
     ensures found { let payload = option_and_then (λ image. image.payload)
@@ -141,7 +141,7 @@ fn payload_at(fit: &Fit<'_>, index: usize) -> Option<Region>
     })
 }
 
-/// Returns the offset of a place. Returns None exactly if there is no payload.
+/// Returns the offset of a place. Returns None if there is no payload.
 fn offset_of(place: Place) -> Option<u32>
     ensures { result ≡ offset_of_place place }
 {

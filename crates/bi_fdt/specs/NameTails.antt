@@ -7,7 +7,7 @@ use Rattle.bi_fdt.specs.NameParts.{NamePart, AreOnce, AreAfterTails}
 
 -- Heads and tails of names. The tail of a name is all blocks of 64 bytes that the name ends with
 -- but the first, and its head is the bytes before them, less than 128. A tail is a list of parts
--- that have a block each, so that the numbers of two tails are equal exactly if the tails are.
+-- that have a block each, so that the numbers of two tails are equal if and only if the tails are.
 
 -- The last blocks of a name have this number: 0 if they are none, and else 1 more than the number
 -- of the part that has the first of them.

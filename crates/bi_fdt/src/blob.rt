@@ -75,8 +75,8 @@ impl<'a> Blob<'a> {
     /// Reads a blob of version 16 or 17, or of a later version that is compatible with 17. The file
     /// may be longer than the blob.
     ///
-    /// Succeeds exactly if the file is a blob within the limits, unless memory runs out. Otherwise
-    /// it fails with the fault of the first check that fails:
+    /// Succeeds if the file is a blob within the limits, unless memory runs out. Otherwise it fails
+    /// with the fault of the first check that fails:
     ///
     /// - in the header: TooLarge at the limit; Truncated at 0, if the file has fewer than four
     ///   bytes; BadMagic at 0; Truncated at 0, if the file ends before the header does; BadVersion
@@ -135,7 +135,7 @@ impl<'a> Blob<'a> {
     }
 
     /// Returns the address and the size of memory reservation `index`, counted from 0. Returns None
-    /// exactly if there is no such reservation.
+    /// if there is no such reservation.
     pub fn reservation(&self, index: usize) -> Option<(u64, u64)>
         ensures { result ≡ slice_get (map
             (λ reservation. (reservation.address, reservation.size)) self.now.reservations) index }

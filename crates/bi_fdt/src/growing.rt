@@ -102,8 +102,8 @@ impl<'a> Growing<'a> {
     }
 
     /// Begins a child of the innermost open node, at `place`. Requires that fewer than 64 nodes are
-    /// open. Fails with DuplicateNode if a child has the name already. After an error the tree is of
-    /// no use.
+    /// open. Fails with DuplicateNode if a child has the name already. After an error the tree is
+    /// of no use.
     pub(crate) fn begin_node(
         &mut self,
         alloc: Global,

@@ -29,8 +29,8 @@ pub(crate) struct NameTable<'a> {
 }
 
 impl<'a> NameTable<'a> {
-    /// Returns a table without names, which serves well for a strings block of this length. Fails if
-    /// memory runs out.
+    /// Returns a table without names, which serves well for a strings block of this length. Fails
+    /// if memory runs out.
     pub(crate) fn new(alloc: Global, length: usize) -> Result<NameTable<'a>, AllocError>
         ensures names { IfOk result (λ table. names_in_table table ≡ []) }
         ensures is_table { IfOk result IsNameTable }

@@ -135,7 +135,7 @@ impl<'a, 'b> NodeRef<'a, 'b> {
     }
 
     /// Returns the name and value of property `index`, counted from 0, in the order of the file.
-    /// Returns None exactly if there is no such property. Takes constant time.
+    /// Returns None if there is no such property. Takes constant time.
     pub fn property_at(self, index: usize) -> Option<(&'a [u8], &'a [u8])>
         ensures { option_map (λ property. (property.0.now, property.1.now)) result
             ≡ slice_get (properties_of (node_of self.entry).own) index }
@@ -154,8 +154,8 @@ impl<'a, 'b> NodeRef<'a, 'b> {
         }
     }
 
-    /// Returns the value of the property of this name. Returns None exactly if there is no such
-    /// property. Takes time linear in the number of properties before it.
+    /// Returns the value of the property of this name. Returns None if there is no such property.
+    /// Takes time linear in the number of properties before it.
     pub fn property(self, name: &[u8]) -> Option<&'a [u8]>
         ensures { option_map (λ value. value.now) result
             ≡ value_named (properties_of (node_of self.entry).own) name.now }
@@ -163,9 +163,8 @@ impl<'a, 'b> NodeRef<'a, 'b> {
         Some(self.find_property(name)?.value)
     }
 
-    /// Returns the offset in the file of the token of the property of this name. Returns None
-    /// exactly if there is no such property. Takes time linear in the number of properties before
-    /// it.
+    /// Returns the offset in the file of the token of the property of this name. Returns None if
+    /// there is no such property. Takes time linear in the number of properties before it.
     pub fn property_place(self, name: &[u8]) -> Option<u32>
         ensures { result ≡ option_map
             (λ property. property.place)
@@ -174,8 +173,8 @@ impl<'a, 'b> NodeRef<'a, 'b> {
         Some(self.find_property(name)?.place)
     }
 
-    /// Returns the property of this name. Returns None exactly if there is no such property. Takes
-    /// time linear in the number of properties before it.
+    /// Returns the property of this name. Returns None if there is no such property. Takes time
+    /// linear in the number of properties before it.
     pub fn find_property(self, name: &[u8]) -> Option<Property<'a>>
         ensures { option_map file_property_of result
             ≡ property_named (node_of self.entry).own.properties name.now }
@@ -188,7 +187,7 @@ impl<'a, 'b> NodeRef<'a, 'b> {
         None
     }
 
-    /// Returns the first child. Returns None exactly if the node has no child.
+    /// Returns the first child. Returns None if the node has no child.
     pub fn first_child(self) -> Option<NodeRef<'a, 'b>>
         ensures child { option_map node_of result ≡ node_at (node_of self.entry).children 0 }
         ensures same_table { IfSome result
@@ -243,8 +242,8 @@ impl<'a, 'b> NodeRef<'a, 'b> {
         count
     }
 
-    /// Returns child `index`, counted from 0, in the order of the file. Returns None exactly if
-    /// there is no such child. Takes time linear in the number of children before it.
+    /// Returns child `index`, counted from 0, in the order of the file. Returns None if there is no
+    /// such child. Takes time linear in the number of children before it.
     pub fn child_at(self, index: usize) -> Option<NodeRef<'a, 'b>>
         ensures { option_map node_of result ≡ node_at (node_of self.entry).children index }
     {
@@ -255,8 +254,8 @@ impl<'a, 'b> NodeRef<'a, 'b> {
         Some(child)
     }
 
-    /// Returns the child of this name. Returns None exactly if there is no such child. Takes time
-    /// linear in the number of children before it.
+    /// Returns the child of this name. Returns None if there is no such child. Takes time linear in
+    /// the number of children before it.
     pub fn child(self, name: &[u8]) -> Option<NodeRef<'a, 'b>>
         ensures child { option_map node_of result
             ≡ node_named (node_of self.entry).children name.now }
@@ -268,8 +267,8 @@ impl<'a, 'b> NodeRef<'a, 'b> {
     }
 
     /// Returns the position of the child of this name among the children, counted from 0, and the
-    /// child. Returns None exactly if there is no such child. Takes time linear in the number of
-    /// children before it.
+    /// child. Returns None if there is no such child. Takes time linear in the number of children
+    /// before it.
     pub fn find_child(self, name: &[u8]) -> Option<(usize, NodeRef<'a, 'b>)>
         ensures child { option_map (λ found. node_of found.1) result
             ≡ node_named (node_of self.entry).children name.now }

@@ -41,7 +41,7 @@ impl<'a> PartNumbers<'a> {
     }
 
     /// Returns the number of the part that has these bytes, and whose tail has the number `tail`.
-    /// Returns None exactly if it has none.
+    /// Returns None if it has none.
     pub(crate) fn get(&self, tail: usize, bytes: &'a [u8]) -> Option<usize>
         requires { 0 < bucket_count self.now }
         ensures { result ≡ number_in self.now (tail, bytes.entry) }

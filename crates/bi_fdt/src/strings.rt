@@ -43,7 +43,7 @@ impl<'a> Strings<'a> {
         Ok(Strings { bytes, ends })
     }
 
-    /// Returns the name at offset `at`. Returns None exactly if no zero byte ends it.
+    /// Returns the name at offset `at`. Returns None if no zero byte ends it.
     pub(crate) fn name_at(&self, at: usize) -> Option<&'a [u8]>
         ensures some { IsSome result ↔ HasName self.now at (length self.now) }
         ensures value { IfSome result (λ name. name.now ≡ name_from self.now at) }

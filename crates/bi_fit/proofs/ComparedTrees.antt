@@ -13,9 +13,9 @@ use Rattle.bi_fit.specs.ComparedNodes.{compared_nodes, compared_tree, AreSameBlo
 use Rattle.bi_fit.proofs.NodeEvents.{nodes_from}
 use Rattle.bi_fit.proofs.NormalTrees.{other_name, held_nodes}
 
--- Image trees are equal exactly if what is compared of them is.
+-- Image trees are equal if and only if what is compared of them is.
 
--- After two nodes that are equal, the later ones are equal exactly if all are.
+-- After two nodes that are equal, the later ones are equal if and only if all are.
 pub same_later : (role : Role) (one other : Sibling FileNode) → compared_nodes role (alone one) ≡ compared_nodes role (alone other) →
     (compared_nodes role one.later ≡ compared_nodes role other.later)
     ↔ (compared_nodes role (nodes_from (Some one)) ≡ compared_nodes role (nodes_from (Some other)))

@@ -65,8 +65,8 @@ pub struct NamedImage<'a> {
 ///
 /// Takes time linear in the length of the text and in the number of images.
 ///
-/// Errors: TooLarge at `limits.file()`, exactly if the text is longer than that, unless memory runs
-/// out; OutOfMemory; those of the sink. After any other error than those of the sink, the sink is
+/// Errors: TooLarge at `limits.file()`, if the text is longer than that, unless memory runs out;
+/// OutOfMemory; those of the sink. After any other error than those of the sink, the sink is
 /// unchanged. After an error of the sink, it is as a failed `put` of the text leaves it. All
 /// allocations but those of the sink are made before the first byte is appended.
 pub fn append_built<S: Sink>(

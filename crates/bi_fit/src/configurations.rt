@@ -169,8 +169,8 @@ impl<'a> Fit<'a> {
         }
     }
 
-    /// Returns the name of configuration `index`, counted from 0. Returns None exactly if there is
-    /// no such configuration. Takes time linear in the number of configurations before it.
+    /// Returns the name of configuration `index`, counted from 0. Returns None if there is no such
+    /// configuration. Takes time linear in the number of configurations before it.
     pub fn config_name(&self, index: usize) -> Option<&'a [u8]>
         ensures { option_map (λ name. name.now) result
             ≡ slice_get (names (configuration_nodes (tree_of self.now))) index }
@@ -179,8 +179,8 @@ impl<'a> Fit<'a> {
     }
 
     /// Returns the name of the default configuration: the bytes of the property `default` of
-    /// `/configurations` before its first zero. Returns None exactly if there is no such node or
-    /// property, or no zero in it. No configuration need have this name.
+    /// `/configurations` before its first zero. Returns None if there is no such node or property,
+    /// or no zero in it. No configuration need have this name.
     pub fn default_config(&self) -> Option<&'a [u8]>
         ensures { option_map (λ name. name.now) result ≡ default_of (tree_of self.now) }
     {

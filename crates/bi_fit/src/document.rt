@@ -56,9 +56,9 @@ impl<'a> Fit<'a> {
     /// byte order once, which takes m log m comparisons for m names; names of 64 bytes or more are
     /// compared only if they are together no longer than `limits.file()`.
     ///
-    /// Errors: TooLarge at `limits.file()`, exactly if the text is longer than that, unless memory
-    /// runs out; OutOfMemory, which never comes if the payloads after the blob are longer than that
-    /// by themselves.
+    /// Errors: TooLarge at `limits.file()`, if the text is longer than that, unless memory runs
+    /// out; OutOfMemory, which never comes if the payloads after the blob are longer than that by
+    /// themselves.
     pub fn text<'b>(
         &'b self,
         alloc: Global,

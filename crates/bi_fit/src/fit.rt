@@ -48,8 +48,8 @@ impl<'a> Model for Fit<'a> {
 impl<'a> Fit<'a> {
     /// Reads a flattened image tree. The file may be longer than its blob.
     ///
-    /// Succeeds exactly if the file is a flattened image tree within the limits, unless memory runs
-    /// out. Otherwise it fails with the fault of the first check that fails: those of `Blob::read`;
+    /// Succeeds if the file is a flattened image tree within the limits, unless memory runs out.
+    /// Otherwise it fails with the fault of the first check that fails: those of `Blob::read`;
     /// NoImages at the token of the root, if it has no child `images`; then for each image node in
     /// order that has `data-position` or else `data-offset`: BadCell at that property, if its value
     /// is not four bytes; NoSize there, if there is no `data-size`; BadCell at `data-size`, if its
@@ -118,8 +118,7 @@ impl<'a> Fit<'a> {
         self.images.len()
     }
 
-    /// Returns the name of image `index`, counted from 0. Returns None exactly if there is no such
-    /// image.
+    /// Returns the name of image `index`, counted from 0. Returns None if there is no such image.
     pub fn image_name(&self, index: usize) -> Option<&'a [u8]>
         ensures { option_map (λ name. name.now) result
             ≡ option_map (λ image. image.name) (slice_get self.now.images index) }
@@ -127,15 +126,15 @@ impl<'a> Fit<'a> {
         Some(self.images.get(index)?.name)
     }
 
-    /// Returns the index of the image of this name. Returns None exactly if there is no such image.
+    /// Returns the index of the image of this name. Returns None if there is no such image.
     pub fn image(&self, name: &[u8]) -> Option<usize>
         ensures { result ≡ index_of name.now self.now.images }
     {
         self.indices.get(name).copied()
     }
 
-    /// Returns the payload of image `index`, counted from 0. Returns None exactly if there is no
-    /// such image, or it has no payload.
+    /// Returns the payload of image `index`, counted from 0. Returns None if there is no such
+    /// image, or it has no payload.
     pub fn payload(&self, index: usize) -> Option<&'a [u8]>
         ensures { option_map (λ payload. payload.now) result
             ≡ option_and_then (λ image. image.payload) (slice_get self.now.images index) }
@@ -144,7 +143,7 @@ impl<'a> Fit<'a> {
     }
 
     /// Returns where the payload of image `index`, counted from 0, is in the file. Returns
-    /// `Place::Absent` exactly if there is no such image, or it has no payload.
+    /// `Place::Absent` if there is no such image, or it has no payload.
     pub fn place(&self, index: usize) -> Place
         ensures { result ≡ place_or_absent (slice_get self.now.images index) }
     {

@@ -60,8 +60,8 @@ fn find_images<'a>(
 }
 
 /// Returns the first name that the value of a key lists, and the bytes after the zero that ends the
-/// name: they list the later names, and are fewer than those of the value. Returns None exactly if
-/// the value has no zero, so that it lists no name.
+/// name: they list the later names, and are fewer than those of the value. Returns None if the
+/// value has no zero, so that it lists no name.
 pub fn split_name(value: &[u8]) -> Option<(&[u8], &[u8])>
     ensures { MatchOption result
         (listed_names value.now ≡ [])

@@ -13,7 +13,7 @@ const LEAST_LENGTH: usize = 64;
 /// Checks that the long ones of these names are together no longer than a limit. It reads no byte
 /// of a name, and takes time linear in the number of names.
 ///
-/// Error: TooLarge at the limit, exactly if they are longer.
+/// Error: TooLarge at the limit, if they are longer.
 pub(crate) fn check_long_names(names: &[&[u8]], limit: u32) -> Result<(), Fault>
     ensures ok { let long = flat_map name_if_long (bytes_of names.now) in
         OnOk result (length long ≤ limit) }

@@ -62,8 +62,8 @@ fn append_digests(
     Ok(())
 }
 
-/// Returns the algorithm of a child of an image node. Returns None exactly if it is no hash node,
-/// or names no known algorithm.
+/// Returns the algorithm of a child of an image node. Returns None if it is no hash node, or names
+/// no known algorithm.
 pub(crate) fn hash_algo(node: NodeRef<'_, '_>) -> Option<Algo>
     ensures { result ≡ hash_algorithm
         (node_of node.entry).name

@@ -57,7 +57,7 @@ impl<'a> Fit<'a> {
         Siblings::children(self.images_node())
     }
 
-    /// Returns the node `/configurations`. Returns None exactly if there is no such node.
+    /// Returns the node `/configurations`. Returns None if there is no such node.
     pub(crate) fn configurations_node<'b>(&'b self) -> Option<NodeRef<'a, 'b>>
         ensures { option_map node_of result
             ≡ node_named (root_of self.now.blob).children configurations_name }
@@ -75,7 +75,7 @@ impl<'a> Fit<'a> {
         }
     }
 
-    /// Returns the configuration node of this name. Returns None exactly if there is no such node.
+    /// Returns the configuration node of this name. Returns None if there is no such node.
     pub(crate) fn configuration_node<'b>(&'b self, name: &[u8]) -> Option<NodeRef<'a, 'b>>
         ensures { option_map node_of result
             ≡ node_named (file_configurations self.now.blob) name.now }

@@ -52,7 +52,7 @@ impl PayloadArea {
 }
 
 /// Returns how many bytes follow the blob: the payloads of these images in the form External, none
-/// in the form Embedded. Fails with TooLarge at the limit, exactly if they are more than that.
+/// in the form Embedded. Fails with TooLarge at the limit, if they are more than that.
 pub(crate) fn length_after_blob(images: &[Image<'_>], form: Form, limit: u32) -> Result<u32, Fault>
     ensures length { IfOk result (λ length.
         length ≡ length_after_blob_of form (payloads_of images.now)) }
@@ -66,8 +66,7 @@ pub(crate) fn length_after_blob(images: &[Image<'_>], form: Form, limit: u32) ->
     }
 }
 
-/// Returns where the payloads of images end. Fails with TooLarge at the limit, exactly if that is
-/// after it.
+/// Returns where the payloads of images end. Fails with TooLarge at the limit, if that is after it.
 fn payloads_end(images: &[Image<'_>], limit: u32) -> Result<u32, Fault>
     ensures end { IfOk result (λ end. end ≡ payloads_end_of 0 (payloads_of images.now)) }
     ensures within { IfOk result (λ end. end ≤ limit) }

@@ -43,7 +43,7 @@ impl<'a> FitText<'a> {
     /// Lays out a document and, in the form External, the payloads of these images after it, which
     /// take `after` bytes. Takes time linear in the number of the document's events.
     ///
-    /// Error: TooLarge at the limit, exactly if the text is longer than that.
+    /// Error: TooLarge at the limit, if the text is longer than that.
     pub(crate) fn new(
         document: Doc<'a>,
         form: Form,

@@ -6,7 +6,7 @@ use Rattle.bi_lay.specs.declared.siblings.Scan.{Scan}
 -- What a search for a child of some name has found so far.
 
 -- Of these open nodes, the innermost first, the one with this depth, if there is one, has no child
--- of the name exactly if the flag is true.
+-- of the name if and only if the flag is true.
 abbrev pub KnowsChildren : List ℕ → ℕ → Bool → List OpenNode → Type 0
 KnowsChildren name depth is_new [] = Unit {0}
 KnowsChildren name depth is_new (node ∷ outer) =

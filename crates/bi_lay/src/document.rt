@@ -22,8 +22,8 @@ const MAX_DEPTH: usize = 64;
 /// a tree, which come in the order of the structure block (Devicetree Specification, 5.4.2). Names
 /// and values are borrowed and not copied.
 ///
-/// Each call but `with_names`, `may_begin`, `property_numbered` and `close` takes time linear in the
-/// length of its name, if it has one, apart from allocations. `property` looks its name up in a
+/// Each call but `with_names`, `may_begin`, `property_numbered` and `close` takes time linear in
+/// the length of its name, if it has one, apart from allocations. `property` looks its name up in a
 /// table of hashes. `property_numbered` does so at the first use of a number, and takes constant
 /// time at each later one.
 ///
@@ -75,8 +75,8 @@ impl<'a> Doc<'a> {
 
     /// Returns a document for this boot processor, without reservations, in which no node was
     /// begun. The name of a property may be given by its number, which is its index among these
-    /// names. They need be neither distinct nor in byte order. Takes time linear in their number and
-    /// their lengths together. The only error is `OutOfMemory`.
+    /// names. They need be neither distinct nor in byte order. Takes time linear in their number
+    /// and their lengths together. The only error is `OutOfMemory`.
     pub fn with_names(alloc: Global, boot_cpu: u32, names: Vec<&'a [u8]>) -> Result<Doc<'a>, Error>
         ensures empty { IfOk result (λ doc.
             doc ≡ empty_with_names boot_cpu (bytes_of names.entry.items)) }

@@ -29,7 +29,7 @@ NoMeaningWithoutMagic =
 abbrev pub TextBeginsWithMagic : Type 0
 TextBeginsWithMagic = (image : LegacyImage) → BeginsWithMagic (legacy_text image)
 
--- Bytes mean an image within the limits exactly if no check fails.
+-- Bytes mean an image within the limits if and only if no check fails.
 abbrev pub MeaningWithoutFault : Type 0
 MeaningWithoutFault =
     (file : List ℕ) (limits : Limits) → AreBytes file →
@@ -54,7 +54,7 @@ OneLegacyFault =
     (file : List ℕ) (limits : Limits) (a b : Fault) →
     IsLegacyFault limits file a → IsLegacyFault limits file b → a ≡ b
 
--- An image fits the format exactly if some file means it.
+-- An image fits the format if and only if some file means it.
 abbrev pub ImagesOfFiles : Type 0
 ImagesOfFiles =
     (image : LegacyImage) → IsLegacyImage image ↔ ((file : List ℕ) × IsLegacyFile file image)
@@ -77,7 +77,7 @@ TextIsItsOwnNormalForm =
     (image other : LegacyImage) → IsLegacyImage image → IsLegacyFile (legacy_text image) other →
     legacy_text other ≡ legacy_text image
 
--- Two files have the same normal text exactly if they mean the same image.
+-- Two files have the same normal text if and only if they mean the same image.
 abbrev pub TextsDiffer : Type 0
 TextsDiffer =
     (f g : List ℕ) (a b : LegacyImage) → IsLegacyFile f a → IsLegacyFile g b →

@@ -148,7 +148,7 @@ fn can_have_parts(image_type: u8, part_count: usize) -> bool
     has_part_table(image_type) || part_count == 1
 }
 
-/// Returns the size of the normal data. Returns None exactly if it is more than `most`.
+/// Returns the size of the normal data. Returns None if it is more than `most`.
 fn data_size(image_type: u8, parts: &[&[u8]], most: u32) -> Option<u32>
     ensures { let size = length (normal_body image_type (bytes_of parts.now)) in
         MatchOption result (most < size) (λ n. (n ≡ size) × (n ≤ most)) }
@@ -170,7 +170,7 @@ fn start_of_parts(image_type: u8, parts: &[&[u8]]) -> usize
 }
 
 /// Returns the end of the last of these parts. The first begins at `start`, and each later one at
-/// the next multiple of four. Returns None exactly if the end is after `most`.
+/// the next multiple of four. Returns None if the end is after `most`.
 fn end_within(start: usize, parts: &[&[u8]], most: usize) -> Option<usize>
     requires { most < 2 ^ 32 }
     ensures { let end = parts_end_from start (map length (bytes_of parts.now)) in

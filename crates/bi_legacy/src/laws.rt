@@ -27,7 +27,7 @@ pub fn text_begins_with_magic()
     ensures { TextBeginsWithMagic }
 {}
 
-/// A file means an image within the limits exactly if no check fails.
+/// A file means an image within the limits if and only if no check fails.
 pub fn meaning_without_fault()
     ensures { MeaningWithoutFault }
 {}
@@ -47,7 +47,7 @@ pub fn one_fault()
     ensures { OneLegacyFault }
 {}
 
-/// An image fits the format exactly if some file means it.
+/// An image fits the format if and only if some file means it.
 pub fn images_of_files()
     ensures { ImagesOfFiles }
 {}
@@ -67,7 +67,7 @@ pub fn text_is_its_own_normal_form()
     ensures { TextIsItsOwnNormalForm }
 {}
 
-/// Two files have the same normal text exactly if they mean the same image.
+/// Two files have the same normal text if and only if they mean the same image.
 pub fn texts_differ()
     ensures { TextsDiffer }
 {}

@@ -48,8 +48,8 @@ impl<'a> Model for Legacy<'a> {
 impl<'a> Legacy<'a> {
     /// Reads a legacy image (U-Boot, include/image.h). The file may be longer than the image.
     ///
-    /// Succeeds exactly if the file is a legacy image of at most `limits.file()` bytes. Otherwise
-    /// it fails with the fault of the first check that fails:
+    /// Succeeds if the file is a legacy image of at most `limits.file()` bytes. Otherwise it fails
+    /// with the fault of the first check that fails:
     ///
     /// - TooLarge at `limits.file()`, if the file is longer;
     /// - Truncated at 0, if the file has fewer than four bytes;
@@ -95,8 +95,8 @@ impl<'a> Legacy<'a> {
         )
     }
 
-    /// Returns part `index`, counted from 0. Returns None exactly if there is no such part. Takes
-    /// time linear in `index`.
+    /// Returns part `index`, counted from 0. Returns None if there is no such part. Takes time
+    /// linear in `index`.
     pub fn part(&self, index: usize) -> Option<&'a [u8]>
         ensures { option_map (λ part. part.now) result ≡ slice_get self.now.image.parts index }
     {
@@ -104,7 +104,7 @@ impl<'a> Legacy<'a> {
     }
 
     /// Returns the offset in the file of the first byte of part `index`, counted from 0. Returns
-    /// None exactly if there is no such part. Takes time linear in `index`.
+    /// None if there is no such part. Takes time linear in `index`.
     pub fn part_place(&self, index: usize) -> Option<u32>
         ensures { result ≡ slice_get (part_places self.now.image) index }
     {

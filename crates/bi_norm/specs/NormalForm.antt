@@ -10,8 +10,8 @@ use Rattle.bi_fit.specs.Text.{fit_text}
 use Rattle.bi_norm.specs.Meaning.{Meaning, Means, normal_text, meaning_signature_count}
 use Rattle.bi_norm.specs.Reading.{IsReadErrorOrTooLarge}
 
--- What normalising promises: two accepted files of one kind have the same normal form exactly if
--- they mean the same (profile of this project).
+-- What normalising promises: two accepted files of one kind have the same normal form if and only
+-- if they mean the same (profile of this project).
 
 -- The text is the normal form of the file.
 pub record IsNormalForm (limits : Limits) (form : Form) (file text : List ℕ) : Type 0 where

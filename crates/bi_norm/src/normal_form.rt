@@ -18,7 +18,7 @@ use std::alloc::Global;
 use std::io::{Read, Write};
 
 /// Returns the normal form of a boot image: two accepted files of one kind have the same normal
-/// form exactly if they mean the same. `form` is where that of a flattened image tree has the
+/// form if and only if they mean the same. `form` is where that of a flattened image tree has the
 /// payloads; it has no effect on a legacy image.
 ///
 /// Errors, each `Error::Refused`, the first that applies: TooLarge at the limit, if the file is

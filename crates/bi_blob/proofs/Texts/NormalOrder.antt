@@ -9,7 +9,7 @@ use Rattle.bi_blob.specs.TextLaws.{EachTreeHasOneOrder, NormalTextTellsContent}
 use Rattle.bi_blob.proofs.Texts.PropertyOrder.{order_tells}
 use Rattle.bi_blob.proofs.Texts.TextContent.{text_has_one_content}
 
--- A tree has one normal order, and normal texts are the same exactly if their contents are.
+-- A tree has one normal order, and normal texts are the same if and only if their contents are.
 
 -- Properties by name, put in order and taken by name again, are the same.
 pub made_again : (properties : PropertyMap) → from_entries (entries properties) ≡ properties

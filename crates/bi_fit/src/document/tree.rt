@@ -72,7 +72,7 @@ fn add_root_children<'a>(
     Ok(())
 }
 
-/// Returns the count less one. Returns None exactly if it is 0 or there is none.
+/// Returns the count less one. Returns None if it is 0 or there is none.
 fn after_one(count: Option<usize>) -> Option<usize>
     ensures { result ≡ one_fewer count }
 {

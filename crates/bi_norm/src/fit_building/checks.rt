@@ -103,7 +103,7 @@ fn check_image<'a>(image: &ImageSpec<'a>, index: u32) -> Result<NamedImage<'a>, 
     Ok(named)
 }
 
-/// Returns an image with the names of its codes. Returns None exactly if one of them has no name.
+/// Returns an image with the names of its codes. Returns None if one of them has no name.
 fn name_codes<'a>(image: &ImageSpec<'a>) -> Option<NamedImage<'a>>
     ensures { MatchOption result (¬ (HasNames image.now))
         (λ named. HasNames image.now × (named_model named ≡ spec_model image.now)) }
