@@ -7,7 +7,8 @@ use Rattle.bi_fdt.specs.TableItems.{TableItem, PropertyItem}
 
 -- Two properties of a table have the same number if and only if their names are equal.
 abbrev pub NumbersAreOfNames : Type 0
-NumbersAreOfNames = (table : List TableItem) (numbers : List ℕ) (at other_at number other_number : ℕ)
+NumbersAreOfNames =
+    (table : List TableItem) (numbers : List ℕ) (at other_at number other_number : ℕ)
     (property other : FileProperty) → AreNumbered (names_of_table table) table numbers
     → slice_get table at ≡ Some (PropertyItem property) → slice_get numbers at ≡ Some number
     → slice_get table other_at ≡ Some (PropertyItem other)

@@ -19,7 +19,8 @@ AreOnce parts = (part : NamePart) (m n : ℕ) → slice_get parts m ≡ Some par
 
 -- The blocks after each part have the number of a part before it, or are none.
 abbrev pub AreAfterTails : List NamePart → Type 0
-AreAfterTails parts = (index : ℕ) (part : NamePart) → slice_get parts index ≡ Some part → part.0 ≤ index
+AreAfterTails parts =
+    (index : ℕ) (part : NamePart) → slice_get parts index ≡ Some part → part.0 ≤ index
 
 -- A part is not in a list.
 abbrev pub IsNewPart : NamePart → List NamePart → Type 0

@@ -16,7 +16,8 @@ with_used_name used name = if is_among name used then used else used ++ name ∷
 abbrev pub names_after : List (List ℕ) → List TableItem → List (List ℕ)
 names_after used [] = used
 names_after used (NodeItem depth place name ∷ later) = names_after used later
-names_after used (PropertyItem property ∷ later) = names_after (with_used_name used property.name) later
+names_after used (PropertyItem property ∷ later) =
+    names_after (with_used_name used property.name) later
 
 -- The names of the properties of a table, each once, in the order of their first use.
 abbrev pub names_of_table : List TableItem → List (List ℕ)

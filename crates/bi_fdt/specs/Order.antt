@@ -50,7 +50,8 @@ pub record IsNumberOrder (names : List (List ℕ)) (table : List TableItem) (ord
   pub ordered : IsPropertyOrder table keys order
 
 -- A property of this key before others, if an item of a table is one.
-abbrev pub with_keyed_property : (key : ℕ) → Option TableItem → List KeyedProperty → List KeyedProperty
+abbrev pub with_keyed_property : (key : ℕ) → Option TableItem → List KeyedProperty
+    → List KeyedProperty
 with_keyed_property key None later = []
 with_keyed_property key (Some (NodeItem depth place name)) later = []
 with_keyed_property key (Some (PropertyItem property)) later = (key, property) ∷ later

@@ -1,7 +1,7 @@
 //! A table of the names of properties.
 
-ghost use Rattle.std.specs.Prelude.{◌≡◌, ◌+◌, ◌/◌, ◌<◌, [], IfOk, OnErr, Some, length, map, slice_get};
-ghost use Rattle.std.specs.Prelude.{take};
+ghost use Rattle.std.specs.Prelude.{◌≡◌, ◌+◌, ◌/◌, ◌<◌, [], IfOk, OnErr, Some, length, map};
+ghost use Rattle.std.specs.Prelude.{slice_get, take};
 ghost use Rattle.std.specs.List.{AllZip};
 ghost use Rattle.bi_fdt.specs.NameTables.{names_in_table, IsNameTable, HasMoreNames};
 ghost use Rattle.bi_fdt.specs.NameTables.{HasAtMostMore};

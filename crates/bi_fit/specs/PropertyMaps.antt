@@ -17,7 +17,8 @@ use Rattle.bi_fit.specs.PropertyMapModels.{PropertyMapModel}
 
 -- The names and values of properties, each of which is given by the rank of its name.
 abbrev pub named_values : List (List ℕ) → List (ℕ × Value) → List Property
-named_values names entries = map (λ entry. (name_numbered names entry.0, value_bytes entry.1)) entries
+named_values names entries =
+    map (λ entry. (name_numbered names entry.0, value_bytes entry.1)) entries
 
 -- The ranks are those of names.
 abbrev pub AreRanksWithin : List (List ℕ) → List (ℕ × Value) → Type 0

@@ -1,6 +1,7 @@
 //! The order of the names of a file's properties.
 
-ghost use Rattle.std.specs.Prelude.{◌≡◌, ◌<◌, ◌≤◌, ℕ, List, slice_index_or, length, flat_map, OnOk, IfOk, IfErr};
+ghost use Rattle.std.specs.Prelude.{◌≡◌, ◌<◌, ◌≤◌, ℕ, List, slice_index_or, length, flat_map};
+ghost use Rattle.std.specs.Prelude.{OnOk, IfOk, IfErr};
 ghost use Rattle.std.specs.List.{AllZip};
 ghost use Rattle.bi_base.specs.Errors.{IsFaultOrNoMemory};
 ghost use Rattle.bi_base.specs.Reading.{too_large};

@@ -235,7 +235,8 @@ fn add_entry<'a>(doc: &mut Doc<'a>, entry: (usize, Value<'a>)) -> Result<(), All
     requires { let name = name_numbered doc.old.names entry.0 in
         MayHaveNextProperty name (stage_of_events doc.old.events) }
     ensures { let name = name_numbered doc.old.names entry.entry.0 in
-        OnOk result (doc.new ≡ with_event doc.old (NodeProperty (name, value_bytes entry.entry.1))) }
+        OnOk result (doc.new
+            ≡ with_event doc.old (NodeProperty (name, value_bytes entry.entry.1))) }
 {
     only_memory(doc.property_numbered(entry.0, entry.1))
 }
