@@ -103,7 +103,7 @@ impl Algo {
     }
 }
 
-/// Finds the first of these algorithms that has this name.
+/// Finds the first of these algorithms with the given name.
 fn find_by_name(algos: &[Algo], name: &[u8]) -> Option<Algo>
     ensures { result ≡ find (λ algo. bytes_eq (algorithm_name algo) name.now) algos.now }
 {

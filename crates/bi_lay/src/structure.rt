@@ -15,7 +15,7 @@ use bi_base::{CountSink, Error, Sink, put_cell, put_cells, up4};
 use bi_blob::format::{BEGIN_NODE, END, END_NODE, PROP};
 
 /// Returns how many bytes the structure block of these items has, or the greatest u64 if it has
-/// more than that.
+/// more.
 pub(crate) fn structure_size(items: &[Item<'_>]) -> u64
     ensures { result ≡ min (length (structure_of_items items.now)) (2 ^ 64 - 1) }
 {
@@ -45,7 +45,7 @@ fn put_item<S: Sink>(item: Item<'_>, sink: &mut S) -> Result<(), Error>
     }
 }
 
-/// Appends the token that begins a node of this name. Fails as the sink does.
+/// Appends the token that begins a node with this name. Fails as the sink does.
 fn put_begin<S: Sink>(name: &[u8], sink: &mut S) -> Result<(), Error>
     ensures { Wrote S.appends S.fails sink.old (encoding (BeginNode name.now)) result sink.new }
 {

@@ -67,7 +67,7 @@ impl<'a> Read for ScriptedReader<'a> {
     }
 }
 
-/// A reader without end. Each read fills the whole buffer with the same byte.
+/// An endless reader. Each read fills the whole buffer with the same byte.
 #[derive(Drop)]
 pub struct EndlessReader {
     byte: u8,
@@ -78,7 +78,7 @@ pub struct EndlessReader {
 impl EndlessReader {
     ghost use Rattle.scripted_io.specs.Reader.{byte_of};
 
-    /// Returns a reader of this byte.
+    /// Returns a reader that reads this byte only.
     pub fn new(byte: u8) -> EndlessReader
         ensures byte { byte_of result ≡ byte }
         ensures taken { result.taken ≡ 0 }
