@@ -85,8 +85,8 @@ impl<'a> KeptNames<'a> {
         None
     }
 
-    /// Returns for each name the number that it has among others, if it is there. Fails if memory
-    /// runs out.
+    /// Returns, for each name, its number among other names, if it is there. Fails if memory runs
+    /// out.
     pub(crate) fn in_terms_of(
         &self,
         alloc: Global,

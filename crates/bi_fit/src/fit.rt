@@ -20,7 +20,7 @@ use std::alloc::{AllocError, Global};
 use std::collections::BTreeMap;
 use std::marker::Model;
 
-/// A flattened image tree that was read. It holds slices of its file.
+/// A flattened image tree that was read. It has slices of its file.
 #[derive(Drop)]
 pub struct Fit<'a> {
     blob: Blob<'a>,
@@ -50,13 +50,13 @@ impl<'a> Fit<'a> {
     ///
     /// Succeeds if the file is a flattened image tree within the limits, unless memory runs out.
     /// Otherwise it fails with the fault of the first check that fails: those of `Blob::read`;
-    /// NoImages at the token of the root, if it has no child `images`; then for each image node in
+    /// NoImages at the token of the root, if it has no child `images`; then, for each image node in
     /// order that has `data-position` or else `data-offset`: BadCell at that property, if its value
     /// is not four bytes; NoSize there, if there is no `data-size`; BadCell at `data-size`, if its
     /// value is not four bytes; OutsideFile at the first property, if the payload ends after the
     /// file.
     ///
-    /// OutOfMemory comes only if the header and the memory reservation block have no fault.
+    /// OutOfMemory occurs only if the header and the memory reservation block have no fault.
     pub fn read(alloc: Global, file: &'a [u8], limits: Limits) -> Result<Fit<'a>, Error>
         ensures read { IfOk result (IsReadFit limits file.entry.now) }
         ensures failed { IfErr result (IsFitReadError limits file.entry.now) }
@@ -111,7 +111,7 @@ impl<'a> Fit<'a> {
         &self.images
     }
 
-    /// Returns the number of the images.
+    /// Returns the number of images.
     pub fn image_count(&self) -> usize
         ensures { result ≡ length self.now.images }
     {
@@ -126,7 +126,7 @@ impl<'a> Fit<'a> {
         Some(self.images.get(index)?.name)
     }
 
-    /// Returns the index of the image of this name. Returns None if there is no such image.
+    /// Returns the index of the image with the given name. Returns None if there is no such image.
     pub fn image(&self, name: &[u8]) -> Option<usize>
         ensures { result ≡ index_of name.now self.now.images }
     {
@@ -153,7 +153,7 @@ impl<'a> Fit<'a> {
         }
     }
 
-    /// Returns the digests of the regions of the file, of which none is computed yet.
+    /// Returns the digests of the regions of the file. None of them is computed yet.
     pub fn region_digests(&self, alloc: Global) -> RegionDigests<'a>
         ensures file { result ≡ self.now.blob.file }
         ensures placed { AreAtTheirPlaces result self.now.images }
@@ -169,8 +169,8 @@ impl<'a> Fit<'a> {
     }
 }
 
-/// Returns the index of each of these images by its name, or that of the first of several with one
-/// name.
+/// Returns the index of each of these images by its name. If several images have the same name, it
+/// has the index of the first.
 fn index_by_name<'a>(
     alloc: Global,
     images: &[Image<'a>],
@@ -178,7 +178,7 @@ fn index_by_name<'a>(
     ensures { IfOk result (λ indices. HasIndices indices (map image_model images.now)) }
 {
     let mut indices = BTreeMap::new(alloc);
-    // The first image of a name is inserted last, so its index stays.
+    // The first image with a name is inserted last, so its index stays.
     for index in (0..images.len()).rev() {
         indices.insert(images[index].name, index)?;
     }

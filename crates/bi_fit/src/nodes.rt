@@ -11,7 +11,7 @@ ghost use Rattle.bi_fit.specs.HashNodes.{file_images, file_configurations};
 use crate::fit::Fit;
 use bi_fdt::NodeRef;
 
-/// The nodes that are left of some siblings, in their order in the file.
+/// An iterator over sibling nodes, in their order in the file.
 #[derive(Drop)]
 pub(crate) struct Siblings<'a, 'b> {
     next: Option<NodeRef<'a, 'b>>,
@@ -75,7 +75,7 @@ impl<'a> Fit<'a> {
         }
     }
 
-    /// Returns the configuration node of this name. Returns None if there is no such node.
+    /// Returns the configuration node with the given name. Returns None if there is no such node.
     pub(crate) fn configuration_node<'b>(&'b self, name: &[u8]) -> Option<NodeRef<'a, 'b>>
         ensures { option_map node_of result
             ≡ node_named (file_configurations self.now.blob) name.now }

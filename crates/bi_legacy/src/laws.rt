@@ -1,4 +1,4 @@
-//! The laws of legacy images. Each function does nothing; its contract is the law.
+//! The laws of legacy images. The functions do nothing: what each one ensures is the law.
 
 ghost use Rattle.bi_legacy.specs.Laws.{OneLegacyMeaning, NoMeaningWithoutMagic};
 ghost use Rattle.bi_legacy.specs.Laws.{TextBeginsWithMagic};
@@ -78,7 +78,7 @@ pub fn updated_has_normal_form()
     ensures { UpdatedHasNormalForm }
 {}
 
-/// An image with another time has this time, and all else of it is as it was.
+/// An image with a new time has this time, and is otherwise as it was.
 pub fn updated_has_new_time()
     ensures { UpdatedHasNewTime }
 {}

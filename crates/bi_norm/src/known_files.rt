@@ -18,7 +18,7 @@ pub fn convert_faults_are_known()
     ensures { ConvertFaultsAreKnown }
 {}
 
-/// The images of each type are listed under the key whose images have this type.
+/// The images of each type are listed under the key for images of this type.
 pub fn types_have_their_keys()
     ensures { TypesHaveTheirKeys }
 {}

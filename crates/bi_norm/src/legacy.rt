@@ -13,9 +13,9 @@ use std::alloc::Global;
 ///
 /// Errors, the first that applies: BadField at 32, if the name is longer than 32 bytes or has a
 /// zero byte; BadField at 30, if the image is neither a multi-file image nor a script and does not
-/// have exactly one part; TooLarge at the limit, if the text is longer than that; EmptyPart at `64
-/// + 4 * index` for the first empty part of a multi-file image or script; OutOfMemory, which comes
-/// only for an image without any of these faults.
+/// have exactly one part; TooLarge at the limit, if the text is longer than that; EmptyPart at
+/// `64 + 4 * index` for the first empty part of a multi-file image or script; OutOfMemory, which
+/// occurs only for an image without any of these faults.
 pub fn build_legacy(
     alloc: Global,
     fields: Fields<'_>,
