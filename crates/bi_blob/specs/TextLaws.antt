@@ -108,15 +108,15 @@ TextIsBlob =
     → length (text_of_tree cpu reservations root) ≤ longest_text → AreBytes rest
     → IsBlobOf (text_of_tree cpu reservations root ++ rest) cpu reservations root
 
--- A file is a blob of these alone within limits, and has no fault under them.
+-- A file is a blob of these and nothing else within limits, and has no fault under them.
 pub record IsAccepted (bounds : Limits) (file : List ℕ) (cpu : ℕ)
     (reservations : List Reservation) (root : Root (List Property)) : Type 0 where
   pub is_blob : IsBlobOf file cpu reservations root
   pub is_within : IsWithin bounds file (tree_with_places reservations root)
   pub no_fault : (fault : Fault) → ¬ (IsBlobFault bounds file fault)
 
--- A text that is not too long, with any bytes after it, is accepted under limits that are no less
--- than the length of all of it and the depth of its tree.
+-- A text that is not too long, with any bytes after it, is accepted under limits of at least its
+-- whole length and the depth of its tree.
 abbrev pub TextIsAccepted : Type 0
 TextIsAccepted =
     (bounds : Limits) (cpu : ℕ) (reservations : List Reservation) (root : Root (List Property))
@@ -127,8 +127,8 @@ TextIsAccepted =
     → depth_of root ≤ bounds.depth
     → IsAccepted bounds (text_of_tree cpu reservations root ++ rest) cpu reservations root
 
--- A normal text that is not too long, with any bytes after it, is accepted under limits that are no
--- less than the length of all of it and the depth of its tree.
+-- A normal text that is not too long, with any bytes after it, is accepted under limits of at least
+-- its whole length and the depth of its tree.
 abbrev pub NormalTextIsAccepted : Type 0
 NormalTextIsAccepted =
     (bounds : Limits) (cpu : ℕ) (reservations : List Reservation) (root : Root (List Property))

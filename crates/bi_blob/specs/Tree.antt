@@ -118,8 +118,8 @@ abbrev pub AreDistinct : List (List ℕ) → Type 0
 AreDistinct [] = ⊤
 AreDistinct (name ∷ later) = IsNew name later × AreDistinct later
 
--- Properties that one node may have: their names are valid and distinct (2.2.4; that they have to
--- be distinct is profile of this project).
+-- Properties that one node may have: their names are valid and distinct (2.2.4; that they must be
+-- distinct is profile of this project).
 pub record AreProperties (properties : List Property) : Type 0 where
   pub named : AllByRecursion (λ property. IsPropertyName property.0) properties
   pub distinct : AreDistinct (map (λ property. property.0) properties)

@@ -81,8 +81,7 @@ pub data Fills (IsOutput : (text : List ℕ) → (value : ℕ) → Type 0) (HasF
         → answer ≡ answer_of_failure failure → status ≡ status_of_failure failure
         → Fills IsOutput HasFailed before after answer status
 
--- The failure of a call on one file whose arguments have to be valid, and whose error is one of
--- these.
+-- The failure of a call on one file. Its arguments must be valid, and its error is one of these.
 abbrev pub IsFailure : (AreValid : Type 0) → (HasError : Error → Type 0) → Failure → Type 0
 IsFailure AreValid HasError WrongArgument = ¬ AreValid
 IsFailure AreValid HasError (Refused file fault) =

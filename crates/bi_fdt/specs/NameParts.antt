@@ -17,7 +17,7 @@ abbrev pub AreOnce : List NamePart → Type 0
 AreOnce parts = (part : NamePart) (m n : ℕ) → slice_get parts m ≡ Some part
     → slice_get parts n ≡ Some part → m ≡ n
 
--- The blocks after each part have the number of a part before it, or are none.
+-- The blocks after each part have the number of a part before it, or there are none.
 abbrev pub AreAfterTails : List NamePart → Type 0
 AreAfterTails parts =
     (index : ℕ) (part : NamePart) → slice_get parts index ≡ Some part → part.0 ≤ index

@@ -31,11 +31,11 @@ IsNumberOf names name number = slice_get names number ≡ Some name
 abbrev pub FindsNumber : List (List ℕ) → List ℕ → Option ℕ → Type 0
 FindsNumber names name found = MatchOption found (IsNew name names) (IsNumberOf names name)
 
--- A property has the name of this number.
+-- A property has the name with this number.
 abbrev pub HasNumber : List (List ℕ) → FileProperty → ℕ → Type 0
 HasNumber names property number = IsNumberOf names property.name number
 
--- If an item of a table is a property, it has the name of this number.
+-- If an item of a table is a property, it has the name with this number.
 abbrev pub IsNumbered : List (List ℕ) → TableItem → ℕ → Type 0
 IsNumbered names (NodeItem depth place name) number = ⊤
 IsNumbered names (PropertyItem property) number = HasNumber names property number

@@ -49,7 +49,7 @@ pub record IsNumberOrder (names : List (List ℕ)) (table : List TableItem) (ord
   pub numbered : AreNumbered names table keys
   pub ordered : IsPropertyOrder table keys order
 
--- A property of this key before others, if an item of a table is one.
+-- A property with this key before others, if an item of a table is a property.
 abbrev pub with_keyed_property : (key : ℕ) → Option TableItem → List KeyedProperty
     → List KeyedProperty
 with_keyed_property key None later = []

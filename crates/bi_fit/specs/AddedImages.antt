@@ -38,9 +38,9 @@ digests_left (OfNode parent) =
     after_digests parent.hashed parent.digests.now (nodes_by_name (node_of parent.node).children)
 digests_left (Hash properties) = []
 
--- The children may be added to a document with these names: the order of a file, or the properties
--- of the hash node, are by these names, there are digests for the hash nodes of the file, and none
--- of its nodes has two properties of one name.
+-- The children may be added to a document with these names. The order of a file, or the properties
+-- of the hash node, are by these names. There are digests for the hash nodes of the file, and none
+-- of its nodes has two properties with the same name.
 abbrev pub AreAddable : List (List ℕ) → ImageChildren → Type 0
 AreAddable names (OfNode parent) =
     HasOrder names parent.order.now parent.node

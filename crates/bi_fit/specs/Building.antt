@@ -19,8 +19,8 @@ use Rattle.bi_fit.specs.ImageTree.{ImageTree}
 -- The flattened image tree that is built from a description and a list of images (Flattened Image
 -- Tree Specification; what is built is profile of this project).
 
--- What a built tree has beside its images: a description and a time. Numbers become cells, modulo
--- 2^32.
+-- What a built tree has in addition to its images: a description and a time. Numbers become cells,
+-- modulo 2^32.
 pub record HeadModel : Type 0 where
   pub description : List ℕ
   pub time : ℕ

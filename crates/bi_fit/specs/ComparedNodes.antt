@@ -23,8 +23,8 @@ role_below RootChild name = if bytes_eq name images_name then ImageNode else Oth
 role_below ImageNode name = OtherNode
 role_below OtherNode name = OtherNode
 
--- Whether properties of this name are compared in a node of this role: in image nodes, the four
--- that hold a payload or name its region are not.
+-- Whether properties with the given name are compared in a node with this role. In image nodes, the
+-- four properties that hold a payload or name its region are not compared.
 abbrev pub is_compared : Role → (name : List ℕ) → Bool
 is_compared RootNode name = true
 is_compared RootChild name = true

@@ -23,7 +23,7 @@ document_of form tree = record {
   names = [];
 }
 
--- How many bytes follow the blob in a form: external payloads, of which these are all.
+-- How many bytes follow the blob in a form: all of these payloads, if they are external.
 abbrev pub length_after_blob : Form → List (Option (List ℕ)) → ℕ
 length_after_blob Embedded payloads = 0
 length_after_blob External payloads = payloads_end 0 payloads

@@ -26,7 +26,7 @@ file_images blob = nodes_or_none (image_nodes (root_of blob))
 abbrev pub file_configurations : Blob → Nodes FileNode
 file_configurations blob = nodes_or_none (children_of configurations_name (root_of blob).children)
 
--- A hash node of an image of this name and payload, with its verdict.
+-- A hash node of an image with the given name and payload, with its verdict.
 abbrev pub file_hash : List ℕ → Option (List ℕ) → Sibling FileNode → CheckedHash
 file_hash image payload hash = record {
   image = image;
@@ -44,7 +44,7 @@ abbrev pub file_hashes : List ℕ → Option (List ℕ) → List (Sibling FileNo
 file_hashes image payload children =
     map (file_hash image payload) (filter (λ child. is_hash_name child.name) children)
 
--- The hash nodes of these image nodes, whose images were read.
+-- The hash nodes of these image nodes, of images that were read.
 abbrev pub file_verdicts : List (Sibling FileNode) → List ImageModel → List CheckedHash
 file_verdicts [] images = []
 file_verdicts (entry ∷ entries) [] = []

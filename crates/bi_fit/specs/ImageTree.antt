@@ -10,8 +10,8 @@ use Rattle.bi_fit.specs.Names.{images_name, is_payload_name}
 
 -- What a flattened image tree means (Flattened Image Tree Specification): the boot processor, the
 -- memory reservations and the tree of a devicetree blob, and the payload of each image node, or
--- that it has none. The four properties that hold a payload or name its region are not in the
--- tree: where a file has its payloads is no part of what it means (profile of this project).
+-- that it has none. The four properties that hold a payload or name its region are not in the tree:
+-- where a file has its payloads is not part of what it means (profile of this project).
 pub record ImageTree : Type 0 where
   pub cpu : ℕ
   pub reservations : List Reservation
@@ -54,14 +54,14 @@ with_image_nodes change root =
 abbrev pub without_payload : PropertyMap → PropertyMap
 without_payload properties = retain_keys properties (λ name. not (is_payload_name name))
 
--- The same nodes, each without these properties. The nodes below them keep theirs: the names have
--- a meaning in image nodes alone (profile of this project).
+-- The same nodes, each without these properties. The nodes below them keep theirs: the names have a
+-- meaning only in image nodes (profile of this project).
 abbrev pub without_payloads : Nodes PropertyMap → Nodes PropertyMap
 without_payloads none = none
 without_payloads (node name own children later) =
     node name (without_payload own) children (without_payloads later)
 
--- A tree whose image nodes are without these properties.
+-- A tree with image nodes without these properties.
 abbrev pub tree_without_payloads : Root PropertyMap → Root PropertyMap
 tree_without_payloads root = with_image_nodes without_payloads root
 
@@ -87,9 +87,9 @@ pub record IsApart (properties : PropertyMap) (payload : Option (List ℕ)) : Ty
   pub no_payload_name : (name : List ℕ) → is_payload_name name ≡ true → get properties name ≡ None
   pub bytes : IfSome payload AreBytes
 
--- What an image tree has to be so that a file can mean it, if the file is not too long: numbers
--- are in their ranges, names are names, names and values are bytes, there is a child `images`, and
--- there is one payload or none for each image node, apart from its properties.
+-- What an image tree must be so that a file can mean it, if the file is not too long: numbers are
+-- in their ranges, names are names, names and values are bytes, there is a child `images`, and each
+-- image node has one payload or none, apart from its properties.
 pub record IsImageTree (tree : ImageTree) : Type 0 where
   pub cpu_fits : tree.cpu < 2 ^ 32
   pub are_reservations : AllByRecursion IsReservation tree.reservations

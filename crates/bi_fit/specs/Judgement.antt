@@ -26,7 +26,7 @@ pub record Image : Type 0 where
   pub entry : Sibling PropertyMap
   pub payload : Option (List ℕ)
 
--- Nodes and their payloads, of which there are as many, as a list of images.
+-- Nodes and as many payloads, as a list of images.
 abbrev pub images_with : List (Sibling PropertyMap) → List (Option (List ℕ)) → List Image
 images_with [] payloads = []
 images_with entries [] = []
@@ -79,7 +79,7 @@ default_of tree =
     (λ configurations. option_and_then text_before_nul (get configurations.own default_name))
     (node_named tree.root.children configurations_name)
 
--- One more byte at the front of the first name of a list. What no zero follows is no name.
+-- One more byte at the front of the first name of a list. What no zero follows is not a name.
 abbrev pub with_byte : ℕ → List (List ℕ) → List (List ℕ)
 with_byte byte [] = []
 with_byte byte (name ∷ later) = (byte ∷ name) ∷ later
@@ -110,7 +110,7 @@ pub data ListResult : Type 0 where
   Missing : (index : ℕ) → ListResult
   ListedImages : (images : List ListedImage) → ListResult
 
--- The image of this name, if there is one.
+-- The image with the given name, if there is one.
 abbrev pub image_named : List ℕ → List Image → Option Image
 image_named name images = find (λ image. bytes_eq image.entry.name name) images
 
@@ -148,7 +148,7 @@ listed_under images None key = NoConfig
 listed_under images (Some configuration) key =
     listed_at images (get configuration.own (key_name key))
 
--- What the configuration of this name lists under a key.
+-- What the configuration with the given name lists under a key.
 abbrev pub listed_of : ImageTree → List ℕ → Key → ListResult
 listed_of tree name key =
     listed_under (images_of tree) (node_named (configuration_nodes tree) name) key

@@ -211,7 +211,7 @@ shared_region = replicate 1000 7
 abbrev pub region_of : (offset size : ℕ) → List Property
 region_of offset size = (data_offset_name, cell offset) ∷ (data_size_name, cell size) ∷ []
 
--- A file with three images, the first of which has this region, and the other two the whole of the
+-- A file with three images. The first has this region, and the other two have the whole of the
 -- shared region.
 abbrev pub shared_file : (offset size : ℕ) → List ℕ
 shared_file offset size =
@@ -256,7 +256,7 @@ pub record ChildrenKeepOrder : Type 0 where
   pub embedded : fit_text Embedded unsorted_tree ≡ unsorted_file
 
 -- A tree with `data` in the root, in `images`, in a hash node, and in a child of another node
--- `images` that is no child of the root.
+-- `images` that is not a child of the root.
 abbrev pub nested_tree : Root (List Property)
 nested_tree = record {
   own = (data_name, codes "r") ∷ [];
@@ -298,14 +298,15 @@ pub record OnlyImagesHavePayloads : Type 0 where
   pub means : IsFitFile nested_file nested_image_tree
   pub embedded : fit_text Embedded nested_image_tree ≡ nested_file
 
--- A file whose image `a` has `data` and a `data-size` that is no cell.
+-- A file whose image `a` has `data` and a `data-size` that is not a cell.
 abbrev pub unused_size_file : List ℕ
 unused_size_file =
     file_of_images
     (node (codes "a") ((data_name, codes "abc") ∷ (data_size_name, codes "s") ∷ []) none none)
     []
 
--- A file whose image `a` has `data-position` 0, `data-size` 4 and a `data-offset` that is no cell.
+-- A file whose image `a` has `data-position` 0, `data-size` 4 and a `data-offset` that is not a
+-- cell.
 abbrev pub unused_offset_file : List ℕ
 unused_offset_file =
     file_of_images

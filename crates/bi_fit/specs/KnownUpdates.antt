@@ -23,9 +23,9 @@ hash_to_update =
     ∷ (value_name, 1 ∷ 2 ∷ 3 ∷ [])
     ∷ []
 
--- The tree. The image `a` has the payload `abc`, a hash node with a hash node below it, one whose
--- algorithm is not known, a node that is no hash node, and another hash node. The image `b` has no
--- payload.
+-- The tree. The image `a` has the payload `abc`, a hash node with a hash node below it, a hash node
+-- with an unknown algorithm, a node that is not a hash node, and another hash node. The image `b`
+-- has no payload.
 abbrev pub tree_to_update : ImageTree
 tree_to_update = record {
   cpu = 1;

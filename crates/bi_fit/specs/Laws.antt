@@ -57,7 +57,7 @@ FitMeaningOrFault =
     → ((tree : ImageTree) × FitMeans bounds file tree)
     ⊎ ((fault : Fault) × IsFitFault bounds file fault)
 
--- A file of bytes is a flattened image tree within limits exactly where it has no fault under
+-- A file of bytes is a flattened image tree within limits if and only if it has no fault under
 -- them.
 abbrev pub FitMeaningWhereNoFault : Type 0
 FitMeaningWhereNoFault =
@@ -98,8 +98,8 @@ NormalFitTextIsAccepted =
     → length (fit_text form tree) ≤ bounds.file → bounds.file ≤ longest_text
     → IsAcceptedAs bounds (fit_text form tree) tree
 
--- Two image trees have the same text in one form exactly where they are the same, if one of the
--- texts is not too long.
+-- Two image trees have the same text in a form if and only if they are the same. One of the texts
+-- is not too long.
 abbrev pub SameTextSameTree : Type 0
 SameTextSameTree =
     (form : Form) (one other : ImageTree) → IsImageTree one → IsImageTree other
@@ -168,7 +168,7 @@ good_hash image = record {
 }
 
 -- The payloads of a built tree are those of its images in their order, and each image has one hash
--- node, whose verdict is Good.
+-- node, with the verdict Good.
 pub record HasGoodPayloads (head : HeadModel) (images : List ImageSpecModel) : Type 0 where
   pub payloads : (built_tree head images).payloads ≡ map (λ image. Some image.payload) images
   pub verdicts : verdicts_of (built_tree head images) ≡ map good_hash images
@@ -187,7 +187,7 @@ pub record ReadsNames : Type 0 where
       → strings_of (listed_names value) ≡ value
   pub no_zero : (value : List ℕ) → AllByRecursion HasNoZero (listed_names value)
 
--- What a list of these images is: none where there is no image.
+-- What a list of these images is: none if there is no image.
 abbrev pub list_of_built : List ImageSpecModel → ListResult
 list_of_built [] = NoKey
 list_of_built (image ∷ later) =

@@ -33,7 +33,7 @@ abbrev pub digests_of_image : Option (List ℕ) → Nodes PropertyMap → List �
 digests_of_image None children = []
 digests_of_image (Some payload) children = digests_for payload children
 
--- The digests for the hash nodes of image nodes with these payloads, of which there are as many.
+-- The digests for the hash nodes of image nodes with as many payloads.
 abbrev pub digests_of_images : List (Option (List ℕ)) → Nodes PropertyMap → List ℕ
 digests_of_images [] nodes = []
 digests_of_images (payload ∷ payloads) none = []

@@ -55,7 +55,7 @@ sorted_nodes nodes = with_each entries (nodes_by_name nodes)
 abbrev pub begin_events : List ℕ → PropertyMap → List Event
 begin_events name properties = NodeStart name ∷ map NodeProperty (entries properties)
 
--- A node of this name with these properties and no children, without its siblings.
+-- A node with the given name, these properties and no children, without its siblings.
 abbrev pub leaf : List ℕ → PropertyMap → Nodes (List Property)
 leaf name properties = node name (entries properties) none none
 
@@ -82,7 +82,7 @@ sorted_images hashes form end payloads digests nodes =
     (with_payloads form end payloads
     (images_with_digests_from hashes payloads digests (without_payloads (nodes_by_name nodes))))
 
--- The node whose children are the image nodes, without its siblings.
+-- The node that has the image nodes as children, without its siblings.
 abbrev pub sorted_images_node : (hashes : Bool) → Form → List (Option (List ℕ))
     → (digests : List ℕ) → Sibling FileNode → Nodes (List Property)
 sorted_images_node hashes form payloads digests sibling =

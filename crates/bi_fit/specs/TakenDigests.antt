@@ -66,7 +66,7 @@ HaveImageDigests hashes (payload ∷ payloads) digests (node name own children l
     × HaveImageDigests hashes payloads
     (after_digests (is_hashed hashes payload) digests children) later
 
--- Image nodes with these payloads, whose hash nodes have these digests.
+-- Image nodes with these payloads, and with these digests in their hash nodes.
 abbrev pub images_with_digests_from : (hashes : Bool) → List (Option (List ℕ))
     → (digests : List ℕ) → Nodes PropertyMap → Nodes PropertyMap
 images_with_digests_from hashes [] digests nodes = nodes

@@ -41,9 +41,9 @@ with_digest_by None payload properties = properties
 with_digest_by (Some algo) payload properties =
     insert properties value_name (digest_of algo payload)
 
--- The properties of a child of an image node with this payload: a hash node whose algorithm is
--- known has the digest of the payload as its value, and any other child has the properties that it
--- had.
+-- The properties of a child of an image node with the given payload: a hash node with a known
+-- algorithm has the digest of the payload as its value, and any other child has the properties that
+-- it had.
 abbrev pub with_digest : (payload name : List ℕ) → PropertyMap → PropertyMap
 with_digest payload name properties =
     if is_hash_name name then with_digest_by (known_algorithm properties) payload properties
@@ -62,14 +62,14 @@ abbrev pub with_digests_of : Option (List ℕ) → Nodes PropertyMap → Nodes P
 with_digests_of None children = children
 with_digests_of (Some payload) children = with_digests payload children
 
--- Image nodes with these payloads, of which there are as many.
+-- Image nodes with as many payloads.
 abbrev pub images_with_digests : List (Option (List ℕ)) → Nodes PropertyMap → Nodes PropertyMap
 images_with_digests [] nodes = nodes
 images_with_digests (payload ∷ payloads) none = none
 images_with_digests (payload ∷ payloads) (node name own children later) =
     node name own (with_digests_of payload children) (images_with_digests payloads later)
 
--- The children of a root whose image nodes have these payloads, if the digests change.
+-- The children of a root with image nodes that have these payloads, if the digests change.
 abbrev pub with_new_digests : (hashes : Bool) → List (Option (List ℕ)) → Nodes PropertyMap
     → Nodes PropertyMap
 with_new_digests false payloads nodes = nodes

@@ -26,7 +26,7 @@ empty_with_names boot_cpu names = record {
 abbrev pub empty_content : ℕ → Doc
 empty_content boot_cpu = empty_with_names boot_cpu []
 
--- The name of this number, or the empty name if there is none.
+-- The name with this number, or the empty name if there is none.
 abbrev pub name_numbered : List (List ℕ) → ℕ → List ℕ
 name_numbered names number = slice_index_or names number []
 

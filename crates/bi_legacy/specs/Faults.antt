@@ -16,7 +16,7 @@ use Rattle.bi_legacy.specs.PartTables.{TableCheck, TablePasses, table_fault, bod
 abbrev pub body_of : List ℕ → List ℕ
 body_of file = slice file 64 (u32_at file 12)
 
--- The header with zeros in place of its checksum.
+-- The header with zeros instead of its checksum.
 abbrev pub header_without_checksum : List ℕ → List ℕ
 header_without_checksum file = slice file 0 4 ++ (cell 0 ++ slice file 8 56)
 

@@ -50,8 +50,8 @@ pub record LegacyFilesHaveFaults : Type 0 where
   pub other_data : HasLegacyFault widest (with_byte_at kernel_file 64 0x30) BadDataCrc 24
   pub other_end : HasLegacyFault widest (with_byte_at kernel_file 72 0x38) BadDataCrc 24
 
--- The data of a multi-file image whose parts would have 5 and 4 bytes: the second would end one
--- byte after the data.
+-- The data of a multi-file image with parts of 5 and 4 bytes: the second would end one byte after
+-- the data.
 abbrev pub data_with_short_part : List ℕ
 data_with_short_part =
     cell 5 ++ (cell 4 ++ (cell 0 ++ (codes "hello" ++ (0xff ∷ 0xff ∷ 0xff ∷ codes "abc"))))
@@ -96,11 +96,11 @@ long_name = replicate 33 0x6b
 abbrev pub name_with_zero : List ℕ
 name_with_zero = 0x6b ∷ 0 ∷ 0x6b ∷ []
 
--- Two parts, the second of which is empty.
+-- Two parts. The second is empty.
 abbrev pub parts_with_empty : List (List ℕ)
 parts_with_empty = codes "hello" ∷ [] ∷ []
 
--- Images in which one check fails, beside images in which none does. The normal text of the
+-- Images in which one check fails, next to images in which none does. The normal text of the
 -- multi-file image has 87 bytes.
 pub record EmitFaultsAreKnown : Type 0 where
   pub long : HasEmitFault widest (record kernel_image { name = long_name }) BadField 32

@@ -67,7 +67,7 @@ image_name Firmware = codes "firmware-1"
 image_name Loadables = codes "standalone-1"
 image_name Script = codes "script-1"
 
--- Whether an image of this key keeps the load address and the entry point.
+-- Whether an image with this key keeps the load address and the entry point.
 abbrev pub has_addresses : Key → Bool
 has_addresses Kernel = true
 has_addresses Firmware = true

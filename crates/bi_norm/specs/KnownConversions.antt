@@ -68,8 +68,8 @@ pub record ConvertFaultsAreKnown : Type 0 where
   pub four_parts : HasConvertFault (known_image 4 0 (codes "y" ∷ known_parts)) TooManyParts 64
   pub two_scripts : HasConvertFault (known_image 6 0 (codes "x" ∷ codes "y" ∷ [])) TooManyParts 64
 
--- The images of each type with a name, but for multi-file images, are listed under the key whose
--- images have this type.
+-- The images of each type with a name, except multi-file images, are listed under the key for
+-- images of this type.
 abbrev pub TypesHaveTheirKeys : Type 0
 TypesHaveTheirKeys =
     AllByRecursion

@@ -5,7 +5,7 @@ use Rattle.bi_norm.specs.Cutting.{IsCut, IsCutFault}
 -- Small inputs with their pieces, or with the fault why they cannot be cut, by which a reader can
 -- judge the definitions.
 
--- Inputs and their pieces. A piece may be empty, and no bytes are no pieces.
+-- Inputs and their pieces. A piece may be empty, and an input without bytes has no pieces.
 pub record CutsAreKnown : Type 0 where
   pub two : IsCut (codes "helloabc") (5 ∷ 3 ∷ []) (codes "hello" ∷ codes "abc" ∷ [])
   pub empty : IsCut (codes "abc") (0 ∷ 3 ∷ 0 ∷ []) ([] ∷ codes "abc" ∷ [] ∷ [])

@@ -47,7 +47,7 @@ FileMeaningOrFault =
     → ((meaning : Meaning) × Means limits file meaning)
     ⊎ ((fault : Fault) × IsFileFault limits file fault)
 
--- A file of bytes means something within limits exactly where it has no fault under them.
+-- A file of bytes means something within limits if and only if it has no fault under them.
 abbrev pub FileMeaningWhereNoFault : Type 0
 FileMeaningWhereNoFault =
     (limits : Limits) (file : List ℕ) → AreBytes file
@@ -60,8 +60,8 @@ TextsOfKindsDiffer =
     (form : Form) (image : LegacyImage) (tree : ImageTree)
     → ¬ (legacy_text image ≡ fit_text form tree)
 
--- Two files, each within limits of its own, have the same normal text in one form exactly where
--- they mean the same, if one of the texts is not too long.
+-- Two files, each within its own limits, have the same normal text in a form if and only if they
+-- mean the same. One of the texts is not too long.
 abbrev pub NormalTextsDiffer : Type 0
 NormalTextsDiffer =
     (form : Form) (limits other_limits : Limits) (file other_file : List ℕ) (one other : Meaning)
