@@ -66,8 +66,9 @@ impl<'a, T: TracedWrite> Sink for BufferedSink<'a, T> {
 
     ghost fails = { BufferFails T.trace };
 
-    /// Appends these bytes: some are written, and up to 8 KiB stay in the buffer. The only error is
-    /// `WriteFailed`. A prefix of the buffer and these bytes together was then written.
+    /// Appends the given bytes: some are written, and up to 8 KiB stay in the buffer. The only
+    /// error is `WriteFailed`. A prefix of the buffer and the given bytes together was then
+    /// written.
     fn put(&mut self, bytes: &[u8]) -> Result<(), Error> {
         if self.held.try_extend_from_slice(bytes).is_ok() {
             return Ok(());

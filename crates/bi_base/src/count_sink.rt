@@ -50,7 +50,7 @@ impl Sink for CountSink {
 
     ghost fails = { λ _ _ _ _. ⊥ };
 
-    /// Counts these bytes. Never fails.
+    /// Counts the given bytes. Never fails.
     fn put(&mut self, bytes: &[u8]) -> Result<(), Error> {
         self.count = self.count.saturating_add(bytes.len() as u64);
         Ok(())

@@ -36,7 +36,7 @@ impl Crc32 {
         }
     }
 
-    /// Adds these bytes, sixteen at a time.
+    /// Adds the given bytes, sixteen at a time.
     pub fn update(&mut self, bytes: &[u8])
         ensures { self.new ≡ crc_after self.old bytes.now }
     {

@@ -36,8 +36,8 @@ impl<'a> Sink for SliceSink<'a> {
 
     ghost fails = { SliceFails };
 
-    /// Writes these bytes after those that were written before. The only error is `WriteFailed`, if
-    /// the slice does not have room for them. Nothing is then written.
+    /// Writes the given bytes after those that were written before. The only error is
+    /// `WriteFailed`, if the slice does not have room for them. Nothing is then written.
     fn put(&mut self, bytes: &[u8]) -> Result<(), Error>
         ensures wrote { Wrote ⟦<SliceSink<'a> as Sink>⟧.appends ⟦<SliceSink<'a> as Sink>⟧.fails
             self.old bytes.now result self.new }

@@ -50,8 +50,8 @@ impl<'a, W: Write> Sink for WriteSink<'a, W> {
 
     ghost fails = { FailsWithin (WriterGrows W.contents) IsWriteFailed };
 
-    /// Writes these bytes, in as many calls as it takes. The only error is `WriteFailed`. A prefix
-    /// of the bytes was then written.
+    /// Writes the given bytes, in as many calls as it takes. The only error is `WriteFailed`. A
+    /// prefix of the bytes was then written.
     fn put(&mut self, bytes: &[u8]) -> Result<(), Error> {
         let mut target = TracedWriter::new(self.writer);
         write_all(&mut target, bytes)

@@ -30,7 +30,7 @@ fn write_some<T: TracedWrite>(target: &mut T, bytes: &[u8]) -> Result<usize, Err
     Err(Error::WriteFailed)
 }
 
-/// Writes all of these bytes, in as many calls as it takes.
+/// Writes all of the given bytes, in as many calls as it takes.
 ///
 /// The only error is `WriteFailed`, after a failed write. A prefix of the bytes was then written.
 /// No failed write is ignored.
@@ -62,7 +62,7 @@ pub fn flush<T: TracedWrite>(target: &mut T) -> Result<(), Error>
     Err(Error::WriteFailed)
 }
 
-/// Writes all of these bytes, and flushes.
+/// Writes all of the given bytes, and flushes.
 ///
 /// The only error is `WriteFailed`: that of `write_all`, after which a prefix of the bytes was
 /// written, or that of `flush`, after which all of them were.

@@ -86,7 +86,7 @@ pub HoldsNames-held : (set : BTreeSet (Bor (List ℕ))) (name : Bor (List ℕ)) 
     contains name_cmp set name ≡ true → IsNew name.now held → ⊥
 HoldsNames-held set name held holds has = held_by_test name.now held (sym (holds.each name) ∙ has)
 
--- A set is empty exactly where it has no names.
+-- A set is empty if and only if it has no names.
 pub HoldsNames-empty : (set : BTreeSet (Bor (List ℕ))) (held : List (List ℕ)) → HoldsNames set held →
     (btree_set_len set ≡ 0 → held ≡ []) × (held ≡ [] → btree_set_len set ≡ 0)
 HoldsNames-empty set held holds = (to held holds.each, from set.keys holds.each) where

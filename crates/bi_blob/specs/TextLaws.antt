@@ -200,7 +200,7 @@ TextHasOneContent =
     → text_of_tree cpu reservations root ≡ text_of_tree other_cpu other_reservations other_root
     → SameContent cpu other_cpu reservations other_reservations root other_root
 
--- Two texts, neither of which is too long, are each followed by other bytes. If the files are the
+-- Two texts are each followed by other bytes, and neither text is too long. If the files are the
 -- same, the contents are the same, and so are the bytes after the texts.
 abbrev pub TextWithRestHasOneContent : Type 0
 TextWithRestHasOneContent =
@@ -240,8 +240,8 @@ ContentMayBeOrdered =
     → IsContent cpu reservations root
     → MayBeOrdered cpu reservations root
 
--- Normal texts, one of which is not too long, are the same if and only if their boot processors,
--- memory reservations and trees are, with the properties of each node by name.
+-- If one of two normal texts is not too long, the texts are the same if and only if their boot
+-- processors, memory reservations and trees are, with the properties of each node by name.
 abbrev pub NormalTextTellsContent : Type 0
 NormalTextTellsContent =
     (cpu other_cpu : ℕ) (reservations other_reservations : List Reservation)
@@ -255,7 +255,7 @@ NormalTextTellsContent =
     ↔ SameContent cpu other_cpu reservations other_reservations (tree_without_order root)
     (tree_without_order other_root)
 
--- Two normal texts, neither of which is too long, are each followed by other bytes. The files are
+-- Two normal texts are each followed by other bytes, and neither text is too long. The files are
 -- the same if and only if the boot processors, the memory reservations, the trees, with the
 -- properties of each node by name, and the bytes after the texts are.
 abbrev pub NormalTextWithRestTellsContent : Type 0

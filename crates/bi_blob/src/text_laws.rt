@@ -105,10 +105,11 @@ pub fn content_may_be_ordered()
     ensures { ContentMayBeOrdered }
 {}
 
-/// Two normal texts, one of which has at most 0x7fffffff bytes, are the same if and only if they
-/// are of the same boot processor, the same memory reservations and the same tree, with nodes in
-/// order and properties by name. Two files that each begin with a normal text of at most 0x7fffffff
-/// bytes are equal if and only if this holds for the texts and the bytes after the texts are equal.
+/// If one of two normal texts has at most 0x7fffffff bytes, the texts are the same if and only if
+/// they are of the same boot processor, the same memory reservations and the same tree, with nodes
+/// in order and properties by name. Two files that each begin with a normal text of at most
+/// 0x7fffffff bytes are equal if and only if this holds for the texts and the bytes after the texts
+/// are equal.
 pub fn normal_text_tells_content()
     ensures text { NormalTextTellsContent }
     ensures rest { NormalTextWithRestTellsContent }

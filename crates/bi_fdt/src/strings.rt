@@ -35,7 +35,7 @@ impl<'a> Model for Strings<'a> {
 }
 
 impl<'a> Strings<'a> {
-    /// Returns the strings block of these bytes. Takes time linear in their number.
+    /// Returns the strings block of the given bytes. Takes time linear in their number.
     pub(crate) fn new(alloc: Global, bytes: &'a [u8]) -> Result<Strings<'a>, AllocError>
         ensures { IfOk result (λ strings. strings ≡ bytes.entry.now) }
     {

@@ -98,8 +98,8 @@ NormalFitTextIsAccepted =
     → length (fit_text form tree) ≤ bounds.file → bounds.file ≤ longest_text
     → IsAcceptedAs bounds (fit_text form tree) tree
 
--- Two image trees have the same text in a form if and only if they are the same. One of the texts
--- is not too long.
+-- If one of the texts of two image trees in a form is not too long, the texts are the same if and
+-- only if the trees are.
 abbrev pub SameTextSameTree : Type 0
 SameTextSameTree =
     (form : Form) (one other : ImageTree) → IsImageTree one → IsImageTree other

@@ -68,8 +68,8 @@ pub fn normal_text_is_accepted()
     ensures { NormalFitTextIsAccepted }
 {}
 
-/// Two texts in the same form, one of which has at most 0x7fffffff bytes, are the same if and only
-/// if they are of the same image tree: the same boot processor, memory reservations, nodes in
+/// If one of two texts in the same form has at most 0x7fffffff bytes, the texts are the same if and
+/// only if they are of the same image tree: the same boot processor, memory reservations, nodes in
 /// order, properties by name and payloads.
 pub fn same_text_same_tree()
     ensures { SameTextSameTree }

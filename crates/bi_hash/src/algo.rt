@@ -41,7 +41,7 @@ impl Algo {
         Algo::Sha512,
     ];
 
-    /// Finds the algorithm with exactly this name. Returns None if no algorithm has it.
+    /// Finds the algorithm with exactly the given name. Returns None if no algorithm has it.
     pub fn from_name(name: &[u8]) -> Option<Algo>
         ensures named { (algo : Algo) → (result ≡ Some algo) ↔ (name.now ≡ algorithm_name algo) }
         ensures value { result ≡ find_algorithm name.now }

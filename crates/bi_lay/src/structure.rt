@@ -81,8 +81,8 @@ fn put_value<S: Sink>(value: Value<'_>, sink: &mut S) -> Result<(), Error>
     }
 }
 
-/// Appends a string: these bytes and a zero (Devicetree Specification, 2.2.4.2). Fails as the sink
-/// does.
+/// Appends a string: the given bytes and a zero (Devicetree Specification, 2.2.4.2). Fails as the
+/// sink does.
 pub(crate) fn put_string<S: Sink>(bytes: &[u8], sink: &mut S) -> Result<(), Error>
     ensures { Wrote S.appends S.fails sink.old (bytes.now ++ 0 ∷ []) result sink.new }
 {

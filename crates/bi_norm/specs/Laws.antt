@@ -60,8 +60,8 @@ TextsOfKindsDiffer =
     (form : Form) (image : LegacyImage) (tree : ImageTree)
     → ¬ (legacy_text image ≡ fit_text form tree)
 
--- Two files, each within its own limits, have the same normal text in a form if and only if they
--- mean the same. One of the texts is not too long.
+-- If one of the normal texts of two files in a form is not too long, the texts are the same if and
+-- only if the files mean the same. Each file is within its own limits.
 abbrev pub NormalTextsDiffer : Type 0
 NormalTextsDiffer =
     (form : Form) (limits other_limits : Limits) (file other_file : List ℕ) (one other : Meaning)

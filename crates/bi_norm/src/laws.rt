@@ -54,8 +54,9 @@ pub fn texts_of_kinds_differ()
     ensures { TextsOfKindsDiffer }
 {}
 
-/// Two files of any kinds, each within its own limits, have the same normal text in a form if and
-/// only if they mean the same. One of the texts has at most 0x7fffffff bytes.
+/// If one of the normal texts of two files in a form has at most 0x7fffffff bytes, the texts are
+/// the same if and only if the files mean the same. The files may be of any kinds, each within its
+/// own limits.
 pub fn normal_texts_differ()
     ensures { NormalTextsDiffer }
 {}

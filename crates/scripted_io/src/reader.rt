@@ -22,7 +22,7 @@ pub struct ScriptedReader<'a> {
 impl<'a> ScriptedReader<'a> {
     ghost use Rattle.scripted_io.specs.Reader.{bytes_left, script_of};
 
-    /// Returns a reader of these bytes.
+    /// Returns a reader of the given bytes.
     pub fn new(bytes: &'a [u8], script: Script) -> ScriptedReader<'a>
         ensures bytes { bytes_left result ≡ bytes.now }
         ensures script { script_of result ≡ script }

@@ -60,7 +60,7 @@ has_one_order root = record {
   only = λ other normal same. sym (ordered-tree other normal) ∙ ap in_byte_order same;
 }
 
--- Normal texts are the same exactly where their contents are.
+-- Normal texts are the same if and only if their contents are.
 pub normal_text_tells_content : NormalTextTellsContent
 normal_text_tells_content cpu other_cpu reservations other_reservations root other_root text other_text is other_is normal other_normal short = (
   (λ same.
