@@ -11,7 +11,7 @@ use Rattle.bi_base.specs.SinkLaws.{prefix_more, prefix_after}
 use Rattle.bi_base.specs.Traces.{WriteTrace}
 use Rattle.bi_base.specs.Writing.{Writes, WroteAll, WriteStopped}
 
--- A sink that holds bytes back before it writes them, as contracts see it.
+-- A sink that buffers bytes before it writes them, as contracts see it.
 
 -- Which borrow of a writer the sink has, the writer after the calls so far, and the bytes in the
 -- buffer.

@@ -10,7 +10,7 @@ use Rattle.bi_base.specs.Traces.{ReadTrace, ReadsWell, MustStopReading}
 
 -- What calls that read a whole input did (profile of this project).
 
--- The fault of what is longer than this bound.
+-- The fault of something that is longer than this bound.
 abbrev pub too_large : ℕ → Fault
 too_large most = record { cause = TooLarge; offset = most }
 

@@ -10,7 +10,7 @@ use Rattle.bi_blob.specs.Stages.{Stage, BeforeRoot, Inside, AfterRoot, next_stag
 -- Which events may follow others, in a tree that a blob can hold (Devicetree Specification, 2.2,
 -- 5.4.2) and in a normal text (profile of this project).
 
--- The most nodes that may be open at once in a normal text, the root counted (profile of this
+-- The most nodes that may be open at once in a normal text, including the root (profile of this
 -- project).
 abbrev pub most_open_nodes : ℕ
 most_open_nodes = 64

@@ -49,7 +49,7 @@ pub record GrowsByUse (events : List Event) : Type 0 where
 abbrev pub StringsGrowByUse : Type 0
 StringsGrowByUse = (events : List Event) → GrowsByUse events
 
--- Each name that events use is at its offset of their strings block.
+-- Each name that events use is at its offset in their strings block.
 abbrev pub EachNameIsFound : Type 0
 EachNameIsFound =
     (events : List Event) (name : List ℕ) → Contains (used_names events) name → HasNoZero name
@@ -87,8 +87,8 @@ TextEncodesItsTree =
     → IsContent cpu reservations root
     → length (text_of_tree cpu reservations root) ≤ longest_text → EncodesTree reservations root
 
--- This file is a blob of these and of nothing else. Its tree has the places of the layout and is
--- as deep, and its total size is the length of the text.
+-- This file is a blob of these and of nothing else. Its tree has the places of the layout and the
+-- same depth, and its total size is the length of the text.
 pub record IsBlobOf (file : List ℕ) (cpu : ℕ) (reservations : List Reservation)
     (root : Root (List Property)) : Type 0 where
   pub blob : IsBlob file cpu reservations (tree_with_places reservations root)
@@ -189,7 +189,7 @@ BlobHasContent =
     → IsBlob file cpu reservations root
     → IsContent cpu reservations (tree_without_places root)
 
--- Contents with one text, which is not too long, are the same: distinct contents have distinct
+-- Contents with the same text, if it is not too long, are the same: distinct contents have distinct
 -- texts.
 abbrev pub TextHasOneContent : Type 0
 TextHasOneContent =
@@ -215,7 +215,7 @@ TextWithRestHasOneContent =
     → SameContent cpu other_cpu reservations other_reservations root other_root
     × (rest ≡ other_rest)
 
--- A tree of properties by name has one normal order of them.
+-- A tree with properties by name has one normal order of them.
 pub record HasOneOrder (root : Root PropertyMap) : Type 0 where
   pub is_normal : IsNormal (in_byte_order root)
   pub is_same : tree_without_order (in_byte_order root) ≡ root
@@ -227,7 +227,7 @@ pub record HasOneOrder (root : Root PropertyMap) : Type 0 where
 abbrev pub EachTreeHasOneOrder : Type 0
 EachTreeHasOneOrder = (root : Root PropertyMap) → HasOneOrder root
 
--- Content may be laid out in normal order, and is as deep then.
+-- Content may be laid out in normal order, and then has the same depth.
 pub record MayBeOrdered (cpu : ℕ) (reservations : List Reservation)
     (root : Root (List Property)) : Type 0 where
   pub is_content : IsContent cpu reservations (in_byte_order (tree_without_order root))

@@ -37,7 +37,7 @@ pub record IsKindNumber (file : List ℕ) (size value : ℕ) : Type 0 where
   pub begins : BeginsAs file kind
   pub number : value ≡ kind_number kind
 
--- The file is of no kind.
+-- The file does not have a kind.
 abbrev pub IsKindFailure : List ℕ → Failure → Type 0
 IsKindFailure file (Refused number fault) = (number ≡ 1) × IsKindFault file fault
 IsKindFailure file other = ⊥

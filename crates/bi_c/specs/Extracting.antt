@@ -41,7 +41,7 @@ pub record IsListedOffset (content : FitModel) (configuration : List ℕ) (key :
   pub is_entry : slice_get listed index ≡ Some entry
   pub is_offset : IsNamedOffset content entry.name offset
 
--- The same of the default configuration.
+-- The same for the default configuration.
 pub record IsDefaultOffset (content : FitModel) (key : Key) (index offset : ℕ) : Type 0 where
   pub configuration : List ℕ
   pub is_default : default_of (tree_of content) ≡ Some configuration
@@ -56,7 +56,8 @@ IsPayloadOffset (Config name key index) content offset =
     IsListedOffset content name.now key index offset
 IsPayloadOffset (Default key index) content offset = IsDefaultOffset content key index offset
 
--- The offset is that of what is selected in the file: of the part of this index, or of a payload.
+-- The offset is that of what is selected in the file: of the part with the given index, or of a
+-- payload.
 abbrev pub IsOffset : Limits → Select → List ℕ → (offset : ℕ) → Type 0
 IsOffset limits (Part index) file offset =
     (image : LegacyModel) × IsReadLegacy limits file image
@@ -64,7 +65,7 @@ IsOffset limits (Part index) file offset =
 IsOffset limits select file offset =
     (content : FitModel) × IsReadFit limits file content × IsPayloadOffset select content offset
 
--- The choice is bytes that the file has from this offset on: this many.
+-- The choice is this many bytes of the file, from this offset on.
 pub record IsChosenAt (file : List ℕ) (choice : Choice) (size offset : ℕ) : Type 0 where
   pub bytes : List ℕ
   pub is_chosen : choice ≡ Chosen bytes

@@ -15,6 +15,6 @@ NumbersAreOfNames =
     → slice_get numbers other_at ≡ Some other_number
     → ((number ≡ other_number) ↔ (property.name ≡ other.name))
 
--- The names of the properties of a table are there once.
+-- The names of the properties of a table are distinct.
 abbrev pub NamesAreDistinct : Type 0
 NamesAreDistinct = (table : List TableItem) → AreDistinct (names_of_table table)

@@ -36,8 +36,8 @@ abbrev pub IsPlaced : List NamePart → NamePart → ℕ → List NamePart → T
 IsPlaced old part index new = ((slice_get old index ≡ Some part) × (new ≡ old))
     ⊎ (IsNewPart part old × (index ≡ length old) × (new ≡ old ++ part ∷ []))
 
--- The same parts and maybe more: each part keeps its number, still none is there twice, and they
--- are still in order.
+-- The same parts and maybe more: each part keeps its number, they are still distinct, and they are
+-- still in order.
 pub record AreMoreParts (old new : List NamePart) : Type 0 where
   pub begin : BeginsWith new old
   pub once : AreOnce old → AreOnce new

@@ -40,8 +40,7 @@ abbrev pub IsNumbered : List (List ℕ) → TableItem → ℕ → Type 0
 IsNumbered names (NodeItem depth place name) number = ⊤
 IsNumbered names (PropertyItem property) number = HasNumber names property number
 
--- The properties of a table have the names of these numbers. There is a number for each item of the
--- table.
+-- The properties of a table have the names with these numbers. Each item of the table has a number.
 abbrev pub AreNumbered : List (List ℕ) → List TableItem → List ℕ → Type 0
 AreNumbered names table numbers = AllZip (IsNumbered names) table numbers
 

@@ -56,8 +56,8 @@ with_keyed_property key None later = []
 with_keyed_property key (Some (NodeItem depth place name)) later = []
 with_keyed_property key (Some (PropertyItem property)) later = (key, property) ∷ later
 
--- The properties at the indices of these pairs in a table, up to the first index that is none of a
--- property.
+-- The properties at the indices of these pairs in a table, up to the first index that is not that
+-- of a property.
 abbrev pub keyed_properties : List TableItem → List (ℕ × ℕ) → List KeyedProperty
 keyed_properties table [] = []
 keyed_properties table (keyed ∷ later) =

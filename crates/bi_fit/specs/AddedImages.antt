@@ -31,8 +31,7 @@ added_children (OfNode parent) =
     sorted_image_children parent.hashed parent.digests.now (node_of parent.node).children
 added_children (Hash properties) = leaf hash_node_name properties.now.by_name
 
--- The digests that are left after those of the hash nodes of a file. None are left where the hash
--- node is given.
+-- The digests after those of the hash nodes of a file. There are none if the hash node is given.
 abbrev pub digests_left : ImageChildren → List ℕ
 digests_left (OfNode parent) =
     after_digests parent.hashed parent.digests.now (nodes_by_name (node_of parent.node).children)

@@ -44,7 +44,7 @@ IsTextFault limits form tree fault =
     (fault ≡ too_large limits.file) × (limits.file < length (fit_text form tree))
 
 -- The error of laying out the text of a tree: it is too long, or memory ran out. Memory never runs
--- out where what follows the blob is longer than the limit by itself.
+-- out if what follows the blob is by itself longer than the limit.
 abbrev pub IsTextError : Limits → Form → ImageTree → Error → Type 0
 IsTextError limits form tree =
     FailsWith (IsTextFault limits form tree) (length_after_blob form tree.payloads ≤ limits.file)

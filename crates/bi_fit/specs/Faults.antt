@@ -66,7 +66,7 @@ image_checks file none = []
 image_checks file (node name own children later) =
     source_checks file (source_of own) ++ image_checks file later
 
--- The checks of image nodes, where there may be no child `images`.
+-- The checks of image nodes. There may be no child `images`.
 abbrev pub images_checks : List ℕ → Option (Nodes FileNode) → List FitCheck
 images_checks file None = []
 images_checks file (Some images) = image_checks file images

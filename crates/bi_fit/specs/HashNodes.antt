@@ -55,19 +55,19 @@ file_verdicts (entry ∷ entries) (image ∷ images) =
 abbrev pub file_signatures : Sibling FileNode → List (Sibling FileNode)
 file_signatures entry = filter (λ child. is_signature_name child.name) (siblings entry.children)
 
--- The payload of the image of a name, and what follows it in the list.
+-- The payload of the image with a name, and what follows it in the list.
 abbrev pub listed_payload : (index : ℕ) → (name : List ℕ) → Option (Option (List ℕ)) → ListResult
     → ListResult
 listed_payload index name None later = Missing index
 listed_payload index name (Some payload) later =
     with_image (record { name = name; payload = payload }) later
 
--- The payload of the image of a name, if there is such an image.
+-- The payload of the image with a name, if there is such an image.
 abbrev pub payload_named : List ℕ → List ImageModel → Option (Option (List ℕ))
 payload_named name images =
     option_map (λ image. image.payload) (find (λ image. bytes_eq image.name name) images)
 
--- The images of these names, or the index of the first name that no image has.
+-- The images with these names, or the index of the first name that no image has.
 abbrev pub file_list : List ImageModel → (index : ℕ) → List (List ℕ) → ListResult
 file_list images index [] = ListedImages []
 file_list images index (name ∷ later) =
@@ -78,7 +78,7 @@ abbrev pub with_images : List ListedImage → ListResult → ListResult
 with_images [] listed = listed
 with_images (image ∷ later) listed = with_image image (with_images later listed)
 
--- The node is a configuration, and the first of its name.
+-- The node is a configuration, and the first with its name.
 pub record IsConfiguration (content : FitModel) (entry : Sibling FileNode) : Type 0 where
   pub is_found : node_named (file_configurations content.blob) entry.name ≡ Some entry
 

@@ -18,11 +18,11 @@ pub record ImageTree : Type 0 where
   pub root : Root PropertyMap
   pub payloads : List (Option (List ℕ))
 
--- The children of the first of these nodes that has this name, if one has it.
+-- The children of the first of these nodes with the given name, if one has it.
 abbrev pub children_of : {Own : Type 0} → List ℕ → Nodes Own → Option (Nodes Own)
 children_of wanted nodes = option_map (λ found. found.children) (node_named nodes wanted)
 
--- The same nodes, with other children in the first of them that has this name.
+-- The same nodes, with other children in the first of them with the given name.
 abbrev pub with_children_of : {Own : Type 0} → List ℕ → (Nodes Own → Nodes Own) → Nodes Own
     → Nodes Own
 with_children_of wanted change none = none
@@ -35,12 +35,12 @@ abbrev pub each_own : {Own : Type 0} → Nodes Own → List Own
 each_own none = []
 each_own (node name own children later) = own ∷ each_own later
 
--- The image nodes of a tree: the children of the root's child `images`. There are none where the
--- root has no such child, which is not the same as one without children.
+-- The image nodes of a tree: the children of the root's child `images`. There are none if the root
+-- has no such child, which is not the same as a child without children.
 abbrev pub image_nodes : {Own : Type 0} → Root Own → Option (Nodes Own)
 image_nodes root = children_of images_name root.children
 
--- The nodes of a list, where there may be no list.
+-- The nodes of a list. There may be no list.
 abbrev pub nodes_or_none : {Own : Type 0} → Option (Nodes Own) → Nodes Own
 nodes_or_none None = none
 nodes_or_none (Some nodes) = nodes
@@ -50,7 +50,7 @@ abbrev pub with_image_nodes : {Own : Type 0} → (Nodes Own → Nodes Own) → R
 with_image_nodes change root =
     record { own = root.own; children = with_children_of images_name change root.children }
 
--- The properties of an image node but for the four that hold a payload or name its region.
+-- The properties of an image node, except the four that hold a payload or name its region.
 abbrev pub without_payload : PropertyMap → PropertyMap
 without_payload properties = retain_keys properties (λ name. not (is_payload_name name))
 

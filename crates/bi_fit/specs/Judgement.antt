@@ -63,7 +63,7 @@ checked_hash image hash = record {
 abbrev pub hash_nodes : Image → List (Sibling PropertyMap)
 hash_nodes image = filter (λ child. is_hash_name child.name) (siblings image.entry.children)
 
--- The verdicts of a tree: image by image, and of each image hash node by hash node.
+-- The verdicts of a tree: image by image, and, for each image, hash node by hash node.
 abbrev pub verdicts_of : ImageTree → List CheckedHash
 verdicts_of tree = flat_map (λ image. map (checked_hash image) (hash_nodes image)) (images_of tree)
 
@@ -119,20 +119,20 @@ abbrev pub with_image : ListedImage → ListResult → ListResult
 with_image image (ListedImages later) = ListedImages (image ∷ later)
 with_image image refusal = refusal
 
--- The image of a name, and what follows it in the list.
+-- The image with a name, and what follows it in the list.
 abbrev pub listed_from : (index : ℕ) → (name : List ℕ) → Option Image → ListResult → ListResult
 listed_from index name None later = Missing index
 listed_from index name (Some image) later =
     with_image (record { name = name; payload = image.payload }) later
 
--- The images of these names, or the index of the first name that no image has.
+-- The images with these names, or the index of the first name that no image has.
 abbrev pub list_images : List Image → (index : ℕ) → List (List ℕ) → ListResult
 list_images images index [] = ListedImages []
 list_images images index (name ∷ later) =
     listed_from index name (image_named name images) (list_images images (index + 1) later)
 
--- What the value of a key lists. It is a list of names where its last byte is a zero, which an
--- empty value does not have.
+-- What the value of a key lists. It is a list of names if its last byte is a zero, which an empty
+-- value does not have.
 abbrev pub listed_in : List Image → List ℕ → ListResult
 listed_in images value =
     if ends_with nat_eq value (0 ∷ []) then list_images images 0 (listed_names value) else BadList
@@ -142,7 +142,7 @@ abbrev pub listed_at : List Image → Option (List ℕ) → ListResult
 listed_at images None = NoKey
 listed_at images (Some value) = listed_in images value
 
--- What a node lists under a key, where there may be no node.
+-- What a node lists under a key. There may be no node.
 abbrev pub listed_under : List Image → Option (Sibling PropertyMap) → Key → ListResult
 listed_under images None key = NoConfig
 listed_under images (Some configuration) key =

@@ -24,13 +24,13 @@ tree_with_images images = record { own = []; children = node images_name [] imag
 abbrev pub file_of_images : Nodes (List Property) → List ℕ → List ℕ
 file_of_images images rest = text_of_tree 0 [] (tree_with_images images) ++ rest
 
--- Image nodes of these names, without properties.
+-- Image nodes with these names, without properties.
 abbrev pub plain_images : List (List ℕ) → Nodes PropertyMap
 plain_images [] = none
 plain_images (name ∷ later) = node name empty none (plain_images later)
 
--- The meaning of a file that has image nodes of these names, with these payloads and without other
--- properties.
+-- The meaning of a file that has image nodes with these names, with these payloads and without
+-- other properties.
 abbrev pub plain_tree : List (List ℕ) → List (Option (List ℕ)) → ImageTree
 plain_tree names payloads = record {
   cpu = 0;
@@ -221,7 +221,7 @@ shared_file offset size =
     (node (codes "c") (region_of 0 1000) none none)))
     shared_region
 
--- What it means, where this is the first payload.
+-- What it means, if this is the first payload.
 abbrev pub shared_tree : List ℕ → ImageTree
 shared_tree payload =
     plain_tree
@@ -316,7 +316,7 @@ unused_offset_file =
     []
 
 -- Properties that do not give the payload have no meaning. A region may be anywhere in the file,
--- also in its header.
+-- even in its header.
 pub record UnusedHaveNoMeaning : Type 0 where
   pub size : IsFitFile unused_size_file (plain_tree (codes "a" ∷ []) (Some (codes "abc") ∷ []))
   pub offset : IsFitFile unused_offset_file

@@ -27,13 +27,13 @@ use Rattle.bi_fit.specs.Building.{configuration_name, is_under}
 -- Laws of what a flattened image tree is (Flattened Image Tree Specification), and of its faults
 -- and texts (profile of this project). Each is the contract of a function in `laws`.
 
--- A file is a flattened image tree of at most one meaning.
+-- As a flattened image tree, a file has at most one meaning.
 abbrev pub OneFitMeaning : Type 0
 OneFitMeaning = (file : List ℕ) (one other : ImageTree) → IsFitFile file one → IsFitFile file other
     → one ≡ other
 
 -- A flattened image tree begins with the magic number of a blob: a file that begins with another
--- is none.
+-- number is not one.
 abbrev pub FitBeginsWithMagic : Type 0
 FitBeginsWithMagic = (file : List ℕ) (tree : ImageTree) → IsFitFile file tree
     → magic file ≡ blob_magic
@@ -132,8 +132,8 @@ pub record HasExternalLength (tree : ImageTree) : Type 0 where
 abbrev pub EachExternalTextHasItsLength : Type 0
 EachExternalTextHasItsLength = (tree : ImageTree) → HasExternalLength tree
 
--- Payloads end where some of the first of them do or after: a text is too long as soon as some of
--- its payloads are.
+-- Payloads end no earlier than the first few of them: a text is too long as soon as the first few
+-- of its payloads are.
 abbrev pub PayloadsEndLater : Type 0
 PayloadsEndLater =
     (first later : List (Option (List ℕ))) → payloads_end 0 first ≤ payloads_end 0 (first ++ later)
@@ -178,8 +178,8 @@ abbrev pub BuiltHasGoodPayloads : Type 0
 BuiltHasGoodPayloads = (head : HeadModel) (images : List ImageSpecModel)
     → HasGoodPayloads head images
 
--- How a value lists names: each name is followed by a zero. Where the last byte of a value is a
--- zero, all of it is names.
+-- How a value lists names: each name is followed by a zero. If the last byte of a value is a zero,
+-- all of it is names.
 pub record ReadsNames : Type 0 where
   pub listed : (names : List (List ℕ)) → AllByRecursion HasNoZero names
       → listed_names (strings_of names) ≡ names

@@ -3,7 +3,7 @@ use Rattle.bi_blob.specs.Tree.{Root, FileNode, AreDistinct}
 use Rattle.bi_fdt.specs.TreeNames.{AreNamesIn}
 
 -- The long names of properties (profile of this project). Names may share bytes in a file, so long
--- ones can have more bytes together than the file. A text has each of them once, in full.
+-- names can have more bytes together than the file. A text has each of them once, in full.
 
 -- A name of 64 bytes or more, and no bytes for a shorter name. The names of the properties that
 -- hold a payload, a time or a digest are shorter.

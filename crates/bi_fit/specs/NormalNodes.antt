@@ -31,7 +31,7 @@ with_events document events = record document { events = document.events ++ even
 abbrev pub MayAdd : Doc → List Event → Type 0
 MayAdd document events = AllFollow MayFollowInText (stage_of_events document.events) events
 
--- No two properties of a node have one name.
+-- No two properties of a node have the same name.
 abbrev pub HasDistinctNames : FileNode → Type 0
 HasDistinctNames own = AreDistinct (map (λ property. property.0) (properties_of own))
 
@@ -94,8 +94,8 @@ abbrev pub HasCellSize : Form → Option (List ℕ) → Type 0
 HasCellSize External (Some payload) = length payload < 2 ^ 32
 HasCellSize form payload = ⊤
 
--- Where the payloads end once there is one more, if they ended at `end` before it. That counts only
--- for external ones.
+-- Where the payloads end once there is one more, if they ended at `end` before it. That matters
+-- only for external payloads.
 abbrev pub next_end : Form → (end : ℕ) → Option (List ℕ) → ℕ
 next_end Embedded end payload = end
 next_end External end payload = end_after end payload
@@ -111,7 +111,7 @@ pub record AreImageNodes (hashes : Bool) (images : List Image) (digests : List �
   pub same_count : length (siblings nodes) ≡ length images
   pub has_digests : HaveImageDigests hashes (payloads_of images) digests (nodes_by_name nodes)
 
--- This holds of the children of each of these nodes that has the name `images`.
+-- This holds for the children of each of these nodes that has the name `images`.
 abbrev pub HaveImageNodes : (Nodes FileNode → Type 0) → Nodes FileNode → Type 0
 HaveImageNodes AreImages none = ⊤
 HaveImageNodes AreImages (node name own children later) =

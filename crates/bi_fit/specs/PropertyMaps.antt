@@ -41,7 +41,7 @@ pub record IsConsistentMap (properties : Fields) : Type 0 where
   pub within : AreRanksWithin properties.names.now properties.entries.items
   pub ascending : T (is_sorted nat_cmp properties.entries.items)
 
--- The index of the first entry whose rank is not less, or the number of the entries.
+-- The index of the first entry with a rank that is not less, or the number of entries.
 abbrev pub index_of_rank : List (ℕ × Value) → (rank : ℕ) → ℕ
 index_of_rank [] rank = 0
 index_of_rank (entry ∷ entries) rank =

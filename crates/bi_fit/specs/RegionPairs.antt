@@ -18,7 +18,7 @@ HasSameBytes file other pair =
     (index : ℕ) → pair.begin ≤ index → index < pair.end →
     slice_index_or file index 0 ≡ slice_index_or other (index + pair.distance - length file) 0
 
--- A pair of the same distance begins within another pair, or at its end.
+-- A pair with the same distance begins within another pair, or at its end.
 pub record BeginsWithin (compared pair : RegionPair) : Type 0 where
   pub same_distance : pair.distance ≡ compared.distance
   pub no_sooner : compared.begin ≤ pair.begin

@@ -8,7 +8,8 @@ use Rattle.bi_fit.specs.NormalNodes.{AreImageNodes, HaveImageNodes, AreWithin, p
 use Rattle.bi_fit.specs.NormalNodes.{sorted_images, sorted_images_node}
 use Rattle.bi_fit.specs.NormalNodes.{sorted_root_children, sorted_root}
 
--- The nodes of a normal text, by the nodes of its file and what the text is made of besides them.
+-- The nodes of a normal text, by the nodes of its file and what the text is made of in addition to
+-- them.
 
 -- The payload of each image, if it has one.
 abbrev pub text_payloads : TextParts → List (Option (List ℕ))

@@ -35,7 +35,7 @@ abbrev pub known_algorithm : PropertyMap → Option Algo
 known_algorithm properties =
     option_and_then find_algorithm (option_and_then text_before_nul (get properties algo_name))
 
--- The properties of a hash node with the digest of a payload by this algorithm, if there is one.
+-- The properties of a hash node with the digest of a payload with this algorithm, if there is one.
 abbrev pub with_digest_by : Option Algo → (payload : List ℕ) → PropertyMap → PropertyMap
 with_digest_by None payload properties = properties
 with_digest_by (Some algo) payload properties =
@@ -91,7 +91,7 @@ with_changes changes tree =
 
 -- ---- what follows from an updated tree
 
--- A hash node of an image with this payload, by this algorithm, once it has the digest: the verdict
+-- A hash node of an image with this payload and this algorithm, once it has the digest: the verdict
 -- on it is Good.
 abbrev pub hash_with_digest : Image → Sibling PropertyMap → (payload : List ℕ) → Algo
     → CheckedHash
@@ -113,8 +113,8 @@ abbrev pub new_hash : (hashes : Bool) → Image → Sibling PropertyMap → Chec
 new_hash false image hash = checked_hash image hash
 new_hash true image hash = rechecked_by image hash image.payload (known_algorithm hash.own)
 
--- What follows from a tree after an update. If the digests change, the verdict on each hash node of
--- an image with a payload is Good, if its algorithm is known. All other verdicts stay, and so do
+-- What follows from a tree after an update. If the digests change, the verdict on each hash node
+-- with a known algorithm, of an image with a payload, is Good. All other verdicts stay, and so do
 -- the configurations and what they list, the default, and the number of signatures.
 pub record HasUpdatedJudgement (changes : Changes) (tree : ImageTree) : Type 0 where
   pub verdicts : verdicts_of (with_changes changes tree)

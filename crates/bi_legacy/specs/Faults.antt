@@ -10,7 +10,7 @@ use Rattle.bi_legacy.specs.File.{legacy_magic, LegacyMeans}
 use Rattle.bi_legacy.specs.Meaning.{LegacyImage}
 use Rattle.bi_legacy.specs.PartTables.{TableCheck, TablePasses, table_fault, body_checks}
 
--- The checks of a legacy image, and the fault of a file that is none (profile of this project).
+-- The checks of a legacy image, and the fault of a file that is not one (profile of this project).
 
 -- The data, of the size in the header, or as much of it as the file has.
 abbrev pub body_of : List ℕ → List ℕ

@@ -16,7 +16,7 @@ use Rattle.bi_legacy.specs.KnownImages.{kernel_image, kernel_file, multi_image}
 -- which a reader can judge the definitions: each check is the first that fails in one of them
 -- (profile of this project).
 
--- The widest limits but for this one on files.
+-- The widest limits, except for this limit on files.
 abbrev pub limited_to : ℕ → Limits
 limited_to limit = record { file = limit; depth = 64 }
 
@@ -24,7 +24,7 @@ limited_to limit = record { file = limit; depth = 64 }
 abbrev pub with_byte_at : List ℕ → ℕ → ℕ → List ℕ
 with_byte_at file at byte = take at file ++ (byte ∷ drop (at + 1) file)
 
--- A file of this type with this data, otherwise like that of the kernel image. Its checksums are
+-- A file with this type and this data, otherwise like that of the kernel image. Its checksums are
 -- right.
 abbrev pub file_of_data : ℕ → List ℕ → List ℕ
 file_of_data image_type body =

@@ -91,7 +91,7 @@ UpdatedHasNormalForm =
     LegacyMeans limits file image → time < 2 ^ 32 →
     HasNormalForm limits (with_new_time time image)
 
--- The image has this time, and all else of it is as it was.
+-- The image has this time, and is otherwise as it was.
 pub record HasNewTime (time : ℕ) (old new : LegacyImage) : Type 0 where
   pub time_is : new.time ≡ time
   pub load : new.load ≡ old.load
@@ -103,7 +103,7 @@ pub record HasNewTime (time : ℕ) (old new : LegacyImage) : Type 0 where
   pub name : new.name ≡ old.name
   pub parts : new.parts ≡ old.parts
 
--- An image with another time has this time, and all else is as it was.
+-- An image with a new time has this time, and is otherwise as it was.
 abbrev pub UpdatedHasNewTime : Type 0
 UpdatedHasNewTime =
     (image : LegacyImage) (time : ℕ) → HasNewTime time image (with_new_time time image)

@@ -36,7 +36,7 @@ abbrev pub IsImagesError : List ImageSpec → Error → Type 0
 IsImagesError images =
     FailsWith (IsFirstFailure (spec_checks 0 [] images)) (AllPass (first_image_checks images))
 
--- An image at an index after images of these names.
+-- An image at an index after images with these names.
 abbrev pub at_index : ℕ → List (List ℕ) → ImageSpec → IndexedImage
 at_index index earlier image = record { index = index; earlier = earlier; image = image }
 

@@ -136,7 +136,7 @@ IsBuildError limits form head images =
     FailsWith (IsBuildFault limits form head images)
     (HasNoFault (BuildPasses limits form head images) (checks_without_memory images))
 
--- The text is that of the tree that is built. Under the same limit on files, if four nodes or more
+-- The text is that of the tree that is built. Under the same limit on files, if at least four nodes
 -- may be open, it is accepted and means the tree. Its payloads are those of the images, its
 -- verdicts are Good, and its configuration lists the images.
 pub record IsBuilt (limits : Limits) (form : Form) (head : Head) (images : List ImageSpec)

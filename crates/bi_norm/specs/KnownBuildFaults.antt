@@ -13,7 +13,7 @@ use Rattle.bi_norm.specs.FitBuilding.{IsBuildFault, IsBuildError}
 
 -- Small trees that cannot be built, each with its fault, by which a reader can judge the
 -- definitions (profile of this project). Where the slices of the arguments are makes no difference:
--- they have the bytes that are given, and are otherwise like any slice.
+-- they have the given bytes, and are otherwise like any slice.
 
 -- A slice with these bytes, otherwise like another one.
 abbrev pub slice_like : Bor (List ℕ) → List ℕ → Bor (List ℕ)
@@ -143,7 +143,7 @@ NeedsNoMemory any description images =
     (form : Form)
     → ¬ (IsBuildError narrow_limits form (head_like any description) images OutOfMemory)
 
--- Memory never runs out where a check fails that needs none.
+-- Memory never runs out if a check fails that needs none.
 pub record RefusalsNeedNoMemory (any : Bor (List ℕ)) : Type 0 where
   pub many_images : NeedsNoMemory any (codes "k") (replicate 65 (kernel_like any (codes "a")))
   pub description :

@@ -11,8 +11,8 @@ use Rattle.bi_legacy.specs.Meaning.{LegacyImage}
 use Rattle.bi_norm.specs.FitBuilding.{first_key, multi}
 use Rattle.bi_norm.specs.Converting.{converted_images, fit_of, keys_of_type, IsConvertFault}
 
--- Small legacy images with the images that they are converted to, or with the fault why they cannot
--- be, by which a reader can judge the definitions.
+-- Small legacy images with the images that they are converted to, or with the fault of those that
+-- cannot be converted, by which a reader can judge the definitions.
 
 -- An image for Linux on ARM, with the name `k` and time 1, that is loaded at 0x8000 and entered at
 -- 0x8040.

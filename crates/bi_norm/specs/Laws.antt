@@ -54,7 +54,7 @@ FileMeaningWhereNoFault =
     → ((meaning : Meaning) × Means limits file meaning)
     ↔ ((fault : Fault) → ¬ (IsFileFault limits file fault))
 
--- No normal text of a legacy image is one of a flattened image tree, in any form.
+-- No normal text of a legacy image is the normal text of a flattened image tree, in any form.
 abbrev pub TextsOfKindsDiffer : Type 0
 TextsOfKindsDiffer =
     (form : Form) (image : LegacyImage) (tree : ImageTree)
