@@ -19,7 +19,7 @@ use bi_commands::extract::{ExtractError, Select};
 use bi_fit::ConfigError;
 use std::alloc::Global;
 
-/// Finds the part of a legacy image with the given index, counted from 0. Sets `answer.value` to
+/// Finds the part with the given index, counted from 0, of a legacy image. Sets `answer.value` to
 /// the offset of its first byte in the file, and `answer.size` to its size in bytes. Returns the
 /// status.
 #[unsafe(no_mangle)]
