@@ -100,7 +100,7 @@ in_turn_beyond filled a [] [] beyond room more =
     ap (λ (l : List ℕ). take (filled + 0) l ++ drop (filled + 0 + 0) l) (slice_stays filled a)
     ∙ slice_stays (filled + 0) a ∙ sym (slice_stays filled a)
 
--- Both together have no bytes then.
+-- Both together then have no bytes.
 none_beyond : (filled : ℕ) (a xs ys : List ℕ) → length a < filled
     → length xs ≤ length a - filled
     → length ys

@@ -19,11 +19,17 @@ use std::io::{Read, Write};
 /// the writer record the outcome of their calls. Returns what the command returns. Requires: the
 /// command may be run (`can_run`).
 ///
-/// Errors: `ReadFailed` after a failed read; `Refused` with `TooLarge` at the limit for files, if
-/// the input is longer; those of the command; `WriteFailed` after a failed write or flush;
-/// `OutOfMemory` for any input, since reading it allocates. No failed call is ignored. After
-/// `WriteFailed`, a prefix of the output was written: all of it if the flush failed. After any
-/// other error, nothing was written. At most one byte more than the limit is read.
+/// Errors:
+///
+/// - `ReadFailed` after a failed read;
+/// - `Refused` with `TooLarge` at the limit for files, if the input is longer;
+/// - those of the command;
+/// - `WriteFailed` after a failed write or flush;
+/// - `OutOfMemory` for any input, since reading it allocates.
+///
+/// No failed call is ignored. After `WriteFailed`, a prefix of the output was written: all of it if
+/// the flush failed. After any other error, nothing was written. At most one byte more than the
+/// limit is read.
 pub fn pipe<C: Command, S: TracedRead, T: TracedWrite>(
     alloc: Global,
     command: &C,
@@ -82,7 +88,7 @@ fn write_output<C: Command, T: TracedWrite>(
     run_and_finish(alloc, command, input, limits, &mut sink)
 }
 
-/// Runs a command over a sink whose buffer is empty, and finishes the sink.
+/// Runs a command over a sink with an empty buffer, and finishes the sink.
 fn run_and_finish<C: Command, T: TracedWrite>(
     alloc: Global,
     command: &C,

@@ -82,9 +82,9 @@ pub fn rank_names<'a>(alloc: Global, names: &[&'a [u8]]) -> Result<NameRanks<'a>
     })
 }
 
-/// Returns the key at each of these numbers, or 0 where there is none. So if the keys are the
-/// numbers of names in another list, the result has the numbers in that list of the names that
-/// `numbers` gives. Fails if memory runs out.
+/// Returns the key at each of these numbers, or 0 if there is none. So if the keys are the numbers
+/// of names in another list, the result has the numbers in that list of the names that `numbers`
+/// gives. Fails if memory runs out.
 pub fn keys_at(alloc: Global, keys: &[usize], numbers: &[usize]) -> Result<Vec<usize>, AllocError>
     ensures count { IfOk result (λ found. length found.items ≡ length numbers.now) }
     ensures numbers { (names others : List (List ℕ)) → (table : List TableItem)
@@ -94,7 +94,7 @@ pub fn keys_at(alloc: Global, keys: &[usize], numbers: &[usize]) -> Result<Vec<u
     pick_keys(alloc, keys, numbers)
 }
 
-/// Returns the key at each of these numbers, or 0 where there is none. Fails if memory runs out.
+/// Returns the key at each of these numbers, or 0 if there is none. Fails if memory runs out.
 fn pick_keys(alloc: Global, keys: &[usize], numbers: &[usize]) -> Result<Vec<usize>, AllocError>
     ensures { IfOk result (λ found. found.items ≡ map (slice_index keys.now) numbers.now) }
 {

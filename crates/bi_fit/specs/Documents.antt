@@ -38,7 +38,7 @@ pub record IsTextOfTree (limits : Limits) (form : Form) (tree : ImageTree) (text
     pub is_text : text ≡ fit_text form tree
     pub short : length text ≤ limits.file
 
--- The fault of a tree whose text is longer than the limit.
+-- The fault of a tree with a text that is longer than the limit.
 abbrev pub IsTextFault : Limits → Form → ImageTree → Fault → Type 0
 IsTextFault limits form tree fault =
     (fault ≡ too_large limits.file) × (limits.file < length (fit_text form tree))

@@ -36,7 +36,7 @@ source_of own =
     (property_named own.properties data_size_name)
     (property_named own.properties data_name)
 
--- The number of a property whose value is one cell.
+-- The number in a property whose value is one cell.
 abbrev pub cell_number : FileProperty → ℕ
 cell_number property = from_be_bytes w32 property.value
 

@@ -49,12 +49,14 @@ impl<'a> Fit<'a> {
     /// Reads a flattened image tree. The file may be longer than its blob.
     ///
     /// Succeeds if the file is a flattened image tree within the limits, unless memory runs out.
-    /// Otherwise it fails with the fault of the first check that fails: those of `Blob::read`;
-    /// NoImages at the token of the root, if it has no child `images`; then, for each image node in
-    /// order that has `data-position` or else `data-offset`: BadCell at that property, if its value
-    /// is not four bytes; NoSize there, if there is no `data-size`; BadCell at `data-size`, if its
-    /// value is not four bytes; OutsideFile at the first property, if the payload ends after the
-    /// file.
+    /// Otherwise it fails with the fault of the first check that fails:
+    ///
+    /// - those of `Blob::read`;
+    /// - NoImages at the token of the root, if it has no child `images`;
+    /// - for each image node in order that has `data-position` or else `data-offset`: BadCell at
+    ///   that property, if its value is not four bytes; NoSize there, if there is no `data-size`;
+    ///   BadCell at `data-size`, if its value is not four bytes; OutsideFile at the first property,
+    ///   if the payload ends after the file.
     ///
     /// OutOfMemory occurs only if the header and the memory reservation block have no fault.
     pub fn read(alloc: Global, file: &'a [u8], limits: Limits) -> Result<Fit<'a>, Error>

@@ -119,7 +119,7 @@ pub fn built_has_good_payloads()
 {}
 
 /// The value of a key lists names, each followed by a zero: names without zeros are listed as they
-/// are, and all of a value whose last byte is a zero is names.
+/// are, and a value whose last byte is a zero has only names.
 pub fn reads_names()
     ensures names { ReadsNames }
 {}

@@ -22,10 +22,10 @@ const MAX_DEPTH: usize = 64;
 /// a tree, which come in the order of the structure block (Devicetree Specification, 5.4.2). Names
 /// and values are borrowed, not copied.
 ///
-/// Each call but `with_names`, `may_begin`, `property_numbered` and `close` takes time linear in
-/// the length of its name, if it has one, apart from allocations. `property` looks its name up in a
-/// table of hashes. `property_numbered` does so at the first use of a number, and takes constant
-/// time at each later one.
+/// Unless its description says otherwise, each call takes time linear in the length of its name, if
+/// it has one, apart from allocations. `property` looks its name up in a table of hashes.
+/// `property_numbered` does so at the first use of a number, and takes constant time at each later
+/// one.
 ///
 /// The key of the hashes depends on all names that `with_names` was given. So a file cannot choose
 /// such names with equal hashes, which a look-up would compare one by one. Names that only

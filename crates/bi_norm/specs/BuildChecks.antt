@@ -14,7 +14,7 @@ use Rattle.bi_norm.specs.FitBuilding.{IndexedImage, first_image_checks}
 
 -- The checks of what is to be built, one after the other.
 
--- All checks but that of the text's length.
+-- All checks, except that of the text's length.
 abbrev pub early_checks : List ImageSpec → List BuildCheck
 early_checks images = HasFewImages ∷ HasTextDescription ∷ spec_checks 0 [] images
 

@@ -50,7 +50,7 @@ HasBuildFault any description images cause offset =
 abbrev pub description_with_zero : List ℕ
 description_with_zero = codes "k" ++ 0 ∷ codes "k"
 
--- Each check but that of the text's length is the first that fails for one of these.
+-- Each check, except that of the text's length, is the first that fails for one of these.
 pub record HaveBuildFaults (any : Bor (List ℕ)) : Type 0 where
   pub many_images :
       HasBuildFault any (codes "k") (replicate 65 (kernel_like any (codes "a"))) TooLarge 64

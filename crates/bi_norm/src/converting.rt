@@ -19,11 +19,16 @@ use std::alloc::Global;
 
 /// Returns the flattened image tree of a legacy image, with its payloads embedded.
 ///
-/// Errors, the first that applies: those of `Legacy::read`; NoCodeName at 28, 29, 30 or 31, if the
-/// operating system, the architecture, the type or the compression has no name; EmptyPart at 64, if
-/// there are no parts; TooManyParts at 64, if a multi-file image has more than three parts or a
-/// script more than one; TooLarge at the limit, if the flattened image tree is longer; OutOfMemory,
-/// which occurs only for a legacy image that passes all checks but the last.
+/// Fails with the first of these errors that applies:
+///
+/// - those of `Legacy::read`;
+/// - NoCodeName at 28, 29, 30 or 31, if the operating system, the architecture, the type or the
+///   compression has no name;
+/// - EmptyPart at 64, if there are no parts;
+/// - TooManyParts at 64, if a multi-file image has more than three parts or a script more than one;
+/// - TooLarge at the limit, if the flattened image tree is longer.
+///
+/// OutOfMemory occurs only for a legacy image that passes all checks but the last.
 pub fn convert(alloc: Global, file: &[u8], limits: Limits) -> Result<Vec<u8>, Error>
     ensures converted { IfOk result (λ text. IsConvertedFile limits file.now text.items) }
     ensures failed { IfErr result (IsConvertError limits file.now) }

@@ -8,8 +8,8 @@ ghost use Rattle.bi_norm.specs.Cutting.{IsCut, IsCutFault, IsCutError};
 use bi_base::{Cause, Error, Fault, refuse};
 use std::alloc::Global;
 
-/// Cuts an input of at most 0x7fffffff bytes into consecutive pieces of these lengths, which
-/// together are the whole input.
+/// Cuts an input into consecutive pieces of these lengths, which together are the whole input.
+/// Requires: the input has at most 0x7fffffff bytes.
 ///
 /// Errors: BadPart at the beginning of the first piece that does not fit, or at the end of the
 /// pieces, if bytes are left; OutOfMemory, which occurs only for an input that can be cut.

@@ -35,13 +35,17 @@ pub struct ImageSpec<'a> {
 /// Returns a flattened image tree with these images, each with the SHA-256 of its payload, and one
 /// configuration, `conf-1`, that lists them by their types.
 ///
-/// Errors, the first that applies: TooLarge at the limit, if there are more images than that;
-/// BadField at 0, if the description has a zero byte; then, for each image in order, at its index,
-/// counted from 0: BadField, if its name is empty or has a zero byte or a `/`, or its type is
-/// multi; NoCodeName, if one of its codes has no name; DuplicateNode, if an earlier image has its
-/// name; then TooLarge at the limit, if the text is longer. OutOfMemory occurs only if the number
-/// of images, the description, and the name, type and codes of the first image are accepted, and
-/// then instead of any other error.
+/// Fails with the first of these errors that applies:
+///
+/// - TooLarge at the limit, if there are more images than that;
+/// - BadField at 0, if the description has a zero byte;
+/// - for each image in order, at its index, counted from 0: BadField, if its name is empty or has a
+///   zero byte or a `/`, or its type is multi; NoCodeName, if one of its codes has no name;
+///   DuplicateNode, if an earlier image has its name;
+/// - TooLarge at the limit, if the text is longer.
+///
+/// OutOfMemory occurs only if the number of images, the description, and the name, type and codes
+/// of the first image are accepted, and then instead of any other error.
 pub fn build_fit(
     alloc: Global,
     head: Head<'_>,

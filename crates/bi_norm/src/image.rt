@@ -22,10 +22,15 @@ pub enum BootImage<'a> {
 impl<'a> BootImage<'a> {
     /// Reads a boot image. The file may be longer than the image.
     ///
-    /// Errors, the first that applies: TooLarge at the limit, if the file is longer; Truncated at
-    /// 0, if it has fewer than four bytes; BadMagic at 0; those of `Legacy::read` or of
-    /// `Fit::read`. OutOfMemory occurs only after the checks of a legacy image, or of the header
-    /// and the memory reservation block of a blob.
+    /// Fails with the first of these errors that applies:
+    ///
+    /// - TooLarge at the limit, if the file is longer;
+    /// - Truncated at 0, if it has fewer than four bytes;
+    /// - BadMagic at 0;
+    /// - those of `Legacy::read` or of `Fit::read`.
+    ///
+    /// OutOfMemory occurs only after the checks of a legacy image, or of the header and the memory
+    /// reservation block of a blob.
     pub fn read(alloc: Global, file: &'a [u8], limits: Limits) -> Result<BootImage<'a>, Error>
         ensures read { IfOk result (IsReadBootImage limits file.entry.now) }
         ensures failed { IfErr result (IsBootImageReadError limits file.entry.now) }

@@ -21,11 +21,16 @@ use std::io::{Read, Write};
 /// normal form if and only if they mean the same. `form` says where the normal form of a flattened
 /// image tree has the payloads; it has no effect on a legacy image.
 ///
-/// Errors, each `Error::Refused`, the first that applies: TooLarge at the limit, if the file is
-/// longer; Truncated at 0, if it has fewer than four bytes; BadMagic at 0; those of `Legacy::read`
-/// or of `Fit::read`; TooLarge at the limit, if the normal form of a flattened image tree is
-/// longer. OutOfMemory occurs only after the checks of a legacy image, or of the header and the
-/// memory reservation block of a blob.
+/// Fails with the first of these errors that applies, each as `Error::Refused`:
+///
+/// - TooLarge at the limit, if the file is longer;
+/// - Truncated at 0, if it has fewer than four bytes;
+/// - BadMagic at 0;
+/// - those of `Legacy::read` or of `Fit::read`;
+/// - TooLarge at the limit, if the normal form of a flattened image tree is longer.
+///
+/// OutOfMemory occurs only after the checks of a legacy image, or of the header and the memory
+/// reservation block of a blob.
 pub fn normalise(alloc: Global, file: &[u8], form: Form, limits: Limits) -> Result<Vec<u8>, Error>
     ensures normal_form { IfOk result (λ text. IsNormalForm limits form file.now text.items) }
     ensures failed { IfErr result (IsNormaliseError limits form file.now) }

@@ -23,8 +23,8 @@ use bi_legacy::codes::{IH_TYPE_MULTI, arch_name, compression_name, os_name, type
 use std::alloc::Global;
 use std::collections::BTreeSet;
 
-/// Makes all checks of what is to be built but the last: that the text is within the limit. Returns
-/// the images with the names of their codes.
+/// Makes all checks of what is to be built, except the last: that the text is within the limit.
+/// Returns the images with the names of their codes.
 ///
 /// Takes n log n time for n images.
 pub(super) fn check<'a>(
