@@ -46,7 +46,8 @@ pub fn pipe<C: Command, S: TracedRead, T: TracedWrite>(
 }
 
 /// Reads an input to its end, runs a command on it, writes the output and flushes: `pipe` over a
-/// plain reader and a plain writer, with the same requirement and the same errors.
+/// plain reader and a plain writer, with the same errors. Requires: the command may be run
+/// (`can_run`).
 ///
 /// A plain reader or writer does not record a failed call, so the contract does not state why
 /// `ReadFailed` and `WriteFailed` occur, that no failed call is ignored, or that the writer was

@@ -61,7 +61,8 @@ impl<'a> RegionDigests<'a> {
 
     /// Judges a hash node by the values of its properties `algo` and `value`, as the function
     /// `verdict` does. Its payload, if there is one, is a region. Reads the region if the verdict
-    /// needs a digest that was not computed before. Fails if memory runs out.
+    /// needs a digest that was not computed before. Fails if memory runs out. Requires: the region
+    /// is within the file.
     pub fn verdict(
         &mut self,
         algo: Option<&[u8]>,
@@ -88,7 +89,7 @@ impl<'a> RegionDigests<'a> {
 
     /// Adds the digest of a payload with this algorithm to the end of `bytes`, or nothing if there
     /// is no payload. Reads the region of the payload if the digest was not computed before. Fails
-    /// if memory runs out. `bytes` is then unchanged.
+    /// if memory runs out. `bytes` is then unchanged. Requires: the region is within the file.
     pub fn append_digest(
         &mut self,
         algo: Algo,
@@ -110,7 +111,7 @@ impl<'a> RegionDigests<'a> {
 
     /// Judges a hash node, as `verdict` does, but allocates nothing: a digest that was not computed
     /// before is computed and not kept. Takes no longer than a look-up if `verdict` has judged a
-    /// node with the same algorithm and the same payload.
+    /// node with the same algorithm and the same payload. Requires: the region is within the file.
     pub fn judge(
         &self,
         algo: Option<&[u8]>,
@@ -134,7 +135,8 @@ impl<'a> RegionDigests<'a> {
     }
 
     /// Returns the digest of a region with this algorithm, with zeros after it. Reads the region if
-    /// the digest was not computed before. Fails if memory runs out.
+    /// the digest was not computed before. Fails if memory runs out. Requires: the region is within
+    /// the file.
     pub fn digest(&mut self, algo: Algo, region: Region) -> Result<[u8; 64], AllocError>
         requires within { IsRegionOf self.old region }
         ensures digest { IfOk result (λ digest. digest

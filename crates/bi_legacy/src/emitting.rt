@@ -70,8 +70,8 @@ pub fn emit_image<S: Sink>(
 }
 
 /// Appends the normal text of an image that was read, with another time of creation: `time`, in
-/// seconds since 1970. The requirement and the errors are those of `emit_image`, for the changed
-/// image.
+/// seconds since 1970. Requires: `parts` are the parts of the image. The errors are those of
+/// `emit_image`, for the changed image.
 pub fn emit_updated_image<S: Sink>(
     image: &Legacy<'_>,
     time: u32,
