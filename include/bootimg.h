@@ -3,35 +3,41 @@
 /*
  * Boot images of U-Boot: legacy images and flattened image trees (FIT).
  *
- * A file here is an image in memory; no call opens a file of the system. A call keeps nothing between calls, and returns nothing that
- * was allocated, so there is nothing to free. Several threads may make calls at the same time, if no call writes to memory that
- * another call uses.
+ * A file here is an image in memory; no call opens a file of the system. A call keeps nothing
+ * between calls, and returns nothing allocated, so there is nothing to free. Several threads may
+ * make calls at the same time, if no call writes to memory that another call uses.
  *
- * A pointer and the length after it are the first byte of some memory and its size in bytes. A pointer must not be null, not even if
- * the length is 0. The buffer and the struct that a call writes to must not overlap each other, nor the files of the call.
+ * A pointer and the length after it are the first byte of some memory and its size in bytes. A
+ * pointer must not be null, even if the length is 0. The buffer and the struct that a call writes
+ * to must not overlap each other or the files of the call.
  *
- * `limit` is the greatest number of bytes of a file, and of an image, payload or description that is made: 64 to BOOTIMG_LIMIT. Each
- * call with `limit` refuses a longer file with TooLarge, and then a file that fails a check of its format with the cause of the first one
- * (docs/FORMATS.md). The comment of a call has what it refuses in addition.
- * `depth` is the greatest depth of a flattened image tree, with the root counted: 1 to BOOTIMG_DEPTH. The program `bootimg` uses
- * BOOTIMG_DEPTH, and BOOTIMG_LIMIT by default.
+ * `limit` is the greatest number of bytes of a file, and of an image, payload or description that
+ * is made: 64 to BOOTIMG_LIMIT. Each call with `limit` refuses a longer file with TooLarge, and
+ * then a file that fails a check of its format with the cause of the first check that fails
+ * (docs/FORMATS.md). The comment of a call says what else it refuses.
+ * `depth` is the greatest depth of a flattened image tree, including the root: 1 to BOOTIMG_DEPTH.
+ * The program `bootimg` uses BOOTIMG_DEPTH, and BOOTIMG_LIMIT by default.
  *
  * A call returns its status, and sets each number of the struct `answer`:
  *
- *   BOOTIMG_DONE            The call succeeded. `size` is the size of the output, and `value` the number that the comment of the call
- *                           names.
- *   BOOTIMG_REFUSED         A file is refused: the call fails with a cause. `cause` is its number (see bootimg_cause_name), and `offset`
- *                           is its offset in the file, in bytes; for TooLarge it is the limit. `file` is 1 for the first file of the
- *                           call, and 2 for the second.
+ *   BOOTIMG_DONE            The call succeeded. `size` is the size of the output, and `value` the
+ *                           number that the comment of the call names.
+ *   BOOTIMG_REFUSED         A file is refused: the call fails with a cause. `cause` is its number
+ *                           (see bootimg_cause_name). `offset` is its offset in the file in bytes,
+ *                           and for TooLarge the limit. `file` is 1 for the first file of the call,
+ *                           and 2 for the second.
  *   BOOTIMG_OUT_OF_MEMORY   An allocation failed.
- *   BOOTIMG_NO_ROOM         The output is larger than the buffer. `size` and `value` are those of BOOTIMG_DONE.
- *   BOOTIMG_WRONG_ARGUMENT  A number is not one that the argument may be.
- *   BOOTIMG_NOT_FOUND       There is nothing to extract. `reason` is one of BOOTIMG_WRONG_KIND to BOOTIMG_NO_PAYLOAD. For
- *                           BOOTIMG_MISSING, `value` is the index of the name that no image has, and otherwise 0.
+ *   BOOTIMG_NO_ROOM         The output is larger than the buffer. `size` and `value` are as for
+ *                           BOOTIMG_DONE.
+ *   BOOTIMG_WRONG_ARGUMENT  A number is out of the range of its argument.
+ *   BOOTIMG_NOT_FOUND       There is nothing to extract. `reason` is one of BOOTIMG_WRONG_KIND to
+ *                           BOOTIMG_NO_PAYLOAD. `value` is the index of the first name that no
+ *                           image has for BOOTIMG_MISSING, and otherwise 0.
  *
- * A number that has no meaning for the status or the call is 0. If the status is BOOTIMG_DONE, the output is at the beginning of the
- * buffer, and the bytes after it are unchanged. After any other status the whole buffer is unchanged. No output is NUL-terminated. A
- * buffer of length 0 is enough to learn the size.
+ * A number that has no meaning for the status or the call is 0. If the status is BOOTIMG_DONE, the
+ * output is at the beginning of the buffer, and the bytes after it are unchanged. After any other
+ * status the whole buffer is unchanged. No output is NUL-terminated. A buffer of length 0 is enough
+ * to learn the size.
  */
 #ifndef BOOTIMG_H
 #define BOOTIMG_H
@@ -62,7 +68,8 @@ extern "C" {
 #define BOOTIMG_LEGACY 1u
 #define BOOTIMG_FIT 2u
 
-/* `form`: the payloads of a normal form of a flattened image tree are inside the blob, or after it. */
+/* `form`: whether the payloads in the normal form of a flattened image tree are inside the blob or
+ * after it. */
 #define BOOTIMG_EMBEDDED 0u
 #define BOOTIMG_EXTERNAL 1u
 
@@ -108,49 +115,58 @@ typedef struct bootimg_answer {
     uint32_t reason;
 } bootimg_answer;
 
-/* Returns in `value` the kind of a file by its first four bytes: BOOTIMG_LEGACY or BOOTIMG_FIT. The other bytes are not examined. The
- * call fails with Truncated at 0 for a file of fewer than four bytes, and with BadMagic at 0 for one without a magic number. */
+/* Returns the kind of a file in `value`, by its first four bytes: BOOTIMG_LEGACY or BOOTIMG_FIT.
+ * The other bytes are not examined. The call fails with Truncated at 0 for a file of fewer than
+ * four bytes, and with BadMagic at 0 for one without a magic number. */
 uint32_t bootimg_kind(const uint8_t *file, size_t file_size, bootimg_answer *answer);
 
-/* Writes the normal form of a file. `form` is BOOTIMG_EMBEDDED or BOOTIMG_EXTERNAL, and has no effect on a legacy image. `value` is the
- * number of signature nodes, which are kept and not checked. The call fails with TooLarge if the normal form is longer than `limit`. */
+/* Writes the normal form of a file. `form` is BOOTIMG_EMBEDDED or BOOTIMG_EXTERNAL, and has no
+ * effect on a legacy image. `value` is the number of signature nodes, which are kept and not
+ * checked. The call fails with TooLarge if the normal form is longer than `limit`. */
 uint32_t bootimg_normalise(const uint8_t *file, size_t file_size, uint32_t form, uint32_t limit, uint32_t depth,
                            uint8_t *buffer, size_t buffer_size, bootimg_answer *answer);
 
-/* Writes the normal form of a file with changes. `changes` is a sum of BOOTIMG_CHANGE_*, or 0. BOOTIMG_CHANGE_TIME sets the time of
- * creation to `time`, in seconds since 1970. BOOTIMG_CHANGE_HASHES computes the digests in the hash nodes of a flattened image tree
- * again. Without BOOTIMG_CHANGE_TIME, `time` has no effect. A legacy image has no hash nodes, and its checksums are always computed.
- * `form` and `value` are those of bootimg_normalise. The call fails with TooLarge if the output is longer than `limit`, or, with
- * BOOTIMG_CHANGE_HASHES, if the payloads together are. */
+/* Writes the normal form of a file with changes. `changes` is a sum of BOOTIMG_CHANGE_*, or 0.
+ * BOOTIMG_CHANGE_TIME sets the time of creation to `time`, in seconds since 1970.
+ * BOOTIMG_CHANGE_HASHES recomputes the digests in the hash nodes of a flattened image tree. Without
+ * BOOTIMG_CHANGE_TIME, `time` has no effect. A legacy image has no hash nodes, and its checksums
+ * are always computed. `form` and `value` are as for bootimg_normalise. The call fails with
+ * TooLarge if the output is longer than `limit`, or, with BOOTIMG_CHANGE_HASHES, if the payloads
+ * together are longer. */
 uint32_t bootimg_update(const uint8_t *file, size_t file_size, uint32_t changes, uint32_t time, uint32_t form, uint32_t limit,
                         uint32_t depth, uint8_t *buffer, size_t buffer_size, bootimg_answer *answer);
 
-/* The calls that extract copy nothing. `value` is the offset in the file of the first byte that is selected, and `size` is the number of
- * these bytes. All of them are inside the file. No hash node is checked: bootimg_verify does that. If nothing is selected, the status
- * is BOOTIMG_NOT_FOUND, and `reason` is the first of these that applies:
+/* The calls that extract copy nothing. `value` is the offset in the file of the first selected
+ * byte, and `size` is the number of selected bytes. All of them are inside the file. No hash node
+ * is checked: bootimg_verify does that. If nothing is selected, the status is BOOTIMG_NOT_FOUND,
+ * and `reason` is the first of these that applies:
  *
- *   BOOTIMG_WRONG_KIND   The call selects a part and the file is a flattened image tree, or the call selects a payload and the file is
- *                        a legacy image.
- *   BOOTIMG_NO_PART      The legacy image has no part of this index.
- *   BOOTIMG_NO_IMAGE     No image has this name.
- *   BOOTIMG_NO_CONFIG    No configuration has this name, or no default is named.
+ *   BOOTIMG_WRONG_KIND   The call selects a part and the file is a flattened image tree, or the
+ *                        call selects a payload and the file is a legacy image.
+ *   BOOTIMG_NO_PART      The legacy image has no part with the given index.
+ *   BOOTIMG_NO_IMAGE     No image has the given name.
+ *   BOOTIMG_NO_CONFIG    No configuration has the given name, or no default is named.
  *   BOOTIMG_NO_KEY       The configuration does not have the key.
  *   BOOTIMG_BAD_LIST     The value of the key is not a list of names.
- *   BOOTIMG_MISSING      The list names an image that is not there. `value` is the index of the first such name, counted from 0.
- *   BOOTIMG_NO_INDEX     The list has no entry of this index.
- *   BOOTIMG_NO_PAYLOAD   The image has no payload, not even an empty one.
+ *   BOOTIMG_MISSING      The list names an image that does not exist. `value` is the index of the
+ *                        first such name, counted from 0.
+ *   BOOTIMG_NO_INDEX     The list has no entry with the given index.
+ *   BOOTIMG_NO_PAYLOAD   The image has no payload (an empty one counts as one).
  */
 
-/* Selects the part of this index, counted from 0, of a legacy image. An image of a type other than multi and script has one part. */
+/* Selects the part with the given index, counted from 0, of a legacy image. An image of a type
+ * other than multi and script has one part. */
 uint32_t bootimg_extract_part(const uint8_t *file, size_t file_size, uint32_t index, uint32_t limit, uint32_t depth,
                               bootimg_answer *answer);
 
-/* Selects the payload of the image of this name in a flattened image tree. The name is not NUL-terminated. */
+/* Selects the payload of the image with the given name in a flattened image tree. The name is not
+ * NUL-terminated. */
 uint32_t bootimg_extract_image(const uint8_t *file, size_t file_size, const uint8_t *name, size_t name_size, uint32_t limit,
                                uint32_t depth, bootimg_answer *answer);
 
-/* Selects a payload that the configuration of this name lists under a key, one of BOOTIMG_KERNEL to BOOTIMG_SCRIPT. `index` is its index
- * in the list, counted from 0. The name is not NUL-terminated. */
+/* Selects a payload that the configuration with the given name lists under a key, one of
+ * BOOTIMG_KERNEL to BOOTIMG_SCRIPT. `index` is its index in the list, counted from 0. The name is
+ * not NUL-terminated. */
 uint32_t bootimg_extract_config(const uint8_t *file, size_t file_size, const uint8_t *name, size_t name_size, uint32_t key,
                                 uint32_t index, uint32_t limit, uint32_t depth, bootimg_answer *answer);
 
@@ -158,7 +174,7 @@ uint32_t bootimg_extract_config(const uint8_t *file, size_t file_size, const uin
 uint32_t bootimg_extract_default(const uint8_t *file, size_t file_size, uint32_t key, uint32_t index, uint32_t limit, uint32_t depth,
                                  bootimg_answer *answer);
 
-/* Returns in `value` whether two files mean the same: 1 if they do, otherwise 0. */
+/* Returns in `value` whether two files mean the same thing: 1 if they do, otherwise 0. */
 uint32_t bootimg_same_meaning(const uint8_t *one, size_t one_size, const uint8_t *other, size_t other_size,
                               uint32_t limit, uint32_t depth, bootimg_answer *answer);
 
@@ -166,37 +182,40 @@ uint32_t bootimg_same_meaning(const uint8_t *one, size_t one_size, const uint8_t
 uint32_t bootimg_list(const uint8_t *file, size_t file_size, uint32_t limit, uint32_t depth,
                       uint8_t *buffer, size_t buffer_size, bootimg_answer *answer);
 
-/* Writes the description of what a file means. It does not depend on the layout of the file. The call fails with TooLarge if the
- * description, or the payloads together, are longer than `limit`. */
+/* Writes the description of what a file means. It does not depend on the layout of the file. The
+ * call fails with TooLarge if the description, or the payloads together, are longer than
+ * `limit`. */
 uint32_t bootimg_describe(const uint8_t *file, size_t file_size, uint32_t limit, uint32_t depth,
                           uint8_t *buffer, size_t buffer_size, bootimg_answer *answer);
 
-/* Writes the report on the checksums and digests of a file. `value` is 1 if each verdict in it is good, also if
- * there is no verdict, and otherwise 0. */
+/* Writes the report on the checksums and digests of a file. `value` is 1 if each verdict in it is
+ * good, even if there is none, and otherwise 0. */
 uint32_t bootimg_verify(const uint8_t *file, size_t file_size, uint32_t limit, uint32_t depth,
                         uint8_t *buffer, size_t buffer_size, bootimg_answer *answer);
 
-/* Writes a line for each concern about a file: each thing in it that is not protected. `kinds` is a sum of BOOTIMG_ALLOW_*, or 0: the
- * kinds whose lines are left out. `value` is 1 if there is no line, otherwise 0. The call fails with TooLarge if the payloads together
- * are longer than `limit`. */
+/* Writes a line for each concern about a file: each thing in it that is not protected. `kinds` is a
+ * sum of BOOTIMG_ALLOW_*, or 0: lines of these kinds are left out. `value` is 1 if there is no
+ * line, otherwise 0. The call fails with TooLarge if the payloads together are longer than
+ * `limit`. */
 uint32_t bootimg_check(const uint8_t *file, size_t file_size, uint32_t kinds, uint32_t limit, uint32_t depth,
                        uint8_t *buffer, size_t buffer_size, bootimg_answer *answer);
 
-/* Writes the differences between what two files mean. `value` is 1 if they mean the same, and nothing is then written; otherwise 0. If
- * they do not mean the same, the call fails with TooLarge for the first file whose description, or payloads together, are longer than
- * `limit`. */
+/* Writes the differences between what two files mean. `value` is 1 if they mean the same thing, and
+ * nothing is then written; otherwise 0. If they do not mean the same thing, the call fails with
+ * TooLarge for the first file whose description, or payloads together, are longer than `limit`. */
 uint32_t bootimg_compare(const uint8_t *one, size_t one_size, const uint8_t *other, size_t other_size,
                          uint32_t limit, uint32_t depth, uint8_t *buffer, size_t buffer_size, bootimg_answer *answer);
 
-/* Writes the flattened image tree that a legacy image is converted to. The call fails with BadMagic at 0 for a file that is no legacy
- * image, for example a flattened image tree; with NoCodeName at the offset of the first code without a name, 28 to 31; with EmptyPart at
- * 64 if there is no part; with TooManyParts at 64 if a multi-file image has more than three parts or a script more than one; and with
- * TooLarge if the output is longer than `limit`. */
+/* Writes the flattened image tree that a legacy image is converted to. The call fails with BadMagic
+ * at 0 for a file that is not a legacy image, for example a flattened image tree; with NoCodeName
+ * at the offset of the first code without a name, 28 to 31; with EmptyPart at 64 if there is no
+ * part; with TooManyParts at 64 if a multi-file image has more than three parts or a script more
+ * than one; and with TooLarge if the output is longer than `limit`. */
 uint32_t bootimg_convert(const uint8_t *file, size_t file_size, uint32_t limit, uint32_t depth,
                          uint8_t *buffer, size_t buffer_size, bootimg_answer *answer);
 
-/* Writes the name of the cause of this number, 1 to 26, for example `Truncated`. The status is BOOTIMG_WRONG_ARGUMENT for any other
- * number. */
+/* Writes the name of the cause with the given number, 1 to 26, for example `Truncated`. The status
+ * is BOOTIMG_WRONG_ARGUMENT for any other number. */
 uint32_t bootimg_cause_name(uint32_t number, uint8_t *buffer, size_t buffer_size, bootimg_answer *answer);
 
 /* Writes the version of the library. */

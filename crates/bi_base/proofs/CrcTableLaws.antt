@@ -50,7 +50,7 @@ crc_bit-xor a b =
     ∙ ap (λ (n : ℕ). bit_xor n (bit_xor (b / 2) (feedback (b % 2)))) (sym (crc_bit-sum a))
     ∙ ap (bit_xor (crc_bit a 0)) (sym (crc_bit-sum b))
 
--- A message bit equals the register's lowest bit exactly where their xor is 0.
+-- A message bit equals the register's lowest bit if and only if their xor is 0.
 bit_matches : (low bit : ℕ) → low < 2 → bit < 2 → (low == bit) ≡ (bit_xor low bit == 0)
 bit_matches zero zero p q = refl
 bit_matches zero (suc zero) p q = refl
@@ -119,7 +119,7 @@ crc_after-cons : (register byte : ℕ) (bytes : List ℕ) → byte < 2 ^ 8
 crc_after-cons register byte bytes small =
     crc_after-append register (byte ∷ []) bytes ∙ ap (λ (r : ℕ). crc_after r bytes) (crc_after-byte register byte small)
 
--- The steps of eight message bits 0, by those from the lowest byte alone.
+-- The steps of eight message bits 0, by those from only the lowest byte.
 zeros-byte : (register : ℕ) → after_zeros 8 register ≡ bit_xor (register / 256) (after_zeros 8 (register % 256))
 zeros-byte register =
     let parts : register ≡ bit_xor (register / 256 * 2 ^ 8) (register % 256) =

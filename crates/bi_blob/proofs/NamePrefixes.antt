@@ -37,7 +37,7 @@ power_is_positive : (count : ℕ) → 0 < 256 ^ count
 power_is_positive zero = omega arith
 power_is_positive (suc count) = omega (arith, power_is_positive count)
 
--- The number of a name whose first byte is not zero is above zero.
+-- The number of a name that does not begin with a zero is above zero.
 above_zero : (count first rest : ℕ) → first ≢ 0 → 0 < first * 256 ^ count + rest
 above_zero count first rest nonzero =
     omega (arith, mul-add-lt 0 (256 ^ count) 0 first (omega (arith, nonzero)) (power_is_positive count))

@@ -76,7 +76,7 @@ select_failure select limits file cause failure same is = subst (IsSelectFailure
     by NoIndex is = numbered select limits file NoSuchEntry 8 0 is (refl, refl)
     by NoPayload is = numbered select limits file HasNoPayload 9 0 is (refl, refl)
 
--- The answer of a call whose arguments are valid.
+-- The answer of a call with valid arguments.
 pub extract_answers : (AreValid : Type 0) (limits other_limits : Limits) (select other : Select) (file : List ℕ) (answer : Answer)
     (status : ℕ) →
     AreValid → limits ≡ other_limits → select ≡ other

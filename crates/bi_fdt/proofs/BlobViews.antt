@@ -52,7 +52,7 @@ header_length-least file = elim (cases_Bool (lacks_structure_size file)) [
   | inr has ↦ subst (λ b. 36 ≤ (if b then 36 else 40)) (sym has) (omega arith)
 ]
 
--- The root of a table is that of the tree whose table it is.
+-- The root of a table is that of the tree that the table is of.
 pub table_root : (file : List ℕ) (entries : List Entry) (root : Root FileNode) → IsTable file entries root →
     root_in (map (item_in file) entries) ≡ root
 table_root file entries root table = ap root_in table.items ∙ root_in-table root

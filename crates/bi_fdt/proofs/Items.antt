@@ -35,7 +35,7 @@ depth_after-append depth (FileNodeStart place name ∷ es) fs = depth_after-appe
 depth_after-append depth (FileNodeProperty property ∷ es) fs = depth_after-append depth es fs
 depth_after-append depth (FileNodeEnd ∷ es) fs = depth_after-append (depth - 1) es fs
 
--- The items of nodes of this depth.
+-- The items of nodes at this depth.
 abbrev pub node_items : ℕ → Nodes FileNode → List TableItem
 node_items depth none = []
 node_items depth (node name own children later) =
@@ -163,7 +163,7 @@ inside-open depth o =
     let long : length (map PropertyItem o.properties ++ below) ≡ length o.properties + length below = simp (length-append, length-map) in
     omega arith
 
--- An open node without children has its properties alone after its beginning.
+-- An open node without children has only its properties after its beginning.
 pub childless_items : (depth : ℕ) (o : OpenFileNode) → names o.children ≡ [] →
     map PropertyItem o.properties ++ node_items (depth + 1) o.children ≡ map PropertyItem o.properties
 childless_items depth o childless =

@@ -74,7 +74,7 @@ inside-some depth own place name (suc index) (NodeItem other other_place other_n
       | inr over ↦ (let e : count_inside depth (NodeItem other other_place other_name ∷ items) ≡ 0 = inside-stops depth other other_place other_name items over in omega arith)
     ]
 
--- A node at the end is no first property.
+-- A node at the end is not a first property.
 first-node : (items : List TableItem) (depth place : ℕ) (name : List ℕ) →
     first_properties (items ++ NodeItem depth place name ∷ []) ≡ first_properties items
 first-node [] depth place name = refl
@@ -92,7 +92,7 @@ first-after_node (NodeItem other other_place other_name ∷ items) later index o
 first-after_node (PropertyItem q ∷ items) later zero own place name p at = absurd cc
 first-after_node (PropertyItem q ∷ items) later (suc index) own place name p at = ap (λ l. q ∷ l) (first-after_node items later index own place name p at)
 
--- Properties alone.
+-- Only properties.
 abbrev pub AreOnlyProperties : List TableItem → Type 0
 AreOnlyProperties items = length (first_properties items) ≡ length items
 

@@ -29,7 +29,7 @@ pub items_here : (file : List ℕ) (entries : List Entry) (index : ℕ) (e d : E
     drop index (map (item_in file) entries) ≡ item_in file e ∷ map (item_in file) (drop (suc index) entries)
 items_here file entries index e d within is = drop-map (item_in file) index entries ∙ ap (map (item_in file)) (entry_here entries index e d within is)
 
--- A property is no node.
+-- A property is not a node.
 pub no_property : (file : List ℕ) (entries : List Entry) (table : List TableItem) (index : ℕ) (p : PropertyEntry) (d : Entry) →
     map (item_in file) entries ≡ table →
     IsTrue (begins_with_node (drop index table)) → index < length entries → get_or entries index d ≡ entry.Property p → ⊥

@@ -137,7 +137,7 @@ module _ (file : List ℕ) (table : List TableItem) (index : ℕ) (n : NodeEntry
     not_node : ((own : ℕ) × (place : ℕ) × (name : List ℕ) × (PropertyItem p ≡ NodeItem own place name) × (own ≤ n.depth)) → ⊥
     not_node found = (let e = found.3 in cc)
 
-  -- A node of another depth is no sibling.
+  -- A node of another depth is not a sibling.
   pub other_later : (own place : ℕ) (name : List ℕ) (items : List TableItem) → drop n.after table ≡ NodeItem own place name ∷ items →
       ¬ (own ≡ n.depth) → (first_sibling (drop index table)).later ≡ none
   other_later own place name items at other =

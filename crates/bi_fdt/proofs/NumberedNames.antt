@@ -95,7 +95,7 @@ name_there tails (head ∷ heads) [] all index part is = absurd all
 name_there tails (head ∷ heads) (name ∷ names) all zero part is = (name, refl, subst (λ p. IsHead tails p name) (same_Some head part is) all.0)
 name_there tails (head ∷ heads) (name ∷ names) all (suc index) part is = name_there tails heads names all.1 index part is
 
--- A name whose head was found has the number of the head.
+-- A name has the number of its head, if the head was found.
 pub known_name : (tails heads : List NamePart) (names : List (List ℕ)) (part : NamePart) (name : List ℕ) (number : ℕ) →
     AreHeads tails heads names →
     IsHead tails part name → slice_get heads number ≡ Some part → slice_get names number ≡ Some name
@@ -103,7 +103,7 @@ known_name tails heads names part name number are is found =
     let there = name_there tails heads names are.each number part found in
     there.1 ∙ ap Some (same_name_of_head tails part there.0 name there.2 is)
 
--- A name whose head is new is new.
+-- A name with a new head is new.
 pub new_name : (tails heads : List NamePart) (names : List (List ℕ)) (part : NamePart) (name : List ℕ) → AreOnce tails →
     AllZip (IsHead tails) heads names →
     IsHead tails part name → IsNewPart part heads → IsNew name names

@@ -70,7 +70,7 @@ others_more parts others numbers more index later block tail found once order th
     kept : (value : Option ℕ) × (slice_get numbers later ≡ Some value)
     kept = value_there numbers later (omega (arith, order index (later, block) there, long))
 
--- A name whose last blocks have no number is new.
+-- A name is new if its last blocks have no number.
 new_by_blocks : (tails heads : List NamePart) (names : List (List ℕ)) (name : List ℕ) → AllZip (IsHead tails) heads names →
     ((number : ℕ) → ¬ (IsTail tails number name)) → IsNew name names
 new_by_blocks tails [] [] name all none = tt

@@ -165,7 +165,7 @@ pub old_with_mark : (names : MarkedNames) (mark : ℕ) (held : List (List ℕ)) 
     has_mark names.used names.marks mark name ≡ true → ¬ (IsNew name held)
 old_with_mark names mark held name has marked = held_by_test name held (has name ∙ marked)
 
--- A node that begins, whose mark is greater than all, has no name.
+-- A node that begins, with a mark greater than all, has no name.
 pub begins_without_names : (names : MarkedNames) (mark : ℕ) → AreMarksBelow mark names → HasMarked names mark []
 begins_without_names names mark below name = sym (no_greater_mark names.used names.marks mark name below)
 

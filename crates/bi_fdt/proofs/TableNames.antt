@@ -32,7 +32,7 @@ with_used_name-begins used name = by (is_among name used) refl
     by true old = ([], ap (λ b. if b then used else used ++ name ∷ []) old ∙ sym (append-nil used))
     by false new = (name ∷ [], ap (λ b. if b then used else used ++ name ∷ []) new)
 
--- There are no more names than items.
+-- There are at most as many names as items.
 with_used_name-few : (used : List (List ℕ)) (name : List ℕ) → length (with_used_name used name) ≤ length used + 1
 with_used_name-few used name = by (is_among name used)
   where

@@ -44,13 +44,13 @@ width-end_node = ap up4 (length-cell end_node_number)
 pub width-nop : width Nop ≡ 4
 width-nop = ap up4 (length-cell nop_number)
 
--- The next token is no more than three bytes past the end of a token within the block.
+-- The next token is at most three bytes past the end of a token within the block.
 pub up4-within : (n : ℕ) → (n ≤ up4 n) × (up4 n ≤ n + 3)
 up4-within n = (omega arith, omega arith)
 
 module _ (blocks : TreeBlocks) (depth_limit place : ℕ) (o : OpenFileNode) (outer : List OpenFileNode)
     (position : IsOpenAt blocks depth_limit place (OpenTree o outer)) where
-  -- The token of this number is expected inside the root.
+  -- The token with this number is expected inside the root.
   expected : (number : ℕ) → u32_at blocks.file place ≡ number → IsTrue (is_expected (stage_of (OpenTree o outer)) number) →
       IsTrue (is_expected (stage_of (OpenTree o outer)) (u32_at blocks.file place))
   expected number is may = subst (λ n. IsTrue (is_expected (stage_of (OpenTree o outer)) n)) (sym is) may

@@ -45,7 +45,7 @@ used_once_more old new name number at_most distinct is = by (is_among name old) 
         absurd (numbered_old old name number (subst (λ l. IsNumberOf l name number) same is) (new_by_test name old among))
     by false among (inr more) = more ∙ ap (λ b. if b then old else old ++ name ∷ []) (sym among)
 
--- Two names are equal exactly if their numbers are.
+-- Two names are equal if and only if their numbers are.
 pub one_number_each : (names : List (List ℕ)) → AreDistinct names → (a b : List ℕ) (m n : ℕ) → IsNumberOf names a m →
     IsNumberOf names b n →
     (m ≡ n) ↔ (a ≡ b)

@@ -74,9 +74,9 @@ impl<'a> KeptNames<'a> {
         None
     }
 
-    /// Returns for each name the number that it has among others, if it is there. If the others
-    /// are the same names in the same order, as in most builds of one image, none is looked up.
-    /// Fails if memory runs out.
+    /// Returns, for each name, its number among other names, if it is there. If the other names are
+    /// the same, in the same order, as in most builds of the same image, none is looked up. Fails
+    /// if memory runs out.
     pub(crate) fn in_terms_of(
         &self,
         alloc: Global,
@@ -98,8 +98,8 @@ impl<'a> KeptNames<'a> {
         are_same_parts(&self.tails, &other.tails) && are_same_parts(&self.heads, &other.heads)
     }
 
-    /// Returns for each name the number that it has among others, if it is there. Each block and
-    /// each head is looked up once. Fails if memory runs out.
+    /// Returns, for each name, its number among other names, if it is there. Each block and each
+    /// head is looked up once. Fails if memory runs out.
     fn look_up_in(
         &self,
         alloc: Global,

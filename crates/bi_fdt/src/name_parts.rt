@@ -29,7 +29,7 @@ impl<'a> NameParts<'a> {
     ghost use Rattle.bi_fdt.specs.NameParts.{AreOnce, IsPlaced, FindsPart, parts_of_slices};
     ghost use Rattle.bi_fdt.specs.OtherNames.{FindsAfter, FindsTail};
 
-    /// Returns an empty list of parts, which serves `parts` parts well. Fails if memory runs out.
+    /// Returns an empty list of parts, which is suited to `parts` parts. Fails if memory runs out.
     pub(crate) fn new(alloc: Global, parts: usize) -> Result<NameParts<'a>, AllocError>
         ensures { IfOk result (λ made. made ≡ []) }
     {
@@ -39,7 +39,7 @@ impl<'a> NameParts<'a> {
         })
     }
 
-    /// Returns these parts, of which none is there twice. Fails if memory runs out.
+    /// Returns these parts. Requires: they are distinct. Fails if memory runs out.
     pub(crate) fn of_parts(
         alloc: Global,
         parts: &[(usize, &'a [u8])],
@@ -62,8 +62,8 @@ impl<'a> NameParts<'a> {
         parts
     }
 
-    /// Adds a part if it is not there yet, and returns its number. The part has these bytes, and
-    /// the blocks after it have the number `tail`. It takes log n comparisons, for n parts. If
+    /// Adds a part if it is not there yet, and returns its number. The part has the given bytes,
+    /// and the blocks after it have the number `tail`. Takes log n comparisons for n parts. If
     /// memory runs out, the parts are unchanged.
     pub(crate) fn add(&mut self, tail: usize, bytes: &'a [u8]) -> Result<usize, AllocError>
         ensures added { IfOk result (λ number.
@@ -81,7 +81,7 @@ impl<'a> NameParts<'a> {
         Ok(number)
     }
 
-    /// Returns the number of a part, if it is there. It takes log n comparisons, for n parts.
+    /// Returns the number of a part, if it is there. Takes log n comparisons for n parts.
     pub(crate) fn find(&self, tail: usize, bytes: &'a [u8]) -> Option<usize>
         ensures { FindsPart self.now (tail, bytes.now) result }
     {
@@ -100,7 +100,7 @@ impl<'a> NameParts<'a> {
     pub(crate) fn find_tail(&self, tail: Option<usize>, block: &'a [u8]) -> Option<usize>
         ensures { FindsTail self.now tail block.now result }
     {
-        // The call gives the proof that the length fits.
+        // The call tells the proof that the length fits.
         let _ = self.parts.len();
         let index = self.find_after(tail, block)?;
         Some(index + 1)

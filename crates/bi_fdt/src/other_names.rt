@@ -7,8 +7,8 @@ ghost use Rattle.bi_fdt.specs.OtherNames.{AreOtherNumbers, AreFoundAmong, AreOwn
 use crate::name_parts::NameParts;
 use std::alloc::{AllocError, Global};
 
-/// Returns the numbers that parts, which are blocks, have among others, each with the blocks after
-/// it. That of no blocks comes first. Fails if memory runs out.
+/// Returns the numbers among other parts of these parts, which are blocks, each with the blocks
+/// after it. The number of no blocks comes first. Fails if memory runs out.
 pub(crate) fn tails_among<'a>(
     alloc: Global,
     parts: &[(usize, &'a [u8])],
@@ -28,8 +28,8 @@ pub(crate) fn tails_among<'a>(
     Ok(numbers)
 }
 
-/// Returns the numbers that parts have among others. `tails` are the numbers there of the blocks
-/// after them, by their numbers here. Fails if memory runs out.
+/// Returns the numbers of these parts among other parts. `tails` has the numbers, among the others,
+/// of the blocks after them, by their numbers here. Fails if memory runs out.
 pub(crate) fn parts_among<'a>(
     alloc: Global,
     parts: &[(usize, &'a [u8])],
@@ -54,7 +54,7 @@ fn option_at(values: &[Option<usize>], index: usize) -> Option<usize>
     *values.get(index)?
 }
 
-/// Returns the numbers of so many names among themselves. Fails if memory runs out.
+/// Returns the numbers of this many names among themselves. Fails if memory runs out.
 pub(crate) fn own_numbers(alloc: Global, count: usize) -> Result<Vec<Option<usize>>, AllocError>
     ensures { IfOk result (λ numbers. AreOwnNumbers count numbers.items) }
 {

@@ -77,7 +77,7 @@ MayAdd-back document events later may =
     subst (λ stage. AllFollow MayFollowInText stage later) (sym (fold-append next_stage BeforeRoot document.events events))
     (follow-back (stage_of_events document.events) events later may)
 
--- Nodes of one name and of the same properties begin in the same way.
+-- Nodes with the same name and the same properties begin in the same way.
 pub begin_events-same : (name other : List ℕ) (properties others : PropertyMap) → name ≡ other → properties ≡ others →
     begin_events name properties ≡ begin_events other others
 begin_events-same name other properties others same_name same = ap (λ name. begin_events name properties) same_name ∙ ap (begin_events other) same

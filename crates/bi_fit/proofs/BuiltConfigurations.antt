@@ -114,7 +114,7 @@ module _ (images : List ImageSpecModel) where
 abbrev configuration_by_name : HeadModel → List ImageSpecModel → PropertyMap
 configuration_by_name head images = from_entries (built_configuration_properties head images)
 
--- The description is no list.
+-- The description is not a list.
 after_description : (key : Key) (value : List ℕ) (rest : List Property) →
     find (slice_cmp nat_cmp) (key_name key) ((codes "description", value) ∷ rest) ≡ find (slice_cmp nat_cmp) (key_name key) rest
 after_description Kernel value rest = refl

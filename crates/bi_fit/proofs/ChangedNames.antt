@@ -153,7 +153,7 @@ module _ (base : List (List ℕ)) where
     still_new names added name differ.1 new.1,
   )
 
-  -- Distinct names, and others of which each is new if it is none of the base, are distinct.
+  -- Distinct names are distinct with others, if each of the others is new or one of the base.
   distinct_all : (names added : List (List ℕ)) → AreDistinct added → AreDistinct names →
       AllByRecursion (λ other. IsNew other base → IsNew other names) added → AreDistinct (fold (with_missing base) names added)
   distinct_all names [] distinct_added distinct new = distinct

@@ -13,15 +13,15 @@ use Rattle.bi_fit.specs.ComparedNodes.{compared_nodes, compared_tree, AreSameBlo
 use Rattle.bi_fit.proofs.NodeEvents.{nodes_from}
 use Rattle.bi_fit.proofs.NormalTrees.{other_name, held_nodes}
 
--- Image trees are equal exactly if what is compared of them is.
+-- Image trees are equal if and only if what is compared of them is.
 
--- After two nodes that are equal, the later ones are equal exactly if all are.
+-- After two nodes that are equal, the later ones are equal if and only if all are.
 pub same_later : (role : Role) (one other : Sibling FileNode) → compared_nodes role (alone one) ≡ compared_nodes role (alone other) →
     (compared_nodes role one.later ≡ compared_nodes role other.later)
     ↔ (compared_nodes role (nodes_from (Some one)) ≡ compared_nodes role (nodes_from (Some other)))
 same_later role one other same = ((λ later. cc), (λ all. cc))
 
--- Nodes that are no image nodes keep all properties.
+-- Nodes that are not image nodes keep all properties.
 compared_others : (nodes : Nodes FileNode) → compared_nodes OtherNode nodes ≡ nodes_by_name nodes
 compared_others none = refl
 compared_others (node name own children later) =
@@ -33,7 +33,7 @@ compared_images none = refl
 compared_images (node name own children later) =
     ap₂ (node name (without_payload (properties_by_name own))) (compared_others children) (compared_images later)
 
--- Children of the root none of which has the name `images` keep all properties.
+-- Children of the root keep all properties, if none has the name `images`.
 compared_without_images : (nodes : Nodes FileNode) → IsNew images_name (names nodes) → compared_nodes RootChild nodes ≡ nodes_by_name nodes
 compared_without_images none new = refl
 compared_without_images (node name own children later) new =

@@ -33,7 +33,7 @@ use Rattle.bi_base.proofs.ByteLists.{bytes_by_test}
 -- Small image trees have known texts and payloads: `data-position` comes before `data-offset` and both before `data`, and properties that
 -- give no payload have no meaning.
 
--- No bytes are no entries.
+-- Without bytes there are no entries.
 pub no_entries : entries (empty {X = List ℕ} {R = slice_cmp nat_cmp}) ≡ []
 no_entries = by_length (entries empty) (sym (len-entries empty) ∙ len-empty (slice_cmp nat_cmp) (List ℕ))
   where
@@ -46,7 +46,7 @@ pub blob_by_test : (root : Root (List Property)) (rest : List ℕ) → is_tree r
     length (text_of_tree 0 [] root) ≤ longest_text → IsBlob (text_of_tree 0 [] root ++ rest) 0 [] (tree_with_places [] root)
 blob_by_test root rest tree bytes short = text_blob 0 [] root rest (content_by_test root tree) short (bytes_by_test rest bytes)
 
--- Properties of payloads alone leave none.
+-- Only properties of payloads leave none.
 all_taken_out : (properties : List Property) → AllByRecursion (λ property. not (is_payload_name property.0) ≡ false) properties →
     without_payload (from_entries properties) ≡ empty
 all_taken_out properties are =

@@ -127,7 +127,7 @@ abbrev payload_at : List ImageModel → ℕ → Option (List ℕ)
 payload_at images index = option_and_then (λ image. image.payload) (slice_get images index)
 
 module _ (name : List ℕ) where
-  -- The image at the index that is found for a name is the one of this name.
+  -- The image at the index that is found for a name is the one with this name.
   found_from : (base : ℕ) (images : List ImageModel) (index : ℕ) → index_from base name images ≡ Some index →
       (k : ℕ) × (index ≡ base + k) × (payload_named name images ≡ Some (payload_at images k))
   found_from base [] index is = absurd cc

@@ -35,7 +35,7 @@ bare_image sibling = record {
   later = without_payloads (nodes_by_name sibling.later);
 }
 
--- The value of a property in a map is that in the list of which it was made.
+-- The value of a property in a map is that in the list from which the map was made.
 pub get-by_name : (properties : List Property) (name : List ℕ) →
     get (from_entries {R = slice_cmp nat_cmp} properties) name ≡ value_named properties name
 get-by_name properties name = get-from_entries nat_list_cmp_total properties name ∙ in_list properties

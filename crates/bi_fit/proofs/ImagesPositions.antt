@@ -50,7 +50,7 @@ images_after IsOwn (node name own children later) (suc position) found are there
           (subst (λ count. HaveImagesAfter (Some count) later) (sym fewer) (images_after IsOwn later position found are.2 there named)),
     )
 
--- The position of the child `images` of the root is that of the one child of this name.
+-- The position of the child `images` of the root is that of the one child with this name.
 pub position_there : (content : FitModel) → IsHeld content → (position : ℕ) → IsImagesPosition content.blob position →
     HaveImagesAfter (Some position) (root_of content.blob).children
 position_there content held position at = by_search (node_named nodes images_name) refl

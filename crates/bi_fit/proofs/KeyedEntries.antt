@@ -16,7 +16,7 @@ use Rattle.bi_fdt.specs.Order.{KeyedProperty, sorted_properties}
 use Rattle.bi_fit.specs.PropertyMaps.{named_values, AreRanksWithin, IsEntryOf}
 use Rattle.bi_fit.proofs.RankedProperties.{named_in_order}
 
--- The entries of the properties of a node, whose keys are the ranks of their names, are the properties by name.
+-- The entries of the properties of a node are the properties by name. Their keys are the ranks of their names.
 
 -- A rank that is before the keys of properties is before their entries.
 below_entries : (rank : ℕ) (keyed : List KeyedProperty) (items : List (ℕ × Value)) → AllZip IsEntryOf keyed items →

@@ -51,7 +51,7 @@ use Rattle.bi_base.specs.Reading.{too_large}
 
 -- The text of a file's tree is at least as long as the different long names of the file's properties together.
 
--- What is in place of a name is no longer than the name.
+-- What stands for a name is no longer than the name.
 pub length-name_if_long : (name : List ℕ) → length (name_if_long name) ≤ length name
 length-name_if_long name = where_long (nat_le 64 (length name))
   where
@@ -73,7 +73,7 @@ one_of_short name (other ∷ others) short is = where_first (bytes_eq name other
 pub payload_name_short : (name : List ℕ) → is_payload_name name ≡ true → name_if_long name ≡ []
 payload_name_short name is = one_of_short name payload_names (refl, (refl, (refl, (refl, tt)))) is
 
--- How many bytes there are in place of a name.
+-- How many bytes stand for a name.
 abbrev pub long_length : List ℕ → ℕ
 long_length name = length (name_if_long name)
 
@@ -110,7 +110,7 @@ short_or_left name others (first ∷ later) new are = (where_short are.0, short_
     where_short (inr has) =
         inr (Contains-filter (λ other. not (bytes_eq name other)) others first (ap not (differs (bytes_eq name first) refl)) has)
 
--- Distinct names, each of which is short or among others, are together no longer than the others, as far as they are long.
+-- Distinct names, if each is short or among others, are together no longer than the others, as far as they are long.
 no_longer_than_others : (names others : List (List ℕ)) → AreDistinct names → AreShortOrAmong others names →
     sum_by long_length names ≤ sum_by long_length others
 no_longer_than_others [] others distinct are = omega arith
@@ -145,7 +145,7 @@ distinct_in_order (name ∷ later) ordered = (
   distinct_in_order later (sorted_tail (slice_cmp nat_cmp) name later ordered),
 )
 
--- Long names in byte order, each of which is short or among others, are together no longer than those.
+-- Long names in byte order, if each is short or among others, are together no longer than those.
 pub long_names_in_order : (sorted names : List (List ℕ)) → IsStrictlySortedBy (slice_cmp nat_cmp) sorted → AreShortOrAmong names sorted →
     length (flat_map name_if_long sorted) ≤ length (flat_map name_if_long names)
 long_names_in_order sorted names ordered among =
@@ -185,7 +185,7 @@ some_with_children_of {Own = Own} P wanted change keeps (node name own children 
     where_wanted false (inr (inl below)) rest = inr (inl below)
     where_wanted false (inr (inr after)) rest = inr (inr (rest after))
 
--- Properties of which one has this name: in a list,
+-- Properties, one of them with this name: in a list,
 abbrev HasName : List ℕ → List Property → Type 0
 HasName name properties = Contains (map (λ property. property.0) properties) name
 
@@ -295,7 +295,7 @@ some_without_payloads name other (node n own children later) (inr (inl below)) =
 some_without_payloads name other (node n own children later) (inr (inr after)) =
     inr (inr (some_without_payloads name other later after))
 
--- One of the nodes of a file has a property of this name.
+-- One of the nodes of a file has a property with this name.
 abbrev SomeNamed : List ℕ → Nodes FileNode → Type 0
 SomeNamed name nodes = SomeOwn (λ own. HasName name (properties_of own)) nodes
 
@@ -461,8 +461,7 @@ module _ (content : FitModel) (form : Form) (changes : Changes) where
       distinct_names-all (used_names text_events) name
       (some_used name (as_nodes (normal_tree form (with_changes changes (tree_of content)))) (some_in_text form changes content name some))
 
-  -- The text of the tree of a file, with these changes, is at least as long as long names of properties of the file together, of
-  -- which no two are the same.
+  -- The text of the tree of a file, with these changes, is at least as long as different long names of properties of the file together.
   pub long_names_within : (names : List (List ℕ)) → AreDistinct names → AreNamesIn names (root_of content.blob) →
       length (flat_map name_if_long names) ≤ length (fit_text form (with_changes changes (tree_of content)))
   long_names_within names distinct are =

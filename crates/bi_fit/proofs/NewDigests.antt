@@ -56,7 +56,7 @@ digests_are (Some payload) (node name own children later) = by_algorithm (hash_a
     by_algorithm None is rest = rw is rest
     by_algorithm (Some algo) is rest = rw is (ap (λ l. digest_or_nothing algo (Some payload) ++ l) rest)
 
--- The digests for the hash nodes of these image nodes, whose images were read.
+-- The digests for the hash nodes of these image nodes, of images that were read.
 abbrev pub file_new_digests : List (Sibling FileNode) → List ImageModel → List ℕ
 file_new_digests [] images = []
 file_new_digests (entry ∷ entries) [] = []

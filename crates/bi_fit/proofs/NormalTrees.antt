@@ -54,7 +54,7 @@ other_name name differs = where_same (bytes_eq name images_name) refl
     where_same true is = absurd (differs ((bytes_eq-Decides name images_name).0 is))
     where_same false is = is
 
--- Nodes none of which has the name `images`.
+-- Nodes, none of them with the name `images`.
 others_sorted : (hashes : Bool) (form : Form) (payloads : List (Option (List ℕ))) (digests : List ℕ) (nodes : Nodes FileNode) →
     IsNew images_name (names nodes) → sorted_root_children hashes form payloads digests nodes ≡ sorted_nodes nodes
 others_sorted hashes form payloads digests none new = refl
@@ -65,7 +65,7 @@ others_sorted hashes form payloads digests (node name own children later) new =
 abbrev bare_images : Nodes FileNode → Nodes PropertyMap
 bare_images nodes = nodes_or_none (children_of images_name (with_children_of images_name without_payloads (nodes_by_name nodes)))
 
--- The children of the root of the normal tree, of which one at most has the name `images`.
+-- The children of the root of the normal tree. At most one has the name `images`.
 module _ (hashes : Bool) (form : Form) (payloads : List (Option (List ℕ))) (digests : List ℕ) where
   changed : Nodes FileNode → Nodes (List Property)
   changed nodes =

@@ -10,7 +10,7 @@ use Rattle.bi_fit.specs.RegionPairs.{AreInFiles, HasSameBytes, IsPairOfPayloads}
 
 -- The payloads of two lists of images are paired one by one.
 
--- The payloads of all images are the same exactly if the regions of the pairs so far and the payloads of the images that are left are.
+-- The payloads of all images are the same if and only if the regions of the pairs so far and the payloads of the images that are left are.
 abbrev pub IsPairing : (file other : List ℕ) → List RegionPair → (images others : List ImageModel) → (AllSame : Type 0) → Type 0
 IsPairing file other pairs images others AllSame =
     (length images ≡ length others)

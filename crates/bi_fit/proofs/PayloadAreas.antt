@@ -18,7 +18,7 @@ use Rattle.bi_fit.proofs.PayloadSources.{IsThere, has_payload}
 
 -- A file that goes on with payloads has each payload where it begins, and the image nodes of its text have these payloads.
 
--- What a file has to have of the payloads of image nodes in a form.
+-- What a file must have of the payloads of image nodes in a form.
 abbrev pub AreThere : Form → List ℕ → ℕ → List (Option (List ℕ)) → Type 0
 AreThere form file end [] = ⊤
 AreThere form file end (payload ∷ later) =

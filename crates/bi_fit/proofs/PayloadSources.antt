@@ -70,19 +70,19 @@ pub is_placed : (name : List ℕ) (at : ℕ) (properties : PropertyMap) (value :
     (property : FileProperty) × (property_named (text_properties at properties) name ≡ Some property) × (property.value ≡ value)
 is_placed name at properties value is = some_image (λ property. property.value) _ value (value_placed name at properties ∙ is)
 
--- A region of a file that has a payload, and whose numbers are cells.
+-- A region of a file that has a payload, with numbers that are cells.
 pub record IsPayloadAt (file : List ℕ) (begin : ℕ) (payload : List ℕ) : Type 0 where
   pub begin_fits : begin < 2 ^ 32
   pub size_fits : length payload < 2 ^ 32
   pub in_file : external_base file + begin + length payload ≤ length file
   pub is_slice : slice file (external_base file + begin) (length payload) ≡ payload
 
--- What a file has to have of an external payload.
+-- What a file must have of an external payload.
 abbrev pub IsExternalAt : List ℕ → ℕ → Option (List ℕ) → Type 0
 IsExternalAt file begin None = ⊤
 IsExternalAt file begin (Some payload) = IsPayloadAt file begin payload
 
--- What a file has to have of a payload in a form.
+-- What a file must have of a payload in a form.
 abbrev pub IsThere : Form → List ℕ → ℕ → Option (List ℕ) → Type 0
 IsThere Embedded file begin payload = ⊤
 IsThere External file begin payload = IsExternalAt file begin payload

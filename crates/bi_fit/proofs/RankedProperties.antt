@@ -144,7 +144,7 @@ module _ (names : List (List ℕ)) (ordered : IsStrictlySortedBy (slice_cmp nat_
         by_cmp Equal rest = are
         by_cmp Greater rest = (are.0, rest)
 
-    -- The map has the property of this name.
+    -- The map has the property with this name.
     pub model-put : (entries items : List (ℕ × Value)) → items ≡ put nat_cmp rank value entries → AreRanksWithin names entries →
         T (is_sorted nat_cmp entries) → (name : List ℕ) → IsNumberOf names name rank →
         among names (from_sorted (named_values names items)) ≡ with_property_value name (value_bytes value) (among names (from_sorted

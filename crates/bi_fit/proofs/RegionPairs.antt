@@ -8,7 +8,7 @@ use Rattle.bi_fit.specs.Payloads.{IsAt, IsAtPlace}
 use Rattle.bi_fit.specs.RegionPairs.{AreInFiles, HasSameBytes, IsPairOfPayloads}
 use Rattle.bi_fit.proofs.Meanings.{same_in_some}
 
--- Two regions of files have the same bytes, one by one, exactly if they are the same list of bytes.
+-- Two regions of files have the same bytes, one by one, if and only if they are the same list of bytes.
 
 -- The bytes from one offset to another.
 abbrev pub region : List ℕ → (begin end : ℕ) → List ℕ

@@ -16,7 +16,7 @@ use Rattle.bi_fit.specs.NormalNodes.{nodes_by_name}
 
 -- The number of signature nodes of an image tree that was read is that of its image nodes and its configuration nodes together.
 
--- There are no more signature nodes than nodes.
+-- There are at most as many signature nodes as nodes.
 few_of : (children : List (Sibling FileNode)) → length (filter (λ child. is_signature_name child.name) children) ≤ length children
 few_of [] = omega arith
 few_of (child ∷ later) = where_first (is_signature_name child.name) refl (few_of later)

@@ -16,7 +16,7 @@ use Rattle.bi_blob.specs.Layout.{AreEventBytes, IsContent}
 abbrev are_bytes : List ℕ → Bool
 are_bytes bytes = list_all (λ byte. ltb byte 256) bytes
 
--- Whether none of these bytes is this one.
+-- Whether none of the given bytes is this one.
 abbrev has_no : ℕ → List ℕ → Bool
 has_no byte bytes = list_all (λ other. not (other == byte)) bytes
 

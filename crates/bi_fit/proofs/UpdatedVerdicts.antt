@@ -49,7 +49,7 @@ children_of-with_other wanted change (node name own children later) =
     where_first true is rest = rw (is, is) refl
     where_first false is rest = rw (is, is) rest
 
--- Where there are no image nodes, there are none with digests.
+-- If there are no image nodes, there are none with digests.
 no_images : (payloads : List (Option (List ℕ))) → none ≡ images_with_digests payloads none
 no_images [] = refl
 no_images (payload ∷ payloads) = refl
@@ -98,7 +98,7 @@ unfolding verdict_of
 good_verdict properties algo payload is =
     good_by_name (option_and_then text_before_nul (get properties algo_name)) algo payload is
 
--- A hash node of this name, of an image of this name, with these properties and this payload.
+-- A hash node with a name, of an image with a name, with these properties and this payload.
 abbrev hash_of : (image name : List ℕ) → (algo value payload : Option (List ℕ)) → CheckedHash
 hash_of image name algo value payload = record {
   image = image;
@@ -319,7 +319,7 @@ payload_named (payload ∷ payloads) (node name own children later) wanted =
     where_first true is rest = rw is refl
     where_first false is rest = rw is rest
 
--- What is listed depends on the payloads of the images alone.
+-- What is listed depends only on the payloads of the images.
 listed_from-same : (index : ℕ) (name : List ℕ) (one other : Option Image) (later : ListResult) →
     option_map (λ image. image.payload) one ≡ option_map (λ image. image.payload) other →
     listed_from index name one later ≡ listed_from index name other later

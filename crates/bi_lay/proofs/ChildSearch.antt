@@ -14,7 +14,7 @@ knows-none : (name : List ℕ) (depth : ℕ) (is_new : Bool) (nodes : List OpenN
 knows-none name depth is_new [] less = tt
 knows-none name depth is_new (node ∷ outer) less = (λ is. absurd (omega arith), knows-none name depth is_new outer (omega arith))
 
--- A name is new among children with one more exactly where it is new among these and differs from that one.
+-- A name is new among children with one more if and only if it is new among these and differs from that one.
 new-push : (name child : List ℕ) (children : List (List ℕ)) (old new : Bool) → IsTrue old ↔ IsNew name children →
     IsTrue new ↔ ((old ≡ true) × (child ≢ name)) → IsTrue new ↔ IsNew name (children ++ child ∷ [])
 new-push name child children old new before after = (

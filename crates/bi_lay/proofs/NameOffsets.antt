@@ -12,7 +12,7 @@ use Rattle.bi_base.specs.Slices.{bytes_of}
 use Rattle.bi_blob.specs.Layout.{offset_in, strings_of, is_among}
 use Rattle.bi_lay.specs.Names.{offset_among, saturated_usize, with_name, same_name}
 
--- A look-up finds the offset of a name exactly if the name is among the names, and a new name is at the end of the strings block.
+-- A look-up finds the offset of a name if and only if the name is among the names, and a new name is at the end of the strings block.
 
 -- A look-up that finds a name gives its offset, and the name is among the names.
 pub look_up-some : (names : List (List ℕ)) (name : List ℕ) (value : ℕ) → offset_among names name ≡ Some value →

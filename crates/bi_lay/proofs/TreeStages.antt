@@ -35,7 +35,7 @@ nodes_add_their_names (node name properties children later) innermost outer =
     with_names : OpenNode
     with_names = record empty_node { properties = [] ++ map (λ property. property.0) properties }
 
--- Each event may follow those before it, the first of which is at this stage.
+-- Each event may follow those before it. The first of them is at this stage.
 follows : (stage : Stage) (before : List Event) (event : Event) (later : List Event) →
     AllFollow MayFollowInText stage (before ++ event ∷ later) → MayFollowInText (fold next_stage stage before) event
 follows stage [] event later follow = follow.0

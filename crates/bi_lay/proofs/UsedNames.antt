@@ -14,7 +14,7 @@ use Rattle.bi_lay.proofs.NameOffsets.{offset_in-stays}
 
 -- One more property adds its name to the names of the strings block, and the offsets of the other names stay.
 
--- A name is among the distinct names exactly where it is among the names.
+-- A name is among the distinct names if and only if it is among the names.
 pub is_among-distinct : (names : List (List ℕ)) (name : List ℕ) → is_among name (distinct_names names) ≡ is_among name names
 is_among-distinct names name = by (is_among name names) refl (is_among name (distinct_names names)) refl
   where

@@ -45,7 +45,7 @@ part_table-within image_type slices is_table =
 abbrev pub kind_checks : Bool → LegacyImage → List EmitPartCheck
 kind_checks has_table image = if has_table then emit_part_checks 0 image.parts else []
 
--- An image whose name and number of parts are right, whose text is within the limit and whose parts pass has no fault.
+-- An image has no fault if its name and number of parts are right, its text is within the limit and its parts pass.
 pub can_be_written : (image : LegacyImage) (limits : Limits) (has_table : Bool) → IsImageName image.name →
     MatchBool (has_part_table image.image_type) ⊤ (length image.parts ≡ 1) → length (legacy_text image) ≤ limits.file →
     has_part_table image.image_type ≡ has_table → HasNoFault EmitPartPasses (kind_checks has_table image) → HasNoEmitFault limits image

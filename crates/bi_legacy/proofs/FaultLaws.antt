@@ -17,7 +17,7 @@ use Rattle.bi_legacy.proofs.MeansNoFault.{means_no_fault}
 use Rattle.bi_legacy.proofs.TableCells.{zero_within}
 use Rattle.bi_base.proofs.NulLaws.{nul_index}
 
--- A file has a meaning exactly where no check fails, and at most one fault.
+-- A file has a meaning if and only if no check fails, and at most one fault.
 
 -- A number is at most another or not.
 bound_decided : (a b : ℕ) → (a ≤ b) ⊎ (¬ (a ≤ b))

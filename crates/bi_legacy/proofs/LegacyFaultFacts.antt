@@ -30,7 +30,7 @@ legacy_files_have_faults = record {
   other_end = inr (lit≤ tt, inr (lit≤ tt, inr (refl, inr (lit≤ tt, inr (refl, inr (lit≤ tt, inl (eqb-false _ _ refl, refl)))))));
 }
 
--- Cells of which none is zero.
+-- Cells, none of them zero.
 no_zero : (numbers : List ℕ) → nul_index numbers ≡ length numbers → ¬ (Contains numbers 0)
 no_zero numbers all has = omega (arith, all, zero_within numbers has)
 

@@ -40,7 +40,7 @@ first_offset body = 4 * (length (table_sizes body) + 1)
 abbrev pub parts_in_table : List ℕ → List (List ℕ)
 parts_in_table body = part_slices body (first_offset body) (table_sizes body)
 
--- Data with a part table that has an end, and whose parts end within the data, holds these parts.
+-- Data with a part table that has an end, and with parts that end within the data, holds these parts.
 pub table_of_sizes : (body : List ℕ) → AreBytes body → Contains (cells_of body) 0 →
     FitWithin (length body) (first_offset body) (table_sizes body) → HasPartTable (parts_in_table body) body
 table_of_sizes body bytes there ends =

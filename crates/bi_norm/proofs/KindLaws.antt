@@ -25,7 +25,7 @@ pub one_kind : OneKind
 one_kind file image tree legacy fit =
     omega (arith, (file_begins file image legacy).magic, begins_with_magic file tree fit)
 
--- A file of one kind has one meaning of that kind.
+-- A file of a kind has one meaning of that kind.
 pub one_file_meaning : OneLegacyMeaning → OneFileMeaning
 one_file_meaning one_legacy limits other_limits file (OfLegacy one) (OfLegacy other) means other_means =
     ap OfLegacy (one_legacy file one other means.is_file other_means.is_file)

@@ -114,7 +114,7 @@ distinguishes_tree limits form file tree is short other_file (OfLegacy image) me
   λ same. ap (normal_text form) same,
 )
 
--- The normal text of a flattened image tree that was read from a file, if it is no longer than the limit, is the normal form of the file.
+-- The normal text of a flattened image tree that was read from a file is the normal form of the file, if it is no longer than the limit.
 pub tree_normal_form : (limits : Limits) (form : Form) (file : List ℕ) (content : FitModel) → IsReadFit limits file content →
     length (fit_text form (tree_of content)) ≤ limits.file → limits.file ≤ longest_text →
     IsNormalForm limits form file (fit_text form (tree_of content))

@@ -57,7 +57,7 @@ zero_after (byte ∷ rest) shorter =
       by_test true e later within = ap (λ b. b ∷ rest) (eqb-true byte 0 e)
       by_test false e later within = ap (λ l. byte ∷ l) (later (omega arith))
 
--- The bytes before the first zero byte are no more than all.
+-- The bytes before the first zero byte are at most all bytes.
 pub length_before_zero : (bytes : List ℕ) → length (before_zero bytes) ≤ length bytes
 length_before_zero [] = omega arith
 length_before_zero (byte ∷ rest) =

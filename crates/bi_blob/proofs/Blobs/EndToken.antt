@@ -18,7 +18,7 @@ use Rattle.bi_blob.proofs.Blobs.ReaderSteps.{IsNext, number_within}
 slice-split : (file : List ℕ) (at m k n : ℕ) → n ≡ m + k → slice file at n ≡ slice file at m ++ take k (drop m (drop at file))
 slice-split file at m k n e = ap (λ l. take l (drop at file)) e ∙ take-add m k (drop at file)
 
--- FDT_END after the root ends the structure block: it holds the tree that was read, which is no deeper than the limit.
+-- FDT_END after the root ends the structure block: it holds the tree that was read. The tree is no deeper than the limit.
 pub last_token : (blocks : TreeBlocks) (depth_limit place : ℕ) (root : Root FileNode) → IsOpenAt blocks depth_limit place (WholeTree root) →
     IsNext blocks depth_limit place AfterRoot end_number → HoldsTree blocks root × (depth_of root ≤ depth_limit)
 last_token blocks depth_limit place root position next =

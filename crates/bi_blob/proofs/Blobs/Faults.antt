@@ -17,7 +17,7 @@ use Rattle.bi_blob.proofs.Blobs.TreeOrFault.{HasTree, tree_or_fault}
 use Rattle.bi_blob.proofs.Blobs.OneFault.{IsEnded, one_structure_fault, no_fault_in_ended}
 use Rattle.bi_blob.proofs.Blobs.BlockEnds.{tree_ends}
 
--- Proves that a file is a blob within limits exactly if it has no fault under them, and that it has at most one fault.
+-- Proves that a file is a blob within limits if and only if it has no fault under them, and that it has at most one fault.
 
 -- A blob's header has no fault, nor do its reservations, nor does its structure block.
 pub blob_has_no_fault : BlobHasNoFault

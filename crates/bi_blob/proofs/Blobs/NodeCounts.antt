@@ -9,9 +9,9 @@ use Rattle.bi_blob.specs.Blob.{Reservation, IsBlob, tree_blocks}
 use Rattle.bi_blob.proofs.Blobs.Tokens.{width-at_least}
 use Rattle.bi_blob.proofs.Blobs.TokenEncoding.{place_after_all, place_after_all-append, AreEncodings-length}
 
--- A blob has more bytes than its tree has nodes, and siblings with their children are no more than the nodes that are counted.
+-- A blob has more bytes than its tree has nodes, and siblings with their children are at most the nodes that are counted.
 
--- There are no more nodes than events.
+-- There are at most as many nodes as events.
 events_at_least : (nodes : Nodes FileNode) → node_count nodes ≤ length (file_events nodes)
 events_at_least none = omega arith
 events_at_least (node name own children later) =

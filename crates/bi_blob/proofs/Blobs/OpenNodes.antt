@@ -14,7 +14,7 @@ use Rattle.bi_blob.specs.OpenNodes.{events_of_open_nodes}
 abbrev pub ended_root : OpenFileNode → Root FileNode
 ended_root outermost = record { own = own_of outermost; children = outermost.children }
 
--- What holds of each element of a list holds with one more at its end of which it holds.
+-- What holds for each element of a list still holds with one more at its end for which it holds.
 pub All-push : {X : Type 0} (P : X → Type 0) (xs : List X) (x : X) → AllByRecursion P xs → P x → AllByRecursion P (xs ++ x ∷ [])
 All-push P [] x all last = (last, tt)
 All-push P (y ∷ xs) x all last = (all.0, All-push P xs x all.1 last)

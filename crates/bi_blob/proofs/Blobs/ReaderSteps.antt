@@ -23,7 +23,7 @@ use Rattle.bi_blob.proofs.Blobs.Lookups.{names-with_each}
 -- A token that passes its checks begins a node, adds a property to the innermost open node, ends that node, or, if it is FDT_NOP, changes
 -- nothing.
 
--- A token of this number that passes its checks is next.
+-- A token with this number that passes its checks is next.
 pub record IsNext (blocks : TreeBlocks) (depth_limit place : ℕ) (stage : Stage) (number : ℕ) : Type 0 where
   pub is_number : u32_at blocks.file place ≡ number
   pub passes : HasNoFault (TokenPasses blocks depth_limit place stage) (token_checks number)

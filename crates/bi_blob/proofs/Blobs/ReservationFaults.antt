@@ -147,7 +147,7 @@ past_here file at total fits past = record {
 abbrev pub HasSomeOrFault : List ℕ → ℕ → ℕ → Type 0
 HasSomeOrFault file at total = HasSome file at total ⊎ ((fault : Fault) × IsReservationsFault file at total fault)
 
--- The same with a first pair that is no end pair.
+-- The same with a first pair that is not an end pair.
 found_after : (file : List ℕ) (at total : ℕ) → ¬ (IsEndPair file at) → HasSomeOrFault file (at + 16) total → HasSomeOrFault file at total
 found_after file at total first (inl later) = inl (record { count = later.count + 1; has = HasReservations-cons file at total later.count first later.has })
 found_after file at total first (inr later) = inr (later.0, IsReservationsFault-cons file at total later.0 first later.1)
@@ -181,7 +181,7 @@ one_reservations_fault file at total f g one other =
     let same : one.index ≡ other.index = omega arith in
     one.is ∙ ap (λ n. record { cause = Truncated; offset = at + 16 * n }) same ∙ sym other.is
 
--- There are no reservations with an end pair where there is a fault.
+-- There are no reservations with an end pair if there is a fault.
 pub no_reservations_with_fault : (file : List ℕ) (at total count : ℕ) (fault : Fault) → HasReservations file at total count →
     IsReservationsFault file at total fault → ⊥
 no_reservations_with_fault file at total count fault has faulty =

@@ -118,7 +118,7 @@ one_token file at t u one other =
     let same : number t ≡ number u = sym (IsTokenAt-number file at t one) ∙ IsTokenAt-number file at u other in
     absurd (omega arith)
 
--- A token that is its number alone is where its number is read.
+-- A token that is only its number is where its number is read.
 token_is_there : (file : List ℕ) (at n : ℕ) → AreBytes file → at + 4 ≤ length file → u32_at file at ≡ n → BytesAt file at (cell n)
 token_is_there file at n bytes within e = subst (λ m. BytesAt file at (cell m)) e (BytesAt-cell file at bytes within)
 

@@ -9,7 +9,7 @@ use Rattle.bi_blob.specs.TextLaws.{EachTreeHasOneOrder, NormalTextTellsContent}
 use Rattle.bi_blob.proofs.Texts.PropertyOrder.{order_tells}
 use Rattle.bi_blob.proofs.Texts.TextContent.{text_has_one_content}
 
--- A tree has one normal order, and normal texts are the same exactly if their contents are.
+-- A tree has one normal order, and normal texts are the same if and only if their contents are.
 
 -- Properties by name, put in order and taken by name again, are the same.
 pub made_again : (properties : PropertyMap) → from_entries (entries properties) ≡ properties
@@ -60,7 +60,7 @@ has_one_order root = record {
   only = λ other normal same. sym (ordered-tree other normal) ∙ ap in_byte_order same;
 }
 
--- Normal texts are the same exactly where their contents are.
+-- Normal texts are the same if and only if their contents are.
 pub normal_text_tells_content : NormalTextTellsContent
 normal_text_tells_content cpu other_cpu reservations other_reservations root other_root text other_text is other_is normal other_normal short = (
   (λ same.

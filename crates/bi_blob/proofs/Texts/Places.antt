@@ -13,7 +13,7 @@ event_with_place at (NodeStart name) = FileNodeStart at name
 event_with_place at (NodeProperty property) = FileNodeProperty (record { name = property.0; value = property.1; place = at })
 event_with_place at NodeEnd = FileNodeEnd
 
--- Events with the places of their tokens, the first of which is at this offset.
+-- Events with the places of their tokens. The first token is at this offset.
 abbrev pub placed_from : ℕ → List Event → List FileEvent
 placed_from at [] = []
 placed_from at (event ∷ later) = event_with_place at event ∷ placed_from (at + event_width event) later

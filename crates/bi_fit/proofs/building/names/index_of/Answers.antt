@@ -9,7 +9,7 @@ use Rattle.bi_base.specs.Slices.{bytes_of}
 use Rattle.bi_blob.specs.Layout.{is_among}
 use Rattle.bi_fit.proofs.building.names.index_of.Goals as goal
 
--- What is read where there is no name.
+-- What is read if there is no name.
 abbrev no_name : Bor (List ℕ)
 no_name = record { ref_ptr = (0, 0); now = [] }
 
