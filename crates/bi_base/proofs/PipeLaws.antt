@@ -82,7 +82,8 @@ piping_failed promise limits laws source new_source target new_target input byte
     (λ e. laws.no_read_error input (subst (promise.has_error input) e is))
     (λ e. laws.no_write_error input (subst (promise.has_error input) e is))
     (subst (λ (trace : WriteTrace). Keeps target.contents trace.contents) (sym kept) (Keeps-refl target.contents))
-piping_failed promise limits laws source new_source target new_target input bytes (Err error) read same (SinkFailed text cause is stopped wrapped) =
+piping_failed promise limits laws source new_source target new_target input bytes (Err error) read same
+    (SinkFailed text cause is stopped wrapped) =
     let is_write : error ≡ promise.wraps WriteFailed = wrapped ∙ ap promise.wraps stopped.is in
     write_stopped source new_source target new_target promise.is_text (λ input. PipeError promise limits input error)
     (error ≡ promise.wraps ReadFailed) (error ≡ promise.wraps WriteFailed) input text cause

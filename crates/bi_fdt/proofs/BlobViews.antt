@@ -9,7 +9,8 @@ use Rattle.bi_base.specs.Cells.{AreBytes, u64_at}
 use Rattle.bi_base.specs.Limits.{Limits}
 use Rattle.bi_base.specs.Errors.{IsFaultOrNoMemory}
 use Rattle.bi_blob.specs.Tree.{Root, FileNode}
-use Rattle.bi_blob.specs.Blob.{Reservation, boot_cpuid_phys, header_length, lacks_structure_size, totalsize, off_mem_rsvmap, strings_end, tree_blocks}
+use Rattle.bi_blob.specs.Blob.{Reservation, boot_cpuid_phys, header_length, lacks_structure_size, totalsize, off_mem_rsvmap, strings_end}
+use Rattle.bi_blob.specs.Blob.{tree_blocks}
 use Rattle.bi_blob.specs.Blob.{Header, IsBlob, IsBlobWithin, reservations_at}
 use Rattle.bi_blob.specs.BlobFaults.{HasNoHeaderFault, HasReservations, IsStructureFault, IsBlobFault, InStructure}
 use Rattle.bi_blob.proofs.Blobs.Headers.{HasNoHeaderFault-Header}
@@ -85,7 +86,8 @@ pub is_blob : (limits : Limits) (file : List ℕ) (count : ℕ) (entries : List 
     IsBlob file (boot_cpuid_phys file) (reservations_at file (off_mem_rsvmap file) count) (root_in (map (item_in file) entries))
 is_blob limits file count entries used bytes fine has table =
     let header : Header file = HasNoHeaderFault-Header limits file fine in
-    subst (IsBlob file (boot_cpuid_phys file) (reservations_at file (off_mem_rsvmap file) count)) (sym (table_root file entries table.root table.is_table)) (record {
+    subst (IsBlob file (boot_cpuid_phys file) (reservations_at file (off_mem_rsvmap file) count))
+    (sym (table_root file entries table.root table.is_table)) (record {
       bytes = bytes;
       header = header;
       is_cpu = refl;

@@ -1,4 +1,5 @@
-use Rattle.std.proofs.Common.{◌≡◌, ℕ, zero, suc, ◌+◌, ◌-◌, ◌*◌, ◌/◌, ◌<◌, ◌≤◌, List, [], ◌∷◌, ◌++◌, length, take, drop, Option, Some, None, slice_get, inl, inr}
+use Rattle.std.proofs.Common.{◌≡◌, ℕ, zero, suc, ◌+◌, ◌-◌, ◌*◌, ◌/◌, ◌<◌, ◌≤◌, List, [], ◌∷◌, ◌++◌, length, take, drop, Option, Some, None}
+use Rattle.std.proofs.Common.{slice_get, inl, inr}
 use Rattle.std.proofs.Common.{refl, sym, ap, subst, ◌∙◌, arith}
 use Rattle.std.specs.List.{AllZip}
 use Rattle.std.proofs.lemmas.Option.{none-some, same_Some, some_pair_parts}
@@ -123,7 +124,8 @@ names_found tails heads names other_tails other_heads others numbers found are o
         let within : there.0.0 ≤ length tails = blocks_number_within tails (length name / 64 - 1) there.0.0 name there.2.tail in
         let tail = value_there numbers there.0.0 (omega (arith, within, kept.count)) in
         name_found other_tails other_heads others there.0.1 name tail.0 number other_are there.2.head
-        (kept.each there.0.0 tail.0 tail.1 (length name / 64 - 1) name there.2.tail) (among.each index there.0 tail.0 number there.1 tail.1 at_number)
+        (kept.each there.0.0 tail.0 tail.1 (length name / 64 - 1) name there.2.tail)
+        (among.each index there.0 tail.0 number there.1 tail.1 at_number)
 
 -- Names with the same parts are the same.
 pub same_names : (tails heads : List NamePart) (names others : List (List ℕ)) → AllZip (IsHead tails) heads names →

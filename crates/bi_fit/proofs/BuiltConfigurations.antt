@@ -77,20 +77,24 @@ module _ (images : List ImageSpecModel) where
       find (slice_cmp nat_cmp) (key_name key) (lists_of keys) ≡ None
   none_of key [] differ = refl
   none_of key (other ∷ later) differ =
-      let both = and_parts (not (bytes_eq (key_name key) (key_name other))) (list_all (λ other. not (bytes_eq (key_name key) (key_name other))) later) differ in
+      let both = and_parts (not (bytes_eq (key_name key) (key_name other)))
+      (list_all (λ other. not (bytes_eq (key_name key) (key_name other))) later) differ in
       skip key other (not-true (bytes_eq (key_name key) (key_name other)) both.0) (names_under other images) (lists_of later)
       ∙ none_of key later both.1
 
   -- The property of a key is found among those of all keys.
   found_key : (key : Key) → find (slice_cmp nat_cmp) (key_name key) (lists_of all_keys) ≡ list_value (names_under key images)
-  found_key Kernel = hit Kernel (names_under Kernel images) (lists_of (Fdt ∷ Ramdisk ∷ Firmware ∷ Loadables ∷ Script ∷ [])) (none_of Kernel (Fdt ∷ Ramdisk ∷ Firmware ∷ Loadables ∷ Script ∷ []) refl)
+  found_key Kernel = hit Kernel (names_under Kernel images) (lists_of (Fdt ∷ Ramdisk ∷ Firmware ∷ Loadables ∷ Script ∷ []))
+      (none_of Kernel (Fdt ∷ Ramdisk ∷ Firmware ∷ Loadables ∷ Script ∷ []) refl)
   found_key Fdt =
       skip Fdt Kernel refl (names_under Kernel images) (lists_of (Fdt ∷ Ramdisk ∷ Firmware ∷ Loadables ∷ Script ∷ []))
-      ∙ hit Fdt (names_under Fdt images) (lists_of (Ramdisk ∷ Firmware ∷ Loadables ∷ Script ∷ [])) (none_of Fdt (Ramdisk ∷ Firmware ∷ Loadables ∷ Script ∷ []) refl)
+      ∙ hit Fdt (names_under Fdt images) (lists_of (Ramdisk ∷ Firmware ∷ Loadables ∷ Script ∷ []))
+      (none_of Fdt (Ramdisk ∷ Firmware ∷ Loadables ∷ Script ∷ []) refl)
   found_key Ramdisk =
       skip Ramdisk Kernel refl (names_under Kernel images) (lists_of (Fdt ∷ Ramdisk ∷ Firmware ∷ Loadables ∷ Script ∷ []))
       ∙ skip Ramdisk Fdt refl (names_under Fdt images) (lists_of (Ramdisk ∷ Firmware ∷ Loadables ∷ Script ∷ []))
-      ∙ hit Ramdisk (names_under Ramdisk images) (lists_of (Firmware ∷ Loadables ∷ Script ∷ [])) (none_of Ramdisk (Firmware ∷ Loadables ∷ Script ∷ []) refl)
+      ∙ hit Ramdisk (names_under Ramdisk images) (lists_of (Firmware ∷ Loadables ∷ Script ∷ []))
+      (none_of Ramdisk (Firmware ∷ Loadables ∷ Script ∷ []) refl)
   found_key Firmware =
       skip Firmware Kernel refl (names_under Kernel images) (lists_of (Fdt ∷ Ramdisk ∷ Firmware ∷ Loadables ∷ Script ∷ []))
       ∙ skip Firmware Fdt refl (names_under Fdt images) (lists_of (Ramdisk ∷ Firmware ∷ Loadables ∷ Script ∷ []))
@@ -185,7 +189,10 @@ images_listed : (images : List Image) (index : ℕ) (some : List ImageSpecModel)
 images_listed images index [] found = refl
 images_listed images index (image ∷ some) found =
     rw (found.0.1, images_listed images (index + 1) some found.1)
-    (ap (λ payload. ListedImages (record { name = image.name; payload = payload } ∷ map (λ image. record { name = image.name; payload = Some image.payload }) some)) found.0.2)
+    (ap (λ payload. ListedImages (record {
+      name = image.name;
+      payload = payload;
+    } ∷ map (λ image. record { name = image.name; payload = Some image.payload }) some)) found.0.2)
 
 -- What the value of a key lists.
 value_lists : (images : List Image) (some : List ImageSpecModel) → AllByRecursion (IsFoundIn images) some →

@@ -51,7 +51,8 @@ compared_root_children IsOwn (node name own children later) are =
         compared_nodes RootChild (node name own children later) ≡
         with_children_of images_name without_payloads (nodes_by_name (node name own children later))
     where_first true is rest =
-        let new : IsNew images_name (names later) = subst (λ name. IsNew name (names later)) ((bytes_eq-Decides name images_name).0 is) are.0.is_new in
+        let new : IsNew images_name (names later) = subst (λ name. IsNew name (names later))
+        ((bytes_eq-Decides name images_name).0 is) are.0.is_new in
         rw is (ap₂ (node name (properties_by_name own)) (compared_images children) (compared_without_images later new))
     where_first false is rest =
         rw is (ap₂ (node name (properties_by_name own)) (compared_others children) rest)
@@ -68,10 +69,16 @@ module _ (one other : FitModel) (held : IsHeld one) (held_other : IsHeld other) 
   one_compared_tree are payloads =
       let cpu = are.same_cpu in
       let reservations = are.same_reservations in
-      let roots : as_nodes (tree_of one).root ≡ as_nodes (tree_of other).root = sym (compared_root one held) ∙ are.same_tree ∙ compared_root other held_other in
+      let roots : as_nodes (tree_of one).root ≡ as_nodes (tree_of other).root = sym (compared_root one held) ∙ are.same_tree
+      ∙ compared_root other held_other in
       let own : (tree_of one).root.own ≡ (tree_of other).root.own = cc in
       let children : (tree_of one).root.children ≡ (tree_of other).root.children = cc in
-      λ i. record { cpu = cpu i; reservations = reservations i; root = record { own = own i; children = children i }; payloads = payloads i }
+      λ i. record {
+        cpu = cpu i;
+        reservations = reservations i;
+        root = record { own = own i; children = children i };
+        payloads = payloads i;
+      }
 
   -- and one tree is of the same blobs.
   pub same_blobs : tree_of one ≡ tree_of other → AreSameBlobs one.blob other.blob

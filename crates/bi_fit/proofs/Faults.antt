@@ -83,8 +83,10 @@ module _ (file : List ℕ) where
       (payloads : List (Option (List ℕ))) × AllZip (HasPayload file) (each_own nodes) payloads
   images_have_payloads none fine = ([], tt)
   images_have_payloads (node name own children later) fine =
-      let first_payload = source_has_payload (source_of own) (each-front (FitPasses file) (source_checks file (source_of own)) (image_checks file later) fine) in
-      let rest = images_have_payloads later (each-back (FitPasses file) (source_checks file (source_of own)) (image_checks file later) fine) in
+      let first_payload = source_has_payload (source_of own)
+      (each-front (FitPasses file) (source_checks file (source_of own)) (image_checks file later) fine) in
+      let rest = images_have_payloads later
+      (each-back (FitPasses file) (source_checks file (source_of own)) (image_checks file later) fine) in
       (first_payload.0 ∷ rest.0, (first_payload.1, rest.1))
 
   -- The checks of the tree of a file with a meaning pass.
@@ -129,10 +131,13 @@ fit_has_no_fault bounds file tree fault means (InTree cpu reservations root blob
 pub one_fit_fault : OneFitFault
 one_fit_fault bounds file one other (InBlob a) (InBlob b) = one_blob_fault bounds file one other a b
 one_fit_fault bounds file one other (InBlob a) (InTree cpu reservations root blob within b) =
-    absurd (blob_has_no_fault bounds file one (record { cpu = cpu; reservations = reservations; root = root; blob = blob; within = within }) a)
+    absurd (blob_has_no_fault bounds file one
+    (record { cpu = cpu; reservations = reservations; root = root; blob = blob; within = within }) a)
 one_fit_fault bounds file one other (InTree cpu reservations root blob within a) (InBlob b) =
-    absurd (blob_has_no_fault bounds file other (record { cpu = cpu; reservations = reservations; root = root; blob = blob; within = within }) b)
-one_fit_fault bounds file one other (InTree cpu reservations root blob within a) (InTree cpu_too reservations_too root_too blob_too within_too b) =
+    absurd (blob_has_no_fault bounds file other
+    (record { cpu = cpu; reservations = reservations; root = root; blob = blob; within = within }) b)
+one_fit_fault bounds file one other (InTree cpu reservations root blob within a)
+    (InTree cpu_too reservations_too root_too blob_too within_too b) =
     let same = one_blob file cpu cpu_too reservations reservations_too root root_too blob blob_too in
     first.one_fault (FitPasses file) fit_fault (fit_checks file root) one other a
     (subst (λ root. IsFirstFault (FitPasses file) fit_fault (fit_checks file root) other) (sym same.same_root) b)

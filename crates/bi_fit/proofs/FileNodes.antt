@@ -103,7 +103,8 @@ named-other {Own = Own} changed wanted change differ (node name own children lat
     where_other : (b : Bool) → bytes_eq name wanted ≡ b → bytes_eq name changed ≡ true →
         option_map own_and_children (node_named (node name own (change children) later) wanted) ≡
         option_map own_and_children (node_named (node name own children later) wanted)
-    where_other true is is_changed = absurd (let e : bytes_eq name changed ≡ false = differ name is in let f : true ≡ false = sym is_changed ∙ e in cc)
+    where_other true is is_changed = absurd
+        (let e : bytes_eq name changed ≡ false = differ name is in let f : true ≡ false = sym is_changed ∙ e in cc)
     where_other false is is_changed = rw is refl
 
     where_changed : (b : Bool) → bytes_eq name changed ≡ b →

@@ -38,7 +38,8 @@ entries_ascend (one ∷ keyed) [] are ascend = absurd are
 entries_ascend (one ∷ keyed) (item ∷ items) are ascend =
     both_hold (below_all nat_cmp item.0 items) (is_sorted nat_cmp items)
     (below_entries item.0 keyed items are.1
-    (subst (λ rank. AllByRecursion (λ other. nat_cmp rank other ≡ Less) (keys_of keyed)) are.0.0 (sorted_head nat_cmp one.0 (keys_of keyed) ascend)))
+    (subst (λ rank. AllByRecursion (λ other. nat_cmp rank other ≡ Less) (keys_of keyed)) are.0.0
+    (sorted_head nat_cmp one.0 (keys_of keyed) ascend)))
     (entries_ascend keyed items are.1 (sorted_tail nat_cmp one.0 (keys_of keyed) ascend))
 
 module _ (names : List (List ℕ)) where

@@ -1,4 +1,5 @@
-use Rattle.std.proofs.Common.{◌≡◌, ◌⊎◌, ℕ, ◌+◌, ◌≤◌, ◌||◌, Bool, true, false, cond, not, nat_le, inl, inr, List, [], ◌∷◌, ◌++◌, Option, Some, None, length, map}
+use Rattle.std.proofs.Common.{◌≡◌, ◌⊎◌, ℕ, ◌+◌, ◌≤◌, ◌||◌, Bool, true, false, cond, not, nat_le, inl, inr, List, [], ◌∷◌, ◌++◌, Option}
+use Rattle.std.proofs.Common.{Some, None, length, map}
 use Rattle.std.proofs.Common.{Contains, filter, flat_map, bytes_eq, nat_cmp, refl, sym, ap, subst, ◌∙◌, arith}
 use Rattle.std.specs.Prelude.{if◌then◌else◌}
 use Rattle.std.proofs.Common.{Less, Equal, true≢false}
@@ -87,7 +88,8 @@ one_and_others : (name : List ℕ) (names : List (List ℕ)) → Contains names 
     long_length name + sum_by long_length (filter (λ other. not (bytes_eq name other)) names) ≤ sum_by long_length names
 one_and_others name names has =
     let both = sum_by-filter_both (bytes_eq name) (λ other. not (bytes_eq name other)) (λ other. refl) long_length names in
-    let one = one_of_all name (filter (bytes_eq name) names) (Contains-filter (bytes_eq name) names name ((bytes_eq-Decides name name).1 refl) has) in
+    let one = one_of_all name (filter (bytes_eq name) names)
+    (Contains-filter (bytes_eq name) names name ((bytes_eq-Decides name name).1 refl) has) in
     omega (arith, both, one)
 
 -- Each of these names is short or among others.
@@ -203,7 +205,9 @@ key_by_name name properties has =
 -- and the other way round.
 name_in_order : (name : List ℕ) (properties : PropertyMap) → HasKey name properties → HasName name (entries properties)
 name_in_order name properties has =
-    Contains-from_any {eq = eq_by_cmp (slice_cmp nat_cmp)} (λ one other same. (bytes_eq-Decides one other).0 (sym (is_eq-slice_cmp one other) ∙ same)) name (map (λ property. property.0) (entries properties))
+    Contains-from_any {eq = eq_by_cmp (slice_cmp nat_cmp)}
+    (λ one other same. (bytes_eq-Decides one other).0 (sym (is_eq-slice_cmp one other) ∙ same)) name
+    (map (λ property. property.0) (entries properties))
     (sym (is_some-find (slice_cmp nat_cmp) name (entries properties)) ∙ ap is_some (sym (get-entries properties name)) ∙ has)
 
 -- A property that is put in takes away no name,
@@ -305,7 +309,8 @@ some_in_tree : (content : FitModel) (name : List ℕ) → is_payload_name name �
 some_in_tree content name other (inl here) = inl (key_by_name name (properties_of (root_of content.blob).own) here)
 some_in_tree content name other (inr (inr after)) = absurd after
 some_in_tree content name other (inr (inl below)) =
-    let in_lists = some_with_each (λ own. HasName name (properties_of own)) (HasName name) properties_of (λ own has. has) (root_of content.blob).children below in
+    let in_lists = some_with_each (λ own. HasName name (properties_of own)) (HasName name) properties_of (λ own has. has)
+    (root_of content.blob).children below in
     let by_name = some_with_each (HasName name) (HasKey name) from_entries (key_by_name name) _ in_lists in
     inr (inl (some_with_children_of (HasKey name) images_name without_payloads (some_without_payloads name other) _ by_name))
 
@@ -319,7 +324,8 @@ some_in_text form changes content name (inr (inr after)) = absurd after
 some_in_text form changes content name (inr (inl below)) =
     let payloads = (tree_of content).payloads in
     let changed = some_with_new_digests name changes.hashes payloads _ below in
-    let whole = some_with_children_of (HasKey name) images_name (with_payloads form 0 payloads) (some_with_payloads name form 0 payloads) _ changed in
+    let whole = some_with_children_of (HasKey name) images_name (with_payloads form 0 payloads)
+    (some_with_payloads name form 0 payloads) _ changed in
     inr (inl (some_with_each (HasKey name) (HasName name) entries (name_in_order name) _ whole))
 
 -- A property among the events of a node's properties is one of these.
@@ -327,7 +333,8 @@ name_of_one : (properties : List FileProperty) (property : FileProperty) →
     Contains (map FileNodeProperty properties) (FileNodeProperty property) → HasName property.name (map property_of properties)
 name_of_one [] property has = absurd (Contains-none (FileNodeProperty property) has)
 name_of_one (first ∷ others) property has =
-    where_first (Contains-cases (FileNodeProperty first) (map FileNodeProperty others) (FileNodeProperty property) has) (λ has. name_of_one others property has)
+    where_first (Contains-cases (FileNodeProperty first) (map FileNodeProperty others) (FileNodeProperty property) has)
+    (λ has. name_of_one others property has)
   where
     where_first : (FileNodeProperty first ≡ FileNodeProperty property) ⊎
         Contains (map FileNodeProperty others) (FileNodeProperty property) →
@@ -335,7 +342,8 @@ name_of_one (first ∷ others) property has =
         HasName property.name (map property_of (first ∷ others))
     where_first (inl same) rest =
         let is : first ≡ property = cc in
-        subst (λ found. Contains (first.name ∷ map (λ property. property.0) (map property_of others)) found.name) is (Contains-first first.name _)
+        subst (λ found. Contains (first.name ∷ map (λ property. property.0) (map property_of others)) found.name)
+        is (Contains-first first.name _)
     where_first (inr has) rest = Contains-others first.name _ property.name (rest has)
 
 -- A property is among events.
@@ -346,7 +354,8 @@ IsAmong property events = Contains events (FileNodeProperty property)
 some_in_events : (nodes : Nodes FileNode) (property : FileProperty) → IsAmong property (file_events nodes) → SomeNamed property.name nodes
 some_in_events none property has = absurd (Contains-none (FileNodeProperty property) has)
 some_in_events (node name own children later) property has =
-    by_start (Contains-cases (FileNodeStart own.place name) (map FileNodeProperty own.properties ++ (file_events children ++ (FileNodeEnd ∷ file_events later))) (FileNodeProperty property) has)
+    by_start (Contains-cases (FileNodeStart own.place name)
+    (map FileNodeProperty own.properties ++ (file_events children ++ (FileNodeEnd ∷ file_events later))) (FileNodeProperty property) has)
     (λ has. some_in_events children property has) (λ has. some_in_events later property has)
   where
     by_end : (FileNodeEnd ≡ FileNodeProperty property) ⊎ IsAmong property (file_events later) →
@@ -374,17 +383,20 @@ some_in_events (node name own children later) property has =
         (IsAmong property (file_events later) → SomeNamed property.name later) → SomeNamed property.name (node name own children later)
     by_start (inl same) below after = absurd cc
     by_start (inr has) below after =
-        by_part (Contains-append_cases (map FileNodeProperty own.properties) (file_events children ++ (FileNodeEnd ∷ file_events later)) (FileNodeProperty property) has) below after
+        by_part (Contains-append_cases (map FileNodeProperty own.properties) (file_events children ++ (FileNodeEnd ∷ file_events later))
+        (FileNodeProperty property) has) below after
 
 -- What is used by the first of some events is used by all of them,
 used_first : (name : List ℕ) (front back : List Event) → Contains (used_names front) name → Contains (used_names (front ++ back)) name
 used_first name front back has =
-    subst (λ names. Contains names name) (sym (flat_map-append event_names front back)) (Contains-append_left (used_names front) (used_names back) name has)
+    subst (λ names. Contains names name) (sym (flat_map-append event_names front back))
+    (Contains-append_left (used_names front) (used_names back) name has)
 
 -- and what is used by the later ones.
 used_later : (name : List ℕ) (front back : List Event) → Contains (used_names back) name → Contains (used_names (front ++ back)) name
 used_later name front back has =
-    subst (λ names. Contains names name) (sym (flat_map-append event_names front back)) (Contains-append_right (used_names front) (used_names back) name has)
+    subst (λ names. Contains names name) (sym (flat_map-append event_names front back))
+    (Contains-append_right (used_names front) (used_names back) name has)
 
 -- The events of a tree use the name of each of its properties.
 names_of_properties : (properties : List Property) → used_names (map NodeProperty properties) ≡ map (λ property. property.0) properties
@@ -396,15 +408,23 @@ some_used name none some = absurd some
 some_used name (node n properties children later) (inl here) =
     used_first name (map NodeProperty properties) _ (subst (λ names. Contains names name) (sym (names_of_properties properties)) here)
 some_used name (node n properties children later) (inr (inl below)) =
-    used_later name (map NodeProperty properties) _ (used_first name (events children) (NodeEnd ∷ events later) (some_used name children below))
+    used_later name (map NodeProperty properties) _
+    (used_first name (events children) (NodeEnd ∷ events later) (some_used name children below))
 some_used name (node n properties children later) (inr (inr after)) =
-    used_later name (map NodeProperty properties) _ (used_later name (events children) (NodeEnd ∷ events later) (some_used name later after))
+    used_later name (map NodeProperty properties) _
+    (used_later name (events children) (NodeEnd ∷ events later) (some_used name later after))
 
 -- Long names together are no longer than all names with a zero byte after each.
 no_longer_than_all : (names : List (List ℕ)) → sum_by long_length names ≤ sum_by (λ name. length name + 1) names
 no_longer_than_all [] = omega arith
 no_longer_than_all (name ∷ later) =
-    omega (arith, length-name_if_long name, no_longer_than_all later, sum_by-cons long_length name later, sum_by-cons (λ name. length name + 1) name later)
+    omega (
+      arith,
+      length-name_if_long name,
+      no_longer_than_all later,
+      sum_by-cons long_length name later,
+      sum_by-cons (λ name. length name + 1) name later,
+    )
 
 -- The names of the properties of nodes, in their order.
 abbrev pub names_of_nodes : Nodes PropertyMap → List (List ℕ)
@@ -434,7 +454,8 @@ module _ (content : FitModel) where
       where_payload true is = inl (ap length (payload_name_short name is))
       where_payload false is =
           let (property, has, same) = are.0 in
-          let of_file = subst (λ name. SomeNamed name (as_nodes (root_of content.blob))) same (some_in_events (as_nodes (root_of content.blob)) property has) in
+          let of_file = subst (λ name. SomeNamed name (as_nodes (root_of content.blob))) same
+          (some_in_events (as_nodes (root_of content.blob)) property has) in
           inr (among name (some_in_tree content name is of_file))
 
   -- Different long names of properties of a file are together no longer than those of the tree that it means.
@@ -444,7 +465,8 @@ module _ (content : FitModel) where
       let nodes = as_nodes (tree_of content).root in
       let others = names_of_nodes nodes in
       let among : (name : List ℕ) → SomeOwn (HasKey name) nodes → Contains others name =
-      λ name some. some_used name (with_each entries nodes) (some_with_each (HasKey name) (HasName name) entries (name_in_order name) nodes some) in
+      λ name some. some_used name (with_each entries nodes)
+      (some_with_each (HasKey name) (HasName name) entries (name_in_order name) nodes some) in
       let long_ones = no_longer_than_others names others distinct (short_or_among others among names are) in
       omega (arith, length-flat_map name_if_long names, length-flat_map name_if_long others, long_ones)
 
@@ -468,7 +490,15 @@ module _ (content : FitModel) (form : Form) (changes : Changes) where
       let tree = with_changes changes (tree_of content) in
       let lengths = text_of_events_has_length tree.cpu tree.reservations text_events in
       let long_ones = no_longer_than_others names text_names distinct (short_or_among content text_names in_text names are) in
-      omega (arith, length-flat_map name_if_long names, long_ones, no_longer_than_all text_names, lengths.strings, lengths.is_length, length-fit_text form tree)
+      omega (
+        arith,
+        length-flat_map name_if_long names,
+        long_ones,
+        no_longer_than_all text_names,
+        lengths.strings,
+        lengths.is_length,
+        length-fit_text form tree,
+      )
 
   -- So the text is too long where such names have more bytes than the limit.
   pub too_long_names : (limits : Limits) (limit : ℕ) → limit ≡ limits.file →

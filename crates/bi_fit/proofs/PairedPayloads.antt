@@ -34,7 +34,8 @@ pairing_next file other pairs pair image other_image images others AllSame is is
     (λ same.
         is.4.0 (
           each-front (HasSameBytes file other) pairs (pair ∷ []) same.0,
-          ap (λ payload. payload ∷ payloads_of_models images) (is_pair.same.0 (each-back (HasSameBytes file other) pairs (pair ∷ []) same.0).0)
+          ap (λ payload. payload ∷ payloads_of_models images)
+              (is_pair.same.0 (each-back (HasSameBytes file other) pairs (pair ∷ []) same.0).0)
               ∙ ap (λ payloads. other_image.payload ∷ payloads) same.1,
         )),
     (λ all. (

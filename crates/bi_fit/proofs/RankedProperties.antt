@@ -1,4 +1,5 @@
-use Rattle.std.proofs.Common.{◌≡◌, ℕ, zero, suc, ◌<◌, ◌≤◌, Bool, true, false, cond, not, nat_le, T, List, [], ◌∷◌, length, set, filter, bytes_eq}
+use Rattle.std.proofs.Common.{◌≡◌, ℕ, zero, suc, ◌<◌, ◌≤◌, Bool, true, false, cond, not, nat_le, T, List, [], ◌∷◌, length, set, filter}
+use Rattle.std.proofs.Common.{bytes_eq}
 use Rattle.std.proofs.Common.{true≢false, Ordering, Less, Equal, Greater, Some, slice_get, refl, sym, ap, ap₂, subst, ◌∙◌, nat_cmp, arith}
 use Rattle.std.specs.Prelude.{◌==◌, ◌&&◌, ◌||◌, if◌then◌else◌}
 use Rattle.std.specs.Cmp.{tied_itself, nat_cmp_is, ranks as nat_cmp_order}

@@ -344,7 +344,8 @@ listed_at-same : (images others : List Image) →
     listed_at images value ≡ listed_at others value
 listed_at-same images others same None = refl
 listed_at-same images others same (Some value) =
-    ap (λ (l : ListResult). if ends_with nat_eq value (0 ∷ []) then l else BadList) (list_images-same images others same 0 (listed_names value))
+    ap (λ (l : ListResult). if ends_with nat_eq value (0 ∷ []) then l else BadList)
+    (list_images-same images others same 0 (listed_names value))
 
 listed_under-same : (images others : List Image) →
     ((wanted : List ℕ) → option_map (λ image. image.payload) (image_named wanted images)
@@ -365,7 +366,8 @@ payload_named_new true payloads nodes wanted = payload_named payloads nodes want
 pub listed_of-updated : (changes : Changes) (tree : ImageTree) (configuration : List ℕ) (key : Key) →
     listed_of (with_changes changes tree) configuration key ≡ listed_of tree configuration key
 listed_of-updated changes tree configuration key =
-    ap₂ (λ images nodes. listed_under images (node_named nodes configuration) key) (images_of-updated changes tree) (configuration_nodes-updated changes tree)
+    ap₂ (λ images nodes. listed_under images (node_named nodes configuration) key) (images_of-updated changes tree)
+    (configuration_nodes-updated changes tree)
     ∙ listed_under-same (new_images_with changes.hashes tree.payloads (nodes_or_none (image_nodes tree.root))) (images_of tree)
     (payload_named_new changes.hashes tree.payloads (nodes_or_none (image_nodes tree.root)))
     (node_named (configuration_nodes tree) configuration) key

@@ -28,7 +28,14 @@ pub good-from_digest : (algo value payload : Option (List ℕ)) → HasItsDigest
 unfolding verdict_of
 good-from_digest algo value payload has =
     let same = (bytes_eq-Decides (digest_of has.algorithm has.bytes) (digest_of has.algorithm has.bytes)).1 refl in
-    rw (has.algo_is, has.value_is, has.payload_is, text_before_nul-name has.algorithm has.rest, find_algorithm-algorithm_name has.algorithm, same)
+    rw (
+      has.algo_is,
+      has.value_is,
+      has.payload_is,
+      text_before_nul-name has.algorithm has.rest,
+      find_algorithm-algorithm_name has.algorithm,
+      same,
+    )
     refl
 
 -- Where a choice between Good and Bad is Good, its test holds.

@@ -29,7 +29,8 @@ bound_decided a b = elim (cases_lt b a) [
 -- Numbers contain a zero or not.
 zero_decided : (numbers : List ℕ) → Contains numbers 0 ⊎ (¬ (Contains numbers 0))
 zero_decided numbers = elim (cases_lt (nul_index numbers) (length numbers)) [
-  | inl within ↦ inl (subst (Contains numbers) (eqb-true _ _ (passes_at_first (λ number. number == 0) numbers 0 within)) (Contains-get_or numbers (nul_index numbers) 0 within))
+  | inl within ↦ inl (subst (Contains numbers) (eqb-true _ _ (passes_at_first (λ number. number == 0) numbers 0 within))
+      (Contains-get_or numbers (nul_index numbers) 0 within))
   | inr past ↦ inr (λ there. omega (arith, zero_within numbers there))
 ]
 

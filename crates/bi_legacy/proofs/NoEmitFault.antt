@@ -56,7 +56,8 @@ no_emit_fault file image limits is short =
 pub no_emit_fault_image : (image : LegacyImage) (limits : Limits) → FitsFields image → AreBytes image.name →
     AllByRecursion AreBytes image.parts → limits.file < 2 ^ 32 → HasNoEmitFault limits image → IsLegacyImage image
 no_emit_fault_image image limits ranges name_bytes parts_bytes fits (name, (count, (short, parts))) =
-    let are : AreParts image.image_type image.parts = kind_passed (has_part_table image.image_type) image.parts count (HasNoFault-unmap (EmitPasses limits image) IsNotEmpty _ parts) in
+    let are : AreParts image.image_type image.parts = kind_passed (has_part_table image.image_type) image.parts count
+    (HasNoFault-unmap (EmitPasses limits image) IsNotEmpty _ parts) in
     record {
       ranges = ranges;
       name = name;

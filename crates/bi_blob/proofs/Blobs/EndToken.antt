@@ -9,7 +9,8 @@ use Rattle.bi_blob.specs.BlobFaults.{place_after}
 use Rattle.bi_blob.specs.OpenNodes.{WholeTree, IsOpenAt}
 use Rattle.bi_blob.proofs.Blobs.Tokens.{End-is_at}
 use Rattle.bi_blob.proofs.Blobs.TokenEncoding.{place_after_all, place_after_all-append, AllStand}
-use Rattle.bi_blob.proofs.Blobs.PassedTokens.{width-End, place_after_all-reverse, place_after_all-past, ArePassed-stand-push, AllStand-encoded}
+use Rattle.bi_blob.proofs.Blobs.PassedTokens.{width-End, place_after_all-reverse, place_after_all-past, ArePassed-stand-push}
+use Rattle.bi_blob.proofs.Blobs.PassedTokens.{AllStand-encoded}
 use Rattle.bi_blob.proofs.Blobs.ReaderSteps.{IsNext, number_within}
 
 -- Proves that FDT_END after the root ends the structure block.
@@ -29,7 +30,8 @@ last_token blocks depth_limit place root position next =
     let past : blocks.begin ≤ place_after_all blocks.begin (tokens ++ End ∷ []) = place_after_all-past blocks.begin (tokens ++ End ∷ []) in
     let end_there : IsTokenAt blocks.file (place_after blocks position.tokens) End =
     subst (λ p. IsTokenAt blocks.file p End) (sym position.is_place)
-    (End-is_at blocks.file place position.readable.bytes (number_within blocks depth_limit place end_number AfterRoot position.readable next) next.is_number) in
+    (End-is_at blocks.file place position.readable.bytes
+    (number_within blocks depth_limit place end_number AfterRoot position.readable next) next.is_number) in
     let stand : AllStand blocks.file blocks.begin (tokens ++ End ∷ []) =
     ArePassed-stand-push blocks depth_limit position.tokens End position.passed end_there in
     let word : place + 4 ≤ blocks.end = next.passes.0 in

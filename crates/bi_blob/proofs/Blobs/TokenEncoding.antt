@@ -43,9 +43,11 @@ pub AreEncodings-stand : (file : List ℕ) (at : ℕ) (tokens : List Token) (byt
 AreEncodings-stand file at [] bytes rest is_encoded e = tt
 AreEncodings-stand file at (token ∷ later) bytes rest is_encoded e = (
   IsEncoding-is_at file at token (take (width token) bytes) (drop (width token) bytes ++ rest) is_encoded.0
-      (e ∙ ap (λ l. l ++ rest) (sym (take-append-drop (width token) bytes)) ∙ append_assoc (take (width token) bytes) (drop (width token) bytes) rest),
+      (e ∙ ap (λ l. l ++ rest) (sym (take-append-drop (width token) bytes))
+      ∙ append_assoc (take (width token) bytes) (drop (width token) bytes) rest),
   AreEncodings-stand file (at + width token) later (drop (width token) bytes) rest is_encoded.1
-      (sym (drop-drop (width token) at file) ∙ ap (drop (width token)) e ∙ drop-append-le (width token) bytes rest (AreEncodings-first token bytes is_encoded.0)),
+      (sym (drop-drop (width token) at file) ∙ ap (drop (width token)) e
+      ∙ drop-append-le (width token) bytes rest (AreEncodings-first token bytes is_encoded.0)),
 )
 
 -- The encodings of tokens are as long as the tokens.

@@ -234,7 +234,7 @@ fn add_entry<'a>(doc: &mut Doc<'a>, entry: (usize, Value<'a>)) -> Result<(), All
         MayHaveNextProperty name (stage_of_events doc.old.events) }
     ensures { let name = name_numbered doc.old.names entry.entry.0 in
         OnOk result (doc.new
-            ≡ with_event doc.old (NodeProperty (name, value_bytes entry.entry.1))) }
+        ≡ with_event doc.old (NodeProperty (name, value_bytes entry.entry.1))) }
 {
     only_memory(doc.property_numbered(entry.0, entry.1))
 }

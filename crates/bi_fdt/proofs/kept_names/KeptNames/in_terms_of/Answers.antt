@@ -10,7 +10,8 @@ use Rattle.bi_fdt.proofs.OtherNames.{own_names_found}
 use Rattle.bi_fdt.proofs.kept_names.KeptNames.in_terms_of.Goals as goal
 
 -- The names are found if there was memory.
-found : (names others : List (List ℕ)) (count : ℕ) (result : Result (Vec (Option ℕ) Global) AllocError) → names ≡ others → count ≡ length names →
+found : (names others : List (List ℕ)) (count : ℕ) (result : Result (Vec (Option ℕ) Global) AllocError) → names
+    ≡ others → count ≡ length names →
     IfOk result (λ numbers. AreOwnNumbers count numbers.items) → IfOk result (λ numbers. AllZip (FindsNumber others) names numbers.items)
 found names others count (Ok numbers) same counted own =
     subst (λ all. AllZip (FindsNumber all) names numbers.items) same

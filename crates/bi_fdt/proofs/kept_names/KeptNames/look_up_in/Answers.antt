@@ -21,7 +21,8 @@ found tails heads names other_tails other_heads others numbers (Ok all) are othe
 found tails heads names other_tails other_heads others numbers (Err e) are other_are kept among = tt
 
 -- The same parts are those of the same names.
-same_heads : (tails heads other_tails other_heads : List NamePart) (names others : List (List ℕ)) → tails ≡ other_tails → heads ≡ other_heads →
+same_heads : (tails heads other_tails other_heads : List NamePart) (names others : List (List ℕ)) → tails
+    ≡ other_tails → heads ≡ other_heads →
     names ≡ others → AreHeads tails heads names → AreHeads other_tails other_heads others
 same_heads tails heads other_tails other_heads names others tails_are heads_are names_are are =
     subst (λ tails. AreHeads tails other_heads others) tails_are
@@ -31,12 +32,15 @@ pub returns : goal.returns
 returns c =
     found (parts_of_slices c.deref-2.result.now) (parts_of_slices c.deref-4.result.now) c.args.self.now c.in_ok-other_tails.other_tails
     c.in_ok-other_heads.other_heads c.args.other.now c.deref-5.result.now c.parts_among.result
-    (same_heads (parts_of_slices c.self.inside.tails.items) (parts_of_slices c.self.inside.heads.items) (parts_of_slices c.deref-2.result.now)
-    (parts_of_slices c.deref-4.result.now) (bytes_of c.self.inside.names.items) c.args.self.now (ap parts_of_slices (sym c.deref-2.ensures.value))
+    (same_heads (parts_of_slices c.self.inside.tails.items) (parts_of_slices c.self.inside.heads.items)
+    (parts_of_slices c.deref-2.result.now)
+    (parts_of_slices c.deref-4.result.now) (bytes_of c.self.inside.names.items) c.args.self.now
+    (ap parts_of_slices (sym c.deref-2.ensures.value))
     (ap parts_of_slices (sym c.deref-4.ensures.value)) c.self.view_is c.self.invariant)
     (same_heads (parts_of_slices c.other.inside.tails.items) (parts_of_slices c.other.inside.heads.items) c.in_ok-other_tails.other_tails
     c.in_ok-other_heads.other_heads (bytes_of c.other.inside.names.items) c.args.other.now
     (ap parts_of_slices (sym c.deref.ensures.value) ∙ sym c.in_ok-other_tails.ensures)
     (ap parts_of_slices (sym c.deref-3.ensures.value) ∙ sym c.in_ok-other_heads.ensures) c.other.view_is c.other.invariant)
-    (subst (AreOtherNumbers (parts_of_slices c.deref-2.result.now) c.in_ok-other_tails.other_tails) (sym c.deref-5.ensures.value) c.in_ok-tails.ensures)
+    (subst (AreOtherNumbers (parts_of_slices c.deref-2.result.now) c.in_ok-other_tails.other_tails)
+    (sym c.deref-5.ensures.value) c.in_ok-tails.ensures)
     c.parts_among.ensures
