@@ -23,9 +23,9 @@ pub record HasForm (limit depth form : ℕ) : Type 0 where
   pub limits : IsInRange limit depth
   pub is_form : form < 2
 
--- Whether a number has the bit with the given weight.
-abbrev pub has_bit : (weight : ℕ) → ℕ → Bool
-has_bit weight number = (number / weight) % 2 == 1
+-- Whether a number has the bit of a mask, which is a power of two.
+abbrev pub has_bit : (mask : ℕ) → ℕ → Bool
+has_bit mask number = (number / mask) % 2 == 1
 
 -- The kinds of concerns that are allowed, a bit for each.
 abbrev pub allowed_of : ℕ → Allowed

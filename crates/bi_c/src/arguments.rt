@@ -48,10 +48,10 @@ pub(crate) fn key_of(number: u32) -> Option<Key>
     }
 }
 
-/// Returns whether a number has the bit with the given weight, which is not 0.
-pub(crate) fn has_bit(weight: u32, number: u32) -> bool
-    requires { 0 < weight }
-    ensures { result ≡ is_set weight number }
+/// Returns whether a number has the bit of a mask, which is a power of two.
+pub(crate) fn has_bit(mask: u32, number: u32) -> bool
+    requires { 0 < mask }
+    ensures { result ≡ is_set mask number }
 {
-    (number / weight) % 2 == 1
+    (number / mask) % 2 == 1
 }

@@ -18,7 +18,7 @@ use Rattle.bi_fit.specs.declared.key.Key.TheVariants.{Kernel, Fdt, Ramdisk, Firm
 use Rattle.bi_fit.specs.Names.{key_name, all_keys, default_name}
 use Rattle.bi_fit.specs.Judgement.{Image, images_with, ListedImages, image_named, list_images, listed_at}
 use Rattle.bi_fit.specs.Building.{HeadModel, ImageSpecModel, text_value, built_image_properties, built_hash_properties, hash_node_name}
-use Rattle.bi_fit.specs.Building.{built_images, is_under, names_under, list_property, configuration_name, built_configuration_properties}
+use Rattle.bi_fit.specs.Building.{built_images, key_eq, names_under, list_property, configuration_name, built_configuration_properties}
 use Rattle.bi_fit.specs.Building.{IsImageSpec}
 use Rattle.bi_fit.specs.Laws.{list_of_built, BuiltHasConfiguration}
 use Rattle.bi_fit.proofs.NameLists.{ends_later, names_listed}
@@ -208,10 +208,10 @@ unfolding text_before_nul
 built_has_configuration head images can = record {
   listed = λ key.
       ap (listed_at (images_in head images)) (has_under head images key)
-      ∙ value_lists (images_in head images) (filter (λ image. is_under key image.key) images)
-      (each-filter (IsFoundIn (images_in head images)) (λ image. is_under key image.key) images (all_found head images can.distinct))
-      (each-map HasNoZero (λ image. image.name) (filter (λ image. is_under key image.key) images)
-      (each-filter (λ image. HasNoZero image.name) (λ image. is_under key image.key) images
+      ∙ value_lists (images_in head images) (filter (λ image. key_eq key image.key) images)
+      (each-filter (IsFoundIn (images_in head images)) (λ image. key_eq key image.key) images (all_found head images can.distinct))
+      (each-map HasNoZero (λ image. image.name) (filter (λ image. key_eq key image.key) images)
+      (each-filter (λ image. HasNoZero image.name) (λ image. key_eq key image.key) images
       (each-weaker IsImageSpec (λ image. HasNoZero image.name) (λ image is. is.is_name.no_zero) images can.each)));
   default = ap (option_and_then text_before_nul) (default_is);
 }

@@ -24,7 +24,7 @@ use Rattle.bi_fit.specs.Names.{is_payload_name, all_keys, images_name, configura
 use Rattle.bi_fit.specs.ImageTree.{IsProperty, ArePropertiesByName, HaveByteNames, IsApart, IsImageTree, each_own}
 use Rattle.bi_fit.specs.Building.{HeadModel, ImageSpecModel, text_value, type_name, cell_property, built_root_properties}
 use Rattle.bi_fit.specs.Building.{built_image_properties}
-use Rattle.bi_fit.specs.Building.{built_hash_properties, configuration_name, built_images, is_under, names_under, list_property}
+use Rattle.bi_fit.specs.Building.{built_hash_properties, configuration_name, built_images, key_eq, names_under, list_property}
 use Rattle.bi_fit.specs.Building.{built_configuration_properties, built_tree, IsText, IsImageSpec, CanBeBuilt}
 use Rattle.bi_fit.proofs.TreeContents.{may_be_in_name, tested_name, tested_property, AreBlobProperties, properties-empty}
 use Rattle.bi_fit.proofs.TreeContents.{properties-from_entries}
@@ -114,9 +114,9 @@ listed_bytes : (key : Key) (images : List ImageSpecModel) → AllByRecursion IsI
     AreBytes (strings_of (names_under key images))
 listed_bytes key [] each = AreBytes-none
 listed_bytes key (image ∷ later) each =
-    where_first (is_under key image.key) refl (listed_bytes key later each.1)
+    where_first (key_eq key image.key) refl (listed_bytes key later each.1)
   where
-    where_first : (b : Bool) → is_under key image.key ≡ b → AreBytes (strings_of (names_under key later)) →
+    where_first : (b : Bool) → key_eq key image.key ≡ b → AreBytes (strings_of (names_under key later)) →
         AreBytes (strings_of (names_under key (image ∷ later)))
     where_first true is rest =
         rw is (AreBytes-append (text_value image.name) (strings_of (names_under key later))

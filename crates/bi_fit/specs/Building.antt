@@ -100,20 +100,20 @@ built_images head (image ∷ later) =
     (node hash_node_name (from_entries (built_hash_properties image.payload)) none none)
     (built_images head later)
 
--- Whether an image is listed under this key.
-abbrev pub is_under : Key → Key → Bool
-is_under Kernel Kernel = true
-is_under Fdt Fdt = true
-is_under Ramdisk Ramdisk = true
-is_under Firmware Firmware = true
-is_under Loadables Loadables = true
-is_under Script Script = true
-is_under key other = false
+-- Whether two keys are the same.
+abbrev pub key_eq : Key → Key → Bool
+key_eq Kernel Kernel = true
+key_eq Fdt Fdt = true
+key_eq Ramdisk Ramdisk = true
+key_eq Firmware Firmware = true
+key_eq Loadables Loadables = true
+key_eq Script Script = true
+key_eq key other = false
 
 -- The names of the images that are listed under a key, in their order.
 abbrev pub names_under : Key → List ImageSpecModel → List (List ℕ)
 names_under key images =
-    map (λ image. image.name) (filter (λ image. is_under key image.key) images)
+    map (λ image. image.name) (filter (λ image. key_eq key image.key) images)
 
 -- The property of a key that lists these names, if there is at least one.
 abbrev pub list_property : Key → List (List ℕ) → List Property

@@ -22,7 +22,7 @@ use Rattle.bi_fit.specs.Text.{blob_of, payloads_end, payload_places, fit_text}
 use Rattle.bi_fit.specs.Judgement.{judgement, CheckedHash, verdicts_of, ListResult, NoKey}
 use Rattle.bi_fit.specs.Judgement.{ListedImages, listed_names, listed_of, default_of}
 use Rattle.bi_fit.specs.Building.{HeadModel, ImageSpecModel, CanBeBuilt, hash_node_name, built_tree}
-use Rattle.bi_fit.specs.Building.{configuration_name, is_under}
+use Rattle.bi_fit.specs.Building.{configuration_name, key_eq}
 
 -- Laws of what a flattened image tree is (Flattened Image Tree Specification), and of its faults
 -- and texts (profile of this project). Each is the contract of a function in `laws`.
@@ -198,7 +198,7 @@ list_of_built (image ∷ later) =
 -- default.
 pub record HasConfiguration (head : HeadModel) (images : List ImageSpecModel) : Type 0 where
   pub listed : (key : Key) → listed_of (built_tree head images) configuration_name key
-      ≡ list_of_built (filter (λ image. is_under key image.key) images)
+      ≡ list_of_built (filter (λ image. key_eq key image.key) images)
   pub default : default_of (built_tree head images) ≡ Some configuration_name
 
 -- Each tree that can be built has.
