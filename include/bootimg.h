@@ -4,18 +4,18 @@
  * Boot images of U-Boot: legacy images and FITs (flattened image trees).
  *
  * A file here is an image in memory; no call opens a file of the system. A call keeps nothing
- * between calls, and returns nothing that was allocated, so there is nothing to free. Several
- * threads may make calls at the same time, if no call writes to memory that another call uses.
+ * between calls, and returns nothing allocated, so there is nothing to free. Several threads may
+ * make calls at the same time, if no call writes to memory that another call uses.
  *
  * A pointer and the length after it are the first byte of some memory and its size in bytes. A
  * pointer must not be null, even if the length is 0. The buffer and the struct that a call writes
- * to must not overlap each other, nor the files of the call.
+ * to must not overlap each other or the files of the call.
  *
  * `limit` is the greatest number of bytes of a file, and of an image, payload or description that
  * is made: 64 to BOOTIMG_LIMIT. Each call with `limit` refuses a longer file with TooLarge, and
- * then a file that fails a check of its format with the cause of the first one (docs/FORMATS.md).
- * The comment of a call has what it refuses in addition.
- * `depth` is the greatest depth of a FIT, with the root counted: 1 to BOOTIMG_DEPTH. The program
+ * then a file that fails a check of its format with the cause of the first check that fails
+ * (docs/FORMATS.md). The comment of a call says what else it refuses.
+ * `depth` is the greatest depth of a FIT, including the root: 1 to BOOTIMG_DEPTH. The program
  * `bootimg` uses BOOTIMG_DEPTH, and BOOTIMG_LIMIT by default.
  *
  * A call returns its status, and sets each number of the struct `answer`:
@@ -23,16 +23,16 @@
  *   BOOTIMG_DONE            The call succeeded. `size` is the size of the output, and `value` the
  *                           number that the comment of the call names.
  *   BOOTIMG_REFUSED         A file is refused: the call fails with a cause. `cause` is its number
- *                           (see bootimg_cause_name), and `offset` is its offset in the file, in
- *                           bytes; for TooLarge it is the limit. `file` is 1 for the first file of
- *                           the call, and 2 for the second.
+ *                           (see bootimg_cause_name). `offset` is its offset in the file in bytes,
+ *                           and for TooLarge the limit. `file` is 1 for the first file of the call,
+ *                           and 2 for the second.
  *   BOOTIMG_OUT_OF_MEMORY   An allocation failed.
- *   BOOTIMG_NO_ROOM         The output is larger than the buffer. `size` and `value` are those of
+ *   BOOTIMG_NO_ROOM         The output is larger than the buffer. `size` and `value` are as for
  *                           BOOTIMG_DONE.
- *   BOOTIMG_WRONG_ARGUMENT  A number is not one that the argument may be.
+ *   BOOTIMG_WRONG_ARGUMENT  A number is out of the range of its argument.
  *   BOOTIMG_NOT_FOUND       There is nothing to extract. `reason` is one of BOOTIMG_WRONG_KIND to
- *                           BOOTIMG_NO_PAYLOAD. For BOOTIMG_MISSING, `value` is the index of the
- *                           name that no image has, and otherwise 0.
+ *                           BOOTIMG_NO_PAYLOAD. `value` is the index of the first name that no
+ *                           image has for BOOTIMG_MISSING, and otherwise 0.
  *
  * Numbers without meaning for the status or the call are 0. If the status is BOOTIMG_DONE, the
  * output is at the beginning of the buffer, and the bytes after it are unchanged. After any other
@@ -68,7 +68,7 @@ extern "C" {
 #define BOOTIMG_LEGACY 1u
 #define BOOTIMG_FIT 2u
 
-/* `form`: the payloads of a normal form of a FIT are inside the blob, or after it. */
+/* `form`: whether the payloads in the normal form of a FIT are inside the blob or after it. */
 #define BOOTIMG_EMBEDDED 0u
 #define BOOTIMG_EXTERNAL 1u
 
@@ -114,7 +114,7 @@ typedef struct bootimg_answer {
     uint32_t reason;
 } bootimg_answer;
 
-/* Returns in `value` the kind of a file by its first four bytes: BOOTIMG_LEGACY or BOOTIMG_FIT.
+/* Returns the kind of a file in `value`, by its first four bytes: BOOTIMG_LEGACY or BOOTIMG_FIT.
  * The other bytes are not examined. The call fails with Truncated at 0 for a file of fewer than
  * four bytes, and with BadMagic at 0 for one without a magic number. */
 uint32_t bootimg_kind(const uint8_t *file, size_t file_size, bootimg_answer *answer);
@@ -128,17 +128,17 @@ uint32_t bootimg_normalise(const uint8_t *file, size_t file_size, uint32_t form,
 
 /* Writes the normal form of a file with changes. `changes` is a sum of BOOTIMG_CHANGE_*, or 0.
  * BOOTIMG_CHANGE_TIME sets the time of creation to `time`, in seconds since 1970.
- * BOOTIMG_CHANGE_HASHES computes the digests in the hash nodes of a FIT again. Without
+ * BOOTIMG_CHANGE_HASHES recomputes the digests in the hash nodes of a FIT. Without
  * BOOTIMG_CHANGE_TIME, `time` has no effect. A legacy image has no hash nodes, and its checksums
- * are always computed. `form` and `value` are those of bootimg_normalise. The call fails with
+ * are always computed. `form` and `value` are as for bootimg_normalise. The call fails with
  * TooLarge if the output is longer than `limit`, or, with BOOTIMG_CHANGE_HASHES, if the payloads
- * together are. */
+ * together are longer. */
 uint32_t bootimg_update(const uint8_t *file, size_t file_size, uint32_t changes, uint32_t time,
                         uint32_t form, uint32_t limit, uint32_t depth, uint8_t *buffer,
                         size_t buffer_size, bootimg_answer *answer);
 
-/* The calls that extract copy nothing. `value` is the offset in the file of the first byte that is
- * selected, and `size` is the number of these bytes. All of them are inside the file. No hash node
+/* The calls that extract copy nothing. `value` is the offset in the file of the first selected
+ * byte, and `size` is the number of selected bytes. All of them are inside the file. No hash node
  * is checked: bootimg_verify does that. If nothing is selected, the status is BOOTIMG_NOT_FOUND,
  * and `reason` is the first of these that applies:
  *
@@ -149,13 +149,13 @@ uint32_t bootimg_update(const uint8_t *file, size_t file_size, uint32_t changes,
  *   BOOTIMG_NO_CONFIG    No configuration has the given name, or no default is named.
  *   BOOTIMG_NO_KEY       The configuration does not have the key.
  *   BOOTIMG_BAD_LIST     The value of the key is not a list of names.
- *   BOOTIMG_MISSING      The list names an image that is not there. `value` is the index of the
+ *   BOOTIMG_MISSING      The list names an image that does not exist. `value` is the index of the
  *                        first such name, counted from 0.
  *   BOOTIMG_NO_INDEX     The list has no entry with the given index.
  *   BOOTIMG_NO_PAYLOAD   The image has no payload (an empty one counts as one).
  */
 
-/* Selects the part of a legacy image with the given index, counted from 0. An image of a type
+/* Selects the part with the given index, counted from 0, of a legacy image. An image of a type
  * other than multi and script has one part. */
 uint32_t bootimg_extract_part(const uint8_t *file, size_t file_size, uint32_t index, uint32_t limit,
                               uint32_t depth, bootimg_answer *answer);
@@ -192,21 +192,22 @@ uint32_t bootimg_list(const uint8_t *file, size_t file_size, uint32_t limit, uin
 uint32_t bootimg_describe(const uint8_t *file, size_t file_size, uint32_t limit, uint32_t depth,
                           uint8_t *buffer, size_t buffer_size, bootimg_answer *answer);
 
-/* Writes the report on the checksums and digests of a file. `value` is 1 if every verdict in it is
- * good (and if there are none), otherwise 0. */
+/* Writes the report on the checksums and digests of a file. `value` is 1 if each verdict in it is
+ * good, even if there is none, and otherwise 0. */
 uint32_t bootimg_verify(const uint8_t *file, size_t file_size, uint32_t limit, uint32_t depth,
                         uint8_t *buffer, size_t buffer_size, bootimg_answer *answer);
 
 /* Writes a line for each concern about a file: each thing in it that is not protected. `kinds` is
- * a sum of BOOTIMG_ALLOW_*, or 0: the kinds whose lines are left out. `value` is 1 if there is no
+ * a sum of BOOTIMG_ALLOW_*, or 0: lines of these kinds are left out. `value` is 1 if there is no
  * line, otherwise 0. The call fails with TooLarge if the payloads together are longer than
  * `limit`. */
 uint32_t bootimg_check(const uint8_t *file, size_t file_size, uint32_t kinds, uint32_t limit,
                        uint32_t depth, uint8_t *buffer, size_t buffer_size, bootimg_answer *answer);
 
 /* Writes the differences between what two files mean. `value` is 1 if they mean the same thing,
- * and nothing is then written; otherwise 0. If they do not, the call fails with TooLarge for the
- * first file whose description, or payloads together, are longer than `limit`. */
+ * and nothing is then written; otherwise 0. If they do not mean the same thing, the call fails
+ * with TooLarge for the first file whose description, or payloads together, are longer than
+ * `limit`. */
 uint32_t bootimg_compare(const uint8_t *one, size_t one_size, const uint8_t *other,
                          size_t other_size, uint32_t limit, uint32_t depth, uint8_t *buffer,
                          size_t buffer_size, bootimg_answer *answer);

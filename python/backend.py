@@ -67,7 +67,7 @@ def contents(library: bytes | None) -> tuple[str, dict[str, bytes]]:
 
 
 def record(files: dict[str, bytes], own: str) -> bytes:
-    """Returns the list of the files, with their digests and sizes. That of the list is left out."""
+    """Returns the list of the files, with the digest and the size of each but the list itself."""
     lines = []
     for path, data in sorted(files.items()):
         digest = base64.urlsafe_b64encode(hashlib.sha256(data).digest()).decode().rstrip("=")

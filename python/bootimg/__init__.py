@@ -11,7 +11,7 @@ A file is `bytes` or any other object with a contiguous buffer: a `bytearray`, a
 `mmap`. It is not copied. Its bytes must not change during a call.
 
 `limit` is the greatest number of bytes of a file, and of an image, payload or description that is
-made: 64 to LIMIT. `depth` is the greatest depth of a FIT, with the root counted: 1 to DEPTH. A call
+made: 64 to LIMIT. `depth` is the greatest depth of a FIT, including the root: 1 to DEPTH. A call
 raises Refused if a file is refused: with TooLarge for a file that is longer than `limit`, or else
 with the cause of the first check of its format that fails. It raises WrongArgument if a number is
 out of its range or a key or kind is unknown, NotFound if there is nothing to extract, and
@@ -19,10 +19,10 @@ OutOfMemory if an allocation fails.
 
 `python3 -m bootimg COMMAND ..` writes what `bootimg COMMAND ..` writes, and ends with the same
 status, for the commands that read images. It has no `-o` and no `--escaped`, and its message about
-wrong arguments is another. It also takes names that are not UTF-8.
+wrong arguments is different. It also takes names that are not UTF-8.
 
 The module loads the library that the environment variable BOOTIMG_LIBRARY names, if it is set, or
-else libbootimg.so beside this file, if it is there, or else libbootimg.so.0 of the system.
+else libbootimg.so next to this file, if it is there, or else libbootimg.so.0 of the system.
 """
 
 import argparse
@@ -101,7 +101,7 @@ class _Unread(BootimgError):
 
 class Refused(BootimgError):
     """A file is refused. `cause` is the name of the cause, and `number` its number, 1 to 26.
-    `offset` is its offset in the file, in bytes, and for TooLarge the limit. `file` is the index of
+    `offset` is its offset in the file in bytes, and for TooLarge the limit. `file` is the index of
     the file in the call, counted from 1."""
 
     def __init__(self, cause: str, number: int, offset: int, file: int) -> None:
@@ -131,8 +131,8 @@ class NotFound(BootimgError, LookupError):
 
 
 class Report(NamedTuple):
-    """The report on the checksums and digests of a file, and True if every verdict in it is good,
-    or if there are none."""
+    """The report on the checksums and digests of a file, and whether each verdict in it is good,
+    even if there is none."""
 
     text: str
     all_good: bool
@@ -194,7 +194,7 @@ _library = _load()
 
 
 def _number(number: int) -> int:
-    """Returns a number that C can take. Any other one is out of its range."""
+    """Returns a number that C can take. Raises WrongArgument for any other number."""
     if not 0 <= number <= 0xFFFFFFFF:
         raise WrongArgument("wrong argument")
     return number
@@ -246,8 +246,8 @@ _release_buffer.restype = None
 
 @contextlib.contextmanager
 def _arguments_for(files: tuple[Buffer, ...]) -> Iterator[list[Any]]:
-    """The arguments for C that pass these files, whose bytes stay where they are until the context
-    ends. Only a view whose bytes are not one after the other is copied."""
+    """The arguments for C that pass these files. The bytes of the files stay where they are until
+    the context ends. Only a view that is not contiguous is copied."""
     arguments: list[Any] = []
     views: list[_PyBuffer] = []
     try:
@@ -284,8 +284,8 @@ def _call(name: str, files: tuple[Buffer, ...], *numbers: int) -> _Answer:
 
 
 def _fill(name: str, room: int, files: tuple[Buffer, ...], *numbers: int) -> tuple[bytes, int]:
-    """Calls a function with a buffer of this size, or of the size of the output if that is larger.
-    Returns the output and `value`."""
+    """Calls a function with a buffer of `room` bytes, or of the size of the output if that is
+    larger. Returns the output and `value`."""
     answer = _Answer()
     function = getattr(_library, "bootimg_" + name)
     with _arguments_for(files) as arguments:
@@ -305,7 +305,7 @@ def version() -> str:
 
 
 def cause_name(number: int) -> str:
-    """Returns the name of the cause of this number, from 1 to 26."""
+    """Returns the name of the cause with the given number, 1 to 26."""
     return _fill("cause_name", 64, (), _number(number))[0].decode("ascii")
 
 
@@ -341,9 +341,9 @@ def update(
     limit: int = LIMIT,
     depth: int = DEPTH,
 ) -> bytes:
-    """Returns the normal form of a file with this time of creation, in seconds since 1970, if it is
-    given, and with new digests, if `hashes` is set. Raises Refused with TooLarge if the output is
-    longer than `limit`, or, with `hashes`, if the payloads together are."""
+    """Returns the normal form of a file with the time of creation `time`, in seconds since 1970, if
+    it is given, and with new digests, if `hashes` is set. Raises Refused with TooLarge if the
+    output is longer than `limit`, or, with `hashes`, if the payloads together are longer."""
     return update_and_count(file, time, hashes, external, limit, depth)[0]
 
 
@@ -371,7 +371,8 @@ def _region(name: str, files: tuple[Buffer, ...], *numbers: int) -> memoryview:
 def extract_part(
     file: Buffer, index: int = 0, limit: int = LIMIT, depth: int = DEPTH
 ) -> memoryview:
-    """Returns the part of this index, counted from 0, of a legacy image, as a view of the file."""
+    """Returns the part with the given index, counted from 0, of a legacy image, as a view of the
+    file."""
     return _region("extract_part", (file,), _number(index), _number(limit), _number(depth))
 
 
@@ -391,8 +392,8 @@ def extract_config(
     depth: int = DEPTH,
 ) -> memoryview:
     """Returns a payload that the configuration with the given name lists under a key, one of KEYS,
-    as a view of the file. `index` is its index in the list, counted from 0. Without a name it is
-    the default configuration."""
+    as a view of the file. `index` is its index in the list, counted from 0. Without a name, the
+    default configuration is used."""
     numbers = (_index_of(key, KEYS), _number(index), _number(limit), _number(depth))
     if name is None:
         return _region("extract_default", (file,), *numbers)
@@ -431,7 +432,7 @@ def check(
     file: Buffer, allow: Iterable[str] = (), limit: int = LIMIT, depth: int = DEPTH
 ) -> str:
     """Returns a line for each concern about a file: each thing in it that is not protected. The
-    text is empty if there is none. The lines of the kinds in `allow`, of CONCERNS, are left out.
+    text is empty if there is no concern. Lines of the kinds in `allow`, of CONCERNS, are left out.
     Raises Refused with TooLarge if the payloads together are longer than `limit`."""
     kinds = sum(1 << _index_of(kind, CONCERNS) for kind in set(allow))
     return _text("check", (file,), kinds, _number(limit), _number(depth))[0]

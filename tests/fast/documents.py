@@ -140,7 +140,7 @@ def lines_of_merges(text):
 
 
 def main(root):
-    pages = ["README.md", "CHANGELOG.md", "CONTRIBUTING.md", "SECURITY.md", "examples/README.md"] + sorted(os.path.relpath(path, root) for path in glob.glob(os.path.join(root, "docs/*.md")))
+    pages = ["README.md", "CHANGELOG.md", "CONTRIBUTING.md", "SECURITY.md", "examples/README.md", "tests/prover/README.md"] + sorted(os.path.relpath(path, root) for path in glob.glob(os.path.join(root, "docs/*.md")))
     wrong = []
     for page in pages:
         text = read(os.path.join(root, page))

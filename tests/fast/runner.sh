@@ -16,13 +16,7 @@ stub() {
     mkdir -p "$(dirname "$1")"
     printf '#!/bin/sh\nname=%s\n' "$2" > "$1"
     cat >> "$1" << 'END'
-case ${1-} in
---beside)
-    echo "$name beside the proofs" >> "$started"
-    cut -d ' ' -f 5,6 "/proc/$$/stat" > "$started.group"
-    ;;
-*) echo "$name${rt_ci:+ with the proofs}" >> "$started" ;;
-esac
+echo "$name${1:+ $*}" >> "$started"
 ! grep -Fqx "$name" "$broken"
 END
     chmod +x "$1"
@@ -42,7 +36,7 @@ run() {
     wanted=$1
     shift
     : > started
-    (cd / && unset rt_ci tried_before && "$work/test" "$@") > output 2>&1
+    (cd / && "$work/test" "$@") > output 2>&1
     [ $? = "$wanted" ] || { cat output; false; }
 }
 
@@ -60,20 +54,11 @@ is_last() {
 }
 
 printf '%s\n' $scripts | sort > all
-{
-    printf '%s with the proofs\n' rt $(printf '%s\n' $scripts | grep -v '^tests/boots/')
-    echo "tests/prover/wrong_bodies.sh beside the proofs"
-} | sort > everything
-grep -v '/layers\.sh ' everything > gate
+{ echo "rt ci" && grep -v '^tests/boots/' all; } | sort > everything
+grep -v '/layers\.sh$' everything > gate
 check "the gate" starts gate
 check "the scripts of costs are the last" is_last
 
-# has_own_group: wrong code beside the proofs was a process group of its own, in the session of this script.
-has_own_group() {
-    read -r group session < started.group
-    [ "$session" = "$(cut -d ' ' -f 6 "/proc/$$/stat")" ] && [ "$group" != "$(cut -d ' ' -f 5 "/proc/$$/stat")" ]
-}
-check "wrong code beside the proofs is a process group of this session" has_own_group
 check "the gate with layers.sh" starts everything --layers
 for group in fast tools calls prover costs boots; do
     grep "^tests/$group/" all > wanted
@@ -85,6 +70,18 @@ check "the scripts of costs are the last of these" is_last
 echo tests/tools/claims.sh > wanted
 check "one script" starts wanted tests/tools/claims.sh
 
+# of_crate NAME TESTS: ./test crate NAME proves the crate, and starts the script with its tests and its wrong code, in this order.
+of_crate() {
+    run 0 crate "$1" && printf '%s\n' "rt check" "$2" "tests/prover/wrong_bodies.sh $1" | diff - started
+}
+for crate in bi_base bi_commands bi_c bootimg; do
+    mkdir -p "crates/$crate/src"
+done
+check "the tests of a crate of the formats" of_crate bi_base tests/calls/library.sh
+check "those of the commands" of_crate bi_commands tests/calls/commands.sh
+check "those of the library for C" of_crate bi_c tests/tools/c_library.sh
+check "those of the program" of_crate bootimg tests/calls/program.sh
+
 # is_wrong ARGUMENT..: these arguments are refused, and nothing is started.
 is_wrong() {
     run 2 "$@" && [ ! -s started ] && grep -q '^usage: ' output && [ "$(wc -l < output)" = 1 ]
@@ -93,6 +90,8 @@ check "an unknown group is refused" is_wrong none
 check "an unknown script is refused" is_wrong fast tests/fast/none.sh
 check "an unknown option is refused" is_wrong --help
 check "--layers with a group is refused" is_wrong --layers fast
+check "an unknown crate is refused" is_wrong crate bi_none
+check "two crates are refused" is_wrong crate bi_base bi_c
 check "an empty argument is refused" is_wrong ""
 check "two groups in one argument are refused" is_wrong "fast tools"
 
@@ -110,6 +109,5 @@ check "so is one of costs" names "tests/costs/fit_costs.sh" costs
 echo rt > broken
 check "so are the proofs" names "rt ci"
 echo tests/prover/wrong_bodies.sh > broken
-check "so is wrong code, beside the proofs and after them" names \
-    "tests/prover/wrong_bodies.sh tests/prover/wrong_bodies.sh, beside the proofs"
+check "so is wrong code" names tests/prover/wrong_bodies.sh
 finish

@@ -6,7 +6,7 @@ use Rattle.bi_base.specs.Writing.{WroteAll, WriteStopped}
 
 -- A call that writes what a buffer held and more bytes to its writer, and leaves the buffer empty, writes these bytes to the buffer.
 
--- Where what was held back and these bytes were written, none are held back.
+-- If what was in the buffer and these bytes were written, the buffer is empty.
 pub wrote_through : (old new : Buffer) (bytes : List ℕ) (result : Result (Unit {0}) Error) →
     Wrote WroteAll WriteStopped old.trace (old.held ++ bytes) result new.trace → new.held ≡ [] → new.borrow ≡ old.borrow →
     Wrote Holds Stops old bytes result new

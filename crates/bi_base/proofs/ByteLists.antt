@@ -1,4 +1,5 @@
-use Rattle.std.proofs.Common.{◌≡◌, ℕ, true, ◌+◌, ◌-◌, ◌^◌, ◌<◌, zero, suc, List, [], ◌∷◌, ◌++◌, length, get_or, take, drop, replicate, flat_map, inl, inr, refl, sym, subst, arith, get_or-append-add, get_or-drop}
+use Rattle.std.proofs.Common.{◌≡◌, ℕ, true, ◌+◌, ◌-◌, ◌^◌, ◌<◌, zero, suc, List, [], ◌∷◌, ◌++◌, length, get_or, take, drop, replicate}
+use Rattle.std.proofs.Common.{flat_map, inl, inr, refl, sym, subst, arith, get_or-append-add, get_or-drop}
 use Rattle.std.specs.Prelude.{ltb}
 use Rattle.std.specs.List.{AllByRecursion, list_all}
 use Rattle.std.proofs.lemmas.Bool.{cases_lt, and_parts, ltb-true}
@@ -37,13 +38,19 @@ AreBytes-zeros (suc n) = AreBytes-cons 0 (replicate n 0) (omega arith) (AreBytes
 -- A cell.
 pub AreBytes-cell : (n : ℕ) → AreBytes (cell n)
 unfolding cell
-AreBytes-cell n = AreBytes-cons _ _ (omega arith) (AreBytes-cons _ _ (omega arith) (AreBytes-cons _ _ (omega arith) (AreBytes-cons _ _ (omega arith) AreBytes-none)))
+AreBytes-cell n = AreBytes-cons _ _ (omega arith)
+    (AreBytes-cons _ _ (omega arith) (AreBytes-cons _ _ (omega arith) (AreBytes-cons _ _ (omega arith) AreBytes-none)))
 
 -- Two cells.
 pub AreBytes-cell8 : (n : ℕ) → AreBytes (cell8 n)
 unfolding cell8
 AreBytes-cell8 n =
-    AreBytes-cons _ _ (omega arith) (AreBytes-cons _ _ (omega arith) (AreBytes-cons _ _ (omega arith) (AreBytes-cons _ _ (omega arith) (AreBytes-cons _ _ (omega arith) (AreBytes-cons _ _ (omega arith) (AreBytes-cons _ _ (omega arith) (AreBytes-cons _ _ (omega arith) AreBytes-none)))))))
+    AreBytes-cons _ _ (omega arith)
+    (AreBytes-cons _ _ (omega arith)
+    (AreBytes-cons _ _ (omega arith)
+    (AreBytes-cons _ _ (omega arith)
+    (AreBytes-cons _ _ (omega arith)
+    (AreBytes-cons _ _ (omega arith) (AreBytes-cons _ _ (omega arith) (AreBytes-cons _ _ (omega arith) AreBytes-none)))))))
 
 -- Lists of bytes one after the other.
 pub AreBytes-flat_map : {X : Type 0} (f : X → List ℕ) (xs : List X) → AllByRecursion (λ x. AreBytes (f x)) xs → AreBytes (flat_map f xs)

@@ -2,7 +2,8 @@ use Rattle.std.proofs.Common.{◌≡◌, ℕ, ◌+◌, ◌<◌, ◌≤◌, ◌^�
 use Rattle.std.specs.Int.{from_be_bytes, w32}
 use Rattle.std.proofs.Math.Seq.{take-append_seam, drop-append_seam}
 use Rattle.std.proofs.lemmas.Bool.{cases_lt}
-use Rattle.std.proofs.lemmas.List.{get_or-take, get_or-drop, get_or_past, length-drop, length-take, length-take-le, take-take, drop-take, drop-drop}
+use Rattle.std.proofs.lemmas.List.{get_or-take, get_or-drop, get_or_past, length-drop, length-take, length-take-le, take-take, drop-take}
+use Rattle.std.proofs.lemmas.List.{drop-drop}
 use Rattle.std.proofs.lemmas.Nat.{be_bytes_4}
 use Rattle.bi_base.specs.Cells.{cell, u32_at, slice, AreBytes}
 
@@ -45,7 +46,8 @@ length-cell n = refl
 pub cell-u32_at : (file : List ℕ) (at : ℕ) → AreBytes file → at + 4 ≤ length file → cell (u32_at file at) ≡ slice file at 4
 unfolding cell u32_at
 cell-u32_at file at bytes within =
-    be_bytes_4 (slice file at 4) (from_be_bytes w32 (slice file at 4)) (length-slice file at 4 within) (AreBytes-slice file at 4 bytes).each refl
+    be_bytes_4 (slice file at 4) (from_be_bytes w32 (slice file at 4)) (length-slice file at 4 within)
+    (AreBytes-slice file at 4 bytes).each refl
 
 -- The number of four bytes is below 2^32.
 from_be_bytes_4-fits : (bytes : List ℕ) → ((i : ℕ) → get_or bytes i 0 < 256) → from_be_bytes w32 bytes < 2 ^ 32

@@ -26,5 +26,6 @@ crc_tables = record {
   sixteen = refl;
   sizes = λ k small. ap length (table_at k small) ∙ length-map-range_with_len (table_entry k) 0 256;
   entries = λ k i small within.
-      ap (λ (table : List ℕ). get_or table i 0) (table_at k small) ∙ get_or-map-range_with_len (table_entry k) 0 256 i i 0 within (omega arith);
+      ap (λ (table : List ℕ). get_or table i 0) (table_at k small)
+      ∙ get_or-map-range_with_len (table_entry k) 0 256 i i 0 within (omega arith);
 }

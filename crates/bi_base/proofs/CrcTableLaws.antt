@@ -1,4 +1,6 @@
-use Rattle.std.proofs.Common.{◌≡◌, ℕ, zero, suc, ◌+◌, ◌-◌, ◌*◌, ◌/◌, ◌%◌, ◌^◌, ◌<◌, ◌==◌, Bool, true, false, cond, if◌then◌else◌, List, [], ◌∷◌, length, get_or, replicate, take, drop, take-add, fold, slice_index, refl, sym, ap, ◌∙◌, arith, append-nil, bit_xor}
+use Rattle.std.proofs.Common.{◌≡◌, ℕ, zero, suc, ◌+◌, ◌-◌, ◌*◌, ◌/◌, ◌%◌, ◌^◌, ◌<◌, ◌==◌, Bool, true, false, cond, if◌then◌else◌, List, []}
+use Rattle.std.proofs.Common.{◌∷◌, length, get_or, replicate, take, drop, take-add, fold, slice_index, refl, sym, ap, ◌∙◌, arith}
+use Rattle.std.proofs.Common.{append-nil, bit_xor}
 use native.Mathlib.Nat.{pow-suc, div-one, div-div-eq-div-mul}
 use lib.Bits.{xor_assoc, xor_comm, xor_zero_r, xor_shr, xor_mod, xor_shifted, shifted_half, shifted_even}
 use Rattle.std.specs.Int.{w128, from_le_bytes, byte_at, bytes_low_first}
@@ -50,7 +52,7 @@ crc_bit-xor a b =
     ∙ ap (λ (n : ℕ). bit_xor n (bit_xor (b / 2) (feedback (b % 2)))) (sym (crc_bit-sum a))
     ∙ ap (bit_xor (crc_bit a 0)) (sym (crc_bit-sum b))
 
--- A message bit equals the register's lowest bit exactly where their xor is 0.
+-- A message bit equals the register's lowest bit if and only if their xor is 0.
 bit_matches : (low bit : ℕ) → low < 2 → bit < 2 → (low == bit) ≡ (bit_xor low bit == 0)
 bit_matches zero zero p q = refl
 bit_matches zero (suc zero) p q = refl
@@ -102,7 +104,8 @@ low_bits-added (suc n) register number small =
     let high = number / 2 in
     let lead : crc_bit (high * 2 ^ 1) 0 ≡ high = crc_bit-even high 0 ∙ omega arith in
     let parts : bit_xor (bit_xor register low) (high * 2 ^ 1) ≡ bit_xor register number =
-    xor_assoc register low (high * 2 ^ 1) ∙ ap (bit_xor register) (xor_comm low (high * 2 ^ 1) ∙ xor_shifted high 1 low (omega arith) ∙ omega arith) in
+    xor_assoc register low (high * 2 ^ 1)
+    ∙ ap (bit_xor register) (xor_comm low (high * 2 ^ 1) ∙ xor_shifted high 1 low (omega arith) ∙ omega arith) in
     let first : bit_xor (crc_bit register low) high ≡ crc_bit (bit_xor register number) 0 =
     (λ i. bit_xor (crc_bit-added register low (omega arith) i) (sym lead i))
     ∙ sym (crc_bit-xor (bit_xor register low) (high * 2 ^ 1)) ∙ ap (λ (r : ℕ). crc_bit r 0) parts in
@@ -119,7 +122,7 @@ crc_after-cons : (register byte : ℕ) (bytes : List ℕ) → byte < 2 ^ 8
 crc_after-cons register byte bytes small =
     crc_after-append register (byte ∷ []) bytes ∙ ap (λ (r : ℕ). crc_after r bytes) (crc_after-byte register byte small)
 
--- The steps of eight message bits 0, by those from the lowest byte alone.
+-- The steps of eight message bits 0, by those from only the lowest byte.
 zeros-byte : (register : ℕ) → after_zeros 8 register ≡ bit_xor (register / 256) (after_zeros 8 (register % 256))
 zeros-byte register =
     let parts : register ≡ bit_xor (register / 256 * 2 ^ 8) (register % 256) =
@@ -176,7 +179,8 @@ with_rest number i entries = bit_xor entries (after_zeros (8 * (16 - i)) (number
 
 -- With no entries it is the register after all 128 message bits 0.
 pub with_rest-first : (number : ℕ) → with_rest number 0 0 ≡ after_zeros 128 number
-with_rest-first number = xor_comm 0 (after_zeros 128 (number / 1)) ∙ xor_zero_r (after_zeros 128 (number / 1)) ∙ ap (after_zeros 128) (div-one number)
+with_rest-first number = xor_comm 0 (after_zeros 128 (number / 1)) ∙ xor_zero_r (after_zeros 128 (number / 1))
+    ∙ ap (after_zeros 128) (div-one number)
 
 -- It stays the same when the entry of the next byte is added.
 pub with_rest-next : (number i entries : ℕ) → i < 16
@@ -189,7 +193,8 @@ with_rest-next number i entries small =
     let fewer : 8 * (16 - (i + 1)) ≡ 8 * (15 - i) = omega arith in
     let more : 8 * suc (15 - i) ≡ 8 * (16 - i) = omega arith in
     xor_assoc entries entry (after_zeros (8 * (16 - (i + 1))) (number / 256 ^ (i + 1)))
-    ∙ ap (bit_xor entries) ((λ j. bit_xor entry (after_zeros (fewer j) (rest j))) ∙ sym (zeros-entry (15 - i) high) ∙ ap (λ (n : ℕ). after_zeros n high) more)
+    ∙ ap (bit_xor entries) ((λ j. bit_xor entry (after_zeros (fewer j) (rest j))) ∙ sym (zeros-entry (15 - i) high)
+    ∙ ap (λ (n : ℕ). after_zeros n high) more)
 
 -- With the entries of all bytes, no register is left.
 pub with_rest-last : (number entries : ℕ) → number < 2 ^ 128 → with_rest number 16 entries ≡ entries

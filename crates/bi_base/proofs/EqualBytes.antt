@@ -1,7 +1,7 @@
 use Rattle.std.proofs.Common.{◌≡◌, ◌≢◌, ℕ, true, false, List, bytes_eq, sym, ◌∙◌, true≢false}
 use Rattle.std.proofs.lemmas.Slice.Eq.{bytes_eq-Decides}
 
--- The test of two lists of bytes for equality passes exactly if they are the same.
+-- The test of two lists of bytes for equality passes if and only if they are the same.
 
 -- Lists that the test finds equal are the same.
 pub same_bytes : (a b : List ℕ) → bytes_eq a b ≡ true → a ≡ b

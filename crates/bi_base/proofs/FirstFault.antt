@@ -2,7 +2,7 @@ use Rattle.std.proofs.Common.{◌≡◌, ◌⊎◌, List, [], ◌∷◌, ◌++�
 use Rattle.bi_base.specs.Checks.{IsFirstFault, HasNoFault}
 use Rattle.bi_base.specs.declared.fault.Fault.{Fault}
 
--- Proves the laws of the first fault of a list of checks: there is at most one, and there is one exactly if not all checks pass.
+-- Proves the laws of the first fault of a list of checks: there is at most one, and there is one if and only if not all checks pass.
 
 -- A list of checks has at most one first fault.
 pub one_fault : {C : Type 0} (Passes : C → Type 0) (fault_of : C → Fault) (checks : List C) (f g : Fault) →

@@ -1,5 +1,6 @@
 use Rattle.std.specs.List.{AllByRecursion}
-use Rattle.std.proofs.Common.{◌≡◌, ◌⊎◌, zero, suc, Bool, true, false, List, [], ◌++◌, map, subst, ◌∷◌, Contains, filter, inl, inr, refl, ap, ◌∙◌, sym, arith, true≢false}
+use Rattle.std.proofs.Common.{◌≡◌, ◌⊎◌, zero, suc, Bool, true, false, List, [], ◌++◌, map, subst, ◌∷◌, Contains, filter, inl, inr, refl, ap}
+use Rattle.std.proofs.Common.{◌∙◌, sym, arith, true≢false}
 
 -- An element of a list is its first or is among the others, and what holds of each element of a list holds of each of its parts, of each
 -- that passes a test, and of what is among them.

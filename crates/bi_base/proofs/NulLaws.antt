@@ -31,6 +31,7 @@ before_nul-nonzero numbers =
 -- The numbers from the first zero on are none, or begin with a zero.
 pub drop-nul_index : (numbers : List ℕ) → IsEmptyOrBeginsWithNul (drop (nul_index numbers) numbers)
 drop-nul_index numbers = elim (cases_lt (nul_index numbers) (length numbers)) [
-  | inl within ↦ rw (drop_more numbers (nul_index numbers) 0 within) (eqb-true _ _ (passes_at_first (λ number. number == 0) numbers 0 within))
+  | inl within ↦ rw (drop_more numbers (nul_index numbers) 0 within)
+      (eqb-true _ _ (passes_at_first (λ number. number == 0) numbers 0 within))
   | inr past ↦ rw (drop_all (nul_index numbers) numbers past) tt
 ]

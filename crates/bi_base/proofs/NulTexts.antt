@@ -1,4 +1,5 @@
-use Rattle.std.proofs.Common.{◌≡◌, ◌<◌, ◌+◌, ℕ, Bool, true, false, cond, ltb, List, [], ◌∷◌, ◌++◌, Option, Some, None, ◌==◌, length, take, refl, arith, sym, ◌∙◌}
+use Rattle.std.proofs.Common.{◌≡◌, ◌<◌, ◌+◌, ℕ, Bool, true, false, cond, ltb, List, [], ◌∷◌, ◌++◌, Option, Some, None, ◌==◌, length, take}
+use Rattle.std.proofs.Common.{refl, arith, sym, ◌∙◌}
 use Rattle.std.specs.List.{list_any, before_first, after_first, position_or_len, position}
 use Rattle.std.specs.Option.{option_map}
 use Rattle.std.proofs.lemmas.Grind.{common_steps}
@@ -13,7 +14,7 @@ use Rattle.bi_base.specs.Strings.{text_before_nul}
 ltb-after : (m n : ℕ) → ltb m n ≡ ltb (1 + m) (1 + n)
 ltb-after m n = grind (arith, common_steps)
 
--- Some element passes exactly where the index of the first one that passes is within the list.
+-- Some element passes if and only if the index of the first one that passes is within the list.
 pub list_any-by_place : (p : ℕ → Bool) (xs : List ℕ) → list_any p xs ≡ ltb (position_or_len p xs) (length xs)
 list_any-by_place p [] = refl
 list_any-by_place p (x ∷ xs) = let rest = list_any-by_place p xs in grind (arith, common_steps, ltb-after, rest)
@@ -24,7 +25,7 @@ taken_before : (b : Bool) (end : ℕ) (bytes : List ℕ) →
 taken_before true end bytes = refl
 taken_before false end bytes = refl
 
--- The text ends at the first NUL, and there is none where there is no NUL.
+-- The text ends at the first NUL, and there is none if there is no NUL.
 pub text_by_place : (bytes : List ℕ) (place : Option ℕ) → place ≡ position (λ byte. byte == 0) bytes →
     option_map (λ end. take end bytes) place ≡ text_before_nul bytes
 unfolding text_before_nul

@@ -48,7 +48,7 @@ pub finished_writing : {T : Type 0} (trace : T → WriteTrace) (IsText : List �
 finished_writing trace IsText old mid new result none appended finished =
     finished_after (state_of trace old) (state_of trace mid) appended.text new result none appended.appended finished
 
--- A failed write is no failed read.
+-- A failed write is not a failed read.
 write_is_no_read : ¬ (WriteFailed ≡ ReadFailed)
 write_is_no_read e = absurd cc
 
@@ -82,7 +82,8 @@ piping_failed promise limits laws source new_source target new_target input byte
     (λ e. laws.no_read_error input (subst (promise.has_error input) e is))
     (λ e. laws.no_write_error input (subst (promise.has_error input) e is))
     (subst (λ (trace : WriteTrace). Keeps target.contents trace.contents) (sym kept) (Keeps-refl target.contents))
-piping_failed promise limits laws source new_source target new_target input bytes (Err error) read same (SinkFailed text cause is stopped wrapped) =
+piping_failed promise limits laws source new_source target new_target input bytes (Err error) read same
+    (SinkFailed text cause is stopped wrapped) =
     let is_write : error ≡ promise.wraps WriteFailed = wrapped ∙ ap promise.wraps stopped.is in
     write_stopped source new_source target new_target promise.is_text (λ input. PipeError promise limits input error)
     (error ≡ promise.wraps ReadFailed) (error ≡ promise.wraps WriteFailed) input text cause
@@ -90,7 +91,7 @@ piping_failed promise limits laws source new_source target new_target input byte
     (NoWrite is_write)
     (λ e. write_is_no_read (laws.wraps_once WriteFailed ReadFailed (sym is_write ∙ e))) is_write stopped
 
--- What failed with streams whose calls are traced, failed with plain ones.
+-- What failed with traced streams failed with plain ones.
 pub moving_failed : (source new_source : ReadTrace) (target new_target : WriteTrace) (IsOutput : List ℕ → List ℕ → Type 0)
     (HasError : List ℕ → Type 0) (read_failed write_failed : Type 0)
     → TransferFailed source new_source target new_target IsOutput HasError read_failed write_failed
@@ -112,7 +113,7 @@ moving_failed source new_source target new_target IsOutput HasError read_failed 
   else_nothing = all.failed.else_nothing;
 }
 
--- A command that was run over streams whose calls are traced was run over plain ones, where these have what the traces record.
+-- A command that was run over traced streams was run over plain ones, if these have what the traces record.
 pub pipe_ends_well : {V E : Type 0} (promise : CommandPromise V E) (limits : Limits) (source new_source : ReadTrace)
     (target new_target : WriteTrace) (remaining new_remaining contents new_contents : Option (List ℕ)) (result : Result V E)
     → source.remaining ≡ remaining → new_source.remaining ≡ new_remaining → target.contents ≡ contents

@@ -31,11 +31,11 @@ pub fault_passed_on : {A : Type 0} (r : Result A Fault) (fault : Fault) (P : Fau
 fault_passed_on (Ok a) fault P is holds = absurd is
 fault_passed_on (Err e) fault P is holds = subst P (sym is) holds
 
--- A refusal by a fault of which something holds.
+-- A refusal by a fault for which something holds.
 pub refused_with : {A : Type 0} (r : Result A Fault) (fault : Fault) (P : Fault → Type 0) → r ≡ Err fault → P fault → IfErr r P
 refused_with r fault P is holds = subst (λ x. IfErr x P) (sym is) holds
 
--- An error of which something holds is passed on as it is.
+-- An error for which something holds is passed on as it is.
 pub error_passed_on : {A : Type 0} (r : Result A Error) (e : Error) (P : Error → Type 0) → IsErrAnd r (λ x. x ≡ e) → P e → IfErr r P
 error_passed_on (Ok a) e P is holds = absurd is
 error_passed_on (Err x) e P is holds = subst P (sym is) holds

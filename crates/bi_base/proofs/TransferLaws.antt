@@ -81,26 +81,27 @@ pub write_stopped : (source new_source : ReadTrace) (target new_target : WriteTr
     ReadWhole source.remaining new_source.remaining input → IsOutput input output → HasError input → ¬ read_failed → write_failed →
     WriteOrFlushStopped target output new_target error →
     TransferFailed source new_source target new_target IsOutput HasError read_failed write_failed
-write_stopped source new_source target new_target IsOutput HasError read_failed write_failed input output error read is_output has_error no_read is_write stopped = record {
-  failed = record {
-    input = input;
-    is_input = read.is_input;
-    has_error = has_error;
-    prefix = λ _. record {
-      input = input;
-      output = output;
-      count = stopped.count;
-      read = read;
-      within = stopped.within;
-      written = stopped.written;
-      whole = stopped.whole;
-      is_output = is_output;
-    };
-    else_nothing = λ other. absurd (other is_write);
-  };
-  why_read_failed = λ read_failed. absurd (no_read read_failed);
-  why_write_failed = λ _. stopped.cause;
-}
+write_stopped source new_source target new_target IsOutput HasError read_failed write_failed input output error read is_output has_error
+    no_read is_write stopped = record {
+      failed = record {
+        input = input;
+        is_input = read.is_input;
+        has_error = has_error;
+        prefix = λ _. record {
+          input = input;
+          output = output;
+          count = stopped.count;
+          read = read;
+          within = stopped.within;
+          written = stopped.written;
+          whole = stopped.whole;
+          is_output = is_output;
+        };
+        else_nothing = λ other. absurd (other is_write);
+      };
+      why_read_failed = λ read_failed. absurd (no_read read_failed);
+      why_write_failed = λ _. stopped.cause;
+    }
 
 -- The input was read, and refused, or memory ran out; nothing was written.
 pub refused_after : (source new_source : ReadTrace) (target new_target : WriteTrace) (IsOutput : List ℕ → List ℕ → Type 0)
@@ -108,20 +109,22 @@ pub refused_after : (source new_source : ReadTrace) (target new_target : WriteTr
     ReadWhole source.remaining new_source.remaining input → HasError input → ¬ read_failed → ¬ write_failed →
     Keeps target.contents new_target.contents →
     TransferFailed source new_source target new_target IsOutput HasError read_failed write_failed
-refused_after source new_source target new_target IsOutput HasError read_failed write_failed input read has_error no_read no_write kept = record {
-  failed = record {
-    input = input;
-    is_input = read.is_input;
-    has_error = has_error;
-    prefix = λ write_failed. absurd (no_write write_failed);
-    else_nothing = λ _. kept;
-  };
-  why_read_failed = λ read_failed. absurd (no_read read_failed);
-  why_write_failed = λ write_failed. absurd (no_write write_failed);
-}
+refused_after source new_source target new_target IsOutput HasError read_failed write_failed input read has_error
+    no_read no_write kept = record {
+      failed = record {
+        input = input;
+        is_input = read.is_input;
+        has_error = has_error;
+        prefix = λ write_failed. absurd (no_write write_failed);
+        else_nothing = λ _. kept;
+      };
+      why_read_failed = λ read_failed. absurd (no_read read_failed);
+      why_write_failed = λ write_failed. absurd (no_write write_failed);
+    }
 
 -- What follows from an error of reading for an input, whatever the call.
-pub record IsErrorOfReading (remaining : Option (List ℕ)) (most : ℕ) (MustStop : Type 0) (HasError : List ℕ → Type 0) (error : Error) : Type 0 where
+pub record IsErrorOfReading (remaining : Option (List ℕ)) (most : ℕ) (MustStop : Type 0) (HasError : List ℕ → Type 0)
+    (error : Error) : Type 0 where
   pub input : List ℕ
   pub is_input : IsInput remaining input
   pub has_error : HasError input

@@ -11,16 +11,16 @@ use Rattle.bi_base.specs.SinkLaws.{prefix_more, prefix_after}
 use Rattle.bi_base.specs.Traces.{WriteTrace}
 use Rattle.bi_base.specs.Writing.{Writes, WroteAll, WriteStopped}
 
--- A sink that holds bytes back before it writes them, as contracts see it.
+-- A sink that buffers bytes before it writes them, as contracts see it.
 
--- Which borrow of a writer the sink has, the writer after the calls so far, and the bytes that are
--- held back.
+-- Which borrow of a writer the sink has, the writer after the calls so far, and the bytes in the
+-- buffer.
 pub record Buffer : Type 0 where
   pub borrow : GName
   pub trace : WriteTrace
   pub held : List ℕ
 
--- What contracts see of a sink whose writer has this trace.
+-- What contracts see of a sink that writes to a writer with this trace.
 abbrev pub state_of : {T : Type 0} → (T → WriteTrace) → BufferedSink T → Buffer
 state_of trace sink = record {
   borrow = sink.target.ghost_name;
@@ -28,26 +28,27 @@ state_of trace sink = record {
   held = sink.held.items;
 }
 
--- Some bytes were written, and the others are held back: together they are those held back before,
--- and these.
+-- Some bytes were written, and the others are in the buffer: together they are those that were in
+-- the buffer before, and these.
 pub record Holds (old : Buffer) (bytes : List ℕ) (new : Buffer) : Type 0 where
   pub written : List ℕ
   pub wrote : WroteAll old.trace written new.trace
   pub all : old.held ++ bytes ≡ written ++ new.held
   pub same_borrow : new.borrow ≡ old.borrow
 
--- Writing stopped: a prefix of the bytes held back before, and these, was written.
+-- Writing stopped: a prefix of the bytes that were in the buffer before, and these, was written.
 pub record Stops (old : Buffer) (bytes : List ℕ) (new : Buffer) (error : Error) : Type 0 where
   pub stopped : WriteStopped old.trace (old.held ++ bytes) new.trace error
   pub same_borrow : new.borrow ≡ old.borrow
 
--- A call appended bytes to a buffered sink: some bytes were written, and the others are held back.
+-- A call appended bytes to a buffered sink: some bytes were written, and the others are in the
+-- buffer.
 abbrev pub BufferAppends : {T : Type 0} → (T → WriteTrace) → BufferedSink T → List ℕ
     → BufferedSink T → Type 0
 BufferAppends trace old bytes new = Holds (state_of trace old) bytes (state_of trace new)
 
--- A call failed to append bytes to a buffered sink: a prefix of the bytes held back before, and
--- these, was written.
+-- A call failed to append bytes to a buffered sink: a prefix of the bytes that were in the buffer
+-- before, and these, was written.
 abbrev pub BufferFails : {T : Type 0} → (T → WriteTrace) → BufferedSink T → List ℕ → BufferedSink T
     → Error → Type 0
 BufferFails trace old bytes new error = Stops (state_of trace old) bytes (state_of trace new) error

@@ -15,12 +15,12 @@ cell8 n = to_be_bytes w64 n
 abbrev pub slice : List ℕ → ℕ → ℕ → List ℕ
 slice file at n = take n (drop at file)
 
--- The number whose cell is at offset `at`. Bytes that the file does not have read as zero: this is
+-- The number in the cell at offset `at`. Bytes that the file does not have read as zero: this is
 -- used only if the file has all of them, or an earlier check fails.
 unfoldable pub u32_at : List ℕ → ℕ → ℕ
 u32_at file at = from_be_bytes w32 (slice file at 4)
 
--- The number whose two cells are at offset `at`, likewise.
+-- The number in the two cells at offset `at`, likewise.
 unfoldable pub u64_at : List ℕ → ℕ → ℕ
 u64_at file at = from_be_bytes w64 (slice file at 8)
 

@@ -5,7 +5,7 @@ use Rattle.bi_base.specs.declared.fault.Error.TheVariants.{WriteFailed}
 use Rattle.bi_base.specs.Limits.{Limits}
 use Rattle.bi_base.specs.Reading.{too_large}
 
--- What commands are: calls that make an output of a whole input (profile of this project).
+-- What commands are: calls that make an output from a whole input (profile of this project).
 
 -- What a command promises within some limits.
 pub record CommandPromise (V E : Type 0) : Type 1 where
@@ -18,7 +18,7 @@ pub record CommandPromise (V E : Type 0) : Type 1 where
   -- The error of the command for an error of a reader, a writer or a sink.
   pub wraps : Error → E
 
--- What holds of the promise of every command.
+-- What holds for the promise of every command.
 pub record PromiseLaws {V E : Type 0} (promise : CommandPromise V E) : Type 0 where
   -- An output is one that the command may begin to append.
   pub is_text : (value : V) (input output : List ℕ) → promise.is_output value input output
@@ -29,7 +29,7 @@ pub record PromiseLaws {V E : Type 0} (promise : CommandPromise V E) : Type 0 wh
   pub no_read_error : (input : List ℕ) → ¬ promise.has_error input (promise.wraps ReadFailed)
   pub no_write_error : (input : List ℕ) → ¬ promise.has_error input (promise.wraps WriteFailed)
 
--- The promise of a command that returns nothing beside its output, and whose errors are those of
+-- The promise of a command that returns nothing in addition to its output, and fails with errors of
 -- calls.
 abbrev pub unit_promise : (IsOutput : List ℕ → List ℕ → Type 0)
     → (HasError : List ℕ → Error → Type 0) → CommandPromise (Unit {0}) Error
@@ -68,8 +68,8 @@ pub data CommandFailed {S E : Type 0} (fails : S → List ℕ → S → Error �
     SinkFailed : (text : List ℕ) (cause : Error) → IsText text → fails old text new cause
         → error ≡ wraps cause → CommandFailed fails wraps IsText HasError old new error
 
--- A call that appends a text to a sink, and whose errors are those of sinks, failed: with an error
--- of its own, and the sink is unchanged; or with an error of the sink.
+-- A call that appends a text to a sink, and passes errors of the sink on as they are, failed: with
+-- an error of its own, and the sink is unchanged; or with an error of the sink.
 abbrev pub AppendFailed : {S : Type 0} → (S → List ℕ → S → Error → Type 0) → (List ℕ → Type 0)
     → (Error → Type 0) → S → S → Error → Type 0
 AppendFailed fails IsText HasError old new error =

@@ -1,7 +1,7 @@
 use Rattle.std.specs.Prelude.{ℕ, ◌≤◌}
 
 -- The limits of a call: the most bytes of an input, and of an image or payload that is written, and
--- the most nodes of a blob's tree that are open at once, the root counted (profile of this
+-- the most nodes of a blob's tree that are open at once, including the root (profile of this
 -- project).
 pub record Limits : Type 0 where
   pub file : ℕ

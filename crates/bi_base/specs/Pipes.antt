@@ -25,8 +25,8 @@ pub record IsPiped {V E : Type 0} (promise : CommandPromise V E) (limits : Limit
     -- At most one byte more than the limit was read.
     pub takes_at_most_one_byte_more : TakesAtMost remaining new_remaining (limits.file + 1)
 
--- A command with this promise was run within these limits from a reader to a writer whose calls are
--- traced, and this is its result.
+-- A command with this promise was run within these limits from a traced reader to a traced writer,
+-- and this is its result.
 pub record IsTracedPipe {V E : Type 0} (promise : CommandPromise V E) (limits : Limits)
     (source new_source : ReadTrace) (target new_target : WriteTrace) (result : Result V E) : Type 0
   where

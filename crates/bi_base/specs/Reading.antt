@@ -10,7 +10,7 @@ use Rattle.bi_base.specs.Traces.{ReadTrace, ReadsWell, MustStopReading}
 
 -- What calls that read a whole input did (profile of this project).
 
--- The fault of what is longer than this bound.
+-- The fault of something that is longer than this bound.
 abbrev pub too_large : ℕ → Fault
 too_large most = record { cause = TooLarge; offset = most }
 
@@ -18,7 +18,7 @@ too_large most = record { cause = TooLarge; offset = most }
 abbrev pub TakesAtMost : Option (List ℕ) → Option (List ℕ) → ℕ → Type 0
 TakesAtMost old new n = (bytes : List ℕ) × (length bytes ≤ n) × Consumes old new bytes
 
--- At most this many bytes were read from a traced reader, also if it is not known which bytes it
+-- At most this many bytes were read from a traced reader, even if it is not known which bytes it
 -- has.
 pub record TracedTakesAtMost (old new : ReadTrace) (most : ℕ) : Type 0 where
   pub known : TakesAtMost old.remaining new.remaining most

@@ -31,7 +31,7 @@ pub record SliceGrows (old : SliceSink) (bytes : List ℕ) (new : SliceSink) : T
       ++ (bytes ++ drop (filled_of old + length bytes) (slice_of old).now)
   pub filled : filled_of new ≡ filled_of old + length bytes
 
--- There is no room for the bytes, and a prefix of them was written.
+-- The slice does not have room for the bytes, and a prefix of them was written.
 pub record SliceFails (old : SliceSink) (bytes : List ℕ) (new : SliceSink) (error : Error) : Type 0
   where
     pub no_room : ¬ (filled_of old + length bytes ≤ length (slice_of old).now)
@@ -100,7 +100,7 @@ in_turn_beyond filled a [] [] beyond room more =
     ap (λ (l : List ℕ). take (filled + 0) l ++ drop (filled + 0 + 0) l) (slice_stays filled a)
     ∙ slice_stays (filled + 0) a ∙ sym (slice_stays filled a)
 
--- Both together have no bytes then.
+-- Both together then have no bytes.
 none_beyond : (filled : ℕ) (a xs ys : List ℕ) → length a < filled
     → length xs ≤ length a - filled
     → length ys
@@ -167,7 +167,8 @@ slice_grows_in_turn a b c xs ys first second = record {
     by (inl beyond) = in_turn_beyond (filled_of a) (slice_of a).now xs ys beyond first.room more
     by (inr within) = in_turn_within (filled_of a) (slice_of a).now xs ys within
 
--- If there is no room after some bytes were written, there was none for these and the others.
+-- If the slice does not have room after some bytes were written, it did not have room for these and
+-- the others.
 pub slice_fails_after : FailsAfter SliceGrows SliceFails
 slice_fails_after a b c xs ys error first failed = record {
   no_room = λ room.
@@ -187,7 +188,7 @@ slice_fails_after a b c xs ys error first failed = record {
   is_error = failed.is_error;
 }
 
--- If there is no room for some bytes, there is none for these and more.
+-- If the slice does not have room for some bytes, it does not have room for these and more.
 pub slice_fails_before : FailsBefore SliceFails
 slice_fails_before a b xs ys error failed = record {
   no_room = λ room. failed.no_room (omega (arith, room, length-append xs ys));

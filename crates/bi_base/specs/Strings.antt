@@ -15,7 +15,7 @@ text_before_nul value =
     then Some (before_nul value)
     else None
 
--- No bytes, or bytes of which the first is zero.
+-- No bytes, or bytes that begin with a zero.
 abbrev pub IsEmptyOrBeginsWithNul : List ℕ → Type 0
 IsEmptyOrBeginsWithNul [] = Unit {0}
 IsEmptyOrBeginsWithNul (byte ∷ bytes) = byte ≡ 0

@@ -40,12 +40,13 @@ pub record WriteTrace : Type 0 where
   -- Some call so far was a reason to stop.
   pub stopped : Bool
 
--- The flag is true exactly if the call failed with an error other than an interruption.
+-- The flag is true if and only if the call failed with an error other than an interruption.
 abbrev pub RecordsFailure : {T : Type 0} → Bool → Result T Error → Type 0
 RecordsFailure failed result = IsTrue failed
     ↔ IsErrAnd result (λ error. error_kind error ≢ Interrupted)
 
--- The flag is true exactly if the write of these bytes stalled: there were some, and it wrote none.
+-- The flag is true if and only if the write of these bytes stalled: there were some, and it wrote
+-- none.
 abbrev pub RecordsStall : Bool → Result ℕ Error → List ℕ → Type 0
 RecordsStall stalled result bytes = IsTrue stalled
     ↔ IsOkAnd result (λ count. (count ≡ 0) × (0 < length bytes))

@@ -51,9 +51,9 @@ pub record Transferred (source new_source : ReadTrace) (target new_target : Writ
       IsOutput
   pub flushed : IsFlushed new_target
 
--- The call failed with an error that it can have for the input, from a reader to a writer whose
--- calls are traced. After a failed write a prefix of the output was written, and after any other
--- error nothing was. A failed read or write was a reason to stop.
+-- The call, from a traced reader to a traced writer, failed with an error that it can have for the
+-- input. After a failed write a prefix of the output was written, and after any other error nothing
+-- was written. A failed read or write was a reason to stop.
 pub record TransferFailed (source new_source : ReadTrace) (target new_target : WriteTrace)
     (IsOutput : List ℕ → List ℕ → Type 0) (HasError : List ℕ → Type 0)
     (read_failed write_failed : Type 0) : Type 0 where

@@ -8,7 +8,7 @@ use Rattle.bi_base.specs.declared.fault.Error.TheVariants.{WriteFailed}
 use Rattle.bi_base.specs.declared.write_sink.WriteSink.{WriteSink}
 use Rattle.bi_base.specs.Sinks.{AppendsNothing, AppendsInTurn}
 
--- A sink that writes to a writer, whose bytes a contract can name if they are known.
+-- A sink that writes to a writer. A contract can name the bytes of the writer, if they are known.
 
 -- The writer that a sink writes to, as the sink borrows it.
 abbrev pub writer_of : {W : Type 0} → WriteSink W → MutBor W

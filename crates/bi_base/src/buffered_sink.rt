@@ -10,13 +10,13 @@ use crate::traced_write::TracedWrite;
 use crate::writing::{flush, write_all};
 use arrayvec::ArrayVec;
 
-/// How many bytes a `BufferedSink` holds back at most.
+/// The most bytes that a `BufferedSink` buffers.
 const BUFFER_SIZE: usize = 8192;
 
-/// A sink that writes the bytes to a writer whose calls are traced, and which it borrows. It holds
-/// up to 8 KiB of them back, so that small pieces are not a write each; a piece that is longer than
-/// that is written without a copy. On average a write has 4 KiB at least. What is held back is
-/// written by `finish`, and lost if the sink is dropped before.
+/// A sink that borrows a traced writer and writes the bytes to it. It buffers up to 8 KiB, so that
+/// small pieces do not need a write each. A longer piece is written without a copy. On average a
+/// write has at least 4 KiB. `finish` writes what is in the buffer; it is lost if the sink is
+/// dropped before that.
 #[derive(Drop)]
 pub struct BufferedSink<'a, T> {
     target: &'a mut T,
@@ -26,7 +26,7 @@ pub struct BufferedSink<'a, T> {
 impl<'a, T: TracedWrite> BufferedSink<'a, T> {
     ghost use Rattle.bi_base.specs.BufferedSinks.{state_of};
 
-    /// Returns a sink of this writer that holds nothing back yet.
+    /// Returns a sink that writes to `target`. Its buffer is empty.
     pub fn new(target: &'a mut T) -> BufferedSink<'a, T>
         ensures same_borrow { (state_of T.trace result).borrow ≡ target.entry.ghost_name }
         ensures same_trace { (state_of T.trace result).trace ≡ T.trace target.old }
@@ -38,11 +38,11 @@ impl<'a, T: TracedWrite> BufferedSink<'a, T> {
         }
     }
 
-    /// Writes what is held back, and flushes the writer.
+    /// Writes what is in the buffer, and flushes the writer.
     ///
-    /// The only error is `WriteFailed`, and a prefix of what is held back was written then, all of
-    /// it if the flush failed. It comes after a failed write or flush, and no failed call is
-    /// ignored. Do not use the sink after an error of `put` or `finish`.
+    /// The only error is `WriteFailed`, after a failed write or flush. No failed call is ignored. A
+    /// prefix of the buffer was then written: all of it if the flush failed. Do not use the sink
+    /// after an error of `put` or `finish`.
     pub fn finish(&mut self) -> Result<(), Error>
         ensures finished { let old = state_of T.trace self.old in
             let new = state_of T.trace self.new in
@@ -66,8 +66,9 @@ impl<'a, T: TracedWrite> Sink for BufferedSink<'a, T> {
 
     ghost fails = { BufferFails T.trace };
 
-    /// Appends these bytes: some are written, and up to 8 KiB are held back. The only error is
-    /// `WriteFailed`, and a prefix of what was held back and these bytes was written then.
+    /// Appends the given bytes: some are written, and up to 8 KiB stay in the buffer. The only
+    /// error is `WriteFailed`. A prefix of the buffer and the given bytes together was then
+    /// written.
     fn put(&mut self, bytes: &[u8]) -> Result<(), Error> {
         if self.held.try_extend_from_slice(bytes).is_ok() {
             return Ok(());

@@ -10,8 +10,7 @@ use crate::fault::Error;
 use crate::sinks::Sink;
 
 /// Returns the number in the cell at offset `at`, which is four bytes, the highest first
-/// (Devicetree Specification, 2.2.4.2: u32). Returns None exactly if the bytes end before the cell
-/// does.
+/// (Devicetree Specification, 2.2.4.2: u32). Returns None if the bytes end before the cell does.
 pub fn be32_at(bytes: &[u8], at: usize) -> Option<u32>
     ensures within { IsSome result ↔ (at + 4 ≤ length bytes.now) }
     ensures value { IfSome result (λ number. number ≡ u32_at bytes.now at) }
@@ -21,7 +20,7 @@ pub fn be32_at(bytes: &[u8], at: usize) -> Option<u32>
     Some(u32::from_be_bytes(*cell))
 }
 
-/// Returns the least multiple of four that is at least `n`. It may only be called if `n` is at most
+/// Returns the least multiple of four that is at least `n`. Requires: `n` is at most
 /// `usize::MAX - 3`.
 pub fn up4(n: usize) -> usize
     requires { n + 3 < 2 ^ 64 }
@@ -31,8 +30,7 @@ pub fn up4(n: usize) -> usize
 }
 
 /// Returns the number in the two cells at offset `at`, which are eight bytes, the highest first
-/// (Devicetree Specification, 2.2.4.2: u64). Returns None exactly if the bytes end before the two
-/// cells do.
+/// (Devicetree Specification, 2.2.4.2: u64). Returns None if the bytes end before the two cells do.
 #[tactic(auto, unfolding(crate::specs::Cells::u64_at))]
 pub fn be64_at(bytes: &[u8], at: usize) -> Option<u64>
     ensures within { IsSome result ↔ (at + 8 ≤ length bytes.now) }
@@ -43,8 +41,8 @@ pub fn be64_at(bytes: &[u8], at: usize) -> Option<u64>
     Some(u64::from_be_bytes(*cells))
 }
 
-/// Returns the number in the cell at offset `at`. It may only be called if the bytes do not end
-/// before the cell does.
+/// Returns the number in the cell at offset `at`. Requires: the bytes do not end before the cell
+/// does.
 pub fn cell_at(bytes: &[u8], at: usize) -> u32
     requires { at + 4 ≤ length bytes.now }
     ensures { result ≡ u32_at bytes.now at }
@@ -52,8 +50,8 @@ pub fn cell_at(bytes: &[u8], at: usize) -> u32
     be32_at(bytes, at).unwrap()
 }
 
-/// Returns the number in the two cells at offset `at`. It may only be called if the bytes do not
-/// end before the cells do.
+/// Returns the number in the two cells at offset `at`. Requires: the bytes do not end before the
+/// cells do.
 pub fn two_cells_at(bytes: &[u8], at: usize) -> u64
     requires { at + 8 ≤ length bytes.now }
     ensures { result ≡ u64_at bytes.now at }
@@ -61,10 +59,10 @@ pub fn two_cells_at(bytes: &[u8], at: usize) -> u64
     be64_at(bytes, at).unwrap()
 }
 
-/// Appends the cell of this number: its four bytes, the highest first (Devicetree Specification,
+/// Appends a number as a cell: its four bytes, the highest first (Devicetree Specification,
 /// 2.2.4.2: u32).
 ///
-/// Fails only as the sink does. After an error of the sink, it is as a failed `put` of the cell
+/// The only errors are those of the sink. After one, the sink is as a failed `put` of the cell
 /// leaves it.
 pub fn put_cell<S: Sink>(sink: &mut S, number: u32) -> Result<(), Error>
     ensures { Wrote S.appends S.fails sink.old (cell number) result sink.new }
@@ -72,10 +70,10 @@ pub fn put_cell<S: Sink>(sink: &mut S, number: u32) -> Result<(), Error>
     sink.put(&number.to_be_bytes())
 }
 
-/// Appends the cells of these numbers in their order.
+/// Appends each number as a cell, in order.
 ///
-/// Fails only as the sink does. After an error of the sink, it is as a failed `put` of all of the
-/// cells leaves it.
+/// The only errors are those of the sink. After one, the sink is as a failed `put` of all cells
+/// leaves it.
 pub fn put_cells<S: Sink>(sink: &mut S, numbers: &[u32]) -> Result<(), Error>
     ensures { Wrote S.appends S.fails sink.old (flat_map cell numbers.now) result sink.new }
 {

@@ -6,7 +6,7 @@ ghost use Rattle.bi_base.specs.Crc.{crc32 as crc32_of};
 
 use crate::crc::Crc32;
 
-/// Returns the CRC-32 of these bytes (ISO/IEC 3309, RFC 1952, chapter 8).
+/// Returns the CRC-32 of the given bytes (ISO/IEC 3309, RFC 1952, chapter 8).
 pub fn crc32(bytes: &[u8]) -> u32
     ensures { result ≡ crc32_of bytes.now }
 {

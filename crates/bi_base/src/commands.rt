@@ -1,4 +1,4 @@
-//! Commands: calls that make an output of a whole input, over any sink.
+//! Commands: calls that make an output from a whole input, over any sink.
 
 ghost use Rattle.std.specs.Prelude.{◌≡◌, ◌≤◌, length, IfOk, IfErr};
 ghost use Rattle.bi_base.specs.Commands.{Appended, CommandFailed, CommandPromise, PromiseLaws};
@@ -10,9 +10,9 @@ use crate::limits::Limits;
 use crate::sinks::Sink;
 use std::alloc::Global;
 
-/// A call that makes an output of a whole input. `pipe` runs it from a reader to a writer.
+/// A call that makes an output from a whole input. `pipe` runs it from a reader to a writer.
 pub trait Command {
-    /// What the command returns beside the output.
+    /// What the command returns in addition to the output.
     type Value: Drop;
 
     /// How the command fails.
@@ -24,11 +24,11 @@ pub trait Command {
     // What the command promises within these limits.
     ghost promise: { Self → Limits → CommandPromise Self.Value Self.Failure };
 
-    /// Appends the output for this input to a sink. It may only be called if the command may be run
-    /// (`can_run`) and the input has at most `limits.file()` bytes.
+    /// Appends the output for this input to a sink. Requires: the command may be run (`can_run`),
+    /// and the input has at most `limits.file()` bytes.
     ///
-    /// After an error of the command, the sink is unchanged. After an error of the sink, it is as a
-    /// failed `put` of the output leaves it.
+    /// After an error of the command, the sink is unchanged. After an error of the sink, the sink
+    /// is as a failed `put` of the output leaves it.
     fn run<S: Sink>(
         &self,
         alloc: Global,

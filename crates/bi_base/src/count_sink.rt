@@ -7,8 +7,8 @@ use crate::fault::Error;
 use crate::sinks::Sink;
 use std::marker::Model;
 
-/// A sink that keeps no bytes, and counts them up to the greatest u64. Contracts see it as the
-/// count.
+/// A sink that counts the bytes, up to the greatest u64, and does not keep them. Contracts see it
+/// as the count.
 #[derive(Clone, Copy, Debug, PartialEq, Eq)]
 pub struct CountSink {
     count: u64,
@@ -30,14 +30,14 @@ impl CountSink {
         CountSink { count: 0 }
     }
 
-    /// Returns a sink that has counted this many bytes.
+    /// Returns a sink that has counted `count` bytes.
     pub fn with_count(count: u64) -> CountSink
         ensures { result ≡ count }
     {
         CountSink { count }
     }
 
-    /// Returns how many bytes were appended, or the greatest u64 if they were more than that.
+    /// Returns how many bytes were appended, or the greatest u64 if there were more.
     pub fn count(&self) -> u64
         ensures { result ≡ self.now }
     {
@@ -50,7 +50,7 @@ impl Sink for CountSink {
 
     ghost fails = { λ _ _ _ _. ⊥ };
 
-    /// Counts these bytes. It never fails.
+    /// Counts the given bytes. Never fails.
     fn put(&mut self, bytes: &[u8]) -> Result<(), Error> {
         self.count = self.count.saturating_add(bytes.len() as u64);
         Ok(())

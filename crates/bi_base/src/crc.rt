@@ -10,8 +10,8 @@ use crate::fault::Error;
 use crate::sinks::Sink;
 use std::marker::Model;
 
-/// A running CRC-32, for bytes that come in pieces. The checksum does not depend on where they are
-/// cut (ISO/IEC 3309, RFC 1952, chapter 8).
+/// A running CRC-32, for bytes that come in pieces. The checksum does not depend on how the bytes
+/// are cut (ISO/IEC 3309, RFC 1952, chapter 8).
 #[derive(Clone, Copy, Debug, PartialEq, Eq)]
 pub struct Crc32 {
     register: u32,
@@ -36,7 +36,7 @@ impl Crc32 {
         }
     }
 
-    /// Adds these bytes, sixteen at a time.
+    /// Adds the given bytes, sixteen at a time.
     pub fn update(&mut self, bytes: &[u8])
         ensures { self.new ≡ crc_after self.old bytes.now }
     {
@@ -51,7 +51,8 @@ impl Crc32 {
     }
 }
 
-/// As a sink, a `Crc32` keeps no bytes: it continues over those that are appended. No call fails.
+/// As a sink, a `Crc32` adds the bytes that are appended to the checksum, and does not keep them.
+/// No call fails.
 impl Sink for Crc32 {
     ghost appends = { AddsToCrc };
 

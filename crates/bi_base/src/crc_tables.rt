@@ -5,7 +5,7 @@ ghost use Rattle.std.specs.Prelude.{◌≡◌, ◌<◌, [], ◌∷◌, fold};
 ghost use Rattle.bi_base.specs.Crc.{crc_after};
 ghost use Rattle.bi_base.specs.CrcTables.{table_entry};
 
-/// Returns the register after these bytes.
+/// Returns the register after the given bytes.
 pub(crate) fn after_bytes(register: u32, bytes: &[u8]) -> u32
     ensures { result ≡ crc_after register bytes.now }
 {
@@ -55,7 +55,7 @@ fn after_byte(register: u32, byte: u8) -> u32
     (register >> 8) ^ entry(0, lowest ^ byte)
 }
 
-/// Returns the entry of one of the sixteen tables at this index.
+/// Returns the entry of one of the sixteen tables at the given index.
 fn entry(table: usize, index: u8) -> u32
     requires { table < 16 }
     ensures { result ≡ table_entry table index }

@@ -8,7 +8,7 @@ use std::alloc::{AllocError, AllocFailed};
 /// Why a file, or an argument of a call that writes one, is refused.
 #[derive(Clone, Copy, Debug, PartialEq, Eq)]
 pub enum Cause {
-    /// The file ends before something that it has to hold.
+    /// The file ends before something that it must hold.
     Truncated = 1,
     /// The file does not begin with the right magic number.
     BadMagic = 2,
@@ -35,15 +35,15 @@ pub enum Cause {
     BadNameOffset = 12,
     /// A property is after a child node.
     PropertyAfterChild = 13,
-    /// A node has two properties of one name.
+    /// A node has two properties with the same name.
     DuplicateProperty = 14,
-    /// A node has two children of one name, or two images to be built have one name.
+    /// A node has two children with the same name, or two images to be built have the same name.
     DuplicateNode = 15,
     /// More nodes are open than the limit allows.
     TooDeep = 16,
     /// The root has no child `images`.
     NoImages = 17,
-    /// A property that has to be one cell is not four bytes long.
+    /// A property that must be one cell is not four bytes long.
     BadCell = 18,
     /// An image node has the offset of its payload, but not its size.
     NoSize = 19,
@@ -52,7 +52,7 @@ pub enum Cause {
     /// The file, the text to be written or the description is longer than the limit, or, for some
     /// calls, the payloads together are.
     TooLarge = 21,
-    /// A code that a flattened image tree has to name has no name.
+    /// A code that a flattened image tree must name has no name.
     NoCodeName = 22,
     /// A legacy image that is to be converted has too many parts: a multi-file image more than
     /// three, a script more than one.
@@ -122,7 +122,7 @@ pub struct Fault {
     pub offset: u32,
 }
 
-/// Returns the fault of this cause at this offset as an error.
+/// Returns the fault with this cause at this offset, as an error.
 pub fn refuse<T>(cause: Cause, offset: u32) -> Result<T, Fault>
     ensures { result ≡ Err (record { cause = cause; offset = offset }) }
 {
@@ -139,14 +139,13 @@ pub enum Error {
     /// An allocation failed.
     #[error("out of memory")]
     OutOfMemory,
-    /// A read failed, with an error other than an interruption; or `MOST_INTERRUPTIONS` reads in a
-    /// row, which are 1,024, were interrupted. Only calls over a reader fail with it.
+    /// A read failed, with an error other than an interruption; or 1,024 reads in a row
+    /// (`MOST_INTERRUPTIONS`) were interrupted. Only calls over a reader fail with it.
     #[error("read failed")]
     ReadFailed,
     /// A write or a flush failed, with an error other than an interruption; or a write wrote none
-    /// of the remaining bytes; or `MOST_INTERRUPTIONS` calls in a row, which are 1,024, were
-    /// interrupted; or the slice of a `SliceSink` has no room. Only calls over a writer or a sink
-    /// fail with it.
+    /// of the remaining bytes; or 1,024 calls in a row (`MOST_INTERRUPTIONS`) were interrupted; or
+    /// the slice of a `SliceSink` has no room. Only calls over a writer or a sink fail with it.
     #[error("write failed")]
     WriteFailed,
 }

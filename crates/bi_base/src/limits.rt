@@ -7,7 +7,7 @@ use std::marker::Model;
 
 /// The limits of a call. `file` is the greatest length in bytes of an input, and of an image or
 /// payload that is written. `depth` is the greatest number of nodes of a blob's tree that are open
-/// at once, the root counted.
+/// at once, including the root.
 #[derive(Clone, Copy, Debug, PartialEq, Eq)]
 pub struct Limits {
     file: u32,
@@ -25,8 +25,8 @@ impl Model for Limits {
 }
 
 impl Limits {
-    /// Returns the limits with these bounds. Returns None exactly if `file` is not 64 to
-    /// 0x7fffffff, or `depth` is not 1 to 64.
+    /// Returns the limits with these bounds. Returns None unless `file` is 64 to 0x7fffffff and
+    /// `depth` is 1 to 64.
     pub fn new(file: u32, depth: u8) -> Option<Limits>
         ensures in_range { IsSome result ↔ IsInRange file depth }
         ensures value { IfSome result (λ limits. limits ≡ record { file = file; depth = depth }) }
@@ -48,8 +48,8 @@ impl Limits {
         self.file
     }
 
-    /// Returns the greatest number of nodes of a blob's tree that are open at once, the root
-    /// counted: 1 to 64.
+    /// Returns the greatest number of nodes of a blob's tree that are open at once, including the
+    /// root: 1 to 64.
     pub fn depth(self) -> u8
         ensures value { result ≡ self.depth }
         ensures least { 1 ≤ result }

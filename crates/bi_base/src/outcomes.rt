@@ -5,7 +5,8 @@ ghost use Rattle.bi_base.specs.Traces.{RecordsFailure, CountsInterruptions, Must
 
 use std::io::{self, ErrorKind};
 
-/// How many interrupted calls in a row are a reason to stop. After fewer the call is made again.
+/// The number of interrupted calls in a row that is a reason to stop. After fewer, the call is made
+/// again.
 pub const MOST_INTERRUPTIONS: u32 = 1024;
 
 /// The outcome of the calls so far: whether the last one failed with an error other than an

@@ -15,15 +15,21 @@ use crate::traced_write::{TracedWrite, TracedWriter};
 use std::alloc::Global;
 use std::io::{Read, Write};
 
-/// Reads an input to its end, runs a command on it, writes the output and flushes, from a reader to
-/// a writer that record the outcome of their calls. Returns what the command returns. It may only
-/// be called if the command may be run (`can_run`).
+/// Reads an input to its end, runs a command on it, writes the output and flushes. The reader and
+/// the writer record the outcome of their calls. Returns what the command returns. Requires: the
+/// command may be run (`can_run`).
 ///
-/// Errors: `ReadFailed` after a failed read; `Refused` with `TooLarge` at the limit for files, if
-/// the input is longer; those of the command; `WriteFailed` after a failed write or flush;
-/// `OutOfMemory` for any input, since reading it allocates. No failed call is ignored. After
-/// `WriteFailed` a prefix of the output was written, the whole of it if the flush failed. After any
-/// other error nothing was written. At most one byte more than the limit is read.
+/// Errors:
+///
+/// - `ReadFailed` after a failed read;
+/// - `Refused` with `TooLarge` at the limit for files, if the input is longer;
+/// - those of the command;
+/// - `WriteFailed` after a failed write or flush;
+/// - `OutOfMemory` for any input, since reading it allocates.
+///
+/// No failed call is ignored. After `WriteFailed`, a prefix of the output was written: all of it if
+/// the flush failed. After any other error, nothing was written. At most one byte more than the
+/// limit is read.
 pub fn pipe<C: Command, S: TracedRead, T: TracedWrite>(
     alloc: Global,
     command: &C,
@@ -40,10 +46,11 @@ pub fn pipe<C: Command, S: TracedRead, T: TracedWrite>(
 }
 
 /// Reads an input to its end, runs a command on it, writes the output and flushes: `pipe` over a
-/// plain reader and a plain writer, with the same condition and the same errors.
+/// plain reader and a plain writer, with the same errors. Requires: the command may be run
+/// (`can_run`).
 ///
 /// A plain reader or writer does not record a failed call, so the contract does not state why
-/// `ReadFailed` and `WriteFailed` come, that no failed call is ignored, or that the writer was
+/// `ReadFailed` and `WriteFailed` occur, that no failed call is ignored, or that the writer was
 /// flushed. `pipe` promises all three.
 pub fn pipe_to<C: Command, R: Read, W: Write>(
     alloc: Global,
@@ -82,7 +89,7 @@ fn write_output<C: Command, T: TracedWrite>(
     run_and_finish(alloc, command, input, limits, &mut sink)
 }
 
-/// Runs a command over a sink whose buffer is empty, and finishes the sink.
+/// Runs a command over a sink with an empty buffer, and finishes the sink.
 fn run_and_finish<C: Command, T: TracedWrite>(
     alloc: Global,
     command: &C,

@@ -12,7 +12,7 @@ use crate::traced_read::{TracedRead, TracedReader};
 use std::alloc::Global;
 use std::io::{ErrorKind, Read};
 
-/// How many bytes are read at once, at most.
+/// The most bytes that are read at once.
 const CHUNK: usize = 0x1_0000;
 
 /// Reads once, and again after each interruption. The only error is `ReadFailed`.
@@ -34,9 +34,9 @@ fn read_some<S: TracedRead>(source: &mut S, buffer: &mut [u8]) -> Result<usize, 
 /// Reads a whole input up to its end, from a reader that records the outcome of its calls.
 ///
 /// Errors: `Refused` with `TooLarge` at the limit for files, if the input is longer than that;
-/// `ReadFailed` after a failed read, and no failed read is ignored; `OutOfMemory` if the buffer
-/// cannot grow. After an error the bytes that were read are lost. At most one byte more than the
-/// limit is read from any reader, an endless one too, even if the call fails.
+/// `ReadFailed` after a failed read (no failed read is ignored); `OutOfMemory` if the buffer cannot
+/// grow. After an error, the bytes that were read are lost. At most one byte more than the limit is
+/// read, even from an endless reader, and even if the call fails.
 pub fn read_all_traced<S: TracedRead>(
     alloc: Global,
     source: &mut S,
@@ -70,7 +70,7 @@ pub fn read_all_traced<S: TracedRead>(
 /// Reads a whole input up to its end: `read_all_traced` over a plain reader, with the same errors.
 ///
 /// A plain reader does not record a failed call, so the contract does not state why `ReadFailed`
-/// comes, or that no failure is ignored. `read_all_traced` promises both.
+/// occurs, or that no failure is ignored. `read_all_traced` promises both.
 pub fn read_all<R: Read>(alloc: Global, reader: &mut R, limits: Limits) -> Result<Vec<u8>, Error>
     ensures whole { IfOk result (λ bytes.
         ReadWhole (R.remaining reader.old) (R.remaining reader.new) bytes.items) }

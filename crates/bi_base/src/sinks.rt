@@ -17,7 +17,7 @@ pub trait Sink {
     // and the error.
     ghost fails: { Self → List ℕ → Self → Error → Type 0 };
 
-    /// Appends these bytes, or fails as the sink does.
+    /// Appends the given bytes, or fails as the sink does.
     fn put(&mut self, bytes: &[u8]) -> Result<(), Error>
         ensures { Wrote appends fails self.old bytes.now result self.new };
 

@@ -17,7 +17,7 @@ pub struct SliceSink<'a> {
 impl<'a> SliceSink<'a> {
     ghost use Rattle.bi_base.specs.SliceSinks.{slice_of, filled_of};
 
-    /// Returns a sink that has written nothing to this slice.
+    /// Returns a sink that writes to `bytes`, and has written nothing yet.
     pub fn new(bytes: &'a mut [u8]) -> SliceSink<'a>
         ensures same_slice { (slice_of result).ghost_name ≡ bytes.entry.ghost_name }
         ensures value { (slice_of result).now ≡ bytes.old }
@@ -36,8 +36,8 @@ impl<'a> Sink for SliceSink<'a> {
 
     ghost fails = { SliceFails };
 
-    /// Writes these bytes after those that were written. The only error is `WriteFailed`, which
-    /// comes exactly if the slice has no room for them, and nothing was written then.
+    /// Writes the given bytes after those that were written before. The only error is
+    /// `WriteFailed`, if the slice does not have room for them. Nothing is then written.
     fn put(&mut self, bytes: &[u8]) -> Result<(), Error>
         ensures wrote { Wrote ⟦<SliceSink<'a> as Sink>⟧.appends ⟦<SliceSink<'a> as Sink>⟧.fails
             self.old bytes.now result self.new }

@@ -17,7 +17,7 @@ pub fn before_nul(bytes: &[u8]) -> &[u8]
     bytes
 }
 
-/// Returns the bytes before the first zero byte. Returns None exactly if none is zero.
+/// Returns the bytes before the first zero byte. Returns None if none is zero.
 #[tactic(auto, unfolding(crate::specs::Strings::text_before_nul))]
 pub fn text_before_nul(value: &[u8]) -> Option<&[u8]>
     ensures { option_copied result ≡ text_before_nul_of value.now }

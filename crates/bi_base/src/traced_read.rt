@@ -13,8 +13,8 @@ pub trait TracedRead {
     ghost trace: { Self → ReadTrace };
 
     /// Reads once into the first bytes of `buffer`, and returns how many: 0 only at the end of the
-    /// input, or if `buffer` is empty. An error is that of the reader, an interruption too, and no
-    /// byte is lost then.
+    /// input, or if `buffer` is empty. Fails with the error of the reader, even if it is an
+    /// interruption. No byte is then lost.
     fn read_once(&mut self, buffer: &mut [u8]) -> io::Result<usize>
         ensures bound { ReadsAtMost result buffer.new }
         ensures call { IsReadCall (trace self.old) (trace self.new) result buffer.new };
@@ -30,7 +30,7 @@ pub struct TracedReader<'a, R> {
 }
 
 impl<'a, R: Read> TracedReader<'a, R> {
-    /// Traces this reader, with no call so far.
+    /// Returns a `TracedRead` of this reader, with no calls so far.
     pub fn new(reader: &'a mut R) -> TracedReader<'a, R>
         ensures same_reader { (⟦<TracedReader<'a, R> as TracedRead>⟧.trace result).reader
             ≡ reader.entry.ghost_name }

@@ -12,14 +12,14 @@ pub trait TracedWrite {
     // The writer after the calls so far.
     ghost trace: { Self → WriteTrace };
 
-    /// Writes once, and returns how many of the first bytes were written. An error is that of the
-    /// writer, an interruption too, and no byte was written then.
+    /// Writes once, and returns how many of the first bytes were written. Fails with the error of
+    /// the writer, even if it is an interruption. No byte was then written.
     fn write_once(&mut self, bytes: &[u8]) -> io::Result<usize>
         ensures bound { WritesAtMost result bytes.now }
         ensures call { IsWriteCall (trace self.old) (trace self.new) result bytes.now };
 
-    /// Flushes once. No byte is written or lost. An error is that of the writer, an interruption
-    /// too.
+    /// Flushes once. No byte is written or lost. Fails with the error of the writer, even if it is
+    /// an interruption.
     fn flush_once(&mut self) -> io::Result<()>
         ensures call { IsFlushCall (trace self.old) (trace self.new) result };
 }
@@ -35,7 +35,7 @@ pub struct TracedWriter<'a, W> {
 }
 
 impl<'a, W: Write> TracedWriter<'a, W> {
-    /// Traces this writer, with no call so far.
+    /// Returns a `TracedWrite` of this writer, with no calls so far.
     pub fn new(writer: &'a mut W) -> TracedWriter<'a, W>
         ensures same_writer { (⟦<TracedWriter<'a, W> as TracedWrite>⟧.trace result).writer
             ≡ writer.entry.ghost_name }

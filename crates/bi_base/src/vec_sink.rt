@@ -47,7 +47,7 @@ impl Sink for VecSink {
 
     ghost fails = { FailsWithin Grows IsOutOfMemory };
 
-    /// Appends these bytes. The only error is `OutOfMemory`, and nothing was appended then.
+    /// Appends the given bytes. The only error is `OutOfMemory`. Nothing was then appended.
     fn put(&mut self, bytes: &[u8]) -> Result<(), Error>
         ensures wrote { Wrote ⟦<VecSink as Sink>⟧.appends ⟦<VecSink as Sink>⟧.fails
             self.old bytes.now result self.new }

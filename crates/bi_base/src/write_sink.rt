@@ -11,7 +11,7 @@ use crate::traced_write::TracedWriter;
 use crate::writing::{flush, write_all};
 use std::io::Write;
 
-/// A sink that writes the bytes to a writer, which it borrows. It holds no bytes back.
+/// A sink that writes the bytes to a writer, which it borrows. It does not buffer them.
 #[derive(Drop)]
 pub struct WriteSink<'a, W> {
     writer: &'a mut W,
@@ -20,7 +20,7 @@ pub struct WriteSink<'a, W> {
 impl<'a, W: Write> WriteSink<'a, W> {
     ghost use Rattle.bi_base.specs.WriteSinks.{writer_of};
 
-    /// Returns a sink of this writer.
+    /// Returns a sink that writes to this writer.
     pub fn new(writer: &'a mut W) -> WriteSink<'a, W>
         ensures same_writer { (writer_of result).ghost_name ≡ writer.entry.ghost_name }
         ensures value { (writer_of result).now ≡ writer.old }
@@ -30,9 +30,9 @@ impl<'a, W: Write> WriteSink<'a, W> {
 
     /// Flushes the writer, and appends nothing.
     ///
-    /// The only error is `WriteFailed`. It comes after a failed flush. A plain writer does not
-    /// record a failed call, so the contract cannot state why the error comes, nor that no failed
-    /// flush is ignored. `BufferedSink::finish` promises both.
+    /// The only error is `WriteFailed`, after a failed flush. A plain writer does not record a
+    /// failed call, so the contract cannot state why the error occurs, or that no failed flush is
+    /// ignored. `BufferedSink::finish` promises both.
     pub fn finish(&mut self) -> Result<(), Error>
         ensures nothing { ⟦<WriteSink<'a, W> as Sink>⟧.appends self.old [] self.new }
         ensures failed { IfErr result (λ error. error ≡ WriteFailed) }
@@ -50,8 +50,8 @@ impl<'a, W: Write> Sink for WriteSink<'a, W> {
 
     ghost fails = { FailsWithin (WriterGrows W.contents) IsWriteFailed };
 
-    /// Writes these bytes, in as many calls as it takes. The only error is `WriteFailed`, and a
-    /// prefix of the bytes was written then.
+    /// Writes the given bytes, in as many calls as it takes. The only error is `WriteFailed`. A
+    /// prefix of the bytes was then written.
     fn put(&mut self, bytes: &[u8]) -> Result<(), Error> {
         let mut target = TracedWriter::new(self.writer);
         write_all(&mut target, bytes)

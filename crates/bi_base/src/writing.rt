@@ -30,10 +30,10 @@ fn write_some<T: TracedWrite>(target: &mut T, bytes: &[u8]) -> Result<usize, Err
     Err(Error::WriteFailed)
 }
 
-/// Writes all of these bytes, in as many calls as it takes.
+/// Writes all of the given bytes, in as many calls as it takes.
 ///
-/// The only error is `WriteFailed`, and a prefix of the bytes was written then. It comes after a
-/// failed write, and no failed write is ignored.
+/// The only error is `WriteFailed`, after a failed write. A prefix of the bytes was then written.
+/// No failed write is ignored.
 pub fn write_all<T: TracedWrite>(target: &mut T, bytes: &[u8]) -> Result<(), Error>
     ensures { Wrote WroteAll WriteStopped (T.trace target.old) bytes.now result
         (T.trace target.new) }
@@ -47,7 +47,7 @@ pub fn write_all<T: TracedWrite>(target: &mut T, bytes: &[u8]) -> Result<(), Err
 
 /// Flushes, and again after each interruption. No byte is written or lost.
 ///
-/// The only error is `WriteFailed`. It comes after a failed flush, and no failed flush is ignored.
+/// The only error is `WriteFailed`, after a failed flush. No failed flush is ignored.
 pub fn flush<T: TracedWrite>(target: &mut T) -> Result<(), Error>
     ensures flushed { OnOk result (Flushed (T.trace target.old) (T.trace target.new)) }
     ensures failed { IfErr result (FlushStopped (T.trace target.old) (T.trace target.new)) }
@@ -62,10 +62,10 @@ pub fn flush<T: TracedWrite>(target: &mut T) -> Result<(), Error>
     Err(Error::WriteFailed)
 }
 
-/// Writes all of these bytes, and flushes.
+/// Writes all of the given bytes, and flushes.
 ///
-/// The only error is `WriteFailed`: that of `write_all`, and a prefix of the bytes was written
-/// then, or that of `flush`, and all of them were.
+/// The only error is `WriteFailed`: that of `write_all`, after which a prefix of the bytes was
+/// written, or that of `flush`, after which all of them were.
 pub fn write_and_flush<T: TracedWrite>(target: &mut T, bytes: &[u8]) -> Result<(), Error>
     ensures { Wrote WroteAndFlushed WriteOrFlushStopped
         (T.trace target.old) bytes.now result (T.trace target.new) }

@@ -144,7 +144,8 @@ unfolding are_properties
 are_properties_sound properties e =
     let parts = and_parts _ _ e in
     record {
-      named = (all_decide (λ (p : Property). IsPropertyName p.0) (λ (p : Property). is_property_name p.0) (λ p. is_property_name_decides p.0) properties).0 parts.0;
+      named = (all_decide (λ (p : Property). IsPropertyName p.0) (λ (p : Property). is_property_name p.0)
+          (λ p. is_property_name_decides p.0) properties).0 parts.0;
       distinct = are_distinct_sound (map (λ (property : Property). property.0) properties) parts.1;
     }
 
@@ -206,12 +207,14 @@ structure_of blocks = slice blocks.file blocks.begin (blocks.end - blocks.begin)
 unfoldable pub has_header : List ℕ → ℕ → List Reservation → Bool
 has_header file cpu reservations =
     (list_all (λ b. nat_lt b 256) file && list_all (test widest file) header_checks)
-    && (boot_cpuid_phys file == cpu && (are_reservations reservations && begins_with (from_reservations file) (reservation_block reservations)))
+    && (boot_cpuid_phys file == cpu &&
+    (are_reservations reservations && begins_with (from_reservations file) (reservation_block reservations)))
 
 -- Whether a structure block has tokens of this length that encode a tree.
 unfoldable pub has_tree : TreeBlocks → List Token → ℕ → Root FileNode → Bool
 has_tree blocks tokens size root =
-    (are_encodings (tokens ++ End ∷ []) (take size (structure_of blocks)) && encode_events blocks.strings blocks.begin tokens (file_events_of root))
+    (are_encodings (tokens ++ End ∷ [])
+    (take size (structure_of blocks)) && encode_events blocks.strings blocks.begin tokens (file_events_of root))
     && ((are_properties (tree_without_places root).own && are_nodes (tree_without_places root).children) && nat_le (depth_of root) 64)
 
 -- A file that is tested to have these is a blob of them. `size` is the length of the tokens.

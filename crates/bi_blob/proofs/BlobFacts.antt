@@ -20,7 +20,8 @@ smallest_tokens = BeginNode [] ∷ BeginNode (codes "images") ∷ EndNode ∷ En
 
 -- The tokens of each file, and how long they are with FDT_END.
 pub files_are_blobs : FilesAreBlobs
-unfolding u32_at cell cell8 lacks_byte is_new is_property_name is_child_name test is_token begins_with is_encoding are_encodings is_name_at encode_events are_distinct are_properties are_nodes are_reservations has_header has_tree
+unfolding u32_at cell cell8 lacks_byte is_new is_property_name is_child_name test is_token begins_with is_encoding are_encodings is_name_at
+    encode_events are_distinct are_properties are_nodes are_reservations has_header has_tree
 files_are_blobs = record {
   smallest = known_blob _ _ _ _ smallest_tokens 32 refl refl;
   nops = known_blob _ _ _ _
@@ -39,7 +40,8 @@ files_are_blobs = record {
 
 -- The tokens at the beginning of a structure block, the newest first.
 pub tokens_are_newest_first : TokensAreNewestFirst
-unfolding u32_at cell lacks_byte is_new is_property_name is_child_name may_be_named are_none token_test is_token is_token_at is_before_end are_passed
+unfolding u32_at cell lacks_byte is_new is_property_name is_child_name may_be_named are_none token_test is_token
+    is_token_at is_before_end are_passed
 tokens_are_newest_first = record {
   passed = are_passed_sound (tree_blocks file_with_nops) 64 tokens_to_images refl;
   place = refl;

@@ -63,4 +63,5 @@ fine_by_test bounds file e =
 pub in_header : (bounds : Limits) (file : List ℕ) (check : HeaderCheck) → first_failing (test bounds file) header_checks ≡ Some check →
     IsBlobFault bounds file (header_fault bounds check)
 in_header bounds file check failing =
-    InHeader (fault_by_test (HeaderPasses bounds file) (header_fault bounds) (test bounds file) (header_decides bounds file) header_checks check failing)
+    InHeader (fault_by_test (HeaderPasses bounds file) (header_fault bounds) (test bounds file)
+    (header_decides bounds file) header_checks check failing)

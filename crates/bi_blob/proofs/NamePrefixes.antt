@@ -1,4 +1,5 @@
-use Rattle.std.proofs.Common.{◌≡◌, ◌≢◌, ℕ, ◌+◌, ◌*◌, ◌/◌, ◌%◌, ◌^◌, ◌<◌, ◌≤◌, List, [], ◌∷◌, ◌++◌, length, take, drop, replicate, suc, zero, refl, sym, ap, ◌∙◌, arith}
+use Rattle.std.proofs.Common.{◌≡◌, ◌≢◌, ℕ, ◌+◌, ◌*◌, ◌/◌, ◌%◌, ◌^◌, ◌<◌, ◌≤◌, List, [], ◌∷◌, ◌++◌, length, take, drop, replicate, suc, zero}
+use Rattle.std.proofs.Common.{refl, sym, ap, ◌∙◌, arith}
 use Rattle.std.specs.Cmp.{ranked}
 use Rattle.std.specs.Cmp.Lexicographic.{slice_cmp}
 use Rattle.std.specs.Ordering.{nat_cmp, ordering_then, ordering_reverse, MatchOrdering}
@@ -37,7 +38,7 @@ power_is_positive : (count : ℕ) → 0 < 256 ^ count
 power_is_positive zero = omega arith
 power_is_positive (suc count) = omega (arith, power_is_positive count)
 
--- The number of a name whose first byte is not zero is above zero.
+-- The number of a name that does not begin with a zero is above zero.
 above_zero : (count first rest : ℕ) → first ≢ 0 → 0 < first * 256 ^ count + rest
 above_zero count first rest nonzero =
     omega (arith, mul-add-lt 0 (256 ^ count) 0 first (omega (arith, nonzero)) (power_is_positive count))
@@ -46,7 +47,11 @@ leading_fits : (count : ℕ) (name : List ℕ) → AreBytes name → leading cou
 leading_fits zero name bytes = power_is_positive zero
 leading_fits (suc count) [] bytes = power_is_positive (suc count)
 leading_fits (suc count) (byte ∷ later) bytes =
-    omega (arith, mul-add-lt byte (256 ^ count) (leading count later) 256 (bytes.each 0) (leading_fits count later (AreBytes-drop 1 (byte ∷ later) bytes)))
+    omega (
+      arith,
+      mul-add-lt byte (256 ^ count) (leading count later) 256 (bytes.each 0)
+          (leading_fits count later (AreBytes-drop 1 (byte ∷ later) bytes)),
+    )
 
 -- A name with a lower number is before one with a higher one.
 leading_order : (count : ℕ) (one other : List ℕ) → AreBytes one → AreBytes other → leading count one < leading count other →
@@ -66,7 +71,12 @@ leading_order (suc count) (x ∷ xs) (y ∷ ys) one_bytes other_bytes less =
         let rest : leading count xs < leading count ys = omega (arith, less, ap (λ n. n * 256 ^ count) same) in
         rw is (later rest)
     by Greater is above later =
-        absurd (omega (arith, less, mul-add-lt y (256 ^ count) (leading count ys) x above (leading_fits count ys (AreBytes-drop 1 (y ∷ ys) other_bytes))))
+        absurd (omega (
+          arith,
+          less,
+          mul-add-lt y (256 ^ count) (leading count ys) x above
+              (leading_fits count ys (AreBytes-drop 1 (y ∷ ys) other_bytes)),
+        ))
 
 -- The prefix of a name is the number of its first eight bytes.
 prefix_is_leading : (name : List ℕ) → prefix_of_name name ≡ leading 8 name
@@ -126,7 +136,8 @@ prefixes_keep_order one other one_bytes other_bytes =
         MatchOrdering o (prefix_of_name one < prefix_of_name other) (prefix_of_name one ≡ prefix_of_name other)
         (prefix_of_name other < prefix_of_name one) →
         ordering_then o (slice_cmp nat_cmp one other) ≡ slice_cmp nat_cmp one other
-    by Less below = sym (leading_order 8 one other one_bytes other_bytes (omega (arith, below, prefix_is_leading one, prefix_is_leading other)))
+    by Less below = sym (leading_order 8 one other one_bytes other_bytes
+        (omega (arith, below, prefix_is_leading one, prefix_is_leading other)))
     by Equal same = refl
     by Greater above =
         let less = leading_order 8 other one other_bytes one_bytes (omega (arith, above, prefix_is_leading one, prefix_is_leading other)) in

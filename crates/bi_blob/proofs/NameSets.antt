@@ -15,13 +15,13 @@ use Rattle.std.proofs.lemmas.Map.Text.{is_eq-slice_cmp}
 use Rattle.bi_blob.specs.Tree.{IsNew}
 use Rattle.bi_blob.specs.NameSets.{HoldsNames}
 
--- A set of names holds a name exactly if it was inserted, and inserting one keeps the others.
+-- A set of names holds a name if and only if it was inserted, and inserting one keeps the others.
 
 -- The order of names.
 abbrev pub name_cmp : Bor (List ℕ) → Bor (List ℕ) → Ordering
 name_cmp x y = slice_cmp nat_cmp x.now y.now
 
--- Names in an order that compares something of them first, and then their bytes, are equal exactly if the bytes are.
+-- Names in an order that compares something of them first, and then their bytes, are equal if and only if the bytes are.
 pub is_eq-before : (before : List ℕ → List ℕ → Ordering) → ((name : List ℕ) → before name name ≡ Equal) → (m n : List ℕ) →
     is_eq (ordering_then (before m n) (slice_cmp nat_cmp m n)) ≡ bytes_eq m n
 is_eq-before before itself m n = by_order (slice_cmp nat_cmp m n) refl ∙ is_eq-slice_cmp m n where
@@ -86,7 +86,7 @@ pub HoldsNames-held : (set : BTreeSet (Bor (List ℕ))) (name : Bor (List ℕ)) 
     contains name_cmp set name ≡ true → IsNew name.now held → ⊥
 HoldsNames-held set name held holds has = held_by_test name.now held (sym (holds.each name) ∙ has)
 
--- A set is empty exactly where it has no names.
+-- A set is empty if and only if it has no names.
 pub HoldsNames-empty : (set : BTreeSet (Bor (List ℕ))) (held : List (List ℕ)) → HoldsNames set held →
     (btree_set_len set ≡ 0 → held ≡ []) × (held ≡ [] → btree_set_len set ≡ 0)
 HoldsNames-empty set held holds = (to held holds.each, from set.keys holds.each) where

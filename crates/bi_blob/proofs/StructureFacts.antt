@@ -24,7 +24,8 @@ to_images = BeginNode (codes "images") ∷ to_root
 
 -- The tokens before the one that fails, and its check that fails.
 pub tokens_have_faults : TokensHaveFaults
-unfolding u32_at u64_at cell cell8 text_of_blocks test first_failing lacks_byte is_new is_property_name is_child_name may_be_named are_none token_test is_token is_token_at is_before_end are_passed has_no_reservations
+unfolding u32_at u64_at cell cell8 text_of_blocks test first_failing lacks_byte is_new is_property_name is_child_name may_be_named are_none
+    token_test is_token is_token_at is_before_end are_passed has_no_reservations
 tokens_have_faults = record {
   no_number = in_structure _ _ (EndNode ∷ EndNode ∷ to_images) HasTokenNumber refl refl refl;
   unknown_number = in_structure _ _ [] IsExpected refl refl refl;
@@ -45,7 +46,8 @@ tokens_have_faults = record {
 
 -- Of two checks that fail, the first.
 pub token_checks_have_order : TokenChecksHaveOrder
-unfolding u32_at u64_at cell cell8 text_of_blocks test first_failing lacks_byte is_new is_property_name is_child_name may_be_named are_none token_test is_token is_token_at is_before_end are_passed has_no_reservations
+unfolding u32_at u64_at cell cell8 text_of_blocks test first_failing lacks_byte is_new is_property_name is_child_name may_be_named are_none
+    token_test is_token is_token_at is_before_end are_passed has_no_reservations
 token_checks_have_order = record {
   depth_before_end_of_name = in_structure _ _ to_root IsWithinDepth refl refl refl;
   depth_before_name = in_structure _ _ to_root IsWithinDepth refl refl refl;
@@ -57,7 +59,8 @@ token_checks_have_order = record {
 
 -- The faults of small files of version 16.
 pub version_16_has_faults : Version16HasFaults
-unfolding u32_at u64_at cell cell8 text_of_blocks test first_failing lacks_byte is_new is_property_name is_child_name may_be_named are_none token_test is_token is_token_at is_before_end are_passed has_no_reservations
+unfolding u32_at u64_at cell cell8 text_of_blocks test first_failing lacks_byte is_new is_property_name is_child_name may_be_named are_none
+    token_test is_token is_token_at is_before_end are_passed has_no_reservations
 version_16_has_faults = record {
   short_header = in_header _ _ HasHeader refl;
   no_blocks = in_header _ _ PlacesReservations refl;

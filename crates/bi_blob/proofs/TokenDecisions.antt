@@ -71,7 +71,8 @@ token_decides blocks depth_limit place stage IsBeforeChildren = are_none_decides
 token_decides blocks depth_limit place stage HasValue = le_decides (place + 12 + u32_at blocks.file (place + 4)) blocks.end
 token_decides blocks depth_limit place stage HasPropertyName =
     lt_decides (u32_at blocks.file (place + 8) + length (name_from blocks.strings (u32_at blocks.file (place + 8)))) (length blocks.strings)
-token_decides blocks depth_limit place stage MayNameProperty = is_property_name_decides (name_from blocks.strings (u32_at blocks.file (place + 8)))
+token_decides blocks depth_limit place stage MayNameProperty = is_property_name_decides
+    (name_from blocks.strings (u32_at blocks.file (place + 8)))
 token_decides blocks depth_limit place stage IsNewProperty =
     is_new_decides (name_from blocks.strings (u32_at blocks.file (place + 8))) (property_names stage)
 
@@ -87,7 +88,8 @@ pub is_token_decides : (token : Token) → Decides (is_token token) (IsToken tok
 unfolding is_token
 is_token_decides (BeginNode name) = lacks_byte_decides 0 name
 is_token_decides (Prop name_offset value) =
-    both_decide (nat_lt name_offset (2 ^ 32)) (nat_lt (length value) (2 ^ 32)) (lt_decides name_offset (2 ^ 32)) (lt_decides (length value) (2 ^ 32))
+    both_decide (nat_lt name_offset (2 ^ 32)) (nat_lt (length value) (2 ^ 32)) (lt_decides name_offset (2 ^ 32))
+    (lt_decides (length value) (2 ^ 32))
 is_token_decides EndNode = ((λ e. tt), (λ is. refl))
 is_token_decides Nop = ((λ e. tt), (λ is. refl))
 is_token_decides End = ((λ e. tt), (λ is. refl))
@@ -127,7 +129,8 @@ module _ (blocks : TreeBlocks) (depth_limit : ℕ) where
   are_passed [] = true
   are_passed (token ∷ before) =
       (is_before_end token && is_token_at blocks.file (place_after blocks before) token)
-      && (list_all (token_test blocks depth_limit (place_after blocks before) (stage_after blocks.strings before)) (token_checks (u32_at blocks.file (place_after blocks before)))
+      && (list_all (token_test blocks depth_limit (place_after blocks before) (stage_after blocks.strings before))
+      (token_checks (u32_at blocks.file (place_after blocks before)))
       && are_passed before)
 
   pub are_passed_sound : (tokens : List Token) → are_passed tokens ≡ true → ArePassed blocks depth_limit tokens
@@ -138,11 +141,13 @@ module _ (blocks : TreeBlocks) (depth_limit : ℕ) where
       let stage : Stage = stage_after blocks.strings before in
       let all = and_parts _ _ e in
       let here = and_parts (is_before_end token) (is_token_at blocks.file place token) all.0 in
-      let rest = and_parts (list_all (token_test blocks depth_limit place stage) (token_checks (u32_at blocks.file place))) (are_passed before) all.1 in (
+      let rest = and_parts (list_all (token_test blocks depth_limit place stage) (token_checks (u32_at blocks.file place)))
+      (are_passed before) all.1 in (
         record {
           no_end = is_before_end_sound token here.0;
           is_at = is_token_at_sound blocks.file place token here.1;
-          passes = pass_by_test (TokenPasses blocks depth_limit place stage) (token_fault place) (token_test blocks depth_limit place stage) (token_decides blocks depth_limit place stage) (token_checks (u32_at blocks.file place)) rest.0;
+          passes = pass_by_test (TokenPasses blocks depth_limit place stage) (token_fault place) (token_test blocks depth_limit place stage)
+              (token_decides blocks depth_limit place stage) (token_checks (u32_at blocks.file place)) rest.0;
         },
         are_passed_sound before rest.1,
       )
@@ -172,11 +177,15 @@ in_structure bounds file before check fine passed failing =
     InStructure (fine_by_test bounds file all.0) 0
     (record {
       before = λ index below. absurd (omega arith);
-      end = record { address = (eq_decides (u64_at file (off_mem_rsvmap file + 16 * 0)) 0).0 pair.0; size = (eq_decides (u64_at file (off_mem_rsvmap file + 16 * 0 + 8)) 0).0 pair.1 };
+      end = record {
+        address = (eq_decides (u64_at file (off_mem_rsvmap file + 16 * 0)) 0).0 pair.0;
+        size = (eq_decides (u64_at file (off_mem_rsvmap file + 16 * 0 + 8)) 0).0 pair.1;
+      };
       within = (le_decides (off_mem_rsvmap file + 16 * 0 + 16) (totalsize file)).0 block.1;
     })
     (record {
       before = before;
       passed = are_passed_sound blocks bounds.depth before passed;
-      first = fault_by_test (TokenPasses blocks bounds.depth place stage) (token_fault place) (token_test blocks bounds.depth place stage) (token_decides blocks bounds.depth place stage) (token_checks (u32_at file place)) check failing;
+      first = fault_by_test (TokenPasses blocks bounds.depth place stage) (token_fault place) (token_test blocks bounds.depth place stage)
+          (token_decides blocks bounds.depth place stage) (token_checks (u32_at file place)) check failing;
     })

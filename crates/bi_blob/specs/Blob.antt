@@ -56,7 +56,7 @@ abbrev pub reader_version : ℕ
 reader_version = 17
 
 -- The version whose header ends before `size_dt_struct`: in libfdt's `fdt.h` this cell is one of
--- version 17. The Devicetree Specification describes version 17 alone (5.1, 5.2).
+-- version 17. The Devicetree Specification describes only version 17 (5.1, 5.2).
 abbrev pub version_without_structure_size : ℕ
 version_without_structure_size = 16
 
@@ -79,10 +79,10 @@ structure_end file =
 abbrev pub strings_end : List ℕ → ℕ
 strings_end file = off_dt_strings file + size_dt_strings file
 
--- The header of a blob (5.2, 5.6). The three blocks are after the header and within `totalsize`,
--- in any order, and may overlap (profile of this project). That the structure block does not end
--- before it begins (`structure_ordered`) is a condition in version 16 alone, where the block has
--- no size.
+-- The header of a blob (5.2, 5.6). The three blocks are after the header and within `totalsize`, in
+-- any order, and may overlap (profile of this project). That the structure block does not end
+-- before it begins (`structure_ordered`) is a condition only in version 16, where the block has no
+-- size.
 pub record Header (file : List ℕ) : Type 0 where
   pub whole : header_length file ≤ length file
   pub is_magic : magic file ≡ blob_magic
@@ -134,7 +134,7 @@ pub record BeginsWithReservations (bytes : List ℕ) (reservations : List Reserv
 abbrev pub pair_at : List ℕ → ℕ → Reservation
 pair_at file at = record { address = u64_at file at; size = u64_at file (at + 8) }
 
--- The reservations of this many pairs, the first of which is at an offset of a file.
+-- The reservations of this many pairs. The first pair is at an offset of a file.
 abbrev pub reservations_at : List ℕ → ℕ → ℕ → List Reservation
 reservations_at file at zero = []
 reservations_at file at (suc count) = pair_at file at ∷ reservations_at file (at + 16) count

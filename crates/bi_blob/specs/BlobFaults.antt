@@ -21,8 +21,8 @@ use Rattle.bi_blob.specs.Blob.{version, last_comp_version, blob_magic, least_ver
 use Rattle.bi_blob.specs.Blob.{reader_version, header_length, structure_end, strings_end}
 use Rattle.bi_blob.specs.Blob.{TreeBlocks, tree_blocks}
 
--- Why a file is no blob within limits, and at which offset: the first check that fails (profile of
--- this project, with the requirements of the Devicetree Specification, chapter 5). The checks of
+-- Why a file is not a blob within limits, and at which offset: the first check that fails (profile
+-- of this project, with the requirements of the Devicetree Specification, chapter 5). The checks of
 -- the header come first, then the pairs of the memory reservation block, and then the tokens of the
 -- structure block one by one.
 
@@ -139,17 +139,17 @@ pub data TokenCheck : Type 0 where
   MayNameProperty : TokenCheck
   IsNewProperty : TokenCheck
 
--- The order of the checks that FDT_BEGIN_NODE alone has (profile of this project).
+-- The order of the checks that only FDT_BEGIN_NODE has (profile of this project).
 abbrev pub begin_checks : List TokenCheck
 begin_checks = IsWithinDepth ∷ HasNodeName ∷ MayNameNode ∷ IsNewNode ∷ []
 
--- The order of the checks that FDT_PROP alone has (profile of this project).
+-- The order of the checks that only FDT_PROP has (profile of this project).
 abbrev pub property_checks : List TokenCheck
 property_checks =
     IsBeforeChildren ∷ HasValue ∷ HasPropertyName ∷ MayNameProperty ∷ IsNewProperty ∷ []
 
--- The checks of the token of this number, in order. If the block has no whole number at an offset,
--- `HasTokenNumber` fails, whatever is read there (5.4.1).
+-- The checks of the token with this number, in order. If the block has no whole number at an
+-- offset, `HasTokenNumber` fails, whatever is read there (5.4.1).
 abbrev pub token_checks : ℕ → List TokenCheck
 token_checks number =
     HasTokenNumber ∷ IsExpected

@@ -61,7 +61,7 @@ BlobOrFault =
     (bounds : Limits) (file : List ℕ) → AreBytes file
     → IsBlobWithin bounds file ⊎ ((fault : Fault) × IsBlobFault bounds file fault)
 
--- A file of bytes is a blob within limits exactly if it has no fault under them.
+-- A file of bytes is a blob within limits if and only if it has no fault under them.
 abbrev pub BlobWhereNoFault : Type 0
 BlobWhereNoFault = (bounds : Limits) (file : List ℕ) → AreBytes file
     → IsBlobWithin bounds file ↔ ((fault : Fault) → ¬ (IsBlobFault bounds file fault))
@@ -78,7 +78,7 @@ AllTokensPass blocks depth_limit (token ∷ before) =
     (token_checks (u32_at blocks.file (place_after blocks before)))
     × AllTokensPass blocks depth_limit before
 
--- A structure block begins with tokens that pass exactly if these pass and the bytes up to the
+-- A structure block begins with tokens that pass if and only if these pass and the bytes up to the
 -- offset after them are their encodings, in the file with any three bytes after it, in which the
 -- padding of the last token may end.
 abbrev pub PassedWhereEncoded : Type 0
@@ -98,8 +98,8 @@ pub record HasOneTree (depth_limit : ℕ) (events : List Event) : Type 0 where
   pub is_tree : IsTree AreProperties root
   pub shallow : depth_of root ≤ depth_limit
 
--- Events are those of one tree that a blob can hold exactly if each may follow those before it and
--- the last ends the root.
+-- Events are those of one tree that a blob can hold if and only if each may follow those before it
+-- and the last ends the root.
 abbrev pub ClosedEventsHaveOneTree : Type 0
 ClosedEventsHaveOneTree =
     (depth_limit : ℕ) (events : List Event)

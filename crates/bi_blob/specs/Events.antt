@@ -52,8 +52,8 @@ pub record EncodesNode (at : ℕ) (token_name : List ℕ) (place : ℕ) (name : 
   pub same_name : token_name ≡ name
   pub same_place : at ≡ place
 
--- These tokens, the first of which is at this offset, encode these events: one token for each
--- event, in order, and FDT_NOP anywhere (5.4.1, 5.4.2).
+-- These tokens encode these events: one token for each event, in order, and FDT_NOP anywhere. The
+-- first token is at this offset (5.4.1, 5.4.2).
 abbrev pub EncodeEvents : List ℕ → ℕ → List Token → List FileEvent → Type 0
 EncodeEvents strings at [] [] = Unit {0}
 EncodeEvents strings at (Nop ∷ tokens) later = EncodeEvents strings (at + width Nop) tokens later

@@ -10,22 +10,22 @@ use Rattle.bi_blob.specs.Stages.{Stage, BeforeRoot, Inside, AfterRoot, next_stag
 -- Which events may follow others, in a tree that a blob can hold (Devicetree Specification, 2.2,
 -- 5.4.2) and in a normal text (profile of this project).
 
--- The most nodes that may be open at once in a normal text, the root counted (profile of this
+-- The most nodes that may be open at once in a normal text, including the root (profile of this
 -- project).
 abbrev pub most_open_nodes : ℕ
 most_open_nodes = 64
 
--- A node of this name may begin. It is the root, whose name is empty; or it is a child: fewer nodes
--- than the limit are open, and its name is one that a child may have and that no earlier child of
--- the same node has.
+-- A node with the given name may begin. It is the root, and the name is empty; or it is a child:
+-- fewer nodes than the limit are open, and the name is one that a child may have and that no
+-- earlier child of the same node has.
 abbrev pub MayBegin : (depth_limit : ℕ) → List ℕ → Stage → Type 0
 MayBegin depth_limit name BeforeRoot = (0 < depth_limit) × (name ≡ [])
 MayBegin depth_limit name (Inside innermost outer) =
     (length (innermost ∷ outer) < depth_limit) × IsChildName name × IsNew name innermost.children
 MayBegin depth_limit name AfterRoot = ⊥
 
--- The innermost open node may have a property of this name: it has no child yet, and no property
--- of the name.
+-- The innermost open node may have a property with the given name: it has no child yet, and no
+-- property with that name.
 abbrev pub MayHaveProperty : List ℕ → Stage → Type 0
 MayHaveProperty name (Inside innermost outer) =
     (innermost.children ≡ []) × IsPropertyName name × IsNew name innermost.properties
@@ -35,8 +35,8 @@ MayHaveProperty name stage = ⊥
 abbrev pub last_name : List (List ℕ) → Option (List ℕ)
 last_name names = slice_get names (length names - 1)
 
--- The innermost open node may have a property of this name in a normal text: it has no child yet,
--- and its properties so far have names that are less in byte order.
+-- The innermost open node may have a property with the given name in a normal text: it has no child
+-- yet, and its properties so far have names that are less in byte order.
 abbrev pub MayHaveNextProperty : List ℕ → Stage → Type 0
 MayHaveNextProperty name (Inside innermost outer) =
     (innermost.children ≡ []) × IsPropertyName name

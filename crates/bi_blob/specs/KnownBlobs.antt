@@ -33,7 +33,7 @@ smallest_tree_at root_place child_place = record {
   children = node (codes "images") (record { place = child_place; properties = [] }) none none;
 }
 
--- Version 17. There is FDT_NOP before each token. The property `name` comes before `filename`, and
+-- Version 17. Each token has FDT_NOP before it. The property `name` comes before `filename`, and
 -- its name is the end of that name. The strings block (at 56) comes before the structure block (at
 -- 68), and free bytes come after both.
 abbrev pub file_with_nops : List ℕ

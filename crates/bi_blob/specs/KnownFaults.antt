@@ -43,8 +43,8 @@ file_with_late_property =
     (BeginNode [] ∷ BeginNode (codes "images") ∷ EndNode ∷ Prop 0 [] ∷ EndNode ∷ End ∷ [])
     (codes "x" ++ 0 ∷ [])
 
--- A file whose root has a property with the name at this offset of a strings block that has the
--- name `x` alone.
+-- A file whose root has a property with the name at this offset of a strings block that has only
+-- the name `x`.
 abbrev pub file_with_property : ℕ → List ℕ
 file_with_property name_offset =
     file_of (BeginNode [] ∷ Prop name_offset [] ∷ EndNode ∷ End ∷ []) (codes "x" ++ 0 ∷ [])
@@ -56,7 +56,7 @@ file_with_two_properties =
     (BeginNode [] ∷ Prop 0 [] ∷ Prop 2 [] ∷ EndNode ∷ End ∷ [])
     (codes "x" ++ (0 ∷ (codes "x" ++ 0 ∷ [])))
 
--- A file whose root has a child of this name.
+-- A file whose root has a child with this name.
 abbrev pub file_with_child : List ℕ → List ℕ
 file_with_child name = file_of (BeginNode [] ∷ BeginNode name ∷ EndNode ∷ EndNode ∷ End ∷ []) []
 
@@ -70,7 +70,7 @@ file_with_endless_name =
 abbrev pub longer_file : List ℕ
 longer_file = smallest_text ++ replicate 16 0
 
--- The header of version 16 alone, all of whose offsets are 0.
+-- Only the header of version 16, with all offsets 0.
 abbrev pub header_of_version_16 : List ℕ
 header_of_version_16 = cells (0xd00dfeed ∷ 36 ∷ 0 ∷ 0 ∷ 0 ∷ 16 ∷ 16 ∷ 0 ∷ 0 ∷ [])
 

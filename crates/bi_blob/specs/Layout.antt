@@ -11,8 +11,8 @@ use Rattle.bi_blob.specs.Events.{Event, NodeStart, NodeProperty, NodeEnd, events
 use Rattle.bi_blob.specs.Blob.{Reservation, IsReservation, reservation_block, blob_magic}
 
 -- The text of a blob as this project lays it out (profile of this project): a header of version 17,
--- the memory reservation block, the structure block and the strings block, one after the other.
--- There is no FDT_NOP, padding is zero, and each name of a property is in the strings block once,
+-- the memory reservation block, the structure block and the strings block, one after the other. The
+-- text has no FDT_NOP, padding is zero, and each name of a property is in the strings block once,
 -- in the order of first use; names share no bytes. Properties and children are in the order of the
 -- tree. The text is the normal one if the properties of each node are in byte order of their names.
 
@@ -130,18 +130,18 @@ event_width (NodeStart name) = width (BeginNode name)
 event_width (NodeProperty property) = width (Prop 0 property.1)
 event_width NodeEnd = width EndNode
 
--- The offset of the token after those of these events, the first of which is at this offset.
+-- The offset of the token after those of these events. The first of them is at this offset.
 abbrev pub place_after_events : ℕ → List Event → ℕ
 place_after_events at events = at + sum_by event_width events
 
--- Properties with the places of their tokens, the first of which is at this offset.
+-- Properties with the places of their tokens. The first token is at this offset.
 abbrev pub properties_with_places : ℕ → List Property → List FileProperty
 properties_with_places at [] = []
 properties_with_places at (property ∷ later) =
     record { name = property.0; value = property.1; place = at }
     ∷ properties_with_places (at + event_width (NodeProperty property)) later
 
--- Nodes with the places of their tokens, the first of which is at this offset.
+-- Nodes with the places of their tokens. The first token is at this offset.
 abbrev pub with_places : ℕ → Nodes (List Property) → Nodes FileNode
 with_places at none = none
 with_places at (node name properties children later) =
@@ -180,8 +180,8 @@ AreEventBytes (NodeProperty property) = AreBytes property.0 × AreBytes property
 AreEventBytes NodeEnd = Unit {0}
 
 -- What may be laid out: a boot processor and memory reservations within their ranges of numbers,
--- and a tree that a blob can hold, all of whose names and values are bytes. How long values may be
--- is bounded by the length of the text alone.
+-- and a tree that a blob can hold, with names and values of bytes. Only the length of the text
+-- bounds how long values may be.
 pub record IsContent (cpu : ℕ) (reservations : List Reservation) (root : Root (List Property))
     : Type 0 where
   pub cpu_fits : cpu < 2 ^ 32

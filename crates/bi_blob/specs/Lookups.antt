@@ -32,17 +32,17 @@ root_node root = record { name = []; own = root.own; children = root.children; l
 abbrev pub node_at : {Own : Type 0} → Nodes Own → ℕ → Option (Sibling Own)
 node_at nodes index = slice_get (siblings nodes) index
 
--- The node of this name in a list.
+-- The node with the given name in a list.
 abbrev pub node_named : {Own : Type 0} → Nodes Own → List ℕ → Option (Sibling Own)
 node_named nodes name =
     lookup (λ other. bytes_eq other name)
     (map (λ sibling. (sibling.name, sibling)) (siblings nodes))
 
--- The value of the property of this name.
+-- The value of the property with the given name.
 abbrev pub value_named : List Property → List ℕ → Option (List ℕ)
 value_named properties name = lookup (λ other. bytes_eq other name) properties
 
--- The property of this name in a file, with its place.
+-- The property with the given name in a file, with its place.
 abbrev pub property_named : List FileProperty → List ℕ → Option FileProperty
 property_named properties name =
     lookup (λ other. bytes_eq other name) (map (λ property. (property.name, property)) properties)

@@ -26,7 +26,7 @@ pub data TreeSoFar : Type 0 where
   OpenTree : (innermost : OpenFileNode) → (outer : List OpenFileNode) → TreeSoFar
   WholeTree : (root : Root FileNode) → TreeSoFar
 
--- A node of this name that starts at this place: it has no properties and no children yet.
+-- A node with this name that starts at this place: it has no properties and no children yet.
 abbrev pub new_node : List ℕ → ℕ → OpenFileNode
 new_node name place = record { name = name; place = place; properties = []; children = none }
 
@@ -58,8 +58,8 @@ open_node_of innermost = record {
   children = names innermost.children;
 }
 
--- The names that the nodes around an open node of this name have so far, its own name among those
--- of the children.
+-- The names that the nodes around an open node with this name have so far, including its own name
+-- among those of the children.
 abbrev pub outer_nodes_of : List ℕ → List OpenFileNode → List OpenNode
 outer_nodes_of name [] = []
 outer_nodes_of name (parent ∷ outer) =
@@ -78,7 +78,7 @@ events_of_open_node innermost =
     FileNodeStart innermost.place innermost.name
     ∷ (map FileNodeProperty innermost.properties ++ file_events innermost.children)
 
--- The events of open nodes so far, of which the innermost is the first argument.
+-- The events of open nodes so far. The innermost node is the first argument.
 abbrev pub events_of_open_nodes : OpenFileNode → List OpenFileNode → List FileEvent
 events_of_open_nodes innermost [] = events_of_open_node innermost
 events_of_open_nodes innermost (parent ∷ outer) =

@@ -56,8 +56,8 @@ abbrev pub child_names : Stage → List (List ℕ)
 child_names (Inside innermost outer) = innermost.children
 child_names stage = []
 
--- Whether the token of this number may come next: before the root FDT_NOP and FDT_BEGIN_NODE,
--- inside a node all but FDT_END, after the root FDT_NOP and FDT_END (5.4.2).
+-- Whether the token with this number may come next: before the root FDT_NOP and FDT_BEGIN_NODE,
+-- inside a node all tokens but FDT_END, after the root FDT_NOP and FDT_END (5.4.2).
 abbrev pub is_expected : Stage → ℕ → Bool
 is_expected BeforeRoot number = number == nop_number || number == begin_node_number
 is_expected (Inside innermost outer) number =

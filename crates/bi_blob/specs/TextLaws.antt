@@ -49,7 +49,7 @@ pub record GrowsByUse (events : List Event) : Type 0 where
 abbrev pub StringsGrowByUse : Type 0
 StringsGrowByUse = (events : List Event) → GrowsByUse events
 
--- Each name that events use is at its offset of their strings block.
+-- Each name that events use is at its offset in their strings block.
 abbrev pub EachNameIsFound : Type 0
 EachNameIsFound =
     (events : List Event) (name : List ℕ) → Contains (used_names events) name → HasNoZero name
@@ -87,8 +87,8 @@ TextEncodesItsTree =
     → IsContent cpu reservations root
     → length (text_of_tree cpu reservations root) ≤ longest_text → EncodesTree reservations root
 
--- This file is a blob of these and of nothing else. Its tree has the places of the layout and is
--- as deep, and its total size is the length of the text.
+-- This file is a blob of these and of nothing else. Its tree has the places of the layout and the
+-- same depth, and its total size is the length of the text.
 pub record IsBlobOf (file : List ℕ) (cpu : ℕ) (reservations : List Reservation)
     (root : Root (List Property)) : Type 0 where
   pub blob : IsBlob file cpu reservations (tree_with_places reservations root)
@@ -108,15 +108,15 @@ TextIsBlob =
     → length (text_of_tree cpu reservations root) ≤ longest_text → AreBytes rest
     → IsBlobOf (text_of_tree cpu reservations root ++ rest) cpu reservations root
 
--- A file is a blob of these alone within limits, and has no fault under them.
+-- A file is a blob of these and nothing else within limits, and has no fault under them.
 pub record IsAccepted (bounds : Limits) (file : List ℕ) (cpu : ℕ)
     (reservations : List Reservation) (root : Root (List Property)) : Type 0 where
   pub is_blob : IsBlobOf file cpu reservations root
   pub is_within : IsWithin bounds file (tree_with_places reservations root)
   pub no_fault : (fault : Fault) → ¬ (IsBlobFault bounds file fault)
 
--- A text that is not too long, with any bytes after it, is accepted under limits that are no less
--- than the length of all of it and the depth of its tree.
+-- A text that is not too long, with any bytes after it, is accepted under limits of at least its
+-- whole length and the depth of its tree.
 abbrev pub TextIsAccepted : Type 0
 TextIsAccepted =
     (bounds : Limits) (cpu : ℕ) (reservations : List Reservation) (root : Root (List Property))
@@ -127,8 +127,8 @@ TextIsAccepted =
     → depth_of root ≤ bounds.depth
     → IsAccepted bounds (text_of_tree cpu reservations root ++ rest) cpu reservations root
 
--- A normal text that is not too long, with any bytes after it, is accepted under limits that are no
--- less than the length of all of it and the depth of its tree.
+-- A normal text that is not too long, with any bytes after it, is accepted under limits of at least
+-- its whole length and the depth of its tree.
 abbrev pub NormalTextIsAccepted : Type 0
 NormalTextIsAccepted =
     (bounds : Limits) (cpu : ℕ) (reservations : List Reservation) (root : Root (List Property))
@@ -189,7 +189,7 @@ BlobHasContent =
     → IsBlob file cpu reservations root
     → IsContent cpu reservations (tree_without_places root)
 
--- Contents with one text, which is not too long, are the same: distinct contents have distinct
+-- Contents with the same text, if it is not too long, are the same: distinct contents have distinct
 -- texts.
 abbrev pub TextHasOneContent : Type 0
 TextHasOneContent =
@@ -200,7 +200,7 @@ TextHasOneContent =
     → text_of_tree cpu reservations root ≡ text_of_tree other_cpu other_reservations other_root
     → SameContent cpu other_cpu reservations other_reservations root other_root
 
--- Two texts, neither of which is too long, are each followed by other bytes. If the files are the
+-- Two texts are each followed by other bytes, and neither text is too long. If the files are the
 -- same, the contents are the same, and so are the bytes after the texts.
 abbrev pub TextWithRestHasOneContent : Type 0
 TextWithRestHasOneContent =
@@ -215,7 +215,7 @@ TextWithRestHasOneContent =
     → SameContent cpu other_cpu reservations other_reservations root other_root
     × (rest ≡ other_rest)
 
--- A tree of properties by name has one normal order of them.
+-- A tree with properties by name has one normal order of them.
 pub record HasOneOrder (root : Root PropertyMap) : Type 0 where
   pub is_normal : IsNormal (in_byte_order root)
   pub is_same : tree_without_order (in_byte_order root) ≡ root
@@ -227,7 +227,7 @@ pub record HasOneOrder (root : Root PropertyMap) : Type 0 where
 abbrev pub EachTreeHasOneOrder : Type 0
 EachTreeHasOneOrder = (root : Root PropertyMap) → HasOneOrder root
 
--- Content may be laid out in normal order, and is as deep then.
+-- Content may be laid out in normal order, and then has the same depth.
 pub record MayBeOrdered (cpu : ℕ) (reservations : List Reservation)
     (root : Root (List Property)) : Type 0 where
   pub is_content : IsContent cpu reservations (in_byte_order (tree_without_order root))
@@ -240,8 +240,8 @@ ContentMayBeOrdered =
     → IsContent cpu reservations root
     → MayBeOrdered cpu reservations root
 
--- Normal texts, one of which is not too long, are the same exactly if their boot processors, memory
--- reservations and trees are, with the properties of each node by name.
+-- If one of two normal texts is not too long, the texts are the same if and only if their boot
+-- processors, memory reservations and trees are, with the properties of each node by name.
 abbrev pub NormalTextTellsContent : Type 0
 NormalTextTellsContent =
     (cpu other_cpu : ℕ) (reservations other_reservations : List Reservation)
@@ -255,9 +255,9 @@ NormalTextTellsContent =
     ↔ SameContent cpu other_cpu reservations other_reservations (tree_without_order root)
     (tree_without_order other_root)
 
--- Two normal texts, neither of which is too long, are each followed by other bytes. The files are
--- the same exactly if the boot processors, the memory reservations, the trees, with the properties
--- of each node by name, and the bytes after the texts are.
+-- Two normal texts are each followed by other bytes, and neither text is too long. The files are
+-- the same if and only if the boot processors, the memory reservations, the trees, with the
+-- properties of each node by name, and the bytes after the texts are.
 abbrev pub NormalTextWithRestTellsContent : Type 0
 NormalTextWithRestTellsContent =
     (cpu other_cpu : ℕ) (reservations other_reservations : List Reservation)
@@ -278,8 +278,8 @@ pub record HasOneNormalTree (events : List Event) : Type 0 where
   pub tree : HasOneTree most_open_nodes events
   pub is_normal : IsNormal tree.root
 
--- Events are those of one normal tree that a blob can hold exactly if each may follow those before
--- it in a normal text and the last ends the root.
+-- Events are those of one normal tree that a blob can hold if and only if each may follow those
+-- before it in a normal text and the last ends the root.
 abbrev pub NormalEventsHaveOneTree : Type 0
 NormalEventsHaveOneTree =
     (events : List Event) → AreClosedEvents MayFollowInText events ↔ HasOneNormalTree events

@@ -5,8 +5,8 @@ use Rattle.std.specs.Cmp.Lexicographic.{slice_cmp}
 use Rattle.std.specs.FinMap.{FinMap, from_entries, is_sorted}
 
 -- The tree of a devicetree (Devicetree Specification, 2.2). `Own` is the type of what a node has
--- itself, besides its name and its children: a list of properties, a finite map of them, or its
--- place in a file with properties and their places.
+-- itself, in addition to its name and its children: a list of properties, a finite map of them, or
+-- its place in a file with properties and their places.
 
 -- A list of nodes: none, or a first node and the nodes after it (2.2).
 pub data Nodes (Own : Type 0) : Type 0 where
@@ -44,7 +44,7 @@ abbrev pub depth : {Own : Type 0} → Nodes Own → ℕ
 depth none = 0
 depth (node name own children later) = max (depth children + 1) (depth later)
 
--- The depth of a tree: the number of nodes on its longest line of descent, its root counted.
+-- The depth of a tree: the number of nodes on its longest line of descent, including its root.
 abbrev pub depth_of : {Own : Type 0} → Root Own → ℕ
 depth_of root = depth (as_nodes root)
 
@@ -53,7 +53,7 @@ abbrev pub node_count : {Own : Type 0} → Nodes Own → ℕ
 node_count none = 0
 node_count (node name own children later) = node_count children + node_count later + 1
 
--- The number of the nodes of a tree, its root counted.
+-- The number of the nodes of a tree, including its root.
 abbrev pub node_count_of : {Own : Type 0} → Root Own → ℕ
 node_count_of root = node_count (as_nodes root)
 
@@ -118,8 +118,8 @@ abbrev pub AreDistinct : List (List ℕ) → Type 0
 AreDistinct [] = ⊤
 AreDistinct (name ∷ later) = IsNew name later × AreDistinct later
 
--- Properties that one node may have: their names are valid and distinct (2.2.4; that they have to
--- be distinct is profile of this project).
+-- Properties that one node may have: their names are valid and distinct (2.2.4; that they must be
+-- distinct is profile of this project).
 pub record AreProperties (properties : List Property) : Type 0 where
   pub named : AllByRecursion (λ property. IsPropertyName property.0) properties
   pub distinct : AreDistinct (map (λ property. property.0) properties)

@@ -1,4 +1,4 @@
-//! Laws of what a devicetree blob is. The functions do nothing: the contract of each is the law.
+//! Laws of what a devicetree blob is. The functions do nothing: what each one ensures is the law.
 
 ghost use Rattle.bi_blob.specs.BlobLaws.{OneBlob, FewerNodesThanBytes, BlobHasNoFault};
 ghost use Rattle.bi_blob.specs.BlobLaws.{OneBlobFault};
@@ -36,7 +36,7 @@ pub fn a_file_is_a_blob_or_has_a_fault()
     ensures { BlobOrFault }
 {}
 
-/// A file of bytes is a blob within limits exactly if it has no fault under them.
+/// A file of bytes is a blob within limits if and only if it has no fault under them.
 pub fn a_file_is_a_blob_where_it_has_no_fault()
     ensures { BlobWhereNoFault }
 {}
@@ -47,22 +47,22 @@ pub fn passed_tokens_are_encoded()
     ensures { PassedWhereEncoded }
 {}
 
-/// Events are those of a tree that a blob can hold, within a limit on depth, exactly if each of
-/// them may follow those before it and the last ends the root. They are then those of no other tree
-/// (Devicetree Specification, 5.4.2).
+/// Events are those of a tree that a blob can hold, within a limit on depth, if and only if each of
+/// them may follow those before it and the last ends the root. They are then the events of no other
+/// tree (Devicetree Specification, 5.4.2).
 pub fn closed_events_have_one_tree()
     ensures { ClosedEventsHaveOneTree }
 {}
 
-/// A file has a fault in its header or its memory reservation block, which is then its fault; or it
-/// has none there, and its fault, if it has one, is in its structure block.
+/// A fault in the header or the memory reservation block of a file is the fault of the file. If
+/// there is none there, the fault of the file, if it has one, is in its structure block.
 pub fn fault_before_tree_comes_first()
     ensures { FaultBeforeTreeComesFirst }
 {}
 
-/// A node at an index of a list of siblings is found by its name, and a property of a node
-/// likewise, if names are distinct. Nothing else is found by a name. The node at the next index is
-/// the first of the later siblings.
+/// If names are distinct, a node at an index of a list of siblings is found by its name, and so is
+/// a property of a node. Nothing else is found by a name. The node at the next index is the first
+/// of the later siblings.
 pub fn names_find_nodes_and_properties()
     ensures nodes { NodesAreFound }
     ensures properties { PropertiesAreFound }

@@ -2,8 +2,7 @@
 //! the numbers and names of the format.
 //!
 //! The reader of blobs and their layout both use them, and do not depend on each other. The
-//! definitions are in `specs/`. The contract of each function of `blob_laws` and `text_laws` is a
-//! law.
+//! definitions are in `specs/`. What each function of `blob_laws` and `text_laws` ensures is a law.
 #![tactic(auto)]
 
 pub mod blob_laws;

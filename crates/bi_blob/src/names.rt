@@ -4,15 +4,15 @@ ghost use Rattle.std.specs.Prelude.{◌≡◌, ◌↔◌, IsTrue};
 ghost use Rattle.bi_blob.specs.NamesByPrefix.{prefix_of_name};
 ghost use Rattle.bi_blob.specs.Tree.{IsChildName, IsPropertyName};
 
-/// Returns whether a node other than the root may have this name: it has a byte, and none is zero
-/// or `/` (Devicetree Specification, 2.2.1).
+/// Returns whether a node other than the root may have this name: it is not empty, and no byte is
+/// zero or `/` (Devicetree Specification, 2.2.1).
 pub fn is_child_name(name: &[u8]) -> bool
     ensures { IsTrue result ↔ IsChildName name.now }
 {
     is_property_name(name) && !name.contains(&b'/')
 }
 
-/// Returns whether a property may have this name: it has a byte, and none is zero (Devicetree
+/// Returns whether a property may have this name: it is not empty, and no byte is zero (Devicetree
 /// Specification, 2.2.4).
 pub fn is_property_name(name: &[u8]) -> bool
     ensures { IsTrue result ↔ IsPropertyName name.now }
@@ -20,8 +20,9 @@ pub fn is_property_name(name: &[u8]) -> bool
     !name.is_empty() && !name.contains(&0)
 }
 
-/// Returns the first eight bytes of a name as a number, the highest first, with zeros after a
-/// shorter name. Two names with different prefixes are different, so they need not be read.
+/// Returns the first eight bytes of a name as a number, the highest byte first, with zeros after a
+/// shorter name. Two names with different prefixes are different, so their other bytes need not be
+/// read.
 pub fn name_prefix(name: &[u8]) -> u64
     ensures { result ≡ prefix_of_name name.now }
 {

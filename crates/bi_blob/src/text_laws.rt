@@ -1,5 +1,5 @@
-//! Laws of the text of a blob, and of the normal text. The functions do nothing: the contract of
-//! each is the law.
+//! Laws of the text of a blob, and of the normal text. The functions do nothing: what each one
+//! ensures is the law.
 
 ghost use Rattle.bi_blob.specs.TextLaws.{EachNameIsThereOnce, StringsGrowByUse, EachNameIsFound};
 ghost use Rattle.bi_blob.specs.TextLaws.{OffsetsStay, NewOffsetIsAtEnd, TextEncodesItsTree};
@@ -25,15 +25,15 @@ pub fn strings_grow_by_use()
     ensures { StringsGrowByUse }
 {}
 
-/// Each name that events use, if it has no zero byte, is at its offset of the strings block of
+/// Each name that events use, if it has no zero byte, is at its offset in the strings block of
 /// their text, with a zero byte after it (Devicetree Specification, 5.5).
 pub fn each_name_is_found()
     ensures { EachNameIsFound }
 {}
 
-/// The offset of a name in the strings block does not change by further events, once an event has
-/// used the name. A name that is used for the first time comes after all names that were used
-/// before (profile of this project).
+/// Once an event has used a name, later events do not change the offset of the name in the strings
+/// block. A name that is used for the first time comes after all names that were used before
+/// (profile of this project).
 pub fn offsets_stay()
     ensures used { OffsetsStay }
     ensures new { NewOffsetIsAtEnd }
@@ -59,22 +59,22 @@ pub fn each_text_has_its_length()
 
 /// The text of a boot processor, memory reservations and a tree, if it has at most 0x7fffffff
 /// bytes, and with any bytes after it, is a blob of exactly these, whatever the order of the
-/// properties. The tree has the places of the layout and is as deep, and `totalsize` is the length
-/// of the text (Devicetree Specification, chapter 5).
+/// properties. The tree has the places of the layout and the same depth, and `totalsize` is the
+/// length of the text (Devicetree Specification, chapter 5).
 pub fn text_is_a_blob()
     ensures { TextIsBlob }
 {}
 
 /// The text of a boot processor, memory reservations and a tree, if it has at most 0x7fffffff
-/// bytes, and with any bytes after it, is within limits that are no less than the length of all of
-/// it and the depth of the tree, and has no fault under them.
+/// bytes, and with any bytes after it, is within limits of at least its whole length and the depth
+/// of the tree, and has no fault under them.
 pub fn text_is_accepted()
     ensures { TextIsAccepted }
 {}
 
 /// The normal text of a boot processor, memory reservations and a tree, if it has at most
 /// 0x7fffffff bytes, and with any bytes after it, is a blob of exactly these, and has no fault
-/// under limits that are no less than the length of all of it and the depth of the tree.
+/// under limits of at least its whole length and the depth of the tree.
 pub fn normal_text_is_accepted()
     ensures { NormalTextIsAccepted }
 {}
@@ -94,36 +94,37 @@ pub fn text_has_one_content()
     ensures rest { TextWithRestHasOneContent }
 {}
 
-/// A tree of properties by name has one normal order of them: byte order of their names (profile
-/// of this project).
+/// A tree with properties by name has one normal order of them: the byte order of their names
+/// (profile of this project).
 pub fn each_tree_has_one_order()
     ensures { EachTreeHasOneOrder }
 {}
 
-/// What may be laid out as a text may be laid out in normal order, and is as deep then.
+/// What may be laid out as a text may be laid out in normal order, and then has the same depth.
 pub fn content_may_be_ordered()
     ensures { ContentMayBeOrdered }
 {}
 
-/// Two normal texts, one of which has at most 0x7fffffff bytes, are the same exactly if they are of
-/// one boot processor, the same memory reservations and one tree, with nodes in order and
-/// properties by name. Two files that each begin with a normal text of at most 0x7fffffff bytes are
-/// equal exactly if this holds of the texts and the bytes after the texts are equal.
+/// If one of two normal texts has at most 0x7fffffff bytes, the texts are the same if and only if
+/// they are of the same boot processor, the same memory reservations and the same tree, with nodes
+/// in order and properties by name. Two files that each begin with a normal text of at most
+/// 0x7fffffff bytes are equal if and only if this holds for the texts and the bytes after the texts
+/// are equal.
 pub fn normal_text_tells_content()
     ensures text { NormalTextTellsContent }
     ensures rest { NormalTextWithRestTellsContent }
 {}
 
 /// Events are those of a tree that a blob can hold, of depth 64 at most and with the properties of
-/// each node in byte order of their names, exactly if each of them may follow those before it in a
-/// normal text and the last ends the root. They are then those of no other tree (profile of this
-/// project; Devicetree Specification, 5.4.2).
+/// each node in byte order of their names, if and only if each of them may follow those before it
+/// in a normal text and the last ends the root. They are then the events of no other tree (profile
+/// of this project; Devicetree Specification, 5.4.2).
 pub fn normal_events_have_one_tree()
     ensures { NormalEventsHaveOneTree }
 {}
 
-/// Names in the order of their prefixes, and those with one prefix in the order of their bytes, are
-/// in byte order (profile of this project).
+/// Names in the order of their prefixes, and names with the same prefix in the order of their
+/// bytes, are in byte order (profile of this project).
 pub fn prefixes_keep_byte_order()
     ensures { PrefixesKeepByteOrder }
 {}

@@ -34,7 +34,11 @@ clean_by_length bytes size clean is_size is_clean = by bytes (is_clean ∙ ap (�
   where
     by : (bytes : List ℕ) → clean ≡ (length bytes == 0) → IsTrue clean ↔ (bytes ≡ [])
     by [] is = (λ _. refl, λ _. is)
-    by (byte ∷ later) is = (λ yes. absurd (false≢true (sym (ne_eqb (length (byte ∷ later)) 0 (omega arith)) ∙ sym is ∙ yes)), λ none. absurd cc)
+    by (byte ∷ later) is = (
+      λ yes. absurd
+          (false≢true (sym (ne_eqb (length (byte ∷ later)) 0 (omega arith)) ∙ sym is ∙ yes)),
+      λ none. absurd cc,
+    )
 
 -- An output that was written to a buffer, or had no room there.
 pub buffer_is_filled : (IsOutput : List ℕ → ℕ → Type 0) (HasFailed : Failure → Type 0) (text before after : List ℕ) (value : ℕ)
@@ -42,8 +46,10 @@ pub buffer_is_filled : (IsOutput : List ℕ → ℕ → Type 0) (HasFailed : Fai
     → ((length text ≤ length before) × (status ≡ done) × (after ≡ text ++ drop (length text) before))
     ⊎ ((length before < length text) × (status ≡ no_room) × (after ≡ before))
     → Fills IsOutput HasFailed before after answer status
-buffer_is_filled IsOutput HasFailed text before after value answer status is told (inl room) = Filled text value is room.0 room.2 told room.1
-buffer_is_filled IsOutput HasFailed text before after value answer status is told (inr none) = HadNoRoom text value is none.0 none.2 told none.1
+buffer_is_filled IsOutput HasFailed text before after value answer status is told
+    (inl room) = Filled text value is room.0 room.2 told room.1
+buffer_is_filled IsOutput HasFailed text before after value answer status is told
+    (inr none) = HadNoRoom text value is none.0 none.2 told none.1
 
 -- The failure of a call on one file in memory, by its error.
 pub failed_by : (AreValid : Type 0) (HasError : Error → Type 0) (cause : Error) (failure : Failure) → AreValid →
@@ -63,7 +69,8 @@ pub failed_of_one : (limit depth : ℕ) (HasError : Limits → Error → Type 0)
     → ((other : Limits) → ¬ (HasError other error.ReadFailed)) → ((other : Limits) → ¬ (HasError other error.WriteFailed)) →
     HasError limits cause → IsFailureOfOne limit depth HasError failure
 failed_of_one limit depth HasError limits cause failure in_range same is_failure no_read no_write is =
-    failed_by (IsInRange limit depth) (HasError (bounds limit depth)) cause failure in_range is_failure (no_read (bounds limit depth)) (no_write (bounds limit depth))
+    failed_by (IsInRange limit depth) (HasError (bounds limit depth)) cause failure in_range is_failure (no_read (bounds limit depth))
+    (no_write (bounds limit depth))
     (subst (λ (l : Limits). HasError l cause) same is)
 
 -- The failure of a call on two files, by its error.
@@ -71,7 +78,8 @@ pub failed_of_two : (limit depth : ℕ) (HasError : Limits → CompareError → 
     (failure : Failure) → IsInRange limit depth → limits ≡ bounds limit depth → failure ≡ failure_of_compare_error cause
     → HasError limits cause → IsFailureOfTwo limit depth (HasError (bounds limit depth)) failure
 failed_of_two limit depth HasError limits cause failure in_range same is_failure is =
-    subst (IsFailureOfTwo limit depth (HasError (bounds limit depth))) (sym is_failure) (by cause (subst (λ (l : Limits). HasError l cause) same is))
+    subst (IsFailureOfTwo limit depth (HasError (bounds limit depth))) (sym is_failure)
+    (by cause (subst (λ (l : Limits). HasError l cause) same is))
   where
     by : (cause : CompareError) → HasError (bounds limit depth) cause →
         IsFailureOfTwo limit depth (HasError (bounds limit depth)) (failure_of_compare_error cause)

@@ -16,7 +16,8 @@ use Rattle.bi_c.specs.declared.failure.Failure.{Failure}
 use Rattle.bi_c.specs.declared.failure.Failure.TheVariants.{WrongArgument, Refused, OutOfMemory, NotFound}
 use Rattle.bi_c.specs.declared.regions.Region.{Region}
 use Rattle.bi_c.specs.Answers.{Answers, Returned, Failed as HasFailed}
-use Rattle.bi_c.specs.Extracting.{IsChosenAt, IsFound, IsOffset, IsPayloadOffset, IsReasonNumber, IsSelectFailure, IsExtracted, IsExtractCallFailure}
+use Rattle.bi_c.specs.Extracting.{IsChosenAt, IsFound, IsOffset, IsPayloadOffset, IsReasonNumber, IsSelectFailure, IsExtracted}
+use Rattle.bi_c.specs.Extracting.{IsExtractCallFailure}
 use Rattle.bi_c.specs.Extracting.{failure_of_extract_error}
 
 -- What a call from C extracts from what was read of a file is in the file, and the call fails as extracting from the file does.
@@ -76,7 +77,7 @@ select_failure select limits file cause failure same is = subst (IsSelectFailure
     by NoIndex is = numbered select limits file NoSuchEntry 8 0 is (refl, refl)
     by NoPayload is = numbered select limits file HasNoPayload 9 0 is (refl, refl)
 
--- The answer of a call whose arguments are valid.
+-- The answer of a call with valid arguments.
 pub extract_answers : (AreValid : Type 0) (limits other_limits : Limits) (select other : Select) (file : List ℕ) (answer : Answer)
     (status : ℕ) →
     AreValid → limits ≡ other_limits → select ≡ other

@@ -47,7 +47,8 @@ same_listed one other is = ap images_in is
 entries_named : (images : List Image) (at : ℕ) (names : List (List ℕ)) (listed : List ListedImage) →
     list_images images at names ≡ ListedImages listed → AllByRecursion (IsNamed images) listed
 entries_named images at [] listed is = subst (AllByRecursion (IsNamed images)) (same_listed [] listed is) tt
-entries_named images at (name ∷ later) listed is = by (image_named name images) (list_images images (at + 1) later) refl refl (entries_named images (at + 1) later) is
+entries_named images at (name ∷ later) listed is = by (image_named name images) (list_images images (at + 1) later) refl refl
+    (entries_named images (at + 1) later) is
   where
     by : (found : Option Image) (rest : ListResult) → image_named name images ≡ found → list_images images (at + 1) later ≡ rest
         → ((more : List ListedImage) → list_images images (at + 1) later ≡ ListedImages more → AllByRecursion (IsNamed images) more)

@@ -16,12 +16,15 @@ pub normalised_as : (limit depth number : ℕ) (limits : Limits) (form : Form) (
     → IsNormalised limit depth number file text value
 normalised_as limit depth number limits form file valid same_limits same_form text value is = record {
   arguments = valid;
-  is = subst (λ (f : Form). IsNormaliseOutput (bounds limit depth) f value file text) same_form (subst (λ (l : Limits). IsNormaliseOutput l form value file text) same_limits is);
+  is = subst (λ (f : Form). IsNormaliseOutput (bounds limit depth) f value file text) same_form
+      (subst (λ (l : Limits). IsNormaliseOutput l form value file text) same_limits is);
 }
 
 pub not_normalised : (limit depth number : ℕ) (limits : Limits) (form : Form) (file : List ℕ) → HasForm limit depth number →
     limits ≡ bounds limit depth → form ≡ form_of number → (failure : Failure) → IsFailureBy (IsNormaliseError limits form file) failure
     → IsNormaliseFailure limit depth number file failure
 not_normalised limit depth number limits form file valid same_limits same_form failure is =
-    failed_by (HasForm limit depth number) (IsNormaliseError (bounds limit depth) (form_of number) file) is.cause failure valid is.is_failure (λ no. no) (λ no. no)
-    (subst (λ (f : Form). IsNormaliseError (bounds limit depth) f file is.cause) same_form (subst (λ (l : Limits). IsNormaliseError l form file is.cause) same_limits is.is_error))
+    failed_by (HasForm limit depth number)
+    (IsNormaliseError (bounds limit depth) (form_of number) file) is.cause failure valid is.is_failure (λ no. no) (λ no. no)
+    (subst (λ (f : Form). IsNormaliseError (bounds limit depth) f file is.cause) same_form
+    (subst (λ (l : Limits). IsNormaliseError l form file is.cause) same_limits is.is_error))

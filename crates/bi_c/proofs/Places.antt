@@ -44,7 +44,8 @@ pub payload_placed : (content : FitModel) (index : ℕ) (payload : Option (Bor (
 payload_placed content index payload place offset placed is_payload is_place is_offset =
     subst (λ (at : Option ℕ). IsAtPlace content.blob.file at (option_map (λ (bytes : Bor (List ℕ)). bytes.now) payload))
     (sym (is_offset ∙ ap (λ (other : Place). offset_of_place other) is_place))
-    (subst (λ (bytes : Option (List ℕ)). IsAtPlace content.blob.file (offset_of_place (place_or_absent (slice_get content.images index))) bytes) (sym is_payload)
+    (subst (λ (bytes : Option (List ℕ)). IsAtPlace content.blob.file
+    (offset_of_place (place_or_absent (slice_get content.images index))) bytes) (sym is_payload)
     (placed_at content.blob.file content.images index placed))
 
 -- The image of a name that was found has its payload there,
@@ -71,7 +72,8 @@ pub name_without_payload : (content : FitModel) (name : List ℕ) (index : ℕ) 
     (choice_of_payload (option_and_then (λ (image : ImageModel). image.payload) (slice_get content.images index))) region.size
     region.offset)
     → IfErr (ok_or result NoPayload) (λ error. IsReason error (choice_by_name (tree_of content) name))
-name_without_payload content name index None held found is = chosen_by_name content name held ∙ ap (choice_at content.images) (sym found) ∙ is
+name_without_payload content name index None held found is = chosen_by_name content name held
+    ∙ ap (choice_at content.images) (sym found) ∙ is
 name_without_payload content name index (Some region) held found is = tt
 
 -- Parts begin at the next multiple of four from an end, and each is in the file at its offset, so one of them is.
@@ -109,7 +111,8 @@ part_in_file limits file value index offset bytes parsed is_part is_offset =
     part_there file start image.parts index offset bytes
     (subst (λ (at : ℕ). AreAtOffsets file (placed_parts_from at image.parts)) aligned parsed.at_offsets)
     (omega (arith, parsed.unused)) is_part
-    (subst (λ (at : ℕ). slice_get (map (λ (part : PartModel). part.place) (placed_parts_from at image.parts)) index ≡ Some offset) aligned is_offset)
+    (subst (λ (at : ℕ). slice_get (map (λ (part : PartModel). part.place) (placed_parts_from at image.parts)) index
+    ≡ Some offset) aligned is_offset)
 
 -- There is an offset for each part.
 place_of_part : (at : ℕ) (parts : List (List ℕ)) (index : ℕ) →

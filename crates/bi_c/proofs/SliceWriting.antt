@@ -32,7 +32,8 @@ pub fills_nothing : (IsOutput : List ℕ → ℕ → Type 0) (HasFailed : Failur
     status ≡ status_of_failure failure → Fills IsOutput HasFailed before after answer status
 fills_nothing IsOutput HasFailed failure old new before after name answer status is is_before is_name same is_after told is_status =
     FilledNothing failure is
-    (is_after (sym (ap (λ (sink : SliceSink). (slice_of sink).ghost_name) same ∙ is_name)) ∙ ap (λ (sink : SliceSink). (slice_of sink).now) same ∙ is_before)
+    (is_after (sym (ap (λ (sink : SliceSink). (slice_of sink).ghost_name) same ∙ is_name))
+    ∙ ap (λ (sink : SliceSink). (slice_of sink).now) same ∙ is_before)
     told is_status
 
 -- What a call that fills a buffer promises implies more.
@@ -40,9 +41,12 @@ pub fills_as : (IsOutput IsOther : List ℕ → ℕ → Type 0) (HasFailed HasOt
     (status : ℕ) → ((text : List ℕ) (value : ℕ) → IsOutput text value → IsOther text value)
     → ((failure : Failure) → HasFailed failure → HasOther failure) → Fills IsOutput HasFailed before after answer status →
     Fills IsOther HasOther before after answer status
-fills_as IsOutput IsOther HasFailed HasOther before after answer status output failed (Filled text value is room same told is_status) = Filled text value (output text value is) room same told is_status
-fills_as IsOutput IsOther HasFailed HasOther before after answer status output failed (HadNoRoom text value is none same told is_status) = HadNoRoom text value (output text value is) none same told is_status
-fills_as IsOutput IsOther HasFailed HasOther before after answer status output failed (FilledNothing failure is same told is_status) = FilledNothing failure (failed failure is) same told is_status
+fills_as IsOutput IsOther HasFailed HasOther before after answer status output failed
+    (Filled text value is room same told is_status) = Filled text value (output text value is) room same told is_status
+fills_as IsOutput IsOther HasFailed HasOther before after answer status output failed
+    (HadNoRoom text value is none same told is_status) = HadNoRoom text value (output text value is) none same told is_status
+fills_as IsOutput IsOther HasFailed HasOther before after answer status output failed
+    (FilledNothing failure is same told is_status) = FilledNothing failure (failed failure is) same told is_status
 
 -- The normal text of a legacy image is as long as what its parts end before.
 pub legacy_size : (limits : Limits) (file : List ℕ) (value : LegacyModel) (unused : ℕ) → IsReadLegacy limits file value →

@@ -66,8 +66,8 @@ pub data Answers (IsOutput : (size value : ℕ) → Type 0) (HasFailed : Failure
         → status ≡ status_of_failure failure → Answers IsOutput HasFailed answer status
 
 -- A call that writes its output to the beginning of a buffer. The bytes after it stay. If the
--- buffer has no room for the output, or the call fails, the buffer is as it was; without room, the
--- struct has the size of the output.
+-- buffer does not have room for the output, or the call fails, the buffer is as it was. Without
+-- room, the struct has the size of the output.
 pub data Fills (IsOutput : (text : List ℕ) → (value : ℕ) → Type 0) (HasFailed : Failure → Type 0)
     (before after : List ℕ) (answer : Answer) (status : ℕ) : Type 0
   where
@@ -81,8 +81,7 @@ pub data Fills (IsOutput : (text : List ℕ) → (value : ℕ) → Type 0) (HasF
         → answer ≡ answer_of_failure failure → status ≡ status_of_failure failure
         → Fills IsOutput HasFailed before after answer status
 
--- The failure of a call on one file whose arguments have to be valid, and whose error is one of
--- these.
+-- The failure of a call on one file. Its arguments must be valid, and its error is one of these.
 abbrev pub IsFailure : (AreValid : Type 0) → (HasError : Error → Type 0) → Failure → Type 0
 IsFailure AreValid HasError WrongArgument = ¬ AreValid
 IsFailure AreValid HasError (Refused file fault) =
@@ -90,7 +89,8 @@ IsFailure AreValid HasError (Refused file fault) =
 IsFailure AreValid HasError OutOfMemory = AreValid × HasError error.OutOfMemory
 IsFailure AreValid HasError (NotFound reason index) = ⊥
 
--- The failure for an error of a call on one file in memory, which neither reads nor writes.
+-- The failure for an error of a call on one file in memory. The call has neither a reader nor a
+-- writer.
 abbrev pub failure_of_error : Error → Failure
 failure_of_error (error.Refused fault) = Refused 1 fault
 failure_of_error other = OutOfMemory

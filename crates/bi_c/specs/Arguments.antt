@@ -23,9 +23,9 @@ pub record HasForm (limit depth form : ℕ) : Type 0 where
   pub limits : IsInRange limit depth
   pub is_form : form < 2
 
--- Whether a number has the bit of this weight.
-abbrev pub has_bit : (weight : ℕ) → ℕ → Bool
-has_bit weight number = (number / weight) % 2 == 1
+-- Whether a number has the bit of a mask, which is a power of two.
+abbrev pub has_bit : (mask : ℕ) → ℕ → Bool
+has_bit mask number = (number / mask) % 2 == 1
 
 -- The kinds of concerns that are allowed, a bit for each.
 abbrev pub allowed_of : ℕ → Allowed
@@ -39,7 +39,7 @@ allowed_of kinds = record {
   trailing = has_bit 64 kinds;
 }
 
--- The changes of an update: the bit 1 sets the time, the bit 2 computes the digests again.
+-- The changes of an update: bit 1 sets the time, bit 2 computes the digests again.
 abbrev pub changes_of : (changes time : ℕ) → Changes
 changes_of changes time = record {
   time = if has_bit 1 changes then Some time else None;

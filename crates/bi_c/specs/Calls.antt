@@ -37,12 +37,12 @@ pub record IsKindNumber (file : List ℕ) (size value : ℕ) : Type 0 where
   pub begins : BeginsAs file kind
   pub number : value ≡ kind_number kind
 
--- The file is of no kind.
+-- The file does not have a kind.
 abbrev pub IsKindFailure : List ℕ → Failure → Type 0
 IsKindFailure file (Refused number fault) = (number ≡ 1) × IsKindFault file fault
 IsKindFailure file other = ⊥
 
--- The name of the cause of this number.
+-- The name of the cause with this number.
 pub record IsCauseName (number : ℕ) (text : List ℕ) (value : ℕ) : Type 0 where
   pub cause : Cause
   pub is_cause : number_of cause ≡ number
@@ -87,8 +87,7 @@ pub record IsSame (limit depth : ℕ) (one other : List ℕ) (size value : ℕ) 
   pub number : value ≡ flag same
   pub compared : AreCompared (bounds limit depth) one other same
 
--- The failure of a call on two files whose limits have to be in range, and whose error is one of
--- these.
+-- The failure of a call on two files. Its limits must be in range, and its error is one of these.
 abbrev pub IsFailureOfTwo : (limit depth : ℕ) → (HasError : CompareError → Type 0) → Failure
     → Type 0
 IsFailureOfTwo limit depth HasError WrongArgument = ¬ (IsInRange limit depth)
@@ -110,7 +109,7 @@ pub record IsVersion (text : List ℕ) (value : ℕ) : Type 0 where
   pub is_version : text ≡ codes "0.2.0"
   pub no_value : value ≡ 0
 
--- The output of a call on files whose limits have to be in range, which returns no number.
+-- The output of a call on files, which returns no number. Its limits must be in range.
 pub record IsTextOnly (limit depth : ℕ) (Is : Limits → List ℕ → Type 0) (text : List ℕ) (value : ℕ)
     : Type 0
   where
@@ -118,8 +117,8 @@ pub record IsTextOnly (limit depth : ℕ) (Is : Limits → List ℕ → Type 0) 
     pub is : Is (bounds limit depth) text
     pub no_value : value ≡ 0
 
--- The output of a call on files whose limits have to be in range, which returns a yes or no as its
--- number.
+-- The output of a call on files, which returns a yes or no as its number. Its limits must be in
+-- range.
 pub record IsTextWithFlag (limit depth : ℕ) (Is : Limits → Bool → List ℕ → Type 0) (text : List ℕ)
     (value : ℕ) : Type 0
   where
@@ -128,8 +127,7 @@ pub record IsTextWithFlag (limit depth : ℕ) (Is : Limits → Bool → List ℕ
     pub number : value ≡ flag yes
     pub is : Is (bounds limit depth) yes text
 
--- The failure of a call on one file whose limits have to be in range, and whose error is one of
--- these.
+-- The failure of a call on one file. Its limits must be in range, and its error is one of these.
 abbrev pub IsFailureOfOne : (limit depth : ℕ) → (HasError : Limits → Error → Type 0) → Failure
     → Type 0
 IsFailureOfOne limit depth HasError =
@@ -140,7 +138,7 @@ pub record HasKinds (limit depth kinds : ℕ) : Type 0 where
   pub limits : IsInRange limit depth
   pub are_kinds : kinds < 128
 
--- The lines of the concerns about the file whose kinds are not allowed, and whether there is no
+-- The lines of the concerns about the file, except those of allowed kinds, and whether there is no
 -- line.
 pub record IsCheckText (limit depth kinds : ℕ) (file text : List ℕ) (value : ℕ) : Type 0 where
   pub arguments : HasKinds limit depth kinds

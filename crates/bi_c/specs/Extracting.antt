@@ -25,14 +25,14 @@ use Rattle.bi_c.specs.declared.failure.Failure.TheVariants.{NotFound}
 -- What calls from C that extract return: where in the caller's file the bytes are (profile of this
 -- project).
 
--- The offset is that of the payload of the image of this name.
+-- The offset is that of the payload of the image with the given name.
 pub record IsNamedOffset (content : FitModel) (name : List ℕ) (offset : ℕ) : Type 0 where
   pub index : ℕ
   pub is_named : index_of name content.images ≡ Some index
   pub is_offset : offset_of_place (place_or_absent (slice_get content.images index)) ≡ Some offset
 
--- The offset is that of the payload of the image that the entry at this index names, of those that
--- the configuration of this name lists under a key.
+-- The offset is that of the payload of the image that the entry at the given index names, of those
+-- that the configuration with the given name lists under a key.
 pub record IsListedOffset (content : FitModel) (configuration : List ℕ) (key : Key) (index : ℕ)
     (offset : ℕ) : Type 0 where
   pub listed : List ListedImage
@@ -41,7 +41,7 @@ pub record IsListedOffset (content : FitModel) (configuration : List ℕ) (key :
   pub is_entry : slice_get listed index ≡ Some entry
   pub is_offset : IsNamedOffset content entry.name offset
 
--- The same of the default configuration.
+-- The same for the default configuration.
 pub record IsDefaultOffset (content : FitModel) (key : Key) (index offset : ℕ) : Type 0 where
   pub configuration : List ℕ
   pub is_default : default_of (tree_of content) ≡ Some configuration
@@ -56,7 +56,8 @@ IsPayloadOffset (Config name key index) content offset =
     IsListedOffset content name.now key index offset
 IsPayloadOffset (Default key index) content offset = IsDefaultOffset content key index offset
 
--- The offset is that of what is selected in the file: of the part of this index, or of a payload.
+-- The offset is that of what is selected in the file: of the part with the given index, or of a
+-- payload.
 abbrev pub IsOffset : Limits → Select → List ℕ → (offset : ℕ) → Type 0
 IsOffset limits (Part index) file offset =
     (image : LegacyModel) × IsReadLegacy limits file image
@@ -64,7 +65,7 @@ IsOffset limits (Part index) file offset =
 IsOffset limits select file offset =
     (content : FitModel) × IsReadFit limits file content × IsPayloadOffset select content offset
 
--- The choice is bytes that the file has from this offset on: this many.
+-- The choice is this many bytes of the file, from this offset on.
 pub record IsChosenAt (file : List ℕ) (choice : Choice) (size offset : ℕ) : Type 0 where
   pub bytes : List ℕ
   pub is_chosen : choice ≡ Chosen bytes
@@ -72,16 +73,16 @@ pub record IsChosenAt (file : List ℕ) (choice : Choice) (size offset : ℕ) : 
   -- They end within the file, and they are the file's bytes there.
   pub is_there : IsAt file offset bytes
 
--- The file means something of which the selection chooses the bytes from this offset on, which is
--- the offset of what is selected.
+-- The file means something. The selection chooses bytes of it, and the offset is that of the first
+-- of them in the file.
 pub record IsFound (limits : Limits) (select : Select) (file : List ℕ) (size offset : ℕ) : Type 0
   where
     pub is_chosen : MeansSuch limits file
         (λ meaning. IsChosenAt file (choice_of select meaning) size offset)
     pub is_offset : IsOffset limits select file offset
 
--- The numbers of the reason why a choice is no bytes: the reason, and the index of the first name
--- that no image has, where the reason names one.
+-- The numbers of the reason why a choice has no bytes: the reason, and the index of the first name
+-- that no image has, if the reason names one.
 abbrev pub IsReasonNumber : (reason index : ℕ) → Choice → Type 0
 IsReasonNumber reason index OfOtherKind = (reason ≡ 1) × (index ≡ 0)
 IsReasonNumber reason index NoSuchPart = (reason ≡ 2) × (index ≡ 0)

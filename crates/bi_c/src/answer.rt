@@ -6,7 +6,7 @@ ghost use Rattle.bi_c.specs.Answers.{done, no_room};
 
 use crate::failure::Failure;
 
-/// The call did what it is for.
+/// The call succeeded.
 pub(crate) const DONE: u32 = 0;
 
 /// A file is refused.
@@ -15,22 +15,22 @@ const REFUSED: u32 = 1;
 /// An allocation failed.
 const OUT_OF_MEMORY: u32 = 2;
 
-/// The buffer has no room for the output.
+/// The buffer does not have room for the output.
 pub(crate) const NO_ROOM: u32 = 3;
 
 /// A number is not one that the argument may be.
 const WRONG_ARGUMENT: u32 = 4;
 
-/// The image has nothing of this kind to extract.
+/// There is nothing to extract.
 const NOT_FOUND: u32 = 5;
 
 /// What a call leaves in the caller's struct. Each number that the call does not set is 0.
 #[repr(C)]
 #[derive(Clone, Copy, Debug, PartialEq, Eq)]
 pub struct Answer {
-    /// The number of bytes of the output, also if the buffer has no room for it.
+    /// The number of bytes of the output, even if the buffer does not have room for it.
     pub size: usize,
-    /// The number that the docstring of the call names. For the reason that an image is missing,
+    /// The number that the docstring of the call names. If the reason is that an image is missing,
     /// the index of the first name that no image has.
     pub value: usize,
     /// The number of the cause for which a file is refused.
@@ -89,8 +89,8 @@ pub(crate) fn fail(failure: Failure, answer: &mut Answer) -> u32
     }
 }
 
-/// Writes the output of a call to the beginning of a buffer, and the answer. Returns the status.
-/// If the buffer has no room for the output, it is unchanged.
+/// Writes the output of a call to the beginning of a buffer, and the answer. Returns the status. If
+/// the buffer does not have room for the output, it is unchanged.
 pub(crate) fn fill(text: &[u8], value: usize, buffer: &mut [u8], answer: &mut Answer) -> u32
     ensures answer { answer.new ≡ answer_of (length text.now) value }
     ensures filled { ((length text.now ≤ length buffer.old) × (result ≡ done)

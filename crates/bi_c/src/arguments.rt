@@ -20,7 +20,7 @@ pub(crate) fn limits_of(limit: u32, depth: u32) -> Option<Limits>
     Limits::new(limit, depth as u8)
 }
 
-/// Returns the form of this number, if there is one.
+/// Returns the form with this number, if there is one.
 pub(crate) fn form_of(number: u32) -> Option<Form>
     ensures in_range { IsSome result ↔ number < 2 }
     ensures value { IfSome result (λ form. form ≡ form_of_number number) }
@@ -32,7 +32,7 @@ pub(crate) fn form_of(number: u32) -> Option<Form>
     }
 }
 
-/// Returns the key of this number, if there is one.
+/// Returns the key with this number, if there is one.
 pub(crate) fn key_of(number: u32) -> Option<Key>
     ensures in_range { IsSome result ↔ number < 6 }
     ensures value { IfSome result (λ key. key ≡ key_of_number number) }
@@ -48,10 +48,10 @@ pub(crate) fn key_of(number: u32) -> Option<Key>
     }
 }
 
-/// Returns whether a number has the bit of this weight, which is not 0.
-pub(crate) fn has_bit(weight: u32, number: u32) -> bool
-    requires { 0 < weight }
-    ensures { result ≡ is_set weight number }
+/// Returns whether a number has the bit of a mask, which is a power of two.
+pub(crate) fn has_bit(mask: u32, number: u32) -> bool
+    requires { 0 < mask }
+    ensures { result ≡ is_set mask number }
 {
-    (number / weight) % 2 == 1
+    (number / mask) % 2 == 1
 }

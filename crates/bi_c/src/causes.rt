@@ -13,7 +13,7 @@ use bi_base::Cause;
 /// The version of the library: that of the program.
 const VERSION: &str = "0.2.0";
 
-/// Writes the name of the cause of this number, 1 to 26, to a buffer. Returns the status.
+/// Writes the name of the cause with the given number, 1 to 26, to a buffer. Returns the status.
 #[unsafe(no_mangle)]
 pub extern "C" fn bootimg_cause_name(number: u32, buffer: &mut [u8], answer: &mut Answer) -> u32
     ensures { Fills (IsCauseName number) (IsNoCause number) buffer.old buffer.new answer.new
@@ -25,7 +25,7 @@ pub extern "C" fn bootimg_cause_name(number: u32, buffer: &mut [u8], answer: &mu
     }
 }
 
-/// Returns the cause of this number, if there is one.
+/// Returns the cause with this number, if there is one.
 fn cause_of(number: u32) -> Option<Cause>
     ensures { MatchOption result ((cause : Cause) → ¬ (number_of cause ≡ number))
         (λ cause. number_of cause ≡ number) }

@@ -12,7 +12,7 @@ use crate::failure::{Failure, failure_of};
 use bi_commands::check::{Allowed, check};
 use std::alloc::Global;
 
-/// Writes a line to a buffer for each concern about a file whose kind is not allowed, and sets
+/// Writes a line to a buffer for each concern about a file, except those of allowed kinds. Sets
 /// `answer.value` to 1 if there is no line, and otherwise to 0. Each bit of `kinds` allows a kind.
 /// Returns the status.
 #[unsafe(no_mangle)]
@@ -46,7 +46,7 @@ pub extern "C" fn bootimg_check(
     }
 }
 
-/// Returns the kinds that these bits allow, if there are no others.
+/// Returns the kinds that these bits allow, if there are no other bits.
 fn allowed_of(kinds: u32) -> Option<Allowed>
     ensures in_range { IsSome result ↔ kinds < 128 }
     ensures value { IfSome result (λ allowed. allowed ≡ allowed_of_number kinds) }

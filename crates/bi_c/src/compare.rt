@@ -36,7 +36,7 @@ pub extern "C" fn bootimg_same_meaning(
     }
 }
 
-/// Writes what differs between what two files mean to a buffer, and sets `answer.value` to 1 if
+/// Writes the differences between what two files mean to a buffer, and sets `answer.value` to 1 if
 /// they mean the same, and otherwise to 0. Returns the status.
 #[unsafe(no_mangle)]
 pub extern "C" fn bootimg_compare(

@@ -19,8 +19,8 @@ use bi_commands::extract::{ExtractError, Select};
 use bi_fit::ConfigError;
 use std::alloc::Global;
 
-/// Finds the part of this index, counted from 0, of a legacy image. Sets `answer.value` to the
-/// offset of its first byte in the file, and `answer.size` to its size in bytes. Returns the
+/// Finds the part with the given index, counted from 0, of a legacy image. Sets `answer.value` to
+/// the offset of its first byte in the file, and `answer.size` to its size in bytes. Returns the
 /// status.
 #[unsafe(no_mangle)]
 pub extern "C" fn bootimg_extract_part(
@@ -42,9 +42,9 @@ pub extern "C" fn bootimg_extract_part(
     extract(alloc, file, Select::Part(index), limits, answer)
 }
 
-/// Finds the payload of the image of this name of a flattened image tree. Sets `answer.value` to
-/// the offset of its first byte in the file, and `answer.size` to its size in bytes. Returns the
-/// status.
+/// Finds the payload of the image with the given name in a flattened image tree. Sets
+/// `answer.value` to the offset of its first byte in the file, and `answer.size` to its size in
+/// bytes. Returns the status.
 #[unsafe(no_mangle)]
 pub extern "C" fn bootimg_extract_image(
     alloc: Global,
@@ -66,9 +66,10 @@ pub extern "C" fn bootimg_extract_image(
     extract(alloc, file, Select::Image(name), limits, answer)
 }
 
-/// Finds a payload that the configuration of this name of a flattened image tree lists under the
-/// key of this number, at this index, counted from 0. Sets `answer.value` to the offset of its
-/// first byte in the file, and `answer.size` to its size in bytes. Returns the status.
+/// Finds a payload that the configuration with the given name in a flattened image tree lists under
+/// the key with the number `key`, at the given index, counted from 0. Sets `answer.value` to the
+/// offset of its first byte in the file, and `answer.size` to its size in bytes. Returns the
+/// status.
 #[unsafe(no_mangle)]
 pub extern "C" fn bootimg_extract_config(
     alloc: Global,
@@ -100,9 +101,9 @@ pub extern "C" fn bootimg_extract_config(
     )
 }
 
-/// Finds a payload that the default configuration of a flattened image tree lists under the key of
-/// this number, at this index, counted from 0. Sets `answer.value` to the offset of its first byte
-/// in the file, and `answer.size` to its size in bytes. Returns the status.
+/// Finds a payload that the default configuration of a flattened image tree lists under the key
+/// with the number `key`, at the given index, counted from 0. Sets `answer.value` to the offset of
+/// its first byte in the file, and `answer.size` to its size in bytes. Returns the status.
 #[unsafe(no_mangle)]
 pub extern "C" fn bootimg_extract_default(
     alloc: Global,
@@ -127,7 +128,7 @@ pub extern "C" fn bootimg_extract_default(
     extract(alloc, file, Select::Default(chosen, index), limits, answer)
 }
 
-/// Writes where the bytes are that are selected, or why there are none, and returns the status.
+/// Writes where the selected bytes are, or why there are none, and returns the status.
 fn extract(alloc: Global, file: &[u8], select: Select, limits: Limits, answer: &mut Answer) -> u32
     ensures { Answers (IsFound limits select.entry file.now)
         (IsSelectFailure limits select.entry file.now) answer.new result }

@@ -10,17 +10,17 @@ use bi_base::{Error, Fault};
 pub(crate) enum Failure {
     /// An argument is out of its range.
     WrongArgument,
-    /// A file is refused: which one, from 1, and why.
+    /// A file is refused: its index, counted from 1, and why.
     Refused(u32, Fault),
     /// An allocation failed.
     OutOfMemory,
-    /// Nothing is extracted: the number of the reason, and the index of the name that no image
-    /// has, for the reason that names one.
+    /// Nothing is extracted: the number of the reason, and, if a listed image is missing, the index
+    /// of the name that no image has.
     NotFound(u32, usize),
 }
 
-/// Returns the failure for an error of a call on one file in memory, which neither reads nor
-/// writes.
+/// Returns the failure for an error of a call on one file in memory. The call has neither a reader
+/// nor a writer.
 pub(crate) fn failure_of(error: Error) -> Failure
     ensures { result ≡ failure_of_error error }
 {

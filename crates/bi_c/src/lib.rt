@@ -1,4 +1,4 @@
-//! The library for C: an export for each call on boot images, over memory of the caller's.
+//! The library for C: an export for each call on boot images, over the caller's memory.
 //! `include/bootimg.h` declares the exports and documents them.
 #![tactic(auto)]
 

@@ -1,4 +1,4 @@
-//! Where the bytes are that a selection chooses of a boot image.
+//! Where the selected bytes of a boot image are.
 
 ghost use Rattle.std.specs.Prelude.{◌≡◌, ◌⊎◌, ℕ, List, None, Some, slice_get, IfOk, IfErr, IfSome};
 ghost use Rattle.std.specs.Prelude.{IfNone, MatchOption};
@@ -50,7 +50,7 @@ pub(crate) fn find(
     }
 }
 
-/// Returns where the selected part of a legacy image that was read is.
+/// Returns where the selected part is in a legacy image that was read.
 fn find_part(image: &Legacy<'_>, select: Select) -> Result<Region, ExtractError>
     ensures found { (limits : Limits) (file : List ℕ) → IsReadLegacy limits file image.now →
         IfOk result (λ region. IsChosenAt file (choice_of select.entry (OfLegacy image.now.image))
@@ -66,8 +66,8 @@ fn find_part(image: &Legacy<'_>, select: Select) -> Result<Region, ExtractError>
     }
 }
 
-/// Returns where the part of this index is in the file that the image was read from. Returns None
-/// exactly if there is no such part.
+/// Returns where the part with the given index is in the file that the image was read from. Returns
+/// None if there is no such part.
 fn part_at(image: &Legacy<'_>, index: usize) -> Option<Region>
     ensures found { (limits : Limits) (file : List ℕ) → IsReadLegacy limits file image.now →
         IfSome result (λ region. IsChosenAt file
@@ -84,7 +84,7 @@ fn part_at(image: &Legacy<'_>, index: usize) -> Option<Region>
     })
 }
 
-/// Returns where the selected payload of a flattened image tree that was read is.
+/// Returns where the selected payload is in a flattened image tree that was read.
 fn find_payload(alloc: Global, fit: &Fit<'_>, select: Select) -> Result<Region, ExtractError>
     requires held { IsHeld fit.now }
     requires placed { ArePlaced fit.now }
@@ -104,7 +104,8 @@ fn find_payload(alloc: Global, fit: &Fit<'_>, select: Select) -> Result<Region, 
     }
 }
 
-/// Returns where the payload of the image of this name is, in a flattened image tree that was read.
+/// Returns where the payload of the image with the given name is, in a flattened image tree that
+/// was read.
 fn find_by_name(fit: &Fit<'_>, name: &[u8]) -> Result<Region, ExtractError>
     requires held { IsHeld fit.now }
     requires placed { ArePlaced fit.now }
@@ -120,8 +121,8 @@ fn find_by_name(fit: &Fit<'_>, name: &[u8]) -> Result<Region, ExtractError>
     payload_at(fit, index).ok_or(ExtractError::NoPayload)
 }
 
-/// Returns where the payload of image `index` of a flattened image tree that was read is. Returns
-/// None exactly if there is no such image, or it has no payload.
+/// Returns where the payload of image `index` is, in a flattened image tree that was read. Returns
+/// None if there is no such image, or it has no payload.
 fn payload_at(fit: &Fit<'_>, index: usize) -> Option<Region>
     requires placed { ArePlaced fit.now }
     ensures found { let payload = option_and_then (λ image. image.payload)
@@ -141,7 +142,7 @@ fn payload_at(fit: &Fit<'_>, index: usize) -> Option<Region>
     })
 }
 
-/// Returns the offset of a place. Returns None exactly if there is no payload.
+/// Returns the offset of a place. Returns None if there is no payload.
 fn offset_of(place: Place) -> Option<u32>
     ensures { result ≡ offset_of_place place }
 {
@@ -153,8 +154,8 @@ fn offset_of(place: Place) -> Option<u32>
     }
 }
 
-/// Returns where the payload is of the image at this index of those that the configuration of this
-/// name lists under a key, in a flattened image tree that was read.
+/// Returns where the payload is of the image at the given index among those that the configuration
+/// with the given name lists under a key, in a flattened image tree that was read.
 fn find_by_configuration(
     alloc: Global,
     fit: &Fit<'_>,
@@ -178,8 +179,8 @@ fn find_by_configuration(
     find_by_name(fit, named.name)
 }
 
-/// Returns where the payload is of the image at this index of those that the default configuration
-/// lists under a key, in a flattened image tree that was read.
+/// Returns where the payload is of the image at the given index among those that the default
+/// configuration lists under a key, in a flattened image tree that was read.
 fn find_by_default(
     alloc: Global,
     fit: &Fit<'_>,

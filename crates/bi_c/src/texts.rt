@@ -64,7 +64,7 @@ pub extern "C" fn bootimg_describe(
 }
 
 /// Writes the report on the checksums and digests of a file to a buffer, and sets `answer.value` to
-/// 1 if no verdict is other than Good, and otherwise to 0. Returns the status.
+/// 1 if each verdict is Good (even if there is none), and otherwise to 0. Returns the status.
 #[unsafe(no_mangle)]
 pub extern "C" fn bootimg_verify(
     alloc: Global,

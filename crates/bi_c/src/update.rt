@@ -14,8 +14,8 @@ use bi_fit::Changes;
 use std::alloc::Global;
 
 /// Writes the normal form of a file with changes to a buffer, and sets `answer.value` to the number
-/// of its signature nodes. The bit 1 of `changes` sets the time of creation to `time`, in seconds
-/// since 1970, and the bit 2 computes the digests again. Returns the status.
+/// of its signature nodes. Bit 1 of `changes` sets the time of creation to `time`, in seconds since
+/// 1970, and bit 2 computes the digests again. Returns the status.
 #[unsafe(no_mangle)]
 pub extern "C" fn bootimg_update(
     alloc: Global,
@@ -48,7 +48,7 @@ pub extern "C" fn bootimg_update(
     }
 }
 
-/// Returns the changes of these bits, with this time, if there are no other bits.
+/// Returns the changes that these bits select, with this time, if there are no other bits.
 fn changes_of(changes: u32, time: u32) -> Option<Changes>
     ensures in_range { IsSome result ↔ changes < 4 }
     ensures value { IfSome result (λ wanted. wanted ≡ changes_of_numbers changes time) }

@@ -1,4 +1,4 @@
-//! Writing the normal texts of images that were read to a buffer of the caller's.
+//! Writing the normal texts of images that were read to the caller's buffer.
 
 ghost use Rattle.std.specs.Prelude.{◌≡◌};
 ghost use Rattle.bi_legacy.specs.Reading.{IsReadLegacy};
@@ -15,7 +15,7 @@ use bi_norm::append_legacy;
 use std::alloc::Global;
 
 /// Writes the normal text of a legacy image that was read from this file under the limits to the
-/// beginning of a buffer, and the answer. Returns the status. The text is held in no other memory.
+/// beginning of a buffer, and the answer. Returns the status. No other memory holds the text.
 pub(crate) fn write_legacy(
     alloc: Global,
     file: &[u8],
@@ -28,7 +28,7 @@ pub(crate) fn write_legacy(
     ensures { Fills (IsJust (legacy_text image.now.image) 0) (λ failure. failure ≡ OutOfMemory)
         buffer.old buffer.new answer.new result }
 {
-    // Parts and table are as long in the normal text as in the file.
+    // The parts and the part table are as long in the normal text as in the file.
     let size = file.len() - image.unused() as usize;
     *answer = answer_with(size, 0);
     if buffer.len() < size {
@@ -42,7 +42,7 @@ pub(crate) fn write_legacy(
 }
 
 /// Writes the text of a flattened image tree to the beginning of a buffer, and the answer with this
-/// number. Returns the status. The text is held in no other memory.
+/// number. Returns the status. No other memory holds the text.
 pub(crate) fn write_tree(
     text: &FitText<'_>,
     value: usize,

@@ -9,7 +9,8 @@ use Rattle.bi_base.specs.Cells.{AreBytes, u64_at}
 use Rattle.bi_base.specs.Limits.{Limits}
 use Rattle.bi_base.specs.Errors.{IsFaultOrNoMemory}
 use Rattle.bi_blob.specs.Tree.{Root, FileNode}
-use Rattle.bi_blob.specs.Blob.{Reservation, boot_cpuid_phys, header_length, lacks_structure_size, totalsize, off_mem_rsvmap, strings_end, tree_blocks}
+use Rattle.bi_blob.specs.Blob.{Reservation, boot_cpuid_phys, header_length, lacks_structure_size, totalsize, off_mem_rsvmap, strings_end}
+use Rattle.bi_blob.specs.Blob.{tree_blocks}
 use Rattle.bi_blob.specs.Blob.{Header, IsBlob, IsBlobWithin, reservations_at}
 use Rattle.bi_blob.specs.BlobFaults.{HasNoHeaderFault, HasReservations, IsStructureFault, IsBlobFault, InStructure}
 use Rattle.bi_blob.proofs.Blobs.Headers.{HasNoHeaderFault-Header}
@@ -52,7 +53,7 @@ header_length-least file = elim (cases_Bool (lacks_structure_size file)) [
   | inr has ↦ subst (λ b. 36 ≤ (if b then 36 else 40)) (sym has) (omega arith)
 ]
 
--- The root of a table is that of the tree whose table it is.
+-- The root of a table is that of the tree that the table is of.
 pub table_root : (file : List ℕ) (entries : List Entry) (root : Root FileNode) → IsTable file entries root →
     root_in (map (item_in file) entries) ≡ root
 table_root file entries root table = ap root_in table.items ∙ root_in-table root
@@ -85,7 +86,8 @@ pub is_blob : (limits : Limits) (file : List ℕ) (count : ℕ) (entries : List 
     IsBlob file (boot_cpuid_phys file) (reservations_at file (off_mem_rsvmap file) count) (root_in (map (item_in file) entries))
 is_blob limits file count entries used bytes fine has table =
     let header : Header file = HasNoHeaderFault-Header limits file fine in
-    subst (IsBlob file (boot_cpuid_phys file) (reservations_at file (off_mem_rsvmap file) count)) (sym (table_root file entries table.root table.is_table)) (record {
+    subst (IsBlob file (boot_cpuid_phys file) (reservations_at file (off_mem_rsvmap file) count))
+    (sym (table_root file entries table.root table.is_table)) (record {
       bytes = bytes;
       header = header;
       is_cpu = refl;

@@ -54,7 +54,7 @@ rank_before (first ∷ names) ordered (suc rank) (suc other) name other_name the
 abbrev named : List KeyedProperty → List Property
 named keyed = map (λ one. property_of one.1) keyed
 
--- A name whose rank is below others is before their names.
+-- A name with a rank below others is before their names.
 below_properties : (names : List (List ℕ)) → IsStrictlySortedBy (slice_cmp nat_cmp) names →
     (rank : ℕ) (name : List ℕ) → slice_get names rank ≡ Some name →
     (keyed : List KeyedProperty) → AllByRecursion (λ one. HasNumber names one.1 one.0) keyed →
@@ -66,7 +66,7 @@ below_properties names ascend rank name there (one ∷ keyed) numbered below =
     (sym below.0)))) tt)
     (below_properties names ascend rank name there keyed numbered.1 below.1)
 
--- Properties whose ranks ascend are in byte order of their names.
+-- Properties in ascending order of ranks are in byte order of their names.
 ascending_properties : (names : List (List ℕ)) → IsStrictlySortedBy (slice_cmp nat_cmp) names → (keyed : List KeyedProperty) →
     AllByRecursion (λ one. HasNumber names one.1 one.0) keyed → IsStrictlySortedBy nat_cmp (keys_of keyed) →
     T (is_sorted (slice_cmp nat_cmp) (named keyed))

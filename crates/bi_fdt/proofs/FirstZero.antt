@@ -10,7 +10,7 @@ use Rattle.bi_blob.specs.Tree.{HasNoZero}
 use Rattle.bi_blob.specs.BlobFaults.{HasName}
 use Rattle.bi_blob.proofs.Blobs.BytesBeforeZero.{HasNoZero-before_zero}
 
--- A window of bytes has a name exactly if it has a zero byte, and the name is the bytes before the first one.
+-- A window of bytes has a name if and only if it has a zero byte, and the name is the bytes before the first one.
 
 -- A list from an offset on and before an end.
 abbrev pub window : List ℕ → ℕ → ℕ → List ℕ

@@ -1,8 +1,10 @@
-use Rattle.std.proofs.Common.{◌≡◌, ℕ, zero, suc, ◌+◌, ◌-◌, ◌<◌, ◌≤◌, Some, slice_get, List, [], ◌∷◌, ◌++◌, length, map, drop, reverse, refl, sym}
+use Rattle.std.proofs.Common.{◌≡◌, ℕ, zero, suc, ◌+◌, ◌-◌, ◌<◌, ◌≤◌, Some, slice_get, List, [], ◌∷◌, ◌++◌, length, map, drop, reverse, refl}
+use Rattle.std.proofs.Common.{sym}
 use Rattle.std.proofs.Common.{ap, subst, ◌∙◌, arith}
 use Rattle.std.proofs.Math.ListN.{set}
 use Rattle.std.proofs.Math.Seq.{drop-append_seam}
-use Rattle.std.proofs.lemmas.List.{length-append, length-set, length-map, map-append, drop-map, append-nil, reverse-append, length-reverse, map_push}
+use Rattle.std.proofs.lemmas.List.{length-append, length-set, length-map, map-append, drop-map, append-nil, reverse-append, length-reverse}
+use Rattle.std.proofs.lemmas.List.{map_push}
 use Rattle.bi_blob.specs.Tree.{FileProperty, names}
 use Rattle.bi_blob.specs.Events.{FileNodeProperty, FileNodeEnd}
 use Rattle.bi_blob.specs.NameSets.{HoldsNames}
@@ -55,12 +57,13 @@ pub record IsNodeEntry (file : List ℕ) (entries : List Entry) (index : ℕ) (i
 pub node_entry : (file : List ℕ) (entries : List Entry) (index depth place : ℕ) (name : List ℕ) (items : List TableItem) →
     drop index (map (item_in file) entries) ≡ NodeItem depth place name ∷ items →
     IsNodeEntry file entries index (NodeItem depth place name) items
-node_entry file entries index depth place name items at = by_rest (drop index entries) refl (sym (drop-map (item_in file) index entries) ∙ at) where
-  by_rest : (rest : List Entry) → drop index entries ≡ rest → map (item_in file) rest ≡ NodeItem depth place name ∷ items →
-      IsNodeEntry file entries index (NodeItem depth place name) items
-  by_rest [] is e = absurd cc
-  by_rest (entry.Property p ∷ later) is e = absurd cc
-  by_rest (entry.Node n ∷ later) is e = record { n = n; later = later; is_at = is; is_item = cc; are_items = cc }
+node_entry file entries index depth place name items at = by_rest (drop index entries) refl
+    (sym (drop-map (item_in file) index entries) ∙ at) where
+      by_rest : (rest : List Entry) → drop index entries ≡ rest → map (item_in file) rest ≡ NodeItem depth place name ∷ items →
+          IsNodeEntry file entries index (NodeItem depth place name) items
+      by_rest [] is e = absurd cc
+      by_rest (entry.Property p ∷ later) is e = absurd cc
+      by_rest (entry.Node n ∷ later) is e = record { n = n; later = later; is_at = is; is_item = cc; are_items = cc }
 
 -- Where a list goes on after an index, the index is within it.
 pub drop-within : {X : Type 0} (xs later : List X) (index : ℕ) (x : X) → drop index xs ≡ x ∷ later → index + 1 + length later ≡ length xs
@@ -79,15 +82,18 @@ pub innermost_entry : (file : List ℕ) (growing : Growing) (o : OpenFileNode) (
     IsNodeEntry file growing.entries.items growing.innermost.entry (NodeItem (length outer) o.place o.name) (open_rest o outer)
 innermost_entry file growing o outer is =
     node_entry file growing.entries.items growing.innermost.entry (length outer) o.place o.name (open_rest o outer)
-    (ap (drop growing.innermost.entry) is.items ∙ open_entry growing.innermost (reverse growing.outer.items) (names o.children) o outer is.opened)
+    (ap (drop growing.innermost.entry) is.items
+    ∙ open_entry growing.innermost (reverse growing.outer.items) (names o.children) o outer is.opened)
 
 -- It is within the table.
 pub innermost_within : (file : List ℕ) (growing : Growing) (o : OpenFileNode) (outer : List OpenFileNode) →
     IsGrowing file growing o outer →
     growing.innermost.entry < length growing.entries.items
 innermost_within file growing o outer is =
-    let e : IsNodeEntry file growing.entries.items growing.innermost.entry (NodeItem (length outer) o.place o.name) (open_rest o outer) = innermost_entry file growing o outer is in
-    let long : growing.innermost.entry + 1 + length e.later ≡ length growing.entries.items = drop-within growing.entries.items e.later growing.innermost.entry (entry.Node e.n) e.is_at in
+    let e : IsNodeEntry file growing.entries.items growing.innermost.entry (NodeItem (length outer) o.place o.name)
+    (open_rest o outer) = innermost_entry file growing o outer is in
+    let long : growing.innermost.entry + 1 + length e.later
+    ≡ length growing.entries.items = drop-within growing.entries.items e.later growing.innermost.entry (entry.Node e.n) e.is_at in
     omega arith
 
 -- No more nodes are open than there are items, and so entries.
@@ -104,7 +110,8 @@ pub open_nodes_within : (file : List ℕ) (growing : Growing) (o : OpenFileNode)
     IsGrowing file growing o outer → length outer + 1 ≤ length growing.entries.items
 open_nodes_within file growing o outer is =
     let most : length outer + 1 ≤ length (items_of 0 (events_of_open_nodes o outer)) = open_nodes_few o outer in
-    let long : length growing.entries.items ≡ length (items_of 0 (events_of_open_nodes o outer)) = sym (simp length-map) ∙ ap length is.items in
+    let long : length growing.entries.items
+    ≡ length (items_of 0 (events_of_open_nodes o outer)) = sym (simp length-map) ∙ ap length is.items in
     omega arith
 
 -- As many outer nodes are kept as there are.
@@ -145,15 +152,19 @@ growing_begun file growing grown o outer name place new parent is entries item d
       ∙ ap (λ l. map (item_in file) growing.entries.items ++ l ∷ []) item
       ∙ ap (λ l. l ++ NodeItem (length outer + 1) place name ∷ []) is.items
       ∙ sym (items_of-open_nodes (new_node name place) o outer);
-  linked = subst (λ n. AreLinked file n 0 grown.entries.items) (more (length outer)) (subst (AreLinked file (length outer + 1 + 1) 0) (sym entries)
+  linked = subst (λ n. AreLinked file n 0 grown.entries.items) (more (length outer))
+      (subst (AreLinked file (length outer + 1 + 1) 0) (sym entries)
       (AreLinked-node file (length outer + 1) 0 growing.entries.items new deep none is.linked));
-  opened = subst (λ l. AreOpen (grown.innermost ∷ l) [] name (o ∷ outer)) (sym (ap reverse outers ∙ reverse-append growing.outer.items (parent ∷ []))) (
-    at ∙ sym (simp length-map) ∙ ap length is.items,
-    fresh,
-    AreOpen-first growing.innermost parent (reverse growing.outer.items) (names o.children) (names o.children ++ name ∷ []) o.name outer is.opened same holds,
-  );
+  opened = subst (λ l. AreOpen (grown.innermost ∷ l) [] name (o ∷ outer))
+      (sym (ap reverse outers ∙ reverse-append growing.outer.items (parent ∷ []))) (
+        at ∙ sym (simp length-map) ∙ ap length is.items,
+        fresh,
+        AreOpen-first growing.innermost parent (reverse growing.outer.items) (names o.children)
+            (names o.children ++ name ∷ []) o.name outer is.opened same holds,
+      );
   named = subst (AreTableNames file grown.entries.items) (ap (λ n. n.used) (sym named))
-      (subst (λ l. AreTableNames file l growing.names.used) (sym entries) (table_names-node file growing.entries.items growing.names.used new is.named));
+      (subst (λ l. AreTableNames file l growing.names.used) (sym entries)
+      (table_names-node file growing.entries.items growing.names.used new is.named));
   marks = subst (AreMarksBelow (length grown.entries.items)) (sym named)
       (bound_more (length growing.entries.items) (length grown.entries.items) growing.names.marks
       (omega (arith, ap length entries ∙ length-append growing.entries.items (entry.Node new ∷ []))) is.marks);
@@ -177,35 +188,48 @@ pub growing_property : (file : List ℕ) (growing grown : Growing) (o : OpenFile
     → HasMarked grown.names growing.innermost.entry (map (λ (q : FileProperty). q.name) o.properties ++ (property_in file p).name ∷ [])
     → IsGrowing file grown (with_one_property o (property_in file p)) outer
 growing_property file growing grown o outer p is childless entries same same_outer used number marks holds =
-    let found : IsNodeEntry file growing.entries.items growing.innermost.entry (NodeItem (length outer) o.place o.name) (open_rest o outer) = innermost_entry file growing o outer is in
-    let pushed : drop growing.innermost.entry (growing.entries.items ++ entry.Property p ∷ []) ≡ entry.Node found.n ∷ (found.later ++ entry.Property p ∷ []) =
+    let found : IsNodeEntry file growing.entries.items growing.innermost.entry (NodeItem (length outer) o.place o.name)
+    (open_rest o outer) = innermost_entry file growing o outer is in
+    let pushed : drop growing.innermost.entry (growing.entries.items ++ entry.Property p ∷ []) ≡ entry.Node found.n
+    ∷ (found.later ++ entry.Property p ∷ []) =
     drop-push growing.entries.items found.later growing.innermost.entry found.n (entry.Property p) found.is_at in
     let count : ℕ = length (growing.entries.items ++ entry.Property p ∷ []) - growing.innermost.entry - 1 in
     let m : NodeEntry = record found.n { property_count = count } in
     let written : grown.entries.items ≡ set (growing.entries.items ++ entry.Property p ∷ []) growing.innermost.entry (entry.Node m) =
-    entries found.n (get_at (growing.entries.items ++ entry.Property p ∷ []) (found.later ++ entry.Property p ∷ []) growing.innermost.entry (entry.Node found.n) pushed) in
-    let long : growing.innermost.entry + 1 + length found.later ≡ length growing.entries.items = drop-within growing.entries.items found.later growing.innermost.entry (entry.Node found.n) found.is_at in
-    let longer : length (growing.entries.items ++ entry.Property p ∷ []) ≡ length growing.entries.items + 1 = length-append growing.entries.items (entry.Property p ∷ []) in
+    entries found.n (get_at (growing.entries.items ++ entry.Property p ∷ []) (found.later ++ entry.Property p ∷ []) growing.innermost.entry
+    (entry.Node found.n) pushed) in
+    let long : growing.innermost.entry + 1 + length found.later
+    ≡ length growing.entries.items = drop-within growing.entries.items found.later growing.innermost.entry
+    (entry.Node found.n) found.is_at in
+    let longer : length (growing.entries.items ++ entry.Property p ∷ [])
+    ≡ length growing.entries.items + 1 = length-append growing.entries.items (entry.Property p ∷ []) in
     let deep : found.n.depth ≡ length outer = item_depth found.is_item in
-    let rest : map (item_in file) found.later ≡ map PropertyItem o.properties = found.are_items ∙ childless_items (length outer) o childless in
+    let rest : map (item_in file) found.later ≡ map PropertyItem o.properties = found.are_items
+    ∙ childless_items (length outer) o childless in
     record {
       items = ap (map (item_in file)) written
-          ∙ items-set file (growing.entries.items ++ entry.Property p ∷ []) (found.later ++ entry.Property p ∷ []) growing.innermost.entry found.n m pushed refl
+          ∙ items-set file (growing.entries.items ++ entry.Property p ∷ [])
+          (found.later ++ entry.Property p ∷ []) growing.innermost.entry found.n m pushed refl
           ∙ map-append (item_in file) growing.entries.items (entry.Property p ∷ [])
           ∙ ap (λ l. l ++ PropertyItem (property_in file p) ∷ []) is.items
           ∙ sym (items_of-append 0 (events_of_open_nodes o outer) (FileNodeProperty (property_in file p) ∷ []))
           ∙ ap (items_of 0) (sym (events_of_open_nodes-property o outer (property_in file p) childless));
       linked = subst (AreLinked file (length outer + 1) 0) (sym written)
-          (AreLinked-property file (length outer + 1) 0 growing.entries.items found.later growing.innermost.entry found.n m p found.is_at (ap (λ d. d + 1) deep)
+          (AreLinked-property file (length outer + 1) 0 growing.entries.items found.later growing.innermost.entry found.n m p
+          found.is_at (ap (λ d. d + 1) deep)
           (subst AreOnlyProperties (sym rest) (properties_alone o.properties)) refl refl (omega arith) is.linked);
       opened = subst (λ a. AreOpen (a ∷ reverse grown.outer.items) (names o.children) o.name outer) (sym same)
           (subst (λ l. AreOpen (growing.innermost ∷ reverse l.items) (names o.children) o.name outer) (sym same_outer) is.opened);
       named = subst (λ l. AreTableNames file l grown.names.used) (sym written)
-          (table_names-set file (growing.entries.items ++ entry.Property p ∷ []) (found.later ++ entry.Property p ∷ []) grown.names.used growing.innermost.entry found.n m pushed refl
+          (table_names-set file (growing.entries.items ++ entry.Property p ∷ [])
+          (found.later ++ entry.Property p ∷ []) grown.names.used growing.innermost.entry found.n m pushed refl
           (table_names-property file growing.entries.items growing.names.used grown.names.used p is.named used number));
       marks = marks;
-      properties = λ _. subst (λ mark. HasMarked grown.names mark (map (λ (q : FileProperty). q.name) (with_one_property o (property_in file p)).properties)) (ap (λ (a : OpenNode). a.entry) (sym same))
-          (subst (HasMarked grown.names growing.innermost.entry) (sym (map_push (λ (q : FileProperty). q.name) o.properties (property_in file p))) holds);
+      properties = λ _. subst (λ mark. HasMarked grown.names mark
+          (map (λ (q : FileProperty). q.name) (with_one_property o (property_in file p)).properties))
+          (ap (λ (a : OpenNode). a.entry) (sym same))
+          (subst (HasMarked grown.names growing.innermost.entry)
+          (sym (map_push (λ (q : FileProperty). q.name) o.properties (property_in file p))) holds);
     } where
       item_depth : {a b : ℕ} {x y : ℕ} {k l : List ℕ} → NodeItem a x k ≡ NodeItem b y l → a ≡ b
       item_depth e = cc
@@ -219,15 +243,18 @@ pub growing_ended : (file : List ℕ) (growing grown : Growing) (o : OpenFileNod
     → growing.outer.items ≡ grown.outer.items ++ parent ∷ [] → grown.innermost ≡ parent → grown.names ≡ growing.names
     → EndsInside file grown o outer
 growing_ended file growing grown o [] parent is entries outers same named =
-    absurd (subst (λ l. AreOpen (growing.innermost ∷ l) (names o.children) o.name []) (ap reverse outers ∙ reverse-append grown.outer.items (parent ∷ [])) is.opened)
+    absurd (subst (λ l. AreOpen (growing.innermost ∷ l) (names o.children) o.name [])
+    (ap reverse outers ∙ reverse-append grown.outer.items (parent ∷ [])) is.opened)
 growing_ended file growing grown o (up ∷ outer) parent is entries outers same named =
-    let found : IsNodeEntry file growing.entries.items growing.innermost.entry (NodeItem (length (up ∷ outer)) o.place o.name) (open_rest o (up ∷ outer)) = innermost_entry file growing o (up ∷ outer) is in
+    let found : IsNodeEntry file growing.entries.items growing.innermost.entry (NodeItem (length (up ∷ outer)) o.place o.name)
+    (open_rest o (up ∷ outer)) = innermost_entry file growing o (up ∷ outer) is in
     let m : NodeEntry = record found.n { after = length growing.entries.items } in
     let written : grown.entries.items ≡ set growing.entries.items growing.innermost.entry (entry.Node m) =
     entries found.n (get_at growing.entries.items found.later growing.innermost.entry (entry.Node found.n) found.is_at) in
     let deep : found.n.depth ≡ suc (length outer) = item_depth found.is_item in
     let opened : AreOpen (growing.innermost ∷ (parent ∷ reverse grown.outer.items)) (names o.children) o.name (up ∷ outer) =
-    subst (λ l. AreOpen (growing.innermost ∷ l) (names o.children) o.name (up ∷ outer)) (ap reverse outers ∙ reverse-append grown.outer.items (parent ∷ [])) is.opened in
+    subst (λ l. AreOpen (growing.innermost ∷ l) (names o.children) o.name (up ∷ outer))
+    (ap reverse outers ∙ reverse-append grown.outer.items (parent ∷ [])) is.opened in
     record {
       items = ap (map (item_in file)) written
           ∙ items-set file growing.entries.items found.later growing.innermost.entry found.n m found.is_at refl
@@ -235,17 +262,23 @@ growing_ended file growing grown o (up ∷ outer) parent is entries outers same 
           ∙ sym (append-nil (items_of 0 (events_of_open_nodes o (up ∷ outer))))
           ∙ sym (items_of-append 0 (events_of_open_nodes o (up ∷ outer)) (FileNodeEnd ∷ []))
           ∙ ap (items_of 0) (sym (events_of_open_nodes-child up o outer));
-      linked = subst (λ n. AreLinked file n 0 grown.entries.items) (fewer (length outer)) (subst (AreLinked file (suc (length outer)) 0) (sym written)
-          (AreLinked-end file (suc (length outer)) 0 (length growing.entries.items) growing.entries.items found.later growing.innermost.entry found.n m found.is_at deep
-          (ap (count_inside found.n.depth) found.are_items ∙ ap (λ d. count_inside d (open_rest o (up ∷ outer))) deep ∙ inside-open (suc (length outer)) o ∙ ap length (sym found.are_items))
+      linked = subst (λ n. AreLinked file n 0 grown.entries.items) (fewer (length outer))
+          (subst (AreLinked file (suc (length outer)) 0) (sym written)
+          (AreLinked-end file (suc (length outer)) 0
+          (length growing.entries.items) growing.entries.items found.later growing.innermost.entry found.n m found.is_at deep
+          (ap (count_inside found.n.depth) found.are_items ∙ ap (λ d. count_inside d (open_rest o (up ∷ outer))) deep
+          ∙ inside-open (suc (length outer)) o ∙ ap length (sym found.are_items))
           refl refl refl refl (omega arith) is.linked));
       opened = subst (λ a. AreOpen (a ∷ reverse grown.outer.items) (names (with_one_child up o).children) up.name outer) (sym same)
-          (subst (λ l. AreOpen (parent ∷ reverse grown.outer.items) l up.name outer) (sym (names-with_last up.children o.name (own_of o) o.children)) opened.2);
+          (subst (λ l. AreOpen (parent ∷ reverse grown.outer.items) l up.name outer)
+          (sym (names-with_last up.children o.name (own_of o) o.children)) opened.2);
       named = subst (AreTableNames file grown.entries.items) (ap (λ n. n.used) (sym named))
           (subst (λ l. AreTableNames file l growing.names.used) (sym written)
-          (table_names-set file growing.entries.items found.later growing.names.used growing.innermost.entry found.n m found.is_at refl is.named));
+          (table_names-set file growing.entries.items found.later growing.names.used growing.innermost.entry found.n
+          m found.is_at refl is.named));
       marks = subst (AreMarksBelow (length grown.entries.items)) (sym named)
-          (subst (λ n. AreMarksBelow n growing.names) (sym (ap length written ∙ length-set growing.entries.items growing.innermost.entry (entry.Node m))) is.marks);
+          (subst (λ n. AreMarksBelow n growing.names)
+          (sym (ap length written ∙ length-set growing.entries.items growing.innermost.entry (entry.Node m))) is.marks);
       properties = λ none. absurd (some (names up.children) o.name (sym (names-with_last up.children o.name (own_of o) o.children) ∙ none));
     } where
       item_depth : {a b : ℕ} {x y : ℕ} {k l : List ℕ} → NodeItem a x k ≡ NodeItem b y l → a ≡ b
@@ -271,7 +304,8 @@ growing_finished file growing finished o (up ∷ outer) is written none named =
     subst (λ l. AreOpen (growing.innermost ∷ reverse l) (names o.children) o.name (up ∷ outer)) none is.opened in
     absurd opened.2
 growing_finished file growing finished o [] is written none named =
-    let found : IsNodeEntry file growing.entries.items growing.innermost.entry (NodeItem 0 o.place o.name) (open_rest o []) = innermost_entry file growing o [] is in
+    let found : IsNodeEntry file growing.entries.items growing.innermost.entry (NodeItem 0 o.place o.name)
+    (open_rest o []) = innermost_entry file growing o [] is in
     let m : NodeEntry = record found.n { after = length growing.entries.items } in
     let same : finished.entries.items ≡ set growing.entries.items growing.innermost.entry (entry.Node m) =
     written found.n (get_at growing.entries.items found.later growing.innermost.entry (entry.Node found.n) found.is_at) in
@@ -282,12 +316,15 @@ growing_finished file growing finished o [] is written none named =
             ∙ items-set file growing.entries.items found.later growing.innermost.entry found.n m found.is_at refl
             ∙ is.items;
         linked = subst (AreLinked file 0 0) (sym same)
-            (AreLinked-end file 0 0 (length growing.entries.items) growing.entries.items found.later growing.innermost.entry found.n m found.is_at deep
-            (ap (count_inside found.n.depth) found.are_items ∙ ap (λ d. count_inside d (open_rest o [])) deep ∙ inside-open 0 o ∙ ap length (sym found.are_items))
+            (AreLinked-end file 0 0 (length growing.entries.items) growing.entries.items found.later
+            growing.innermost.entry found.n m found.is_at deep
+            (ap (count_inside found.n.depth) found.are_items ∙ ap (λ d. count_inside d (open_rest o [])) deep ∙ inside-open 0 o
+            ∙ ap length (sym found.are_items))
             refl refl refl refl (omega arith) is.linked);
         named = subst (AreTableNames file finished.entries.items) (ap (λ n. n.used) (sym named))
             (subst (λ l. AreTableNames file l growing.names.used) (sym same)
-            (table_names-set file growing.entries.items found.later growing.names.used growing.innermost.entry found.n m found.is_at refl is.named));
+            (table_names-set file growing.entries.items found.later growing.names.used growing.innermost.entry found.n
+            m found.is_at refl is.named));
       },
     ) where
       item_depth : {a b : ℕ} {x y : ℕ} {k l : List ℕ} → NodeItem a x k ≡ NodeItem b y l → a ≡ b

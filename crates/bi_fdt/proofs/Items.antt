@@ -35,7 +35,7 @@ depth_after-append depth (FileNodeStart place name ∷ es) fs = depth_after-appe
 depth_after-append depth (FileNodeProperty property ∷ es) fs = depth_after-append depth es fs
 depth_after-append depth (FileNodeEnd ∷ es) fs = depth_after-append (depth - 1) es fs
 
--- The items of nodes of this depth.
+-- The items of nodes at this depth.
 abbrev pub node_items : ℕ → Nodes FileNode → List TableItem
 node_items depth none = []
 node_items depth (node name own children later) =
@@ -60,7 +60,8 @@ items_of-nodes depth (node name own children later) es =
     let closed : (depth + 1) - 1 ≡ depth = omega arith in
     let rest : List FileEvent = FileNodeEnd ∷ (file_events later ++ es) in
     ap (λ l. NodeItem depth own.place name ∷ l)
-    (ap (items_of (depth + 1)) (append_assoc (map FileNodeProperty own.properties) (file_events children ++ (FileNodeEnd ∷ file_events later)) es
+    (ap (items_of (depth + 1)) (append_assoc (map FileNodeProperty own.properties)
+    (file_events children ++ (FileNodeEnd ∷ file_events later)) es
     ∙ ap (λ l. map FileNodeProperty own.properties ++ l) (append_assoc (file_events children) (FileNodeEnd ∷ file_events later) es))
     ∙ items_of-properties (depth + 1) own.properties (file_events children ++ rest)
     ∙ ap (λ l. map PropertyItem own.properties ++ l)
@@ -75,7 +76,8 @@ depth_after-nodes depth none es = refl
 depth_after-nodes depth (node name own children later) es =
     let closed : (depth + 1) - 1 ≡ depth = omega arith in
     let rest : List FileEvent = FileNodeEnd ∷ (file_events later ++ es) in
-    ap (depth_after (depth + 1)) (append_assoc (map FileNodeProperty own.properties) (file_events children ++ (FileNodeEnd ∷ file_events later)) es
+    ap (depth_after (depth + 1)) (append_assoc (map FileNodeProperty own.properties)
+    (file_events children ++ (FileNodeEnd ∷ file_events later)) es
     ∙ ap (λ l. map FileNodeProperty own.properties ++ l) (append_assoc (file_events children) (FileNodeEnd ∷ file_events later) es))
     ∙ depth_after-properties (depth + 1) own.properties (file_events children ++ rest)
     ∙ depth_after-nodes (depth + 1) children rest
@@ -91,7 +93,8 @@ items_of-open depth o =
     ap (λ l. NodeItem depth o.place o.name ∷ l)
     (items_of-properties (depth + 1) o.properties (file_events o.children)
     ∙ ap (λ l. map PropertyItem o.properties ++ l)
-    (ap (items_of (depth + 1)) (sym (append-nil (file_events o.children))) ∙ items_of-nodes (depth + 1) o.children [] ∙ append-nil (node_items (depth + 1) o.children)))
+    (ap (items_of (depth + 1)) (sym (append-nil (file_events o.children))) ∙ items_of-nodes (depth + 1) o.children []
+    ∙ append-nil (node_items (depth + 1) o.children)))
 
 depth_after-open : (depth : ℕ) (o : OpenFileNode) → depth_after depth (events_of_open_node o) ≡ depth + 1
 depth_after-open depth o =
@@ -121,7 +124,8 @@ items_of-open_nodes o parent outer =
 pub inside-properties : (depth : ℕ) (properties : List FileProperty) (items : List TableItem) →
     count_inside depth (map PropertyItem properties ++ items) ≡ length properties + count_inside depth items
 inside-properties depth [] items = omega arith
-inside-properties depth (p ∷ ps) items = let e : count_inside depth (map PropertyItem ps ++ items) ≡ length ps + count_inside depth items = inside-properties depth ps items in omega arith
+inside-properties depth (p ∷ ps) items = let e : count_inside depth (map PropertyItem ps ++ items)
+    ≡ length ps + count_inside depth items = inside-properties depth ps items in omega arith
 
 pub inside-deeper : (depth own place : ℕ) (name : List ℕ) (items : List TableItem) → depth < own →
     count_inside depth (NodeItem own place name ∷ items) ≡ count_inside depth items + 1
@@ -140,14 +144,17 @@ inside-nodes depth own (node name n children later) items deeper =
     let properties : List TableItem = map PropertyItem n.properties in
     let shape : (properties ++ (below ++ after)) ++ items ≡ properties ++ (below ++ (after ++ items)) =
     append_assoc properties (below ++ after) items ∙ ap (λ l. properties ++ l) (append_assoc below after items) in
-    let one : count_inside depth (NodeItem own n.place name ∷ ((properties ++ (below ++ after)) ++ items)) ≡ count_inside depth (properties ++ (below ++ (after ++ items))) + 1 =
+    let one : count_inside depth (NodeItem own n.place name ∷ ((properties ++ (below ++ after)) ++ items))
+    ≡ count_inside depth (properties ++ (below ++ (after ++ items))) + 1 =
     inside-deeper depth own n.place name ((properties ++ (below ++ after)) ++ items) deeper ∙ ap (λ l. count_inside depth l + 1) shape in
-    let two : count_inside depth (properties ++ (below ++ (after ++ items))) ≡ length n.properties + count_inside depth (below ++ (after ++ items)) =
+    let two : count_inside depth (properties ++ (below ++ (after ++ items)))
+    ≡ length n.properties + count_inside depth (below ++ (after ++ items)) =
     inside-properties depth n.properties (below ++ (after ++ items)) in
     let three : count_inside depth (below ++ (after ++ items)) ≡ length below + count_inside depth (after ++ items) =
     inside-nodes depth (own + 1) children (after ++ items) (omega arith) in
     let four : count_inside depth (after ++ items) ≡ length after + count_inside depth items = inside-nodes depth own later items deeper in
-    let long : length (properties ++ (below ++ after)) ≡ length n.properties + (length below + length after) = simp (length-append, length-map) in
+    let long : length (properties ++ (below ++ after))
+    ≡ length n.properties + (length below + length after) = simp (length-append, length-map) in
     omega arith
 
 -- All items of an open node after its beginning are inside it.
@@ -156,14 +163,15 @@ pub inside-open : (depth : ℕ) (o : OpenFileNode) →
     ≡ length (map PropertyItem o.properties ++ node_items (depth + 1) o.children)
 inside-open depth o =
     let below : List TableItem = node_items (depth + 1) o.children in
-    let one : count_inside depth (map PropertyItem o.properties ++ below) ≡ length o.properties + count_inside depth below = inside-properties depth o.properties below in
+    let one : count_inside depth (map PropertyItem o.properties ++ below)
+    ≡ length o.properties + count_inside depth below = inside-properties depth o.properties below in
     let two : count_inside depth (below ++ []) ≡ length below + 0 = inside-nodes depth (depth + 1) o.children [] (omega arith) in
     let same : below ++ [] ≡ below = append-nil below in
     let three : count_inside depth below ≡ length below = ap (count_inside depth) (sym same) ∙ two ∙ omega arith in
     let long : length (map PropertyItem o.properties ++ below) ≡ length o.properties + length below = simp (length-append, length-map) in
     omega arith
 
--- An open node without children has its properties alone after its beginning.
+-- An open node without children has only its properties after its beginning.
 pub childless_items : (depth : ℕ) (o : OpenFileNode) → names o.children ≡ [] →
     map PropertyItem o.properties ++ node_items (depth + 1) o.children ≡ map PropertyItem o.properties
 childless_items depth o childless =

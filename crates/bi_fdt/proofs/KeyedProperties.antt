@@ -18,7 +18,8 @@ use Rattle.bi_blob.specs.Tree.{FileProperty, property_of, AreDistinct}
 use Rattle.bi_fdt.specs.declared.table.NodeEntry.{NodeEntry}
 use Rattle.bi_fdt.specs.Fields.{IsNodeOf}
 use Rattle.bi_fdt.specs.Numbers.{HasNumber}
-use Rattle.bi_fdt.specs.Order.{KeyedProperty, with_indices_from, pairs_of_node, AreInOrder, IsNumberOrder, with_keyed_property, keyed_properties}
+use Rattle.bi_fdt.specs.Order.{KeyedProperty, with_indices_from, pairs_of_node, AreInOrder, IsNumberOrder, with_keyed_property}
+use Rattle.bi_fdt.specs.Order.{keyed_properties}
 use Rattle.bi_fdt.specs.Order.{AreByNumber}
 use Rattle.bi_fdt.specs.Table.{item_in}
 use Rattle.bi_fdt.specs.TableItems.{TableItem, NodeItem, PropertyItem, first_properties}
@@ -240,7 +241,8 @@ keyed_here : (table : List TableItem) (pairs : Pairs) (place : ℕ) (d : ℕ × 
     (keyed_properties table (drop (place + 1) pairs))
 keyed_here table pairs place d within =
     ap (keyed_properties table) (drop-cons pairs place d within)
-    ∙ ap (λ n. with_keyed_property (get_or pairs place d).0 (slice_get table (get_or pairs place d).1) (keyed_properties table (drop n pairs)))
+    ∙ ap (λ n. with_keyed_property (get_or pairs place d).0 (slice_get table (get_or pairs place d).1)
+    (keyed_properties table (drop n pairs)))
     (sym (add-one place))
 
 -- The item of an entry.

@@ -23,8 +23,10 @@ inside-most depth (PropertyItem p ∷ items) = let rest : count_inside depth ite
 inside-most depth (NodeItem own place name ∷ items) =
     let rest : count_inside depth items ≤ length items = inside-most depth items in
     elim (cases_lt depth own) [
-      | inl deeper ↦ (let e : count_inside depth (NodeItem own place name ∷ items) ≡ count_inside depth items + 1 = inside-deeper depth own place name items deeper in omega arith)
-      | inr stops ↦ (let e : count_inside depth (NodeItem own place name ∷ items) ≡ 0 = inside-stops depth own place name items stops in omega arith)
+      | inl deeper ↦ (let e : count_inside depth (NodeItem own place name ∷ items)
+          ≡ count_inside depth items + 1 = inside-deeper depth own place name items deeper in omega arith)
+      | inr stops ↦ (let e : count_inside depth (NodeItem own place name ∷ items)
+          ≡ 0 = inside-stops depth own place name items stops in omega arith)
     ]
 
 -- Where some items are not inside, one more item at the end changes nothing.
@@ -33,7 +35,8 @@ pub inside-push : (depth : ℕ) (items : List TableItem) (item : TableItem) → 
 inside-push depth [] item some = absurd (omega arith)
 inside-push depth (PropertyItem p ∷ items) item some = ap (λ n. n + 1) (inside-push depth items item (omega arith))
 inside-push depth (NodeItem own place name ∷ items) item some = elim (cases_lt depth own) [
-  | inl deeper ↦ (let e : count_inside depth (NodeItem own place name ∷ items) ≡ count_inside depth items + 1 = inside-deeper depth own place name items deeper in
+  | inl deeper ↦ (let e : count_inside depth (NodeItem own place name ∷ items)
+      ≡ count_inside depth items + 1 = inside-deeper depth own place name items deeper in
       inside-deeper depth own place name (items ++ item ∷ []) deeper
       ∙ ap (λ n. n + 1) (inside-push depth items item (omega arith))
       ∙ sym e)
@@ -45,10 +48,13 @@ pub inside-all : (depth : ℕ) (items more : List TableItem) → count_inside de
     count_inside depth (items ++ more) ≡ length items + count_inside depth more
 inside-all depth [] more all = omega arith
 inside-all depth (PropertyItem p ∷ items) more all =
-    let e : count_inside depth (items ++ more) ≡ length items + count_inside depth more = inside-all depth items more (omega arith) in omega arith
+    let e : count_inside depth (items ++ more)
+    ≡ length items + count_inside depth more = inside-all depth items more (omega arith) in omega arith
 inside-all depth (NodeItem own place name ∷ items) more all = elim (cases_lt depth own) [
-  | inl deeper ↦ (let one : count_inside depth (NodeItem own place name ∷ items) ≡ count_inside depth items + 1 = inside-deeper depth own place name items deeper in
-      let two : count_inside depth (NodeItem own place name ∷ (items ++ more)) ≡ count_inside depth (items ++ more) + 1 = inside-deeper depth own place name (items ++ more) deeper in
+  | inl deeper ↦ (let one : count_inside depth (NodeItem own place name ∷ items)
+      ≡ count_inside depth items + 1 = inside-deeper depth own place name items deeper in
+      let two : count_inside depth (NodeItem own place name ∷ (items ++ more))
+      ≡ count_inside depth (items ++ more) + 1 = inside-deeper depth own place name (items ++ more) deeper in
       let e : count_inside depth (items ++ more) ≡ length items + count_inside depth more = inside-all depth items more (omega arith) in
       omega arith)
   | inr stops ↦ (let one : count_inside depth (NodeItem own place name ∷ items) ≡ 0 = inside-stops depth own place name items stops in
@@ -70,11 +76,13 @@ inside-some depth own place name (suc index) (PropertyItem p ∷ items) later at
 inside-some depth own place name (suc index) (NodeItem other other_place other_name ∷ items) later at stops =
     let rest : count_inside depth items < length items = inside-some depth own place name index items later at stops in
     elim (cases_lt depth other) [
-      | inl deeper ↦ (let e : count_inside depth (NodeItem other other_place other_name ∷ items) ≡ count_inside depth items + 1 = inside-deeper depth other other_place other_name items deeper in omega arith)
-      | inr over ↦ (let e : count_inside depth (NodeItem other other_place other_name ∷ items) ≡ 0 = inside-stops depth other other_place other_name items over in omega arith)
+      | inl deeper ↦ (let e : count_inside depth (NodeItem other other_place other_name ∷ items)
+          ≡ count_inside depth items + 1 = inside-deeper depth other other_place other_name items deeper in omega arith)
+      | inr over ↦ (let e : count_inside depth (NodeItem other other_place other_name ∷ items)
+          ≡ 0 = inside-stops depth other other_place other_name items over in omega arith)
     ]
 
--- A node at the end is no first property.
+-- A node at the end is not a first property.
 first-node : (items : List TableItem) (depth place : ℕ) (name : List ℕ) →
     first_properties (items ++ NodeItem depth place name ∷ []) ≡ first_properties items
 first-node [] depth place name = refl
@@ -90,9 +98,10 @@ first-after_node [] later index own place name p at = absurd (by_index index at)
   by_index (suc i) e = cc
 first-after_node (NodeItem other other_place other_name ∷ items) later index own place name p at = refl
 first-after_node (PropertyItem q ∷ items) later zero own place name p at = absurd cc
-first-after_node (PropertyItem q ∷ items) later (suc index) own place name p at = ap (λ l. q ∷ l) (first-after_node items later index own place name p at)
+first-after_node (PropertyItem q ∷ items) later (suc index) own place name p at = ap (λ l. q ∷ l)
+    (first-after_node items later index own place name p at)
 
--- Properties alone.
+-- Only properties.
 abbrev pub AreOnlyProperties : List TableItem → Type 0
 AreOnlyProperties items = length (first_properties items) ≡ length items
 
@@ -104,7 +113,8 @@ first-property : (items : List TableItem) (p : FileProperty) → AreOnlyProperti
     length (first_properties (items ++ PropertyItem p ∷ [])) ≡ length items + 1
 first-property [] p all = refl
 first-property (PropertyItem q ∷ items) p all =
-    let rest : length (first_properties (items ++ PropertyItem p ∷ [])) ≡ length items + 1 = first-property items p (omega arith) in omega arith
+    let rest : length (first_properties (items ++ PropertyItem p ∷ []))
+    ≡ length items + 1 = first-property items p (omega arith) in omega arith
 first-property (NodeItem own place name ∷ items) p all = absurd (omega arith)
 
 inside-properties_all : (depth : ℕ) (items : List TableItem) → AreOnlyProperties items → count_inside depth items ≡ length items
@@ -140,7 +150,8 @@ pub items-set : (file : List ℕ) (entries later : List Entry) (index : ℕ) (n 
     item_in file (entry.Node m) ≡ item_in file (entry.Node n) →
     map (item_in file) (set entries index (entry.Node m)) ≡ map (item_in file) entries
 items-set file entries later index n m at same =
-    map-set_same (item_in file) entries index (entry.Node m) (entry.Node m) (same ∙ sym (ap (item_in file) (item-at entries later index n (entry.Node m) at)))
+    map-set_same (item_in file) entries index (entry.Node m) (entry.Node m)
+    (same ∙ sym (ap (item_in file) (item-at entries later index n (entry.Node m) at)))
 
 -- The numbers of a node fit still after one more item that is neither its property nor inside it.
 link-same : (opened at : ℕ) (n : NodeEntry) (items : List TableItem) (item : TableItem) →
@@ -166,17 +177,30 @@ link-node opened at n items place name linked =
       | inl some ↦ (
           let inside : count_inside n.depth (items ++ new ∷ []) ≡ count_inside n.depth items = inside-push n.depth items new some in
           let after : n.after ≡ at + 1 + count_inside n.depth items = linked.before_end some in
-          record { count = linked.count ∙ ap length (sym (first-node items opened place name)); before_end = λ _. omega arith; at_end = λ _. omega arith })
+          record {
+            count = linked.count ∙ ap length (sym (first-node items opened place name));
+            before_end = λ _. omega arith;
+            at_end = λ _. omega arith;
+          })
       | inr all ↦ (
-          let inside : count_inside n.depth (items ++ new ∷ []) ≡ length items + count_inside n.depth (new ∷ []) = inside-all n.depth items (new ∷ []) (omega arith) in
+          let inside : count_inside n.depth (items ++ new ∷ [])
+          ≡ length items + count_inside n.depth (new ∷ []) = inside-all n.depth items (new ∷ []) (omega arith) in
           elim (cases_lt n.depth opened) [
             | inl deeper ↦ (
                 let one : count_inside n.depth (new ∷ []) ≡ 0 + 1 = inside-deeper n.depth opened place name [] deeper in
-                record { count = linked.count ∙ ap length (sym (first-node items opened place name)); before_end = λ within. absurd (omega arith); at_end = λ closed. absurd (omega arith) })
+                record {
+                  count = linked.count ∙ ap length (sym (first-node items opened place name));
+                  before_end = λ within. absurd (omega arith);
+                  at_end = λ closed. absurd (omega arith);
+                })
             | inr stops ↦ (
                 let none : count_inside n.depth (new ∷ []) ≡ 0 = inside-stops n.depth opened place name [] stops in
                 let after : n.after ≡ at + 1 + count_inside n.depth items = linked.at_end stops in
-                record { count = linked.count ∙ ap length (sym (first-node items opened place name)); before_end = λ _. omega arith; at_end = λ _. omega arith })
+                record {
+                  count = linked.count ∙ ap length (sym (first-node items opened place name));
+                  before_end = λ _. omega arith;
+                  at_end = λ _. omega arith;
+                })
           ])
     ]
 
@@ -187,7 +211,8 @@ AreLinked-node file opened at [] new deep none linked = (
   record { count = none; before_end = λ (within : 0 < 0). absurd (omega arith); at_end = λ closed. absurd (omega arith) },
   tt,
 )
-AreLinked-node file opened at (entry.Property p ∷ entries) new deep none linked = AreLinked-node file opened (at + 1) entries new deep none linked
+AreLinked-node file opened at (entry.Property p ∷ entries) new deep none linked = AreLinked-node file opened
+    (at + 1) entries new deep none linked
 AreLinked-node file opened at (entry.Node n ∷ entries) new deep none linked = (
   subst (IsLinked (opened + 1) at n) (sym (map-append (item_in file) entries (entry.Node new ∷ [])))
       (subst (λ d. IsLinked (opened + 1) at n (map (item_in file) entries ++ NodeItem d new.place (node_name_in file new) ∷ [])) (sym deep)
@@ -206,14 +231,17 @@ AreLinked-property file opened at [] later (suc index) n m p here deep all same 
 AreLinked-property file opened at (e ∷ entries) later zero n m p here deep all same same_item counted linked =
     let rest : entries ≡ later = cc in
     let long : length (map (item_in file) later) ≡ length later = simp length-map in
-    let pushed : map (item_in file) (entries ++ entry.Property p ∷ []) ≡ map (item_in file) later ++ PropertyItem (property_in file p) ∷ [] =
+    let pushed : map (item_in file) (entries ++ entry.Property p ∷ []) ≡ map (item_in file) later
+    ++ PropertyItem (property_in file p) ∷ [] =
     ap (λ l. map (item_in file) (l ++ entry.Property p ∷ [])) rest ∙ map-append (item_in file) later (entry.Property p ∷ []) in
-    let more : length (first_properties (map (item_in file) later ++ PropertyItem (property_in file p) ∷ [])) ≡ length (map (item_in file) later) + 1 =
+    let more : length (first_properties (map (item_in file) later ++ PropertyItem (property_in file p) ∷ []))
+    ≡ length (map (item_in file) later) + 1 =
     first-property (map (item_in file) later) (property_in file p) all in
     let longer : length (map (item_in file) later ++ PropertyItem (property_in file p) ∷ []) ≡ length (map (item_in file) later) + 1 =
     length-append (map (item_in file) later) (PropertyItem (property_in file p) ∷ []) in
     let every : AreOnlyProperties (map (item_in file) later ++ PropertyItem (property_in file p) ∷ []) = omega arith in
-    let inside : count_inside m.depth (map (item_in file) later ++ PropertyItem (property_in file p) ∷ []) ≡ length (map (item_in file) later ++ PropertyItem (property_in file p) ∷ []) =
+    let inside : count_inside m.depth (map (item_in file) later ++ PropertyItem (property_in file p) ∷ [])
+    ≡ length (map (item_in file) later ++ PropertyItem (property_in file p) ∷ []) =
     inside-properties_all m.depth (map (item_in file) later ++ PropertyItem (property_in file p) ∷ []) every in (
       subst (IsLinked opened at m) (sym pushed) (record {
         count = omega arith;
@@ -228,11 +256,14 @@ AreLinked-property file opened at (entry.Node o ∷ entries) later (suc index) n
     let new : TableItem = PropertyItem (property_in file p) in
     let there : drop index (map (item_in file) entries) ≡ NodeItem n.depth n.place (node_name_in file n) ∷ map (item_in file) later =
     drop-map (item_in file) index entries ∙ ap (map (item_in file)) here in
-    let inner : drop index (entries ++ entry.Property p ∷ []) ≡ entry.Node n ∷ (later ++ entry.Property p ∷ []) = drop-push entries later index n (entry.Property p) here in
+    let inner : drop index (entries ++ entry.Property p ∷ []) ≡ entry.Node n
+    ∷ (later ++ entry.Property p ∷ []) = drop-push entries later index n (entry.Property p) here in
     let items : map (item_in file) (set (entries ++ entry.Property p ∷ []) index (entry.Node m)) ≡ map (item_in file) entries ++ new ∷ [] =
-    items-set file (entries ++ entry.Property p ∷ []) (later ++ entry.Property p ∷ []) index n m inner same_item ∙ map-append (item_in file) entries (entry.Property p ∷ []) in
+    items-set file (entries ++ entry.Property p ∷ []) (later ++ entry.Property p ∷ []) index n m inner same_item
+    ∙ map-append (item_in file) entries (entry.Property p ∷ []) in
     let first : first_properties (map (item_in file) entries ++ new ∷ []) ≡ first_properties (map (item_in file) entries) =
-    first-after_node (map (item_in file) entries) (map (item_in file) later) index n.depth n.place (node_name_in file n) (property_in file p) there in (
+    first-after_node (map (item_in file) entries) (map (item_in file) later) index n.depth n.place (node_name_in file n)
+    (property_in file p) there in (
       subst (IsLinked opened at o) (sym items) (by_end (map (item_in file) entries) (map (item_in file) later) index linked.0 first there),
       AreLinked-property file opened (at + 1) entries later index n m p here deep all same same_item counted linked.1,
     ) where
@@ -242,16 +273,19 @@ AreLinked-property file opened at (entry.Node o ∷ entries) later (suc index) n
           IsLinked opened at o (items ++ PropertyItem (property_in file p) ∷ [])
       by_end items later index linked first there =
           let most : count_inside o.depth items ≤ length items = inside-most o.depth items in
-          let longer : length (items ++ PropertyItem (property_in file p) ∷ []) ≡ length items + 1 = length-append items (PropertyItem (property_in file p) ∷ []) in
+          let longer : length (items ++ PropertyItem (property_in file p) ∷ [])
+          ≡ length items + 1 = length-append items (PropertyItem (property_in file p) ∷ []) in
           elim (cases_lt (count_inside o.depth items) (length items)) [
             | inl some ↦ link-same opened at o items (PropertyItem (property_in file p)) first some linked
             | inr every ↦ (
-                let inside : count_inside o.depth (items ++ PropertyItem (property_in file p) ∷ []) ≡ length items + count_inside o.depth (PropertyItem (property_in file p) ∷ []) =
+                let inside : count_inside o.depth (items ++ PropertyItem (property_in file p) ∷ [])
+                ≡ length items + count_inside o.depth (PropertyItem (property_in file p) ∷ []) =
                 inside-all o.depth items (PropertyItem (property_in file p) ∷ []) (omega arith) in
                 record {
                   count = linked.count ∙ ap length (sym first);
                   before_end = λ within. absurd (omega arith);
-                  at_end = λ closed. (let some : count_inside o.depth items < length items = inside-some o.depth n.depth n.place (node_name_in file n) index items later there (omega arith) in absurd (omega arith));
+                  at_end = λ closed. (let some : count_inside o.depth items < length items = inside-some o.depth n.depth n.place
+                      (node_name_in file n) index items later there (omega arith) in absurd (omega arith));
                 })
           ]
 
@@ -263,11 +297,14 @@ lower file depth at [] all linked = tt
 lower file depth at (entry.Property p ∷ entries) all linked = lower file depth (at + 1) entries (omega arith) linked
 lower file depth at (entry.Node n ∷ entries) all linked =
     elim (cases_lt depth n.depth) [
-      | inl deeper ↦ (let e : count_inside depth (NodeItem n.depth n.place (node_name_in file n) ∷ map (item_in file) entries) ≡ count_inside depth (map (item_in file) entries) + 1 = inside-deeper depth n.depth n.place (node_name_in file n) (map (item_in file) entries) deeper in (
-        record { count = linked.0.count; before_end = linked.0.before_end; at_end = λ _. linked.0.at_end (omega arith) },
-        lower file depth (at + 1) entries (omega arith) linked.1,
-      ))
-      | inr stops ↦ (let e : count_inside depth (NodeItem n.depth n.place (node_name_in file n) ∷ map (item_in file) entries) ≡ 0 = inside-stops depth n.depth n.place (node_name_in file n) (map (item_in file) entries) stops in absurd (omega arith))
+      | inl deeper ↦ (let e : count_inside depth (NodeItem n.depth n.place (node_name_in file n) ∷ map (item_in file) entries)
+          ≡ count_inside depth (map (item_in file) entries) + 1 = inside-deeper depth n.depth n.place (node_name_in file n)
+          (map (item_in file) entries) deeper in (
+            record { count = linked.0.count; before_end = linked.0.before_end; at_end = λ _. linked.0.at_end (omega arith) },
+            lower file depth (at + 1) entries (omega arith) linked.1,
+          ))
+      | inr stops ↦ (let e : count_inside depth (NodeItem n.depth n.place (node_name_in file n) ∷ map (item_in file) entries)
+          ≡ 0 = inside-stops depth n.depth n.place (node_name_in file n) (map (item_in file) entries) stops in absurd (omega arith))
     ]
 
 -- The numbers of a table fit still after its innermost open node has ended.
@@ -284,8 +321,10 @@ AreLinked-end file opened at total (e ∷ entries) later zero n m here deep all 
     let whole : AreLinked file (opened + 1) at (entry.Node n ∷ later) = subst (AreLinked file (opened + 1) at) here linked in
     let long : length (map (item_in file) later) ≡ length later = simp length-map in
     let same_long : length entries ≡ length later = ap length rest in
-    let inside : count_inside m.depth (map (item_in file) later) ≡ length (map (item_in file) later) = ap (λ d. count_inside d (map (item_in file) later)) same ∙ all in
-    let inside_opened : count_inside opened (map (item_in file) later) ≡ length (map (item_in file) later) = ap (λ d. count_inside d (map (item_in file) later)) (sym deep) ∙ all in
+    let inside : count_inside m.depth (map (item_in file) later)
+    ≡ length (map (item_in file) later) = ap (λ d. count_inside d (map (item_in file) later)) same ∙ all in
+    let inside_opened : count_inside opened (map (item_in file) later)
+    ≡ length (map (item_in file) later) = ap (λ d. count_inside d (map (item_in file) later)) (sym deep) ∙ all in
     subst (λ l. AreLinked file opened at (entry.Node m ∷ l)) (sym rest) (
       record {
         count = same_count ∙ whole.0.count;
@@ -294,7 +333,8 @@ AreLinked-end file opened at total (e ∷ entries) later zero n m here deep all 
       },
       lower file opened (at + 1) later inside_opened whole.1,
     )
-AreLinked-end file opened at total (entry.Property q ∷ entries) later (suc index) n m here deep all same same_item same_count after end linked =
+AreLinked-end file opened at total (entry.Property q ∷ entries) later
+    (suc index) n m here deep all same same_item same_count after end linked =
     AreLinked-end file opened (at + 1) total entries later index n m here deep all same same_item same_count after (omega arith) linked
 AreLinked-end file opened at total (entry.Node o ∷ entries) later (suc index) n m here deep all same same_item same_count after end linked =
     let there : drop index (map (item_in file) entries) ≡ NodeItem n.depth n.place (node_name_in file n) ∷ map (item_in file) later =
@@ -302,7 +342,9 @@ AreLinked-end file opened at total (entry.Node o ∷ entries) later (suc index) 
       subst (IsLinked opened at o) (sym (items-set file entries later index n m here same_item)) (record {
         count = linked.0.count;
         before_end = linked.0.before_end;
-        at_end = λ closed. linked.0.before_end (inside-some o.depth n.depth n.place (node_name_in file n) index (map (item_in file) entries) (map (item_in file) later) there (omega arith));
+        at_end = λ closed. linked.0.before_end
+            (inside-some o.depth n.depth n.place (node_name_in file n) index (map (item_in file) entries)
+            (map (item_in file) later) there (omega arith));
       }),
       AreLinked-end file opened (at + 1) total entries later index n m here deep all same same_item same_count after (omega arith) linked.1,
     )

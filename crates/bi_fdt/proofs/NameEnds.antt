@@ -39,7 +39,8 @@ drop_again (suc m) n (x ∷ xs) = drop_again m n xs ∙ ap (λ k. drop k (x ∷ 
 pub later_end : (bytes : List ℕ) (at later : ℕ) → at ≤ later → later ≤ end_of bytes at → end_of bytes later ≡ end_of bytes at
 later_end bytes at later ordered within =
     let n : ℕ = later - at in
-    let rest : n + length (before_zero (drop n (drop at bytes))) ≡ length (before_zero (drop at bytes)) = before_zero-drop n (drop at bytes) (omega arith) in
+    let rest : n + length (before_zero (drop n (drop at bytes)))
+    ≡ length (before_zero (drop at bytes)) = before_zero-drop n (drop at bytes) (omega arith) in
     let same : length (before_zero (drop n (drop at bytes))) ≡ length (name_from bytes later) =
     ap (λ l. length (before_zero l)) (drop_again at n bytes ∙ ap (λ k. drop k bytes) (omega arith)) in
     omega arith
@@ -55,7 +56,8 @@ name_end_within bytes at within =
 take_front : (bytes : List ℕ) → take (length (before_zero bytes)) bytes ≡ before_zero bytes
 take_front [] = refl
 take_front (byte ∷ rest) =
-    subst (λ front. take (length front) (byte ∷ rest) ≡ front) (sym (before_zero-cons byte rest)) (by_test (byte == 0) (take_front rest)) where
+    subst (λ front. take (length front) (byte ∷ rest) ≡ front) (sym (before_zero-cons byte rest))
+    (by_test (byte == 0) (take_front rest)) where
       by_test : (is_zero : Bool) → take (length (before_zero rest)) rest ≡ before_zero rest
           → take (length (cond is_zero [] (byte ∷ before_zero rest))) (byte ∷ rest) ≡ cond is_zero [] (byte ∷ before_zero rest)
       by_test true later = refl

@@ -50,7 +50,8 @@ found_more old new parts added found updates part number is = by (is_same_key ad
   by : (test : Bool) → is_same_key added part ≡ test → slice_get (parts ++ part_of_slice added ∷ []) number ≡ Some (part_of_slice part)
   by true same =
       let last : length parts ≡ number = same_Some _ _ (ap (λ b. cond b (Some (length parts)) (old part)) (sym same) ∙ now) in
-      ap (slice_get (parts ++ part_of_slice added ∷ [])) (sym last) ∙ slice_get-last parts (part_of_slice added) ∙ ap Some (same_part added part same)
+      ap (slice_get (parts ++ part_of_slice added ∷ [])) (sym last) ∙ slice_get-last parts (part_of_slice added)
+      ∙ ap Some (same_part added part same)
   by false other =
       slice_get-longer parts (part_of_slice added ∷ []) number (part_of_slice part)
       (found part number (ap (λ b. cond b (Some (length parts)) (old part)) (sym other) ∙ now))
@@ -129,7 +130,10 @@ placed_at old part index new placed = elim placed [
 -- More parts than more parts.
 pub AreMoreParts-again : (a b c : List NamePart) → AreMoreParts a b → AreMoreParts b c → AreMoreParts a c
 AreMoreParts-again a b c first second = record {
-  begin = (first.begin.0 ++ second.begin.0, second.begin.1 ∙ ap (λ l. l ++ second.begin.0) first.begin.1 ∙ append_assoc a first.begin.0 second.begin.0);
+  begin = (
+    first.begin.0 ++ second.begin.0,
+    second.begin.1 ∙ ap (λ l. l ++ second.begin.0) first.begin.1 ∙ append_assoc a first.begin.0 second.begin.0,
+  );
   once = λ once. second.once (first.once once);
   order = λ order. second.order (first.order order);
 }

@@ -1,4 +1,5 @@
-use Rattle.std.proofs.Common.{◌≡◌, ℕ, zero, suc, ◌+◌, ◌-◌, ◌*◌, ◌/◌, ◌%◌, ◌<◌, ◌≤◌, List, [], ◌∷◌, ◌++◌, length, take, drop, Some, slice_get}
+use Rattle.std.proofs.Common.{◌≡◌, ℕ, zero, suc, ◌+◌, ◌-◌, ◌*◌, ◌/◌, ◌%◌, ◌<◌, ◌≤◌, List, [], ◌∷◌, ◌++◌, length, take, drop, Some}
+use Rattle.std.proofs.Common.{slice_get}
 use Rattle.std.proofs.Common.{slice_index_or, inl, inr}
 use Rattle.std.proofs.Math.Nat.{eq-or-lt_of_le}
 use Rattle.std.proofs.Common.{refl, sym, ap, subst, ◌∙◌, arith}
@@ -65,7 +66,8 @@ pub one_number : (tails : List NamePart) → AreOnce tails → (count m n : ℕ)
 one_number tails once zero m n name is other = is ∙ sym other
 one_number tails once (suc count) m n name is other =
     let later : is.0 ≡ other.0 = one_number tails once count is.0 other.0 name is.3 other.3 in
-    let same : m - 1 ≡ n - 1 = once _ (m - 1) (n - 1) is.2 (other.2 ∙ ap (λ number. Some (number, take 64 (drop (length name - 64 * (count + 1)) name))) (sym later)) in
+    let same : m - 1 ≡ n - 1 = once _ (m - 1) (n - 1) is.2
+    (other.2 ∙ ap (λ number. Some (number, take 64 (drop (length name - 64 * (count + 1)) name))) (sym later)) in
     let m_some : 1 ≤ m = is.1 in
     let n_some : 1 ≤ n = other.1 in
     omega arith
@@ -77,21 +79,25 @@ longer_end : (name : List ℕ) (count : ℕ) → 64 * (count + 1) ≤ length nam
 longer_end name count within =
     let at : length name - 64 * (count + 1) + 64 ≡ length name - 64 * count = omega arith in
     sym (take-append-drop 64 (drop (length name - 64 * (count + 1)) name))
-    ∙ ap (λ l. take 64 (drop (length name - 64 * (count + 1)) name) ++ l) (drop_again (length name - 64 * (count + 1)) 64 name ∙ ap (λ k. drop k name) at)
+    ∙ ap (λ l. take 64 (drop (length name - 64 * (count + 1)) name) ++ l)
+    (drop_again (length name - 64 * (count + 1)) 64 name ∙ ap (λ k. drop k name) at)
 
 -- Last blocks of two names that have one number are the same.
 same_blocks : (tails : List NamePart) (m n number : ℕ) (a b : List ℕ) → 64 * m ≤ length a → 64 * n ≤ length b →
     AreBlocksNumbered tails m number a →
     AreBlocksNumbered tails n number b → drop (length a - 64 * m) a ≡ drop (length b - 64 * n) b
-same_blocks tails zero zero number a b m_within n_within is other = drop_all (length a - 64 * 0) a (omega arith) ∙ sym (drop_all (length b - 64 * 0) b (omega arith))
+same_blocks tails zero zero number a b m_within n_within is other = drop_all (length a - 64 * 0) a (omega arith)
+    ∙ sym (drop_all (length b - 64 * 0) b (omega arith))
 same_blocks tails zero (suc n) number a b m_within n_within is other = let some : 1 ≤ number = other.1 in absurd (omega arith)
 same_blocks tails (suc m) zero number a b m_within n_within is other = let some : 1 ≤ number = is.1 in absurd (omega arith)
 same_blocks tails (suc m) (suc n) number a b m_within n_within is other =
-    let both = some_pair_parts is.0 other.0 (take 64 (drop (length a - 64 * (m + 1)) a)) (take 64 (drop (length b - 64 * (n + 1)) b)) (sym is.2 ∙ other.2) in
+    let both = some_pair_parts is.0 other.0 (take 64 (drop (length a - 64 * (m + 1)) a))
+    (take 64 (drop (length b - 64 * (n + 1)) b)) (sym is.2 ∙ other.2) in
     let more_m : suc m ≡ m + 1 = omega arith in
     let more_n : suc n ≡ n + 1 = omega arith in
     ap (λ k. drop (length a - 64 * k) a) more_m ∙ longer_end a m (omega arith)
-    ∙ (λ i. both.1 i ++ (same_blocks tails m n is.0 a b (omega arith) (omega arith) is.3 (subst (λ k. AreBlocksNumbered tails n k b) (sym both.0) other.3)) i)
+    ∙ (λ i. both.1 i ++ (same_blocks tails m n is.0 a b (omega arith) (omega arith) is.3
+    (subst (λ k. AreBlocksNumbered tails n k b) (sym both.0) other.3)) i)
     ∙ sym (ap (λ k. drop (length b - 64 * k) b) more_n ∙ longer_end b n (omega arith))
 
 -- Names that have one head, and tails of one number, are one name.
@@ -158,9 +164,11 @@ blocks_more old new strings numbers more count n number begins long each is push
     subst (λ l. AreAllBlocks new (slice_index_or l index d) (name_from strings (64 * (count - 1 - index)))) (sym pushed)
     (elim (eq-or-lt_of_le {n = index} {m = n} (omega arith)) [
       | inl same ↦ subst (λ k. AreAllBlocks new k (name_from strings (64 * (count - 1 - index))))
-          (sym (get_or-append_right numbers (number ∷ []) n index d long (omega arith) ∙ ap (λ k. slice_index_or (number ∷ []) k d) (first same)))
+          (sym (get_or-append_right numbers (number ∷ []) n index d long (omega arith)
+          ∙ ap (λ k. slice_index_or (number ∷ []) k d) (first same)))
           (subst (λ k. AreAllBlocks new number (name_from strings (64 * (count - 1 - k)))) (sym same) is)
-      | inr below ↦ subst (λ k. AreAllBlocks new k (name_from strings (64 * (count - 1 - index)))) (sym (get_or_append_left numbers (number ∷ []) d index (omega arith)))
+      | inr below ↦ subst (λ k. AreAllBlocks new k (name_from strings (64 * (count - 1 - index))))
+          (sym (get_or_append_left numbers (number ∷ []) d index (omega arith)))
           (AreAllBlocks-kept old new begins _ _ (each index d below))
     ]) where
       first : index ≡ n → index - n ≡ 0

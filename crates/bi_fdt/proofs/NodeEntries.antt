@@ -27,14 +27,16 @@ entry_here entries index e d within is = drop-cons entries index d within ∙ ap
 
 pub items_here : (file : List ℕ) (entries : List Entry) (index : ℕ) (e d : Entry) → index < length entries → get_or entries index d ≡ e →
     drop index (map (item_in file) entries) ≡ item_in file e ∷ map (item_in file) (drop (suc index) entries)
-items_here file entries index e d within is = drop-map (item_in file) index entries ∙ ap (map (item_in file)) (entry_here entries index e d within is)
+items_here file entries index e d within is = drop-map (item_in file) index entries
+    ∙ ap (map (item_in file)) (entry_here entries index e d within is)
 
--- A property is no node.
+-- A property is not a node.
 pub no_property : (file : List ℕ) (entries : List Entry) (table : List TableItem) (index : ℕ) (p : PropertyEntry) (d : Entry) →
     map (item_in file) entries ≡ table →
     IsTrue (begins_with_node (drop index table)) → index < length entries → get_or entries index d ≡ entry.Property p → ⊥
 no_property file entries table index p d same is_node within is =
-    false≢true (sym (ap begins_with_node (ap (drop index) (sym same) ∙ items_here file entries index (entry.Property p) d within is)) ∙ is_node)
+    false≢true (sym (ap begins_with_node
+    (ap (drop index) (sym same) ∙ items_here file entries index (entry.Property p) d within is)) ∙ is_node)
 
 -- The numbers of one entry of a table fit.
 pub linked_at : (file : List ℕ) (at : ℕ) (entries later : List Entry) (index : ℕ) (n : NodeEntry) → AreLinked file 0 at entries →
@@ -66,18 +68,21 @@ items_below first (FileNodeStart other_place other_name ∷ es) zero depth place
 
       node_rest : {a b x y : ℕ} {k l : List ℕ} {u v : List TableItem} → NodeItem a x k ∷ u ≡ NodeItem b y l ∷ v → u ≡ v
       node_rest e = cc
-items_below first (FileNodeStart other_place other_name ∷ es) (suc index) depth place name later at = items_below (first + 1) es index depth place name later at
+items_below first (FileNodeStart other_place other_name ∷ es) (suc index) depth place name later at = items_below
+    (first + 1) es index depth place name later at
 items_below first (FileNodeProperty property ∷ es) zero depth place name later at = absurd cc
-items_below first (FileNodeProperty property ∷ es) (suc index) depth place name later at = items_below first es index depth place name later at
+items_below first (FileNodeProperty property ∷ es)
+    (suc index) depth place name later at = items_below first es index depth place name later at
 items_below first (FileNodeEnd ∷ es) index depth place name later at = items_below (first - 1) es index depth place name later at
 
 -- The first node after properties is no deeper than where the events begin.
 pub first_depth : (depth : ℕ) (es : List FileEvent) (own place : ℕ) (name : List ℕ) (rest : List TableItem) →
     drop (length (first_properties (items_of depth es))) (items_of depth es) ≡ NodeItem own place name ∷ rest → own ≤ depth
 first_depth depth [] own place name rest at = absurd cc
-first_depth depth (FileNodeStart other_place other_name ∷ es) own place name rest at = let same : depth ≡ own = node_depth at in omega arith where
-  node_depth : {a b x y : ℕ} {k l : List ℕ} {u v : List TableItem} → NodeItem a x k ∷ u ≡ NodeItem b y l ∷ v → a ≡ b
-  node_depth e = cc
+first_depth depth (FileNodeStart other_place other_name ∷ es) own place name rest at = let same : depth
+    ≡ own = node_depth at in omega arith where
+      node_depth : {a b x y : ℕ} {k l : List ℕ} {u v : List TableItem} → NodeItem a x k ∷ u ≡ NodeItem b y l ∷ v → a ≡ b
+      node_depth e = cc
 first_depth depth (FileNodeProperty property ∷ es) own place name rest at = first_depth depth es own place name rest at
 first_depth depth (FileNodeEnd ∷ es) own place name rest at =
     let least : own ≤ depth - 1 = first_depth (depth - 1) es own place name rest at in omega arith
@@ -99,19 +104,23 @@ nodes-past_properties depth (NodeItem own place name ∷ items) = refl
 pub inside-past_properties : (depth : ℕ) (items : List TableItem) →
     count_inside depth items ≡ length (first_properties items) + count_inside depth (drop (length (first_properties items)) items)
 inside-past_properties depth [] = refl
-inside-past_properties depth (PropertyItem p ∷ items) = let e : count_inside depth items ≡ length (first_properties items) + count_inside depth (drop (length (first_properties items)) items) = inside-past_properties depth items in omega arith
+inside-past_properties depth (PropertyItem p ∷ items) = let e : count_inside depth items
+    ≡ length (first_properties items) + count_inside depth
+    (drop (length (first_properties items)) items) = inside-past_properties depth items in omega arith
 inside-past_properties depth (NodeItem own place name ∷ items) = omega arith
 
 -- What is inside makes no difference to the nodes at a depth.
 pub nodes-past_inside : (depth : ℕ) (items : List TableItem) →
     nodes_of depth items ≡ nodes_of depth (drop (count_inside depth items) items)
 nodes-past_inside depth [] = refl
-nodes-past_inside depth (PropertyItem p ∷ items) = nodes-past_inside depth items ∙ ap (λ n. nodes_of depth (drop n (PropertyItem p ∷ items))) (one_more (count_inside depth items)) where
-  one_more : (n : ℕ) → suc n ≡ n + 1
-  one_more n = omega arith
+nodes-past_inside depth (PropertyItem p ∷ items) = nodes-past_inside depth items
+    ∙ ap (λ n. nodes_of depth (drop n (PropertyItem p ∷ items))) (one_more (count_inside depth items)) where
+      one_more : (n : ℕ) → suc n ≡ n + 1
+      one_more n = omega arith
 nodes-past_inside depth (NodeItem own place name ∷ items) = elim (cases_lt depth own) [
   | inl deeper ↦ (nodes-deeper depth own place name items deeper ∙ nodes-past_inside depth items
-      ∙ ap (λ n. nodes_of depth (drop n (NodeItem own place name ∷ items))) (one_more (count_inside depth items) ∙ sym (inside-deeper depth own place name items deeper)))
+      ∙ ap (λ n. nodes_of depth (drop n (NodeItem own place name ∷ items)))
+      (one_more (count_inside depth items) ∙ sym (inside-deeper depth own place name items deeper)))
   | inr stops ↦ ap (λ n. nodes_of depth (drop n (NodeItem own place name ∷ items))) (sym (inside-stops depth own place name items stops))
 ] where
   one_more : (n : ℕ) → suc n ≡ n + 1
@@ -127,8 +136,15 @@ after_inside depth (PropertyItem p ∷ items) rest item at =
       one_more n = omega arith
 after_inside depth (NodeItem own place name ∷ items) rest item at = elim (cases_lt depth own) [
   | inl deeper ↦ after_inside depth items rest item
-      (ap (λ n. drop n (NodeItem own place name ∷ items)) (one_more (count_inside depth items) ∙ sym (inside-deeper depth own place name items deeper)) ∙ at)
-  | inr stops ↦ (own, place, name, first (ap (λ n. drop n (NodeItem own place name ∷ items)) (sym (inside-stops depth own place name items stops)) ∙ at), stops)
+      (ap (λ n. drop n (NodeItem own place name ∷ items))
+      (one_more (count_inside depth items) ∙ sym (inside-deeper depth own place name items deeper)) ∙ at)
+  | inr stops ↦ (
+    own,
+    place,
+    name,
+    first (ap (λ n. drop n (NodeItem own place name ∷ items)) (sym (inside-stops depth own place name items stops)) ∙ at),
+    stops,
+  )
 ] where
   one_more : (n : ℕ) → suc n ≡ n + 1
   one_more n = omega arith

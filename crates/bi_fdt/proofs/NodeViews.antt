@@ -28,7 +28,8 @@ module _ (file : List ℕ) (table : List TableItem) (index : ℕ) (n : NodeEntry
   -- Its properties are within the table.
   pub properties_within : index + 1 + n.property_count ≤ length table
   properties_within =
-      let long : index + 1 + length there.later ≡ length table = drop-within table there.later index (NodeItem n.depth n.place (node_name_in file n)) there.is_at in
+      let long : index + 1 + length there.later
+      ≡ length table = drop-within table there.later index (NodeItem n.depth n.place (node_name_in file n)) there.is_at in
       let most : length (first_properties there.later) ≤ length there.later = first_most there.later in
       let count : n.property_count ≡ length (first_properties there.later) = there.linked.count in
       omega arith
@@ -41,7 +42,9 @@ module _ (file : List ℕ) (table : List TableItem) (index : ℕ) (n : NodeEntry
       first_properties (map (item_in file) (take n.property_count (drop (index + 1) entries)))
       ≡ (first_sibling (drop index table)).own.properties
   properties_there entries same =
-      ap first_properties (sym (take-map (item_in file) n.property_count (drop (index + 1) entries)) ∙ ap (take n.property_count) (sym (drop-map (item_in file) (index + 1) entries) ∙ ap (drop (index + 1)) same ∙ ap (λ k. drop k table) (omega arith) ∙ after_node 0))
+      ap first_properties (sym (take-map (item_in file) n.property_count (drop (index + 1) entries))
+      ∙ ap (take n.property_count) (sym (drop-map (item_in file) (index + 1) entries) ∙ ap (drop (index + 1)) same
+      ∙ ap (λ k. drop k table) (omega arith) ∙ after_node 0))
       ∙ ap (λ k. first_properties (take k there.later)) there.linked.count
       ∙ first_take there.later
       ∙ ap (λ items. (first_sibling items).own.properties) (sym there.is_at)
@@ -58,7 +61,8 @@ module _ (file : List ℕ) (table : List TableItem) (index : ℕ) (n : NodeEntry
 
   inside_is : count_inside n.depth there.later ≡ n.property_count + count_inside n.depth rest
   inside_is =
-      let all : count_inside n.depth there.later ≡ length (first_properties there.later) + count_inside n.depth rest = inside-past_properties n.depth there.later in
+      let all : count_inside n.depth there.later
+      ≡ length (first_properties there.later) + count_inside n.depth rest = inside-past_properties n.depth there.later in
       let count : n.property_count ≡ length (first_properties there.later) = there.linked.count in
       omega arith
 
@@ -78,7 +82,8 @@ module _ (file : List ℕ) (table : List TableItem) (index : ℕ) (n : NodeEntry
     by_rest [] no_property empty = refl
     by_rest (PropertyItem p ∷ items) no_property empty = absurd (no_property p items refl)
     by_rest (NodeItem own place name ∷ items) no_property empty = elim (cases_lt n.depth own) [
-      | inl deeper ↦ (let some : count_inside n.depth (NodeItem own place name ∷ items) ≡ count_inside n.depth items + 1 = inside-deeper n.depth own place name items deeper in absurd (omega arith))
+      | inl deeper ↦ (let some : count_inside n.depth (NodeItem own place name ∷ items)
+          ≡ count_inside n.depth items + 1 = inside-deeper n.depth own place name items deeper in absurd (omega arith))
       | inr stops ↦ nodes-above (n.depth + 1) own place name items (omega arith)
     ]
 
@@ -113,8 +118,13 @@ module _ (file : List ℕ) (table : List TableItem) (index : ℕ) (n : NodeEntry
             let most : own ≤ n.depth + 1 = least own place name items refl in
             elim (cases_lt n.depth own) [
               | inr stops ↦ absurd (some (inside-stops n.depth own place name items stops))
-              | inl deeper ↦ (let same : own ≡ n.depth + 1 = omega arith in
-                  (refl, sym (ap (λ nodes. node_at nodes 0) (nodes-same (n.depth + 1) own place name items same ∙ ap (λ d. node name (record { place = place; properties = first_properties items }) (nodes_of (d + 1) items) (nodes_of d items)) (sym same)))))
+              | inl deeper ↦ (let same : own ≡ n.depth + 1 = omega arith in (
+                refl,
+                sym (ap (λ nodes. node_at nodes 0)
+                    (nodes-same (n.depth + 1) own place name items same
+                    ∙ ap (λ d. node name (record { place = place; properties = first_properties items }) (nodes_of (d + 1) items)
+                    (nodes_of d items)) (sym same))),
+              ))
             ]
 
   -- What comes after the last descendant.
@@ -137,7 +147,7 @@ module _ (file : List ℕ) (table : List TableItem) (index : ℕ) (n : NodeEntry
     not_node : ((own : ℕ) × (place : ℕ) × (name : List ℕ) × (PropertyItem p ≡ NodeItem own place name) × (own ≤ n.depth)) → ⊥
     not_node found = (let e = found.3 in cc)
 
-  -- A node of another depth is no sibling.
+  -- A node of another depth is not a sibling.
   pub other_later : (own place : ℕ) (name : List ℕ) (items : List TableItem) → drop n.after table ≡ NodeItem own place name ∷ items →
       ¬ (own ≡ n.depth) → (first_sibling (drop index table)).later ≡ none
   other_later own place name items at other =
@@ -156,8 +166,10 @@ module _ (file : List ℕ) (table : List TableItem) (index : ℕ) (n : NodeEntry
   next_later own place name items at same = (
     ap begins_with_node at,
     ap (λ l. Some (first_sibling l)) at
-        ∙ sym (ap (λ nodes. node_at nodes 0) (later_are ∙ ap (nodes_of n.depth) (sym beyond_there ∙ at) ∙ nodes-same n.depth own place name items same
-        ∙ ap (λ d. node name (record { place = place; properties = first_properties items }) (nodes_of (d + 1) items) (nodes_of d items)) (sym same))),
+        ∙ sym (ap (λ nodes. node_at nodes 0)
+        (later_are ∙ ap (nodes_of n.depth) (sym beyond_there ∙ at) ∙ nodes-same n.depth own place name items same
+        ∙ ap (λ d. node name (record { place = place; properties = first_properties items }) (nodes_of (d + 1) items)
+        (nodes_of d items)) (sym same))),
   )
 
 -- The first node of a tree's table is the root.
@@ -170,14 +182,20 @@ root_there root = ap head_of (nodes-table root) where
 -- The siblings of a node are within the table.
 pub siblings_few : (depth : ℕ) (items : List TableItem) → length (siblings (nodes_of depth items)) ≤ length items
 siblings_few depth [] = omega arith
-siblings_few depth (PropertyItem p ∷ items) = let e : length (siblings (nodes_of depth items)) ≤ length items = siblings_few depth items in omega arith
+siblings_few depth (PropertyItem p ∷ items) = let e : length
+    (siblings (nodes_of depth items)) ≤ length items = siblings_few depth items in omega arith
 siblings_few depth (NodeItem own place name ∷ items) =
     let e : length (siblings (nodes_of depth items)) ≤ length items = siblings_few depth items in
     elim (cases_order own depth) [
-      | inl same ↦ (let f : length (siblings (nodes_of depth (NodeItem own place name ∷ items))) ≡ suc (length (siblings (nodes_of depth items))) = ap (λ nodes. length (siblings nodes)) (nodes-same depth own place name items same) in omega arith)
+      | inl same ↦ (let f : length (siblings (nodes_of depth (NodeItem own place name ∷ items)))
+          ≡ suc (length (siblings (nodes_of depth items))) = ap (λ nodes. length (siblings nodes))
+          (nodes-same depth own place name items same) in omega arith)
       | inr other ↦ elim other [
-        | inl above ↦ (let f : length (siblings (nodes_of depth (NodeItem own place name ∷ items))) ≡ 0 = ap (λ nodes. length (siblings nodes)) (nodes-above depth own place name items above) in omega arith)
-        | inr deeper ↦ (let f : length (siblings (nodes_of depth (NodeItem own place name ∷ items))) ≡ length (siblings (nodes_of depth items)) = ap (λ nodes. length (siblings nodes)) (nodes-deeper depth own place name items deeper) in omega arith)
+        | inl above ↦ (let f : length (siblings (nodes_of depth (NodeItem own place name ∷ items)))
+            ≡ 0 = ap (λ nodes. length (siblings nodes)) (nodes-above depth own place name items above) in omega arith)
+        | inr deeper ↦ (let f : length (siblings (nodes_of depth (NodeItem own place name ∷ items)))
+            ≡ length (siblings (nodes_of depth items)) = ap (λ nodes. length (siblings nodes))
+            (nodes-deeper depth own place name items deeper) in omega arith)
       ]
     ]
 
@@ -185,7 +203,8 @@ siblings_few depth (NodeItem own place name ∷ items) =
 pub children_few : (items : List TableItem) → length (siblings (first_sibling items).children) ≤ length items
 children_few [] = omega arith
 children_few (PropertyItem p ∷ items) = omega arith
-children_few (NodeItem depth place name ∷ items) = let e : length (siblings (nodes_of (depth + 1) items)) ≤ length items = siblings_few (depth + 1) items in omega arith
+children_few (NodeItem depth place name ∷ items) = let e : length (siblings (nodes_of (depth + 1) items)) ≤ length items = siblings_few
+    (depth + 1) items in omega arith
 
 -- The next sibling of a child is the next child.
 pub next_child_at : (nodes : Nodes FileNode) (index : ℕ) (child : Sibling FileNode) → Some child ≡ node_at nodes index →
@@ -232,7 +251,8 @@ module _ (file : List ℕ) (entries : List Entry) (table : List TableItem) (inde
       item_in file e ∷ map (item_in file) (drop (suc (index + 1 + i)) entries)
       ≡ PropertyItem (first_at there.later i few).property ∷ (first_at there.later i few).rest
   property_item e d is =
-      sym (items_here file entries (index + 1 + i) e d property_within is) ∙ ap (drop (index + 1 + i)) same ∙ after_node file table index n there i ∙ (first_at there.later i few).is_at
+      sym (items_here file entries (index + 1 + i) e d property_within is) ∙ ap (drop (index + 1 + i)) same
+      ∙ after_node file table index n there i ∙ (first_at there.later i few).is_at
 
   pub no_node_there : (m : NodeEntry) (d : Entry) → get_or entries (index + 1 + i) d ≡ entry.Node m → ⊥
   no_node_there m d is = let e = property_item (entry.Node m) d is in cc
@@ -241,7 +261,8 @@ module _ (file : List ℕ) (entries : List Entry) (table : List TableItem) (inde
       slice_get (first_sibling (drop index table)).own.properties i ≡ Some (property_in file p)
   property_there p d is =
       let f : IsFirstAt there.later i = first_at there.later i few in
-      let e : PropertyItem (property_in file p) ∷ map (item_in file) (drop (suc (index + 1 + i)) entries) ≡ PropertyItem f.property ∷ f.rest = property_item (entry.Property p) d is in
+      let e : PropertyItem (property_in file p) ∷ map (item_in file) (drop (suc (index + 1 + i)) entries) ≡ PropertyItem f.property
+      ∷ f.rest = property_item (entry.Property p) d is in
       let same_property : property_in file p ≡ f.property = first_item e in
       ap (λ items. slice_get (first_sibling items).own.properties i) there.is_at ∙ f.is_got ∙ ap (λ q. Some q) (sym same_property) where
         first_item : {a b : FileProperty} {u v : List TableItem} → PropertyItem a ∷ u ≡ PropertyItem b ∷ v → a ≡ b
@@ -250,14 +271,16 @@ module _ (file : List ℕ) (entries : List Entry) (table : List TableItem) (inde
 -- A node has as many properties as its entry counts.
 pub property_count_is : (file : List ℕ) (table : List TableItem) (index : ℕ) (n : NodeEntry) → IsNodeOf file table index n →
     n.property_count ≡ length (first_sibling (drop index table)).own.properties
-property_count_is file table index n there = there.linked.count ∙ ap (λ items. length (first_sibling items).own.properties) (sym there.is_at)
+property_count_is file table index n there = there.linked.count
+    ∙ ap (λ items. length (first_sibling items).own.properties) (sym there.is_at)
 
 -- A look-up passes over a node of another name.
 pub lookup_passes : (name : List ℕ) (child : Sibling FileNode) (later : List (Sibling FileNode)) → bytes_eq child.name name ≡ false →
     lookup (λ other. bytes_eq other name) (map (λ sibling. (sibling.name, sibling)) (child ∷ later))
     ≡ lookup (λ other. bytes_eq other name) (map (λ sibling. (sibling.name, sibling)) later)
 lookup_passes name child later other =
-    ap (λ b. cond b (Some child) (lookup (λ o. bytes_eq o name) (map (λ (sibling : Sibling FileNode). (sibling.name, sibling)) later))) other
+    ap (λ b. cond b (Some child) (lookup (λ o. bytes_eq o name)
+    (map (λ (sibling : Sibling FileNode). (sibling.name, sibling)) later))) other
 
 -- It finds one of the name.
 pub lookup_finds : (name : List ℕ) (child : Sibling FileNode) (later : List (Sibling FileNode)) → bytes_eq child.name name ≡ true →

@@ -1,4 +1,5 @@
-use Rattle.std.proofs.Common.{◌≡◌, ℕ, zero, suc, ◌<◌, List, [], ◌∷◌, ◌++◌, length, get_or, Some, slice_get, inl, inr, refl, ap, subst, ◌∙◌, arith}
+use Rattle.std.proofs.Common.{◌≡◌, ℕ, zero, suc, ◌<◌, List, [], ◌∷◌, ◌++◌, length, get_or, Some, slice_get, inl, inr, refl, ap, subst, ◌∙◌}
+use Rattle.std.proofs.Common.{arith}
 use Rattle.std.specs.List.{AllZip}
 use Rattle.std.proofs.lemmas.Option.{none-some, same_Some, slice_get_within}
 use Rattle.bi_blob.specs.Tree.{IsNew}
@@ -57,7 +58,8 @@ heads_kept : (old new : List NamePart) → BeginsWith new old → (heads : List 
     AllZip (IsHead old) heads names →
     AllZip (IsHead new) heads names
 heads_kept old new begins heads names all =
-    AllZip-then (IsHead old) (IsHead new) heads names (λ part name is. record { head = is.head; tail = IsTail-kept old new begins part.0 name is.tail }) all
+    AllZip-then (IsHead old) (IsHead new) heads names
+    (λ part name is. record { head = is.head; tail = IsTail-kept old new begins part.0 name is.tail }) all
 
 pub AreHeads-tails : (old new heads : List NamePart) (names : List (List ℕ)) → AreMoreParts old new → AreHeads old heads names →
     AreHeads new heads names
@@ -92,10 +94,14 @@ name_there : (tails heads : List NamePart) (names : List (List ℕ)) → AllZip 
     slice_get heads index ≡ Some part → (name : List ℕ) × (slice_get names index ≡ Some name) × IsHead tails part name
 name_there tails [] names all index part is = absurd (none-some part is)
 name_there tails (head ∷ heads) [] all index part is = absurd all
-name_there tails (head ∷ heads) (name ∷ names) all zero part is = (name, refl, subst (λ p. IsHead tails p name) (same_Some head part is) all.0)
+name_there tails (head ∷ heads) (name ∷ names) all zero part is = (
+  name,
+  refl,
+  subst (λ p. IsHead tails p name) (same_Some head part is) all.0,
+)
 name_there tails (head ∷ heads) (name ∷ names) all (suc index) part is = name_there tails heads names all.1 index part is
 
--- A name whose head was found has the number of the head.
+-- A name has the number of its head, if the head was found.
 pub known_name : (tails heads : List NamePart) (names : List (List ℕ)) (part : NamePart) (name : List ℕ) (number : ℕ) →
     AreHeads tails heads names →
     IsHead tails part name → slice_get heads number ≡ Some part → slice_get names number ≡ Some name
@@ -103,7 +109,7 @@ known_name tails heads names part name number are is found =
     let there = name_there tails heads names are.each number part found in
     there.1 ∙ ap Some (same_name_of_head tails part there.0 name there.2 is)
 
--- A name whose head is new is new.
+-- A name with a new head is new.
 pub new_name : (tails heads : List NamePart) (names : List (List ℕ)) (part : NamePart) (name : List ℕ) → AreOnce tails →
     AllZip (IsHead tails) heads names →
     IsHead tails part name → IsNewPart part heads → IsNew name names

@@ -1,4 +1,5 @@
-use Rattle.std.proofs.Common.{◌≡◌, ℕ, zero, suc, ◌+◌, List, [], ◌∷◌, length, map, drop, take, Some, slice_get, slice_index, sym, ap, subst, ◌∙◌, arith}
+use Rattle.std.proofs.Common.{◌≡◌, ℕ, zero, suc, ◌+◌, List, [], ◌∷◌, length, map, drop, take, Some, slice_get, slice_index, sym, ap, subst}
+use Rattle.std.proofs.Common.{◌∙◌, arith}
 use Rattle.std.specs.List.{AllZip}
 use Rattle.std.proofs.lemmas.Option.{none-some}
 use Rattle.bi_fdt.specs.declared.table.NodeEntry.{NodeEntry}
@@ -37,7 +38,8 @@ numbers_there file table index n there names numbers are =
     (sym (ap (λ items. (first_sibling items).own.properties) there.is_at))
     (subst (λ k. AllZip (HasNumber names) (first_properties there.later) (take k (drop (index + 1) numbers))) (sym there.linked.count)
     (numbered_first names there.later (drop (index + 1) numbers)
-    (subst (λ items. AreNumbered names items (drop (index + 1) numbers)) (ap (λ k. drop k table) (omega arith) ∙ after_node file table index n there 0)
+    (subst (λ items. AreNumbered names items (drop (index + 1) numbers))
+    (ap (λ k. drop k table) (omega arith) ∙ after_node file table index n there 0)
     (numbered_from names (index + 1) table numbers are))))
 
 -- ---- numbers by another list

@@ -1,4 +1,5 @@
-use Rattle.std.proofs.Common.{◌≡◌, ℕ, zero, suc, ◌+◌, ◌-◌, ◌*◌, ◌/◌, ◌<◌, ◌≤◌, List, [], ◌∷◌, ◌++◌, length, take, drop, Option, Some, None, slice_get, inl, inr}
+use Rattle.std.proofs.Common.{◌≡◌, ℕ, zero, suc, ◌+◌, ◌-◌, ◌*◌, ◌/◌, ◌<◌, ◌≤◌, List, [], ◌∷◌, ◌++◌, length, take, drop, Option, Some, None}
+use Rattle.std.proofs.Common.{slice_get, inl, inr}
 use Rattle.std.proofs.Common.{refl, sym, ap, subst, ◌∙◌, arith}
 use Rattle.std.specs.List.{AllZip}
 use Rattle.std.proofs.lemmas.Option.{none-some, same_Some, some_pair_parts}
@@ -6,9 +7,9 @@ use Rattle.bi_blob.specs.Tree.{IsNew}
 use Rattle.bi_fdt.specs.NameParts.{NamePart, AreOnce, AreAfterTails}
 use Rattle.bi_fdt.specs.NameTails.{AreBlocksNumbered, IsTail, IsHead, AreHeads, head_length}
 use Rattle.bi_fdt.specs.Numbers.{FindsNumber}
-use Rattle.bi_fdt.specs.OtherNames.{FindsBlocks, HasOtherNumber, AreOtherNumbers, FindsAfter, FindsTail, AreFoundAmong}
+use Rattle.bi_fdt.specs.OtherNames.{FindsBlocks, HasOtherNumber, AreOtherNumbers, FindsAfter, FindsTail, AreFoundAmong, AreOwnNumbers}
 use Rattle.bi_fdt.proofs.NameParts.{slice_get-pushed}
-use Rattle.bi_fdt.proofs.NameTails.{one_number, blocks_number_within}
+use Rattle.bi_fdt.proofs.NameTails.{one_number, blocks_number_within, same_name_of_head}
 use Rattle.bi_fdt.proofs.NumberedNames.{known_name, new_name, heads_length}
 
 -- Names are found among others by their parts, the last blocks first.
@@ -70,7 +71,7 @@ others_more parts others numbers more index later block tail found once order th
     kept : (value : Option ℕ) × (slice_get numbers later ≡ Some value)
     kept = value_there numbers later (omega (arith, order index (later, block) there, long))
 
--- A name whose last blocks have no number is new.
+-- A name is new if its last blocks have no number.
 new_by_blocks : (tails heads : List NamePart) (names : List (List ℕ)) (name : List ℕ) → AllZip (IsHead tails) heads names →
     ((number : ℕ) → ¬ (IsTail tails number name)) → IsNew name names
 new_by_blocks tails [] [] name all none = tt
@@ -123,4 +124,26 @@ names_found tails heads names other_tails other_heads others numbers found are o
         let within : there.0.0 ≤ length tails = blocks_number_within tails (length name / 64 - 1) there.0.0 name there.2.tail in
         let tail = value_there numbers there.0.0 (omega (arith, within, kept.count)) in
         name_found other_tails other_heads others there.0.1 name tail.0 number other_are there.2.head
-        (kept.each there.0.0 tail.0 tail.1 (length name / 64 - 1) name there.2.tail) (among.each index there.0 tail.0 number there.1 tail.1 at_number)
+        (kept.each there.0.0 tail.0 tail.1 (length name / 64 - 1) name there.2.tail)
+        (among.each index there.0 tail.0 number there.1 tail.1 at_number)
+
+-- Names with the same parts are the same.
+pub same_names : (tails heads : List NamePart) (names others : List (List ℕ)) → AllZip (IsHead tails) heads names →
+    AllZip (IsHead tails) heads others → names ≡ others
+same_names tails [] [] [] are other_are = refl
+same_names tails [] [] (other ∷ others) are other_are = absurd other_are
+same_names tails [] (name ∷ names) others are other_are = absurd are
+same_names tails (head ∷ heads) [] others are other_are = absurd are
+same_names tails (head ∷ heads) (name ∷ names) [] are other_are = absurd other_are
+same_names tails (head ∷ heads) (name ∷ names) (other ∷ others) are other_are =
+    ap (λ first. first ∷ names) (same_name_of_head tails head name other are.0 other_are.0)
+    ∙ ap (λ later. other ∷ later) (same_names tails heads names others are.1 other_are.1)
+
+-- Names are found among themselves, each at its own index.
+pub own_names_found : (names : List (List ℕ)) (found : List (Option ℕ)) → AreOwnNumbers (length names) found →
+    AllZip (FindsNumber names) names found
+own_names_found names found own = each_place (FindsNumber names) names found own.count each
+  where
+    each : (index : ℕ) (name : List ℕ) (number : Option ℕ) → slice_get names index ≡ Some name → slice_get found index ≡ Some number →
+        FindsNumber names name number
+    each index name number at_name at_number = subst (FindsNumber names name) (sym (own.each index number at_number)) at_name

@@ -33,7 +33,10 @@ same_part a b is =
     ap (λ (key : (ℕ × ℕ) × List ℕ). (key.0.0, key.1))
     (exact_pairs (λ x y. ordering_then (nat_cmp x.0 y.0) (nat_cmp x.1 y.1)) (slice_cmp nat_cmp)
     (exact_pairs nat_cmp nat_cmp exact_unsigned exact_unsigned) exact_bytes
-    ((a.0, prefix_of_name a.1.now), a.1.now) ((b.0, prefix_of_name b.1.now), b.1.now) (equal (by_prefix (key_of_part a) (key_of_part b)) is)) where
+    ((a.0, prefix_of_name a.1.now), a.1.now) (
+      (b.0, prefix_of_name b.1.now),
+      b.1.now,
+    ) (equal (by_prefix (key_of_part a) (key_of_part b)) is)) where
       equal : (o : Ordering) → is_eq o ≡ true → o ≡ Equal
       equal Less is = absurd (true≢false (sym is))
       equal Equal is = refl
@@ -42,19 +45,22 @@ same_part a b is =
 pub equal_part : (a b : ℕ × Bor (List ℕ)) → part_of_slice a ≡ part_of_slice b → is_same_key a b ≡ true
 equal_part a b same =
     ap (λ (part : ℕ × List ℕ). is_eq (to part)) (sym same)
-    ∙ ap (λ o. is_eq (ordering_then (ordering_then o (nat_cmp (prefix_of_name a.1.now) (prefix_of_name a.1.now))) (slice_cmp nat_cmp a.1.now a.1.now)))
+    ∙ ap (λ o. is_eq (ordering_then (ordering_then o (nat_cmp (prefix_of_name a.1.now) (prefix_of_name a.1.now)))
+    (slice_cmp nat_cmp a.1.now a.1.now)))
     (tied_itself nat_cmp_total a.0)
     ∙ ap (λ o. is_eq (ordering_then o (slice_cmp nat_cmp a.1.now a.1.now))) (tied_itself nat_cmp_total (prefix_of_name a.1.now))
     ∙ ap is_eq (tied_itself (lists_total nat_cmp_total) a.1.now) where
       to : ℕ × List ℕ → Ordering
       to part =
-          ordering_then (ordering_then (nat_cmp a.0 part.0) (nat_cmp (prefix_of_name a.1.now) (prefix_of_name part.1))) (slice_cmp nat_cmp a.1.now part.1)
+          ordering_then (ordering_then (nat_cmp a.0 part.0) (nat_cmp (prefix_of_name a.1.now) (prefix_of_name part.1)))
+          (slice_cmp nat_cmp a.1.now part.1)
 
 -- ---- elements of lists
 
 slice_get-set_same : {Item : Type 0} (xs : List Item) (i : ℕ) (y : Item) → i < length xs → slice_get (slice_set xs i y) i ≡ Some y
 slice_get-set_same xs i y within =
-    slice_get-get_or (slice_set xs i y) i y (subst (λ n. i < n) (sym (length-set xs i y)) within) ∙ ap Some (get_or-set_same xs i y y within)
+    slice_get-get_or (slice_set xs i y) i y (subst (λ n. i < n) (sym (length-set xs i y)) within)
+    ∙ ap Some (get_or-set_same xs i y y within)
 
 slice_get-set_other : {Item : Type 0} (xs : List Item) (i j : ℕ) (y : Item) → j ≢ i → slice_get (slice_set xs i y) j ≡ slice_get xs j
 slice_get-set_other [] i j y other = refl
@@ -93,7 +99,8 @@ number_more buckets index old new count added number within was chosen updates p
           ∙ ap (λ at. cond (is_same_key added part) (Some number) (number_from buckets at part)) (sym same.1)
       | inr other ↦
           ap look (slice_get-set_other buckets index (bucket_of count (part_of_slice part)) new other.1)
-          ∙ ap (λ test. cond test (Some number) (number_from buckets (bucket_of count (part_of_slice part)) part)) (sym (differs other.1 (is_same_key added part) refl))
+          ∙ ap (λ test. cond test (Some number) (number_from buckets (bucket_of count (part_of_slice part)) part))
+          (sym (differs other.1 (is_same_key added part) refl))
     ] where
       look : Option Bucket → Option ℕ
       look found = option_and_then (λ bucket. get by_prefix bucket (key_of_part part)) found

@@ -133,7 +133,8 @@ next_is_new used name number is last = by (is_among name used) refl
     by : (b : Bool) → is_among name used ≡ b → is_among name used ≡ false
     by false new = new
     by true old =
-        let kept : IsNumberOf used name number = subst (λ l. IsNumberOf l name number) (ap (λ b. if b then used else used ++ name ∷ []) old) is in
+        let kept : IsNumberOf used name number = subst (λ l. IsNumberOf l name number)
+        (ap (λ b. if b then used else used ++ name ∷ []) old) is in
         let within : number < length used = slice_get_within used number name kept in
         absurd (omega (arith, within, last))
 
@@ -144,7 +145,8 @@ other_is_old used name number is elsewhere = by (is_among name used) refl
     by : (b : Bool) → is_among name used ≡ b → with_used_name used name ≡ used
     by true old = ap (λ b. if b then used else used ++ name ∷ []) old
     by false new =
-        elim (slice_get-pushed used name number name (subst (λ l. IsNumberOf l name number) (ap (λ b. if b then used else used ++ name ∷ []) new) is)) [
+        elim (slice_get-pushed used name number name
+        (subst (λ l. IsNumberOf l name number) (ap (λ b. if b then used else used ++ name ∷ []) new) is)) [
           | inl there ↦ absurd (numbered_old used name number there (new_by_test name used new))
           | inr last ↦ absurd (elsewhere last.0)
         ]
@@ -165,7 +167,7 @@ pub old_with_mark : (names : MarkedNames) (mark : ℕ) (held : List (List ℕ)) 
     has_mark names.used names.marks mark name ≡ true → ¬ (IsNew name held)
 old_with_mark names mark held name has marked = held_by_test name held (has name ∙ marked)
 
--- A node that begins, whose mark is greater than all, has no name.
+-- A node that begins, with a mark greater than all, has no name.
 pub begins_without_names : (names : MarkedNames) (mark : ℕ) → AreMarksBelow mark names → HasMarked names mark []
 begins_without_names names mark below name = sym (no_greater_mark names.used names.marks mark name below)
 

@@ -121,7 +121,7 @@ none_before table pairs = record {
   left = λ index is after. refl;
 }
 
--- An item that is no node changes nothing.
+-- An item that is not a node changes nothing.
 pub no_node_more : (table : List TableItem) (end : ℕ) (pairs now : Pairs) → (HasNodeAt table end → ⊥) →
     AreInOrderBefore table end pairs now →
     AreInOrderBefore table (end + 1) pairs now

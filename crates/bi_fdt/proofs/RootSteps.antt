@@ -33,7 +33,8 @@ module _ (blocks : TreeBlocks) (depth_limit place : ℕ) (so_far : TreeSoFar) (p
   -- The block ends before the number of a token.
   pub no_number : (fault : Fault) → blocks.end + 1 ≤ place + 4 → fault ≡ token_fault place HasTokenNumber →
       IsStructureFault blocks depth_limit fault
-  no_number fault past is = fault_there blocks depth_limit place so_far fault position (inl ((λ (within : place + 4 ≤ blocks.end). omega arith), is))
+  no_number fault past is = fault_there blocks depth_limit place so_far fault position
+      (inl ((λ (within : place + 4 ≤ blocks.end). omega arith), is))
 
 -- FDT_BEGIN_NODE of the root.
 pub past_root : (blocks : TreeBlocks) (depth_limit place : ℕ) (name : List ℕ) → IsOpenAt blocks depth_limit place NoTree →
@@ -54,7 +55,8 @@ pub root_fault : (blocks : TreeBlocks) (depth_limit place : ℕ) (fault : Fault)
     IsStructureFault blocks depth_limit fault
 root_fault blocks depth_limit place fault position number first =
     fault_there blocks depth_limit place NoTree fault position
-    (subst (λ n. IsFirstFault (TokenPasses blocks depth_limit place BeforeRoot) (token_fault place) (token_checks n) fault) (sym number.is_number)
+    (subst (λ n. IsFirstFault (TokenPasses blocks depth_limit place BeforeRoot) (token_fault place)
+    (token_checks n) fault) (sym number.is_number)
     (inr (number.within, inr (subst (λ n. IsTrue (is_expected BeforeRoot n)) (sym number.is_number) refl, first))))
 
 -- FDT_END after the root.
@@ -73,7 +75,14 @@ pub bad_token : (blocks : TreeBlocks) (depth_limit place : ℕ) (so_far : TreeSo
     IsStructureFault blocks depth_limit (token_fault place IsExpected)
 bad_token blocks depth_limit place so_far number position is_number unexpected =
     fault_there blocks depth_limit place so_far (token_fault place IsExpected) position
-    (inr (is_number.within, inl ((λ may. false≢true (sym unexpected ∙ ap (is_expected (stage_of so_far)) (sym is_number.is_number) ∙ may)), refl)))
+    (inr (
+      is_number.within,
+      inl (
+        (λ may. false≢true
+            (sym unexpected ∙ ap (is_expected (stage_of so_far)) (sym is_number.is_number) ∙ may)),
+        refl,
+      ),
+    ))
 
 pub unexpected_before : (number : ℕ) → number ≢ nop_number → number ≢ begin_node_number → is_expected BeforeRoot number ≡ false
 unexpected_before number nop begin = or_false _ _ (ne_eqb number nop_number nop) (ne_eqb number begin_node_number begin) where

@@ -1,4 +1,5 @@
-use Rattle.std.proofs.Common.{◌≡◌, ℕ, zero, suc, List, [], ◌∷◌, ◌++◌, map, drop, length, ◌+◌, ◌≤◌, arith, refl, sym, ap, subst, ◌∙◌, Bool, true, false}
+use Rattle.std.proofs.Common.{◌≡◌, ℕ, zero, suc, List, [], ◌∷◌, ◌++◌, map, drop, length, ◌+◌, ◌≤◌, arith, refl, sym, ap, subst, ◌∙◌, Bool}
+use Rattle.std.proofs.Common.{true, false}
 use Rattle.std.specs.Prelude.{if◌then◌else◌}
 use Rattle.std.proofs.Math.ListN.{set}
 use Rattle.std.proofs.lemmas.List.{map-append, append-nil, length-append, length-map}
@@ -32,7 +33,7 @@ with_used_name-begins used name = by (is_among name used) refl
     by true old = ([], ap (λ b. if b then used else used ++ name ∷ []) old ∙ sym (append-nil used))
     by false new = (name ∷ [], ap (λ b. if b then used else used ++ name ∷ []) new)
 
--- There are no more names than items.
+-- There are at most as many names as items.
 with_used_name-few : (used : List (List ℕ)) (name : List ℕ) → length (with_used_name used name) ≤ length used + 1
 with_used_name-few used name = by (is_among name used)
   where
@@ -43,7 +44,11 @@ with_used_name-few used name = by (is_among name used)
 names-few : (used : List (List ℕ)) (table : List TableItem) → length (names_after used table) ≤ length used + length table
 names-few used [] = omega arith
 names-few used (NodeItem depth place name ∷ table) = omega (arith, names-few used table)
-names-few used (PropertyItem property ∷ table) = omega (arith, names-few (with_used_name used property.name) table, with_used_name-few used property.name)
+names-few used (PropertyItem property ∷ table) = omega (
+  arith,
+  names-few (with_used_name used property.name) table,
+  with_used_name-few used property.name,
+)
 
 pub table_names-few : (file : List ℕ) (entries : List Entry) (used : List (List ℕ)) → AreTableNames file entries used →
     length used ≤ length entries
@@ -67,8 +72,10 @@ pub table_names-node : (file : List ℕ) (entries : List Entry) (used : List (Li
 table_names-node file entries used n are = record {
   names = are.names ∙ sym (names-item [] (map (item_in file) entries) (item_in file (entry.Node n)))
       ∙ ap names_of_table (sym (map-append (item_in file) entries (entry.Node n ∷ [])));
-  numbered = subst (λ items. AreNumbered used items (map name_number_of (entries ++ entry.Node n ∷ []))) (sym (map-append (item_in file) entries (entry.Node n ∷ [])))
-      (subst (AreNumbered used (map (item_in file) entries ++ item_in file (entry.Node n) ∷ [])) (sym (map-append name_number_of entries (entry.Node n ∷ [])))
+  numbered = subst (λ items. AreNumbered used items (map name_number_of (entries ++ entry.Node n ∷ [])))
+      (sym (map-append (item_in file) entries (entry.Node n ∷ [])))
+      (subst (AreNumbered used (map (item_in file) entries ++ item_in file (entry.Node n) ∷ []))
+      (sym (map-append name_number_of entries (entry.Node n ∷ [])))
       (AllZip-append (IsNumbered used) (map (item_in file) entries) (map name_number_of entries) _ _ are.numbered (tt, tt)));
 }
 
@@ -81,10 +88,13 @@ table_names-property file entries used more p are is has = record {
   names = is ∙ ap (λ l. with_used_name l (property_in file p).name) are.names
       ∙ sym (names-item [] (map (item_in file) entries) (item_in file (entry.Property p)))
       ∙ ap names_of_table (sym (map-append (item_in file) entries (entry.Property p ∷ [])));
-  numbered = subst (λ items. AreNumbered more items (map name_number_of (entries ++ entry.Property p ∷ []))) (sym (map-append (item_in file) entries (entry.Property p ∷ [])))
-      (subst (AreNumbered more (map (item_in file) entries ++ item_in file (entry.Property p) ∷ [])) (sym (map-append name_number_of entries (entry.Property p ∷ [])))
+  numbered = subst (λ items. AreNumbered more items (map name_number_of (entries ++ entry.Property p ∷ [])))
+      (sym (map-append (item_in file) entries (entry.Property p ∷ [])))
+      (subst (AreNumbered more (map (item_in file) entries ++ item_in file (entry.Property p) ∷ []))
+      (sym (map-append name_number_of entries (entry.Property p ∷ [])))
       (AllZip-append (IsNumbered more) (map (item_in file) entries) (map name_number_of entries) _ _
-      (AreNumbered-more more used (subst (λ l. BeginsWith l used) (sym is) (with_used_name-begins used (property_in file p).name)) (map (item_in file) entries) (map name_number_of entries) are.numbered)
+      (AreNumbered-more more used (subst (λ l. BeginsWith l used) (sym is) (with_used_name-begins used (property_in file p).name))
+      (map (item_in file) entries) (map name_number_of entries) are.numbered)
       (has, tt)));
 }
 
@@ -93,7 +103,8 @@ numbers-set : (entries later : List Entry) (index : ℕ) (n m : NodeEntry) → d
     map name_number_of (set entries index (entry.Node m)) ≡ map name_number_of entries
 numbers-set [] later zero n m at = absurd cc
 numbers-set [] later (suc index) n m at = absurd cc
-numbers-set (e ∷ entries) later zero n m at = let is : e ≡ entry.Node n = cc in ap (λ l. l ∷ map name_number_of entries) (sym (ap name_number_of is))
+numbers-set (e ∷ entries) later zero n m at = let is : e
+    ≡ entry.Node n = cc in ap (λ l. l ∷ map name_number_of entries) (sym (ap name_number_of is))
 numbers-set (e ∷ entries) later (suc index) n m at = ap (λ l. name_number_of e ∷ l) (numbers-set entries later index n m at)
 
 pub table_names-set : (file : List ℕ) (entries later : List Entry) (used : List (List ℕ)) (index : ℕ) (n m : NodeEntry) →
@@ -101,7 +112,8 @@ pub table_names-set : (file : List ℕ) (entries later : List Entry) (used : Lis
     AreTableNames file entries used →
     AreTableNames file (set entries index (entry.Node m)) used
 table_names-set file entries later used index n m at same are =
-    let items : map (item_in file) (set entries index (entry.Node m)) ≡ map (item_in file) entries = items-set file entries later index n m at same in
+    let items : map (item_in file) (set entries index (entry.Node m))
+    ≡ map (item_in file) entries = items-set file entries later index n m at same in
     record {
       names = are.names ∙ ap names_of_table (sym items);
       numbered = subst (λ items. AreNumbered used items (map name_number_of (set entries index (entry.Node m)))) (sym items)

@@ -21,18 +21,21 @@ pub nodes-same : (depth own place : ℕ) (name : List ℕ) (items : List TableIt
     nodes_of depth (NodeItem own place name ∷ items)
     ≡ node name (record { place = place; properties = first_properties items }) (nodes_of (depth + 1) items) (nodes_of depth items)
 nodes-same depth own place name items same =
-    ap (λ b. if b then node name (record { place = place; properties = first_properties items }) (nodes_of (depth + 1) items) (nodes_of depth items) else (if nat_lt depth own then nodes_of depth items else none)) (eq-eqb own depth same)
+    ap (λ b. if b then node name (record { place = place; properties = first_properties items }) (nodes_of (depth + 1) items)
+    (nodes_of depth items) else (if nat_lt depth own then nodes_of depth items else none)) (eq-eqb own depth same)
 
 pub nodes-deeper : (depth own place : ℕ) (name : List ℕ) (items : List TableItem) → depth < own →
     nodes_of depth (NodeItem own place name ∷ items) ≡ nodes_of depth items
 nodes-deeper depth own place name items deeper =
-    ap (λ b. if b then node name (record { place = place; properties = first_properties items }) (nodes_of (depth + 1) items) (nodes_of depth items) else (if nat_lt depth own then nodes_of depth items else none)) (ne_eqb own depth (λ e. omega arith))
+    ap (λ b. if b then node name (record { place = place; properties = first_properties items }) (nodes_of (depth + 1) items)
+    (nodes_of depth items) else (if nat_lt depth own then nodes_of depth items else none)) (ne_eqb own depth (λ e. omega arith))
     ∙ ap (λ b. if b then nodes_of depth items else none) (lt-ltb depth own deeper)
 
 pub nodes-above : (depth own place : ℕ) (name : List ℕ) (items : List TableItem) → own < depth →
     nodes_of depth (NodeItem own place name ∷ items) ≡ none
 nodes-above depth own place name items above =
-    ap (λ b. if b then node name (record { place = place; properties = first_properties items }) (nodes_of (depth + 1) items) (nodes_of depth items) else (if nat_lt depth own then nodes_of depth items else none)) (ne_eqb own depth (λ e. omega arith))
+    ap (λ b. if b then node name (record { place = place; properties = first_properties items }) (nodes_of (depth + 1) items)
+    (nodes_of depth items) else (if nat_lt depth own then nodes_of depth items else none)) (ne_eqb own depth (λ e. omega arith))
     ∙ ap (λ b. if b then nodes_of depth items else none) (le-ltb depth own (omega arith))
 
 nodes-end : (depth : ℕ) (items : List TableItem) → EndsAbove depth items → nodes_of depth items ≡ none
@@ -73,14 +76,16 @@ ends-children depth nodes items ends = ends-nodes (depth + 1) nodes items ends
 -- The items of a node and its siblings, in parts.
 parts : (properties below after items : List TableItem) →
     (properties ++ (below ++ after)) ++ items ≡ properties ++ (below ++ (after ++ items))
-parts properties below after items = append_assoc properties (below ++ after) items ∙ ap (λ l. properties ++ l) (append_assoc below after items)
+parts properties below after items = append_assoc properties (below ++ after) items
+    ∙ ap (λ l. properties ++ l) (append_assoc below after items)
 
 -- Nodes that are deeper are passed over.
 pub nodes-passed : (depth own : ℕ) (nodes : Nodes FileNode) (items : List TableItem) → depth < own →
     nodes_of depth (node_items own nodes ++ items) ≡ nodes_of depth items
 nodes-passed depth own none items deeper = refl
 nodes-passed depth own (node name n children later) items deeper =
-    nodes-deeper depth own n.place name ((map PropertyItem n.properties ++ (node_items (own + 1) children ++ node_items own later)) ++ items) deeper
+    nodes-deeper depth own n.place name
+    ((map PropertyItem n.properties ++ (node_items (own + 1) children ++ node_items own later)) ++ items) deeper
     ∙ ap (nodes_of depth) (parts (map PropertyItem n.properties) (node_items (own + 1) children) (node_items own later) items)
     ∙ nodes-properties depth n.properties (node_items (own + 1) children ++ (node_items own later ++ items))
     ∙ nodes-passed depth (own + 1) children (node_items own later ++ items) (omega arith)
@@ -96,12 +101,18 @@ nodes-parsed depth (node name own children later) items ends =
     let rest : List TableItem = map PropertyItem own.properties ++ below in
     let ends_after : EndsAbove (depth + 1) after = ends-nodes depth later items ends in
     let first : first_properties rest ≡ own.properties =
-    first-properties own.properties below ∙ ap (λ l. own.properties ++ l) (first-end (depth + 1 + 1) below (ends-children depth children after ends_after)) ∙ append-nil own.properties in
-    let inner : nodes_of (depth + 1) rest ≡ children = nodes-properties (depth + 1) own.properties below ∙ nodes-parsed (depth + 1) children after ends_after in
+    first-properties own.properties below
+    ∙ ap (λ l. own.properties ++ l) (first-end (depth + 1 + 1) below (ends-children depth children after ends_after))
+    ∙ append-nil own.properties in
+    let inner : nodes_of (depth + 1) rest ≡ children = nodes-properties (depth + 1) own.properties below
+    ∙ nodes-parsed (depth + 1) children after ends_after in
     let outer : nodes_of depth rest ≡ later =
-    nodes-properties depth own.properties below ∙ nodes-passed depth (depth + 1) children after (omega arith) ∙ nodes-parsed depth later items ends in
-    nodes-same depth depth own.place name ((map PropertyItem own.properties ++ (node_items (depth + 1) children ++ node_items depth later)) ++ items) refl
-    ∙ ap (λ l. node name (record { place = own.place; properties = first_properties l }) (nodes_of (depth + 1) l) (nodes_of depth l)) (parts (map PropertyItem own.properties) (node_items (depth + 1) children) (node_items depth later) items)
+    nodes-properties depth own.properties below ∙ nodes-passed depth (depth + 1) children after (omega arith)
+    ∙ nodes-parsed depth later items ends in
+    nodes-same depth depth own.place name
+    ((map PropertyItem own.properties ++ (node_items (depth + 1) children ++ node_items depth later)) ++ items) refl
+    ∙ ap (λ l. node name (record { place = own.place; properties = first_properties l }) (nodes_of (depth + 1) l) (nodes_of depth l))
+    (parts (map PropertyItem own.properties) (node_items (depth + 1) children) (node_items depth later) items)
     ∙ (λ i. node name (record { place = own.place; properties = first i }) (inner i) (outer i))
 
 -- The tree of a tree's table is the tree.

@@ -44,13 +44,13 @@ width-end_node = ap up4 (length-cell end_node_number)
 pub width-nop : width Nop ≡ 4
 width-nop = ap up4 (length-cell nop_number)
 
--- The next token is no more than three bytes past the end of a token within the block.
+-- The next token is at most three bytes past the end of a token within the block.
 pub up4-within : (n : ℕ) → (n ≤ up4 n) × (up4 n ≤ n + 3)
 up4-within n = (omega arith, omega arith)
 
 module _ (blocks : TreeBlocks) (depth_limit place : ℕ) (o : OpenFileNode) (outer : List OpenFileNode)
     (position : IsOpenAt blocks depth_limit place (OpenTree o outer)) where
-  -- The token of this number is expected inside the root.
+  -- The token with this number is expected inside the root.
   expected : (number : ℕ) → u32_at blocks.file place ≡ number → IsTrue (is_expected (stage_of (OpenTree o outer)) number) →
       IsTrue (is_expected (stage_of (OpenTree o outer)) (u32_at blocks.file place))
   expected number is may = subst (λ n. IsTrue (is_expected (stage_of (OpenTree o outer)) n)) (sym is) may
@@ -61,7 +61,8 @@ module _ (blocks : TreeBlocks) (depth_limit place : ℕ) (o : OpenFileNode) (out
       IsStructureFault blocks depth_limit fault
   begin_fault fault number first =
       fault_there blocks depth_limit place (OpenTree o outer) fault position
-      (subst (λ n. IsFirstFault (TokenPasses blocks depth_limit place (stage_of (OpenTree o outer))) (token_fault place) (token_checks n) fault) (sym number.is_number)
+      (subst (λ n. IsFirstFault (TokenPasses blocks depth_limit place (stage_of (OpenTree o outer))) (token_fault place)
+      (token_checks n) fault) (sym number.is_number)
       (inr (number.within, inr (expected begin_node_number number.is_number refl, first))))
 
   -- A fault of FDT_PROP.
@@ -70,7 +71,8 @@ module _ (blocks : TreeBlocks) (depth_limit place : ℕ) (o : OpenFileNode) (out
       IsStructureFault blocks depth_limit fault
   property_fault fault number first =
       fault_there blocks depth_limit place (OpenTree o outer) fault position
-      (subst (λ n. IsFirstFault (TokenPasses blocks depth_limit place (stage_of (OpenTree o outer))) (token_fault place) (token_checks n) fault) (sym number.is_number)
+      (subst (λ n. IsFirstFault (TokenPasses blocks depth_limit place (stage_of (OpenTree o outer))) (token_fault place)
+      (token_checks n) fault) (sym number.is_number)
       (inr (number.within, inr (expected prop_number number.is_number refl, first))))
 
   -- A child of a name that another child has.
@@ -79,7 +81,10 @@ module _ (blocks : TreeBlocks) (depth_limit place : ℕ) (o : OpenFileNode) (out
       HasNoFault (TokenPasses blocks depth_limit place (stage_of (OpenTree o outer))) node_name_checks →
       fault ≡ token_fault place IsNewNode → ¬ (IsNew name (names o.children)) → IsStructureFault blocks depth_limit fault
   duplicate_node name fault number is passes is_fault old =
-      begin_fault fault number (inr (passes.0, inr (passes.1.0, inr (passes.1.1.0, inl ((λ new. old (subst (λ n. IsNew n (names o.children)) (sym is) new)), is_fault)))))
+      begin_fault fault number (inr (
+        passes.0,
+        inr (passes.1.0, inr (passes.1.1.0, inl ((λ new. old (subst (λ n. IsNew n (names o.children)) (sym is) new)), is_fault))),
+      ))
 
   -- A property of a name that another property has.
   pub duplicate_property : (name : List ℕ) (fault : Fault) → IsNumberAt blocks place prop_number →
@@ -87,7 +92,23 @@ module _ (blocks : TreeBlocks) (depth_limit place : ℕ) (o : OpenFileNode) (out
       HasNoFault (TokenPasses blocks depth_limit place (stage_of (OpenTree o outer))) property_token_checks →
       fault ≡ token_fault place IsNewProperty → ¬ (IsNew name (map (λ p. p.name) o.properties)) → IsStructureFault blocks depth_limit fault
   duplicate_property name fault number is passes is_fault old =
-      property_fault fault number (inr (passes.0, inr (passes.1.0, inr (passes.1.1.0, inr (passes.1.1.1.0, inl ((λ new. old (subst (λ n. IsNew n (map (λ (p : FileProperty). p.name) o.properties)) (sym is) new)), is_fault))))))
+      property_fault fault number (inr (
+        passes.0,
+        inr (
+          passes.1.0,
+          inr (
+            passes.1.1.0,
+            inr (
+              passes.1.1.1.0,
+              inl (
+                (λ new. old
+                    (subst (λ n. IsNew n (map (λ (p : FileProperty). p.name) o.properties)) (sym is) new)),
+                is_fault,
+              ),
+            ),
+          ),
+        ),
+      ))
 
   -- FDT_NOP.
   pub after_nop : IsNumberAt blocks place nop_number → IsOpenAt blocks depth_limit (place + 4) (OpenTree o outer)
@@ -105,7 +126,13 @@ module _ (blocks : TreeBlocks) (depth_limit place : ℕ) (o : OpenFileNode) (out
       (subst (λ n. IsOpenAt blocks depth_limit (place + width (BeginNode n)) (OpenTree (new_node n place) (o ∷ outer))) (sym is)
       (next_child blocks depth_limit place o outer position (record {
         is_number = number.is_number;
-        passes = (number.within, (expected begin_node_number number.is_number refl, (passes.0, (passes.1.0, (passes.1.1.0, (subst (λ n. IsNew n (names o.children)) is new, tt))))));
+        passes = (
+          number.within,
+          (
+            expected begin_node_number number.is_number refl,
+            (passes.0, (passes.1.0, (passes.1.1.0, (subst (λ n. IsNew n (names o.children)) is new, tt)))),
+          ),
+        );
       })))
 
   -- FDT_PROP.
@@ -115,14 +142,33 @@ module _ (blocks : TreeBlocks) (depth_limit place : ℕ) (o : OpenFileNode) (out
       IsOpenAt blocks depth_limit (place + up4 (length p.value + 12)) (OpenTree (with_one_property o p) outer)
   after_property p number is passes new =
       subst (λ q. IsOpenAt blocks depth_limit (place + up4 (length q.value + 12)) (OpenTree (with_one_property o q) outer)) (sym is)
-      (subst (λ w. IsOpenAt blocks depth_limit (place + w) (OpenTree (with_one_property o (property_at blocks place)) outer)) (width-property (u32_at blocks.file (place + 8)) (property_at blocks place).value)
+      (subst (λ w. IsOpenAt blocks depth_limit (place + w) (OpenTree (with_one_property o (property_at blocks place)) outer))
+      (width-property (u32_at blocks.file (place + 8)) (property_at blocks place).value)
       (next_property blocks depth_limit place o outer position (record {
         is_number = number.is_number;
-        passes = (number.within, (expected prop_number number.is_number refl, (passes.0, (passes.1.0, (passes.1.1.0, (passes.1.1.1.0, (subst (λ q. IsNew q.name (map (λ (r : FileProperty). r.name) o.properties)) is new, tt)))))));
+        passes = (
+          number.within,
+          (
+            expected prop_number number.is_number refl,
+            (
+              passes.0,
+              (
+                passes.1.0,
+                (
+                  passes.1.1.0,
+                  (passes.1.1.1.0, (subst (λ q. IsNew q.name (map (λ (r : FileProperty). r.name) o.properties)) is new, tt)),
+                ),
+              ),
+            ),
+          ),
+        );
       })))
 
   end_is_next : IsNumberAt blocks place end_node_number → IsNext blocks depth_limit place (stage_of (OpenTree o outer)) end_node_number
-  end_is_next number = record { is_number = number.is_number; passes = (number.within, (expected end_node_number number.is_number refl, tt)) }
+  end_is_next number = record {
+    is_number = number.is_number;
+    passes = (number.within, (expected end_node_number number.is_number refl, tt));
+  }
 
 -- FDT_END_NODE of a child.
 pub after_child : (blocks : TreeBlocks) (depth_limit place : ℕ) (o parent : OpenFileNode) (outer : List OpenFileNode) →
@@ -130,7 +176,8 @@ pub after_child : (blocks : TreeBlocks) (depth_limit place : ℕ) (o parent : Op
     IsOpenAt blocks depth_limit (place + 4) (OpenTree (with_one_child parent o) outer)
 after_child blocks depth_limit place o parent outer position number =
     subst (λ w. IsOpenAt blocks depth_limit (place + w) (OpenTree (with_one_child parent o) outer)) width-end_node
-    (next_end_of_child blocks depth_limit place o parent outer position (end_is_next blocks depth_limit place o (parent ∷ outer) position number))
+    (next_end_of_child blocks depth_limit place o parent outer position
+    (end_is_next blocks depth_limit place o (parent ∷ outer) position number))
 
 -- FDT_END_NODE of the root.
 pub after_root : (blocks : TreeBlocks) (depth_limit place : ℕ) (o : OpenFileNode) → IsOpenAt blocks depth_limit place (OpenTree o []) →
@@ -153,20 +200,21 @@ finished_table file growing o unnamed finished = record {
 after_end_inside : (blocks : TreeBlocks) (depth_limit : ℕ) (old new : Reading) →
     IsReading blocks depth_limit old → IsNumberAt blocks old.place end_node_number →
     EndsChild old.growing new.growing → new.place ≡ old.place + 4 → IsReading blocks depth_limit new
-after_end_inside blocks depth_limit old new r number ended moved = by_outer r.innermost r.outer r.position (ended.grown blocks.file r.innermost r.outer r.growing) where
-  by_outer : (o : OpenFileNode) (outer : List OpenFileNode) → IsOpenAt blocks depth_limit old.place (OpenTree o outer) →
-      EndsInside blocks.file new.growing o outer → IsReading blocks depth_limit new
-  by_outer o [] position more = absurd more
-  by_outer o (parent ∷ outer) position more = record {
-    innermost = with_one_child parent o;
-    outer = outer;
-    position = subst (λ place. IsOpenAt blocks depth_limit place (OpenTree (with_one_child parent o) outer)) (sym moved)
-        (after_child blocks depth_limit old.place o parent outer position number);
-    growing = more;
-    strings = ended.strings ∙ r.strings;
-    few = omega (arith, r.few, ended.count, moved);
-    within = omega (arith, number.within, moved);
-  }
+after_end_inside blocks depth_limit old new r number ended moved = by_outer r.innermost r.outer r.position
+    (ended.grown blocks.file r.innermost r.outer r.growing) where
+      by_outer : (o : OpenFileNode) (outer : List OpenFileNode) → IsOpenAt blocks depth_limit old.place (OpenTree o outer) →
+          EndsInside blocks.file new.growing o outer → IsReading blocks depth_limit new
+      by_outer o [] position more = absurd more
+      by_outer o (parent ∷ outer) position more = record {
+        innermost = with_one_child parent o;
+        outer = outer;
+        position = subst (λ place. IsOpenAt blocks depth_limit place (OpenTree (with_one_child parent o) outer)) (sym moved)
+            (after_child blocks depth_limit old.place o parent outer position number);
+        growing = more;
+        strings = ended.strings ∙ r.strings;
+        few = omega (arith, r.few, ended.count, moved);
+        within = omega (arith, number.within, moved);
+      }
 
 -- A reader after FDT_END_NODE of the root.
 after_end_root : (blocks : TreeBlocks) (depth_limit : ℕ) (old new : Reading) →

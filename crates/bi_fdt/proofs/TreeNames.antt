@@ -35,7 +35,8 @@ property_in_events depth (FileNodeProperty first ∷ later) property has =
         Contains (FileNodeProperty first ∷ later) (FileNodeProperty property)
     where_first (inl same) rest =
         let is : first ≡ property = cc in
-        subst (λ found. Contains (FileNodeProperty first ∷ later) (FileNodeProperty found)) is (Contains-first (FileNodeProperty first) later)
+        subst (λ found. Contains (FileNodeProperty first ∷ later) (FileNodeProperty found)) is
+        (Contains-first (FileNodeProperty first) later)
     where_first (inr has) rest =
         Contains-others (FileNodeProperty first) later (FileNodeProperty property) (rest has)
 property_in_events depth (FileNodeEnd ∷ later) property has =
@@ -61,11 +62,14 @@ names_after-in : (root : Root FileNode) (table : List TableItem) (used : List (L
     AreNamesIn used root → AreNamesIn (names_after used table) root
 names_after-in root [] used each are = are
 names_after-in root (NodeItem depth place name ∷ table) used each are =
-    names_after-in root table used (λ property has. each property (Contains-others (NodeItem depth place name) table (PropertyItem property) has)) are
+    names_after-in root table used (λ property has. each property
+    (Contains-others (NodeItem depth place name) table (PropertyItem property) has)) are
 names_after-in root (PropertyItem first ∷ table) used each are =
-    names_after-in root table (with_used_name used first.name) (λ property has. each property (Contains-others (PropertyItem first) table (PropertyItem property) has))
+    names_after-in root table (with_used_name used first.name)
+    (λ property has. each property (Contains-others (PropertyItem first) table (PropertyItem property) has))
     (with_used_name-in root used first.name are (each first (Contains-first (PropertyItem first) table)))
 
 pub table_names_in_tree : (root : Root FileNode) (table : List TableItem) → table ≡ table_of root → AreNamesIn (names_of_table table) root
 table_names_in_tree root table is =
-    names_after-in root table [] (λ property has. name_in_table root property (subst (λ table. Contains table (PropertyItem property)) is has)) tt
+    names_after-in root table [] (λ property has. name_in_table root property
+    (subst (λ table. Contains table (PropertyItem property)) is has)) tt

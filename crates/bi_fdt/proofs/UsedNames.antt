@@ -45,7 +45,7 @@ used_once_more old new name number at_most distinct is = by (is_among name old) 
         absurd (numbered_old old name number (subst (λ l. IsNumberOf l name number) same is) (new_by_test name old among))
     by false among (inr more) = more ∙ ap (λ b. if b then old else old ++ name ∷ []) (sym among)
 
--- Two names are equal exactly if their numbers are.
+-- Two names are equal if and only if their numbers are.
 pub one_number_each : (names : List (List ℕ)) → AreDistinct names → (a b : List ℕ) (m n : ℕ) → IsNumberOf names a m →
     IsNumberOf names b n →
     (m ≡ n) ↔ (a ≡ b)
@@ -74,7 +74,8 @@ with_used_name-distinct used name distinct = by (is_among name used) refl
   where
     by : (b : Bool) → is_among name used ≡ b → AreDistinct (with_used_name used name)
     by true old = subst AreDistinct (sym (ap (λ b. if b then used else used ++ name ∷ []) old)) distinct
-    by false new = subst AreDistinct (sym (ap (λ b. if b then used else used ++ name ∷ []) new)) (AreDistinct-push used name distinct (new_by_test name used new))
+    by false new = subst AreDistinct (sym (ap (λ b. if b then used else used ++ name ∷ []) new))
+        (AreDistinct-push used name distinct (new_by_test name used new))
 
 pub names_after-distinct : (used : List (List ℕ)) (table : List TableItem) → AreDistinct used → AreDistinct (names_after used table)
 names_after-distinct used [] distinct = distinct
@@ -89,5 +90,7 @@ pub numbered_property : (names : List (List ℕ)) (table : List TableItem) (numb
 numbered_property names [] numbers at number property are is has = absurd (none-some (PropertyItem property) is)
 numbered_property names (item ∷ table) [] at number property are is has = absurd are
 numbered_property names (item ∷ table) (first ∷ numbers) zero number property are is has =
-    subst (IsNumberOf names property.name) (same_Some first number has) (subst (λ item. IsNumbered names item first) (same_Some item (PropertyItem property) is) are.0)
-numbered_property names (item ∷ table) (first ∷ numbers) (suc at) number property are is has = numbered_property names table numbers at number property are.1 is has
+    subst (IsNumberOf names property.name) (same_Some first number has)
+    (subst (λ item. IsNumbered names item first) (same_Some item (PropertyItem property) is) are.0)
+numbered_property names (item ∷ table) (first ∷ numbers)
+    (suc at) number property are is has = numbered_property names table numbers at number property are.1 is has

@@ -71,7 +71,7 @@ pub record BeginsChild (old : Growing) (name : List ℕ) (place : ℕ) (new : Gr
       → IsGrowing file old innermost outer → HasBytesAt file (place + 4) name
       → IsGrowing file new (new_node name place) (innermost ∷ outer)
 
--- The fault of a child, where another child of the innermost open node has its name.
+-- The fault of a child, if another child of the innermost open node has its name.
 pub record IsChildTaken (old : Growing) (name : List ℕ) (place : ℕ) (fault : Fault) : Type 0 where
   pub is_fault : fault ≡ token_fault place IsNewNode
   pub taken : (file : List ℕ) (innermost : OpenFileNode) (outer : List OpenFileNode)
@@ -90,7 +90,7 @@ pub record AddsProperty (old : Growing) (name : List ℕ) (property : PropertyEn
       → (property_in file property).name ≡ name
       → IsGrowing file new (with_one_property innermost (property_in file property)) outer
 
--- The fault of a property, where another property of the innermost open node has its name.
+-- The fault of a property, if another property of the innermost open node has its name.
 pub record IsPropertyTaken (old : Growing) (name : List ℕ) (place : ℕ) (fault : Fault) : Type 0
   where
     pub is_fault : fault ≡ token_fault place IsNewProperty

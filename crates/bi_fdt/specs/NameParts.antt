@@ -17,9 +17,10 @@ abbrev pub AreOnce : List NamePart → Type 0
 AreOnce parts = (part : NamePart) (m n : ℕ) → slice_get parts m ≡ Some part
     → slice_get parts n ≡ Some part → m ≡ n
 
--- The blocks after each part have the number of a part before it, or are none.
+-- The blocks after each part have the number of a part before it, or there are none.
 abbrev pub AreAfterTails : List NamePart → Type 0
-AreAfterTails parts = (index : ℕ) (part : NamePart) → slice_get parts index ≡ Some part → part.0 ≤ index
+AreAfterTails parts =
+    (index : ℕ) (part : NamePart) → slice_get parts index ≡ Some part → part.0 ≤ index
 
 -- A part is not in a list.
 abbrev pub IsNewPart : NamePart → List NamePart → Type 0
@@ -35,8 +36,8 @@ abbrev pub IsPlaced : List NamePart → NamePart → ℕ → List NamePart → T
 IsPlaced old part index new = ((slice_get old index ≡ Some part) × (new ≡ old))
     ⊎ (IsNewPart part old × (index ≡ length old) × (new ≡ old ++ part ∷ []))
 
--- The same parts and maybe more: each part keeps its number, still none is there twice, and they
--- are still in order.
+-- The same parts and maybe more: each part keeps its number, they are still distinct, and they are
+-- still in order.
 pub record AreMoreParts (old new : List NamePart) : Type 0 where
   pub begin : BeginsWith new old
   pub once : AreOnce old → AreOnce new

@@ -5,12 +5,12 @@ use Rattle.bi_blob.specs.Tokens.{name_from}
 use Rattle.bi_blob.specs.Tree.{AreDistinct}
 use Rattle.bi_fdt.specs.NameParts.{NamePart, AreOnce, AreAfterTails}
 
--- Heads and tails of names. The tail of a name is all blocks of 64 bytes that the name ends with
--- but the first, and its head is the bytes before them, less than 128. A tail is a list of parts
--- that have a block each, so that the numbers of two tails are equal exactly if the tails are.
+-- Heads and tails of names. The tail of a name is all blocks of 64 bytes that the name ends with,
+-- except the first. Its head is the bytes before them, fewer than 128. A tail is a list of parts
+-- that have a block each, so that the numbers of two tails are equal if and only if the tails are.
 
--- The last blocks of a name have this number: 0 if they are none, and else 1 more than the number
--- of the part that has the first of them.
+-- The last blocks of a name have this number: 0 if there are none, and otherwise 1 more than the
+-- number of the part that has the first of them.
 abbrev pub AreBlocksNumbered : List NamePart → ℕ → ℕ → List ℕ → Type 0
 AreBlocksNumbered tails zero number name = number ≡ 0
 AreBlocksNumbered tails (suc count) number name =
@@ -28,7 +28,7 @@ abbrev pub IsTail : List NamePart → ℕ → List ℕ → Type 0
 IsTail tails number name = AreBlocksNumbered tails (length name / 64 - 1) number name
 
 -- The name at each of the first multiples of 64 has one of these numbers, which is that of its
--- blocks together. The last of them comes first.
+-- blocks together. The last name comes first.
 pub record AreBlockNumbers (tails : List NamePart) (strings : List ℕ) (numbers : List ℕ) : Type 0
   where
     pub count : length numbers ≡ length strings / 64 + 1

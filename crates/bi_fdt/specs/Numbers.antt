@@ -16,7 +16,8 @@ with_used_name used name = if is_among name used then used else used ++ name ∷
 abbrev pub names_after : List (List ℕ) → List TableItem → List (List ℕ)
 names_after used [] = used
 names_after used (NodeItem depth place name ∷ later) = names_after used later
-names_after used (PropertyItem property ∷ later) = names_after (with_used_name used property.name) later
+names_after used (PropertyItem property ∷ later) =
+    names_after (with_used_name used property.name) later
 
 -- The names of the properties of a table, each once, in the order of their first use.
 abbrev pub names_of_table : List TableItem → List (List ℕ)
@@ -30,17 +31,16 @@ IsNumberOf names name number = slice_get names number ≡ Some name
 abbrev pub FindsNumber : List (List ℕ) → List ℕ → Option ℕ → Type 0
 FindsNumber names name found = MatchOption found (IsNew name names) (IsNumberOf names name)
 
--- A property has the name of this number.
+-- A property has the name with this number.
 abbrev pub HasNumber : List (List ℕ) → FileProperty → ℕ → Type 0
 HasNumber names property number = IsNumberOf names property.name number
 
--- If an item of a table is a property, it has the name of this number.
+-- If an item of a table is a property, it has the name with this number.
 abbrev pub IsNumbered : List (List ℕ) → TableItem → ℕ → Type 0
 IsNumbered names (NodeItem depth place name) number = ⊤
 IsNumbered names (PropertyItem property) number = HasNumber names property number
 
--- The properties of a table have the names of these numbers. There is a number for each item of the
--- table.
+-- The properties of a table have the names with these numbers. Each item of the table has a number.
 abbrev pub AreNumbered : List (List ℕ) → List TableItem → List ℕ → Type 0
 AreNumbered names table numbers = AllZip (IsNumbered names) table numbers
 

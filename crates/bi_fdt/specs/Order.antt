@@ -49,14 +49,15 @@ pub record IsNumberOrder (names : List (List ℕ)) (table : List TableItem) (ord
   pub numbered : AreNumbered names table keys
   pub ordered : IsPropertyOrder table keys order
 
--- A property of this key before others, if an item of a table is one.
-abbrev pub with_keyed_property : (key : ℕ) → Option TableItem → List KeyedProperty → List KeyedProperty
+-- A property with this key before others, if an item of a table is a property.
+abbrev pub with_keyed_property : (key : ℕ) → Option TableItem → List KeyedProperty
+    → List KeyedProperty
 with_keyed_property key None later = []
 with_keyed_property key (Some (NodeItem depth place name)) later = []
 with_keyed_property key (Some (PropertyItem property)) later = (key, property) ∷ later
 
--- The properties at the indices of these pairs in a table, up to the first index that is none of a
--- property.
+-- The properties at the indices of these pairs in a table, up to the first index that is not that
+-- of a property.
 abbrev pub keyed_properties : List TableItem → List (ℕ × ℕ) → List KeyedProperty
 keyed_properties table [] = []
 keyed_properties table (keyed ∷ later) =

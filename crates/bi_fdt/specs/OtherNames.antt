@@ -40,3 +40,10 @@ pub record AreFoundAmong (parts others : List NamePart) (tails found : List (Opt
     pub each : (index : ℕ) (part : NamePart) (tail number : Option ℕ)
         → slice_get parts index ≡ Some part → slice_get tails part.0 ≡ Some tail
         → slice_get found index ≡ Some number → FindsAfter others tail part.1 number
+
+-- These are the numbers of so many names among themselves: of each its index.
+pub record AreOwnNumbers (names : ℕ) (numbers : List (Option ℕ)) : Type 0
+  where
+    pub count : length numbers ≡ names
+    pub each : (index : ℕ) (found : Option ℕ) → slice_get numbers index ≡ Some found
+        → found ≡ Some index

@@ -14,12 +14,12 @@ use Rattle.bi_fdt.specs.declared.part_numbers.PartNumbers.{PartNumbers}
 abbrev pub key_of_part : ℕ × Bor (List ℕ) → ℕ × ℕ × Bor (List ℕ)
 key_of_part part = (part.0, prefix_of_name part.1.now, part.1)
 
--- Whether two parts have one key, which is so if and only if they are equal.
+-- Whether two parts have the same key, which is so if and only if they are equal.
 abbrev pub is_same_key : ℕ × Bor (List ℕ) → ℕ × Bor (List ℕ) → Bool
 is_same_key one other = is_eq (by_prefix (key_of_part one) (key_of_part other))
 
--- The index of the map that a part chooses, of so many maps: by its first and last eight bytes and
--- the number of the blocks after it.
+-- The index of the map that a part chooses, of this many maps: by its first and last eight bytes
+-- and the number of the blocks after it.
 abbrev pub bucket_of : (count : ℕ) → ℕ × List ℕ → ℕ
 bucket_of count part =
     (prefix_of_name part.1 / 4 + prefix_of_name (drop (length part.1 - 8) part.1) / 4 + part.0 / 2)

@@ -23,7 +23,7 @@ pub record IsReadBlob (limits : Limits) (file : List ℕ) (blob : Blob) : Type 0
       → SameContent blob.cpu cpu blob.reservations reservations (root_of blob) root
   pub no_fault : (fault : Fault) → ¬ (IsBlobFault limits file fault)
 
--- The file has this fault and no other, and is no blob within the limits.
+-- The file has this fault and no other, and is not a blob within the limits.
 pub record IsOnlyBlobFault (limits : Limits) (file : List ℕ) (fault : Fault) : Type 0 where
   pub is_fault : IsBlobFault limits file fault
   pub only : (other : Fault) → IsBlobFault limits file other → other ≡ fault

@@ -43,8 +43,8 @@ IsAhead blocks depth_limit place false reading =
     IsReading blocks depth_limit reading × (place < reading.place)
 IsAhead blocks depth_limit place true reading = IsAfter blocks depth_limit reading
 
--- A table is that of the tree that a structure block holds, which is no deeper than a limit, and
--- these are the names of its properties.
+-- A table is that of the tree that a structure block holds, and these are the names of its
+-- properties. The tree is no deeper than a limit.
 pub record HasTable (blocks : TreeBlocks) (depth_limit : ℕ) (entries : List Entry)
     (used : List (List ℕ)) : Type 0 where
   pub root : Root FileNode

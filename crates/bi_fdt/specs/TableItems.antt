@@ -4,7 +4,7 @@ use Rattle.bi_blob.specs.Events.{FileEvent, FileNodeStart, FileNodeProperty, Fil
 
 -- What a table of a tree has: its nodes and properties in the order of their tokens in the file.
 
--- One entry of a table: a node of this depth, or a property of the last node before it.
+-- One entry of a table: a node with its depth, or a property of the last node before it.
 pub data TableItem : Type 0 where
   NodeItem : (depth place : ℕ) → (name : List ℕ) → TableItem
   PropertyItem : (property : FileProperty) → TableItem
@@ -15,7 +15,7 @@ first_properties [] = []
 first_properties (PropertyItem property ∷ later) = property ∷ first_properties later
 first_properties (NodeItem depth place name ∷ later) = []
 
--- The nodes of this depth among items, up to the first node that is less deep.
+-- The nodes at this depth among items, up to the first node that is less deep.
 abbrev pub nodes_of : ℕ → List TableItem → Nodes FileNode
 nodes_of depth [] = none
 nodes_of depth (PropertyItem property ∷ later) = nodes_of depth later

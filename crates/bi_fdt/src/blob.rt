@@ -34,7 +34,7 @@ use bi_base::{Error, Fault, Limits, two_cells_at};
 use std::alloc::{AllocError, Global};
 use std::marker::Model;
 
-/// A devicetree blob that was read (Devicetree Specification, chapter 5). It holds slices of its
+/// A devicetree blob that was read (Devicetree Specification, chapter 5). It has slices of its
 /// file, one table of the nodes and properties of its tree, and the names of the properties.
 #[derive(Drop)]
 pub struct Blob<'a> {
@@ -75,8 +75,8 @@ impl<'a> Blob<'a> {
     /// Reads a blob of version 16 or 17, or of a later version that is compatible with 17. The file
     /// may be longer than the blob.
     ///
-    /// Succeeds exactly if the file is a blob within the limits, unless memory runs out. Otherwise
-    /// it fails with the fault of the first check that fails:
+    /// Succeeds if the file is a blob within the limits, unless memory runs out. Otherwise it fails
+    /// with the fault of the first check that fails:
     ///
     /// - in the header: TooLarge at the limit; Truncated at 0, if the file has fewer than four
     ///   bytes; BadMagic at 0; Truncated at 0, if the file ends before the header does; BadVersion
@@ -88,7 +88,7 @@ impl<'a> Blob<'a> {
     ///   TooDeep, BadName and DuplicateNode for a node; PropertyAfterChild, BadNameOffset, BadName
     ///   and DuplicateProperty for a property.
     ///
-    /// OutOfMemory comes only if the header and the memory reservation block have no fault.
+    /// OutOfMemory occurs only if the header and the memory reservation block have no fault.
     pub fn read(alloc: Global, file: &'a [u8], limits: Limits) -> Result<Blob<'a>, Error>
         ensures read { IfOk result (IsReadBlob limits file.entry.now) }
         ensures failed { IfErr result (IsBlobReadError limits file.entry.now) }
@@ -135,7 +135,7 @@ impl<'a> Blob<'a> {
     }
 
     /// Returns the address and the size of memory reservation `index`, counted from 0. Returns None
-    /// exactly if there is no such reservation.
+    /// if there is no such reservation.
     pub fn reservation(&self, index: usize) -> Option<(u64, u64)>
         ensures { result ≡ slice_get (map
             (λ reservation. (reservation.address, reservation.size)) self.now.reservations) index }
@@ -158,8 +158,8 @@ impl<'a> Blob<'a> {
         NodeRef::new(self)
     }
 
-    /// Returns the node at an index in the table. It may only be called with an index that
-    /// `NodeRef::index` returned for a node of this blob. Takes constant time.
+    /// Returns the node at an index in the table. Takes constant time. Requires: the index is that
+    /// of a node of this blob, as `NodeRef::index` returns it.
     pub fn node<'b>(&'b self, index: usize) -> NodeRef<'a, 'b>
         requires { HasNodeAt self.now.table index }
         ensures node { node_of result ≡ node_in self.now.table index }
@@ -178,8 +178,8 @@ impl<'a> Blob<'a> {
         self.names.names()
     }
 
-    /// Returns the number of the name of each property, and any number for each node, in the order
-    /// of the file. Fails if memory runs out.
+    /// Returns a number for each node and property, in the order of the file: for a property the
+    /// number of its name, and for a node any number. Fails if memory runs out.
     pub fn name_numbers(&self, alloc: Global) -> Result<Vec<usize>, AllocError>
         ensures { IfOk result (λ numbers.
             AreNumbered (names_of_table self.now.table) self.now.table numbers.items) }
@@ -187,18 +187,18 @@ impl<'a> Blob<'a> {
         name_numbers(alloc, &self.entries)
     }
 
-    /// Returns the number of the given name. Returns None if and only if no property has this name.
-    /// Takes time linear in the number of the names.
+    /// Returns the number of the given name. Returns None if no property has this name. Takes time
+    /// linear in the number of the names.
     pub fn name_number(&self, name: &[u8]) -> Option<usize>
         ensures { FindsNumber (names_of_table self.now.table) name.now result }
     {
         self.names.find(name)
     }
 
-    /// Returns for each name, in the order of `names`, the number that the same name has in another
-    /// blob, or None if no property of that blob has the name. The time is n log n in the lengths
-    /// of the strings blocks and the number of the names, however long the names are and however
-    /// many of them share bytes. Fails if memory runs out.
+    /// Returns, for each name in the order of `names`, the number of the same name in another blob,
+    /// or None if no property of that blob has the name. Takes n log n time in the lengths of the
+    /// strings blocks and the number of names, however long the names are and however many of them
+    /// share bytes. Fails if memory runs out.
     pub fn names_in_terms_of(
         &self,
         alloc: Global,

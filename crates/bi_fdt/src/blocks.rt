@@ -44,7 +44,7 @@ pub(crate) fn number_at(blocks: Blocks, place: usize) -> Result<u32, Fault>
     Ok(cell_at(blocks.file, place))
 }
 
-/// Returns the name of the root, whose token is at `place`.
+/// Returns the name of the root. Its token is at `place`.
 pub(crate) fn root_name<'a>(
     blocks: Blocks<'a, '_>,
     place: usize,
@@ -69,7 +69,7 @@ pub(crate) fn root_name<'a>(
     Ok(name)
 }
 
-/// Returns the name of a child, whose token is at `place`, while `depth` nodes are open.
+/// Returns the name of a child, while `depth` nodes are open. Its token is at `place`.
 pub(crate) fn child_name<'a>(
     blocks: Blocks<'a, '_>,
     place: usize,
@@ -150,7 +150,7 @@ pub(crate) fn property_at(
     })
 }
 
-/// Returns the offset in the strings block of the name of the property whose token is at `place`.
+/// Returns the offset in the strings block of the name of the property with the token at `place`.
 pub(crate) fn name_offset(blocks: Blocks, place: usize) -> usize
     requires blocks { AreBlocks blocks }
     requires within { place + 12 ≤ blocks.end }

@@ -47,7 +47,7 @@ impl<'a> MadeWith<Global> for OpenNode<'a> {
 pub(crate) struct Growing<'a> {
     entries: Vec<Entry>,
     /// The names of the properties. The mark of a name is the index of the entry of the last node
-    /// that has a property of the name.
+    /// that has a property with that name.
     names: MarkedNames<'a>,
     innermost: OpenNode<'a>,
     /// The nodes that contain the innermost open node, the root first.
@@ -101,9 +101,9 @@ impl<'a> Growing<'a> {
         self.innermost.children.is_empty()
     }
 
-    /// Begins a child of the innermost open node, at `place`. Requires that fewer than 64 nodes are
-    /// open. Fails with DuplicateNode if a child has the name already. After an error the tree is of
-    /// no use.
+    /// Begins a child of the innermost open node, at `place`. Fails with DuplicateNode if a child
+    /// already has the name. After an error, the tree is not usable. Requires: fewer than 64 nodes
+    /// are open.
     pub(crate) fn begin_node(
         &mut self,
         alloc: Global,
@@ -137,8 +137,8 @@ impl<'a> Growing<'a> {
     }
 
     /// Adds a property to the innermost open node, which has no child yet. Its name is at offset
-    /// `at` of the strings block. Fails with DuplicateProperty if a property has the name already.
-    /// After an error the tree is of no use.
+    /// `at` of the strings block. Fails with DuplicateProperty if a property already has the name.
+    /// After an error, the tree is not usable.
     pub(crate) fn add_property(
         &mut self,
         property: PropertyEntry,

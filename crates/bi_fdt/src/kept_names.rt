@@ -1,6 +1,6 @@
 //! The names of the properties of a blob that was read.
 
-ghost use Rattle.std.specs.Prelude.{◌≡◌, IfOk};
+ghost use Rattle.std.specs.Prelude.{◌≡◌, IfOk, true};
 ghost use Rattle.std.specs.List.{AllZip};
 ghost use Rattle.bi_base.specs.Slices.{bytes_of};
 ghost use Rattle.bi_blob.specs.Tree.{AreDistinct};
@@ -9,6 +9,7 @@ ghost use Rattle.bi_fdt.specs.Numbers.{FindsNumber};
 
 use crate::name_parts::NameParts;
 use crate::name_table::NameTable;
+use crate::other_names::{are_same_parts, own_numbers, parts_among, tails_among};
 use std::alloc::{AllocError, Global};
 use std::marker::Model;
 
@@ -53,18 +54,6 @@ impl<'a> KeptNames<'a> {
         }
     }
 
-    /// Returns the table of the names. Fails if memory runs out.
-    fn table(&self, alloc: Global) -> Result<NameTable<'a>, AllocError>
-        ensures names { IfOk result (λ table. names_in_table table ≡ self.now) }
-        ensures table { IfOk result IsNameTable }
-    {
-        Ok(NameTable {
-            tails: NameParts::of_parts(alloc, &self.tails)?,
-            heads: NameParts::of_parts(alloc, &self.heads)?,
-            names: self.names.clone()?,
-        })
-    }
-
     /// Returns the names.
     pub(crate) fn names(&self) -> &[&'a [u8]]
         ensures names { bytes_of result.now ≡ self.now }
@@ -85,8 +74,9 @@ impl<'a> KeptNames<'a> {
         None
     }
 
-    /// Returns for each name the number that it has among others, if it is there. Fails if memory
-    /// runs out.
+    /// Returns, for each name, its number among other names, if it is there. If the other names are
+    /// the same, in the same order, as in most builds of the same image, none is looked up. Fails
+    /// if memory runs out.
     pub(crate) fn in_terms_of(
         &self,
         alloc: Global,
@@ -95,8 +85,32 @@ impl<'a> KeptNames<'a> {
         ensures { IfOk result (λ numbers.
             AllZip (FindsNumber other.now) self.now numbers.items) }
     {
-        let own_table = self.table(alloc)?;
-        let other_table = other.table(alloc)?;
-        own_table.in_terms_of(alloc, &other_table)
+        if self.has_same_parts(other) {
+            return own_numbers(alloc, self.names.len());
+        }
+        self.look_up_in(alloc, other)
+    }
+
+    /// Whether the parts of both are the same, so that the names are.
+    fn has_same_parts(&self, other: &KeptNames<'a>) -> bool
+        ensures { result ≡ true → self.now ≡ other.now }
+    {
+        are_same_parts(&self.tails, &other.tails) && are_same_parts(&self.heads, &other.heads)
+    }
+
+    /// Returns, for each name, its number among other names, if it is there. Each block and each
+    /// head is looked up once. Fails if memory runs out.
+    fn look_up_in(
+        &self,
+        alloc: Global,
+        other: &KeptNames<'a>,
+    ) -> Result<Vec<Option<usize>>, AllocError>
+        ensures { IfOk result (λ numbers.
+            AllZip (FindsNumber other.now) self.now numbers.items) }
+    {
+        let other_tails = NameParts::of_parts(alloc, &other.tails)?;
+        let tails = tails_among(alloc, &self.tails, &other_tails)?;
+        let other_heads = NameParts::of_parts(alloc, &other.heads)?;
+        parts_among(alloc, &self.heads, &other_heads, &tails)
     }
 }

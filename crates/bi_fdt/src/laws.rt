@@ -7,7 +7,7 @@ pub fn numbers_are_of_names()
     ensures { NumbersAreOfNames }
 {}
 
-/// The names of the properties of a table are there once.
+/// The names of the properties of a table are distinct.
 pub fn names_are_distinct()
     ensures { NamesAreDistinct }
 {}

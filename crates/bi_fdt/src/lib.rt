@@ -15,6 +15,7 @@ mod name_tails;
 mod names;
 mod node;
 mod order;
+mod other_names;
 mod part_numbers;
 mod properties;
 mod ranks;

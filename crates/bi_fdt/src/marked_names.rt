@@ -14,8 +14,8 @@ use std::alloc::{AllocError, Global};
 use std::marker::Model;
 
 /// The names that properties have had so far, each with the mark of the last node that has a
-/// property of the name. So it is known at once whether a node has a name, and nothing is cleared
-/// when a node begins.
+/// property with that name. So it is known at once whether a node has a name, and nothing is
+/// cleared when a node begins.
 #[derive(Drop)]
 pub(crate) struct MarkedNames<'a> {
     names: UsedNames<'a>,
@@ -39,7 +39,7 @@ impl<'a> Model for MarkedNames<'a> {
 }
 
 impl<'a> MarkedNames<'a> {
-    /// Returns a strings block of which no name was used. Takes time and memory linear in it.
+    /// Returns a strings block with no name used yet. Takes time and memory linear in its length.
     pub(crate) fn new(alloc: Global, strings: &Strings<'a>) -> Result<MarkedNames<'a>, AllocError>
         ensures { IfOk result (λ names.
             names ≡ record { strings = strings.now; used = []; marks = [] }) }
@@ -51,7 +51,7 @@ impl<'a> MarkedNames<'a> {
     }
 
     /// Adds the name at offset `at` to those of the properties of the node with this mark, and
-    /// returns its number. Returns None if the node has the name already. Reads at most 127 bytes
+    /// returns its number. Returns None if the node already has the name. Reads at most 127 bytes
     /// of the name, however long it is. Fails if memory runs out.
     pub(crate) fn insert(
         &mut self,

@@ -1,7 +1,6 @@
 //! Parts of names, and their numbers.
 
-ghost use Rattle.std.specs.Prelude.{◌≡◌, ◌<◌, ◌^◌, ℕ, [], IfOk, IfErr, length, slice_get};
-ghost use Rattle.std.specs.Prelude.{Option, Some};
+ghost use Rattle.std.specs.Prelude.{◌≡◌, ◌<◌, ◌^◌, [], IfOk, IfErr, length};
 
 use crate::part_numbers::PartNumbers;
 use std::alloc::{AllocError, Global};
@@ -27,11 +26,10 @@ impl<'a> Model for NameParts<'a> {
 }
 
 impl<'a> NameParts<'a> {
-    ghost use Rattle.bi_fdt.specs.NameParts.{AreOnce, AreAfterTails, IsPlaced, FindsPart, parts_of_slices};
-    ghost use Rattle.bi_fdt.specs.OtherNames.{AreOtherNumbers, AreFoundAmong};
+    ghost use Rattle.bi_fdt.specs.NameParts.{AreOnce, IsPlaced, FindsPart, parts_of_slices};
     ghost use Rattle.bi_fdt.specs.OtherNames.{FindsAfter, FindsTail};
 
-    /// Returns an empty list of parts, which serves `parts` parts well. Fails if memory runs out.
+    /// Returns an empty list of parts, which is suited to `parts` parts. Fails if memory runs out.
     pub(crate) fn new(alloc: Global, parts: usize) -> Result<NameParts<'a>, AllocError>
         ensures { IfOk result (λ made. made ≡ []) }
     {
@@ -41,7 +39,7 @@ impl<'a> NameParts<'a> {
         })
     }
 
-    /// Returns these parts, of which none is there twice. Fails if memory runs out.
+    /// Returns these parts. Requires: they are distinct. Fails if memory runs out.
     pub(crate) fn of_parts(
         alloc: Global,
         parts: &[(usize, &'a [u8])],
@@ -64,8 +62,8 @@ impl<'a> NameParts<'a> {
         parts
     }
 
-    /// Adds a part if it is not there yet, and returns its number. The part has these bytes, and
-    /// the blocks after it have the number `tail`. It takes log n comparisons, for n parts. If
+    /// Adds a part if it is not there yet, and returns its number. The part has the given bytes,
+    /// and the blocks after it have the number `tail`. Takes log n comparisons for n parts. If
     /// memory runs out, the parts are unchanged.
     pub(crate) fn add(&mut self, tail: usize, bytes: &'a [u8]) -> Result<usize, AllocError>
         ensures added { IfOk result (λ number.
@@ -83,7 +81,7 @@ impl<'a> NameParts<'a> {
         Ok(number)
     }
 
-    /// Returns the number of a part, if it is there. It takes log n comparisons, for n parts.
+    /// Returns the number of a part, if it is there. Takes log n comparisons for n parts.
     pub(crate) fn find(&self, tail: usize, bytes: &'a [u8]) -> Option<usize>
         ensures { FindsPart self.now (tail, bytes.now) result }
     {
@@ -92,65 +90,19 @@ impl<'a> NameParts<'a> {
 
     /// Returns the number of a part, if it is there. The blocks after it have the number `tail`, or
     /// are not there.
-    fn find_after(&self, tail: Option<usize>, bytes: &'a [u8]) -> Option<usize>
+    pub(crate) fn find_after(&self, tail: Option<usize>, bytes: &'a [u8]) -> Option<usize>
         ensures { FindsAfter self.now tail bytes.now result }
     {
         self.find(tail?, bytes)
     }
 
     /// Returns the number that a block and those after it have together, if they are there.
-    fn find_tail(&self, tail: Option<usize>, block: &'a [u8]) -> Option<usize>
+    pub(crate) fn find_tail(&self, tail: Option<usize>, block: &'a [u8]) -> Option<usize>
         ensures { FindsTail self.now tail block.now result }
     {
-        // The call gives the proof that the length fits.
+        // The call tells the proof that the length fits.
         let _ = self.parts.len();
         let index = self.find_after(tail, block)?;
         Some(index + 1)
     }
-
-    /// Returns the numbers that these parts, which are blocks, have among others, each with the
-    /// blocks after it. That of no blocks comes first. Fails if memory runs out.
-    pub(crate) fn tails_in(
-        &self,
-        alloc: Global,
-        others: &NameParts<'a>,
-    ) -> Result<Vec<Option<usize>>, AllocError>
-        requires order { AreAfterTails self.now }
-        requires once { AreOnce others.now }
-        ensures { IfOk result (λ numbers. AreOtherNumbers self.now others.now numbers.items) }
-    {
-        let mut numbers = Vec::with_capacity(alloc, self.parts.len())?;
-        numbers.push(Some(0))?;
-        for (tail, block) in &self.parts {
-            let later = option_at(&numbers, *tail);
-            numbers.push(others.find_tail(later, block))?;
-        }
-        Ok(numbers)
-    }
-
-    /// Returns the numbers that these parts have among others. `tails` are the numbers there of the
-    /// blocks after them, by their numbers here. Fails if memory runs out.
-    pub(crate) fn numbers_in(
-        &self,
-        alloc: Global,
-        others: &NameParts<'a>,
-        tails: &[Option<usize>],
-    ) -> Result<Vec<Option<usize>>, AllocError>
-        ensures { IfOk result (λ numbers.
-            AreFoundAmong self.now others.now tails.now numbers.items) }
-    {
-        let mut numbers = Vec::with_capacity(alloc, self.parts.len())?;
-        for (tail, bytes) in &self.parts {
-            let later = option_at(tails, *tail);
-            numbers.push(others.find_after(later, bytes))?;
-        }
-        Ok(numbers)
-    }
-}
-
-/// Returns the value at an index, if there is one.
-fn option_at(values: &[Option<usize>], index: usize) -> Option<usize>
-    ensures { (value : Option ℕ) → slice_get values.now index ≡ Some value → result ≡ value }
-{
-    *values.get(index)?
 }

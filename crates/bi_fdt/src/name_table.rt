@@ -1,12 +1,10 @@
 //! A table of the names of properties.
 
-ghost use Rattle.std.specs.Prelude.{◌≡◌, ◌+◌, ◌/◌, ◌<◌, [], IfOk, OnErr, Some, length, map, slice_get};
-ghost use Rattle.std.specs.Prelude.{take};
-ghost use Rattle.std.specs.List.{AllZip};
+ghost use Rattle.std.specs.Prelude.{◌≡◌, ◌+◌, ◌/◌, ◌<◌, [], IfOk, OnErr, Some, length, map};
+ghost use Rattle.std.specs.Prelude.{slice_get, take};
 ghost use Rattle.bi_fdt.specs.NameTables.{names_in_table, IsNameTable, HasMoreNames};
 ghost use Rattle.bi_fdt.specs.NameTables.{HasAtMostMore};
 ghost use Rattle.bi_fdt.specs.NameTails.{IsTail, AreBlockNumbers, head_length};
-ghost use Rattle.bi_fdt.specs.Numbers.{FindsNumber};
 ghost use Rattle.bi_fdt.specs.Strings.{AreEnds};
 
 use crate::name_parts::NameParts;
@@ -17,8 +15,8 @@ use std::alloc::{AllocError, Global};
 /// The number of bytes in a strings block for which one name is expected.
 const USUAL_LENGTH: usize = 8;
 
-/// Names, each once, in the order in which they were added. A name is found by its head of less
-/// than 128 bytes and the number of its tail, so that no more of it is read.
+/// Names, each once, in the order in which they were added. A name is found by its head of fewer
+/// than 128 bytes and the number of its tail, so no more of it is read.
 #[derive(Drop)]
 pub(crate) struct NameTable<'a> {
     /// The blocks of the names at the multiples of 64, each with the number of those after it.
@@ -29,8 +27,8 @@ pub(crate) struct NameTable<'a> {
 }
 
 impl<'a> NameTable<'a> {
-    /// Returns a table without names, which serves well for a strings block of this length. Fails if
-    /// memory runs out.
+    /// Returns an empty table, which is suited to a strings block of this length. Fails if memory
+    /// runs out.
     pub(crate) fn new(alloc: Global, length: usize) -> Result<NameTable<'a>, AllocError>
         ensures names { IfOk result (λ table. names_in_table table ≡ []) }
         ensures is_table { IfOk result IsNameTable }
@@ -42,8 +40,9 @@ impl<'a> NameTable<'a> {
         })
     }
 
-    /// Returns the number that the blocks of each name at the first multiples of 64 have together.
-    /// The names have these ends. The last of them comes first. Fails if memory runs out.
+    /// Returns, for each name at the first multiples of 64, the number of all of its blocks
+    /// together. The names end at these offsets. The last name comes first. Fails if memory runs
+    /// out.
     pub(crate) fn block_numbers(
         &mut self,
         alloc: Global,
@@ -61,7 +60,8 @@ impl<'a> NameTable<'a> {
         block_numbers(alloc, &mut self.tails, strings, ends)
     }
 
-    /// Returns the number of a name, whose tail has the number `tail`. Fails if memory runs out.
+    /// Adds a name if it is not there yet, and returns its number. The tail of the name has the
+    /// number `tail`. Fails if memory runs out. The names are then unchanged.
     pub(crate) fn add(&mut self, name: &'a [u8], tail: usize) -> Result<usize, AllocError>
         requires table { IsNameTable self.old }
         requires tail { IsTail self.old.tails tail name.now }
@@ -78,22 +78,6 @@ impl<'a> NameTable<'a> {
             self.names.push(name).unwrap();
         }
         Ok(number)
-    }
-
-    /// Returns for each name the number that it has in another table, if it is there. Each block
-    /// and each head is looked up once. Fails if memory runs out.
-    pub(crate) fn in_terms_of(
-        &self,
-        alloc: Global,
-        other: &NameTable<'a>,
-    ) -> Result<Vec<Option<usize>>, AllocError>
-        requires table { IsNameTable self.now }
-        requires other { IsNameTable other.now }
-        ensures { IfOk result (λ numbers. AllZip (FindsNumber (names_in_table other.now))
-            (names_in_table self.now) numbers.items) }
-    {
-        let tails = self.tails.tails_in(alloc, &other.tails)?;
-        self.heads.numbers_in(alloc, &other.heads, &tails)
     }
 }
 

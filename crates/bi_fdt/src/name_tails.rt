@@ -17,8 +17,8 @@ use std::alloc::{AllocError, Global};
 /// The number of no blocks.
 const NO_BLOCKS: usize = 0;
 
-/// Returns the number that the blocks of the name at offset `at` have together, which ends at
-/// `end`, from that of the name at 64 bytes later. Fails if memory runs out.
+/// Returns the number of all blocks together of the name at offset `at`, which ends at `end`, from
+/// the number for the name 64 bytes later. Fails if memory runs out.
 fn blocks_before<'a>(
     tails: &mut NameParts<'a>,
     strings: &'a [u8],
@@ -43,8 +43,8 @@ fn blocks_before<'a>(
     Ok(index + 1)
 }
 
-/// Returns the number that the blocks of each name at the first multiples of 64 have together. The
-/// names have these ends. The last of them comes first. Fails if memory runs out.
+/// Returns, for each name at the first multiples of 64, the number of all of its blocks together.
+/// The names end at these offsets. The last name comes first. Fails if memory runs out.
 pub(crate) fn block_numbers<'a>(
     alloc: Global,
     tails: &mut NameParts<'a>,

@@ -17,8 +17,7 @@ use crate::order::{OrderedProperties, PropertyOrder};
 use crate::properties::Properties;
 use crate::table::{Entry, NodeEntry, Property};
 
-/// A node of a blob that was read: a borrow of the blob, and the index of the node's entry in its
-/// table.
+/// A node of a blob that was read: a borrow of the blob, and the index of the node in its table.
 #[derive(Clone, Copy)]
 pub struct NodeRef<'a, 'b> {
     blob: &'b Blob<'a>,
@@ -40,7 +39,7 @@ impl<'a, 'b> NodeRef<'a, 'b> {
         ensures root { node_of result ≡ root_node (root_of blob.entry.now) }
         ensures same_table { table_of_node result ≡ blob.entry.now.table }
     {
-        // The call gives the proof the invariant of the blob: its table begins with the root.
+        // The call gives the invariant of the blob to the proof: its table begins with the root.
         let _ = blob.entries();
         NodeRef { blob, index: 0 }
     }
@@ -51,13 +50,13 @@ impl<'a, 'b> NodeRef<'a, 'b> {
         ensures node { node_of result ≡ node_in blob.entry.now.table index }
         ensures same_table { table_of_node result ≡ blob.entry.now.table }
     {
-        // The call gives the proof the invariant of the blob: its table is short.
+        // The call gives the invariant of the blob to the proof: its table is short.
         let _ = blob.entries();
         NodeRef { blob, index }
     }
 
-    /// Returns the index of the node's entry in the table of its blob. `Blob::node` returns the
-    /// same node for it. Takes constant time.
+    /// Returns the index of the node in the table of its blob. `Blob::node` returns the same node
+    /// for it. Takes constant time.
     pub fn index(self) -> usize
         ensures there { HasNodeAt (table_of_node self.entry) result }
         ensures node { node_in (table_of_node self.entry) result ≡ node_of self.entry }
@@ -77,7 +76,7 @@ impl<'a, 'b> NodeRef<'a, 'b> {
         }
     }
 
-    /// Returns the name. That of the root is empty.
+    /// Returns the name. The name of the root is empty.
     pub fn name(self) -> &'a [u8]
         ensures { result.now ≡ (node_of self.entry).name }
     {
@@ -91,7 +90,7 @@ impl<'a, 'b> NodeRef<'a, 'b> {
         self.entry().place
     }
 
-    /// Returns the number of the properties.
+    /// Returns the number of properties.
     pub fn property_count(self) -> usize
         ensures { result ≡ length (node_of self.entry).own.properties }
     {
@@ -109,10 +108,10 @@ impl<'a, 'b> NodeRef<'a, 'b> {
         Properties::new(self.blob.file(), &entries[begin..end])
     }
 
-    /// Returns the properties in this order, each after its key. It may only be called with an
-    /// order of the properties of this blob. Iterating over all of them takes time linear in their
-    /// number. If the keys are the numbers of their names, they come in ascending order of these
-    /// numbers; if these are ranks, in byte order of their names.
+    /// Returns the properties in the given order, each after its key. Iterating over all of them
+    /// takes time linear in their number. If the keys are numbers of names, the properties come in
+    /// ascending order of these numbers. If the numbers are ranks, they come in byte order of their
+    /// names. Requires: the order is one of the properties of this blob.
     pub fn properties_in<'n>(self, order: &'n PropertyOrder) -> OrderedProperties<'a, 'b, 'n>
         requires { (keys : List ℕ) × IsPropertyOrder (table_of_node self) keys order.now }
         ensures by_number { let own = (node_of self.entry).own in (names : List (List ℕ))
@@ -135,7 +134,7 @@ impl<'a, 'b> NodeRef<'a, 'b> {
     }
 
     /// Returns the name and value of property `index`, counted from 0, in the order of the file.
-    /// Returns None exactly if there is no such property. Takes constant time.
+    /// Returns None if there is no such property. Takes constant time.
     pub fn property_at(self, index: usize) -> Option<(&'a [u8], &'a [u8])>
         ensures { option_map (λ property. (property.0.now, property.1.now)) result
             ≡ slice_get (properties_of (node_of self.entry).own) index }
@@ -154,7 +153,7 @@ impl<'a, 'b> NodeRef<'a, 'b> {
         }
     }
 
-    /// Returns the value of the property of this name. Returns None exactly if there is no such
+    /// Returns the value of the property with the given name. Returns None if there is no such
     /// property. Takes time linear in the number of properties before it.
     pub fn property(self, name: &[u8]) -> Option<&'a [u8]>
         ensures { option_map (λ value. value.now) result
@@ -163,9 +162,8 @@ impl<'a, 'b> NodeRef<'a, 'b> {
         Some(self.find_property(name)?.value)
     }
 
-    /// Returns the offset in the file of the token of the property of this name. Returns None
-    /// exactly if there is no such property. Takes time linear in the number of properties before
-    /// it.
+    /// Returns the offset in the file of the token of the property with the given name. Returns
+    /// None if there is no such property. Takes time linear in the number of properties before it.
     pub fn property_place(self, name: &[u8]) -> Option<u32>
         ensures { result ≡ option_map
             (λ property. property.place)
@@ -174,7 +172,7 @@ impl<'a, 'b> NodeRef<'a, 'b> {
         Some(self.find_property(name)?.place)
     }
 
-    /// Returns the property of this name. Returns None exactly if there is no such property. Takes
+    /// Returns the property with the given name. Returns None if there is no such property. Takes
     /// time linear in the number of properties before it.
     pub fn find_property(self, name: &[u8]) -> Option<Property<'a>>
         ensures { option_map file_property_of result
@@ -188,7 +186,7 @@ impl<'a, 'b> NodeRef<'a, 'b> {
         None
     }
 
-    /// Returns the first child. Returns None exactly if the node has no child.
+    /// Returns the first child. Returns None if the node has no child.
     pub fn first_child(self) -> Option<NodeRef<'a, 'b>>
         ensures child { option_map node_of result ≡ node_at (node_of self.entry).children 0 }
         ensures same_table { IfSome result
@@ -205,8 +203,8 @@ impl<'a, 'b> NodeRef<'a, 'b> {
         })
     }
 
-    /// Returns the next child of the node's parent. Returns None exactly for the last child and for
-    /// the root.
+    /// Returns the next child of the node's parent. Returns None for the last child and for the
+    /// root.
     pub fn next_sibling(self) -> Option<NodeRef<'a, 'b>>
         ensures sibling { option_map node_of result ≡ node_at (node_of self.entry).later 0 }
         ensures same_table { IfSome result
@@ -217,7 +215,7 @@ impl<'a, 'b> NodeRef<'a, 'b> {
         let entry = *self.blob.entries().get(after)?;
         match entry {
             Entry::Node(next) => {
-                // A node of less depth is a sibling of a parent.
+                // A node of less depth is a sibling of an ancestor.
                 if next.depth != node.depth {
                     return None;
                 }
@@ -230,7 +228,7 @@ impl<'a, 'b> NodeRef<'a, 'b> {
         }
     }
 
-    /// Returns the number of the children. Takes time linear in it.
+    /// Returns the number of children. Takes time linear in it.
     pub fn child_count(self) -> usize
         ensures { result ≡ length (siblings (node_of self.entry).children) }
     {
@@ -243,8 +241,8 @@ impl<'a, 'b> NodeRef<'a, 'b> {
         count
     }
 
-    /// Returns child `index`, counted from 0, in the order of the file. Returns None exactly if
-    /// there is no such child. Takes time linear in the number of children before it.
+    /// Returns child `index`, counted from 0, in the order of the file. Returns None if there is no
+    /// such child. Takes time linear in the number of children before it.
     pub fn child_at(self, index: usize) -> Option<NodeRef<'a, 'b>>
         ensures { option_map node_of result ≡ node_at (node_of self.entry).children index }
     {
@@ -255,7 +253,7 @@ impl<'a, 'b> NodeRef<'a, 'b> {
         Some(child)
     }
 
-    /// Returns the child of this name. Returns None exactly if there is no such child. Takes time
+    /// Returns the child with the given name. Returns None if there is no such child. Takes time
     /// linear in the number of children before it.
     pub fn child(self, name: &[u8]) -> Option<NodeRef<'a, 'b>>
         ensures child { option_map node_of result
@@ -267,9 +265,9 @@ impl<'a, 'b> NodeRef<'a, 'b> {
         Some(child)
     }
 
-    /// Returns the position of the child of this name among the children, counted from 0, and the
-    /// child. Returns None exactly if there is no such child. Takes time linear in the number of
-    /// children before it.
+    /// Returns the child with the given name, after its position among the children, counted from
+    /// 0. Returns None if there is no such child. Takes time linear in the number of children
+    /// before it.
     pub fn find_child(self, name: &[u8]) -> Option<(usize, NodeRef<'a, 'b>)>
         ensures child { option_map (λ found. node_of found.1) result
             ≡ node_named (node_of self.entry).children name.now }

@@ -12,11 +12,11 @@ use crate::table::{Entry, Property};
 use std::alloc::{AllocError, Global};
 use std::marker::Model;
 
-/// The properties of each node of a blob in the order of keys, as those of their names.
+/// The properties of each node of a blob, in the order of keys, such as the numbers of their names.
 #[derive(Drop)]
 pub struct PropertyOrder {
-    // For each entry of the table of the blob, its key and its index. Those of the properties of a
-    // node were sorted among themselves.
+    // The key and the index of each entry of the table of the blob. The pairs of the properties of
+    // each node are sorted.
     pairs: Vec<(usize, usize)>,
 }
 
@@ -29,11 +29,11 @@ impl Model for PropertyOrder {
 }
 
 impl PropertyOrder {
-    /// Returns the order of the properties of each node of a blob by these keys. There is a key for
-    /// each node and property of the blob, in the order of the file; those of nodes may be any
-    /// numbers. It may only be called if there are as many of them. Properties of a node that have
-    /// one key keep their order. Takes n log n comparisons of numbers for n properties. Fails if
-    /// memory runs out.
+    /// Returns the order of the properties of each node of a blob by these keys. Each node and
+    /// property of the blob has a key, in the order of the file; the keys of nodes may be any
+    /// numbers. Properties of a node that have the same key keep their order. Requires: there are
+    /// as many keys as nodes and properties. Takes n log n comparisons of numbers for n properties.
+    /// Fails if memory runs out.
     pub fn new(alloc: Global, blob: &Blob<'_>, keys: &[usize]) -> Result<PropertyOrder, AllocError>
         requires { length keys.now ≡ length blob.now.table }
         ensures { IfOk result (IsPropertyOrder blob.now.table keys.now) }
@@ -62,8 +62,7 @@ fn pair_keys(alloc: Global, keys: &[usize]) -> Result<Vec<(usize, usize)>, Alloc
     Ok(pairs)
 }
 
-/// Sorts the pairs of the properties of each node of a blob. There is a pair for each entry of its
-/// table.
+/// Sorts the pairs of the properties of each node of a blob. Each entry of its table has a pair.
 fn sort_properties(blob: &Blob<'_>, pairs: &mut [(usize, usize)])
     requires { length pairs.old ≡ length blob.now.table }
     ensures count { length pairs.new ≡ length pairs.old }
@@ -80,7 +79,7 @@ fn sort_properties(blob: &Blob<'_>, pairs: &mut [(usize, usize)])
     }
 }
 
-/// The properties of a node that are left, in an order by keys, each after its key.
+/// An iterator over the properties of a node, in an order by keys, each after its key.
 #[derive(Drop)]
 pub struct OrderedProperties<'a, 'b, 'n> {
     file: &'a [u8],
@@ -102,7 +101,7 @@ impl<'a, 'b, 'n> Model for OrderedProperties<'a, 'b, 'n> {
 }
 
 impl<'a, 'b, 'n> OrderedProperties<'a, 'b, 'n> {
-    /// Returns the properties of the entries of a file that these pairs have the indices of.
+    /// Returns the properties that have entries of a file at the indices in these pairs.
     pub(crate) fn new(
         file: &'a [u8],
         entries: &'b [Entry],

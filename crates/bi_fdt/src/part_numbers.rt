@@ -15,17 +15,17 @@ const CHOOSING: usize = 8;
 const MOST_PAIRS: usize = 1 << 15;
 
 /// The number of each part, in one of many ordered maps. The first and the last bytes of a part
-/// choose its map, so that most maps are small; if a file has parts that all choose one map, a
+/// choose its map, so that most maps are small. If a file has parts that all choose the same map, a
 /// look-up still takes log n comparisons.
 #[derive(Drop)]
 pub(crate) struct PartNumbers<'a> {
-    /// In each, the number of a part is found by the number of its tail, its first bytes as a
+    /// The maps. Each finds the number of a part by the number of its tail, its first bytes as a
     /// number, and all of its bytes, which are compared only if both numbers are the same.
     buckets: Vec<BTreeMap<(usize, u64, &'a [u8]), usize>>,
 }
 
 impl<'a> PartNumbers<'a> {
-    /// Returns no numbers, with as many maps as serve `parts` parts well. Fails if memory runs out.
+    /// Returns no numbers, with as many maps as suit `parts` parts. Fails if memory runs out.
     pub(crate) fn new(alloc: Global, parts: usize) -> Result<PartNumbers<'a>, AllocError>
         ensures some { IfOk result (λ numbers. 0 < bucket_count numbers) }
         ensures none { IfOk result (λ numbers. (part : ℕ × Bor (List ℕ))
@@ -40,8 +40,8 @@ impl<'a> PartNumbers<'a> {
         Ok(PartNumbers { buckets })
     }
 
-    /// Returns the number of the part that has these bytes, and whose tail has the number `tail`.
-    /// Returns None exactly if it has none.
+    /// Returns the number of the part with the given bytes and a tail with the number `tail`.
+    /// Returns None if it does not have one.
     pub(crate) fn get(&self, tail: usize, bytes: &'a [u8]) -> Option<usize>
         requires { 0 < bucket_count self.now }
         ensures { result ≡ number_in self.now (tail, bytes.entry) }
@@ -51,8 +51,8 @@ impl<'a> PartNumbers<'a> {
         self.buckets[bucket].get(&key).copied()
     }
 
-    /// Gives a number to the part that has these bytes, and whose tail has the number `tail`. If
-    /// memory runs out, the numbers are unchanged.
+    /// Gives a number to the part with the given bytes and a tail with the number `tail`. If memory
+    /// runs out, the numbers are unchanged.
     pub(crate) fn insert(
         &mut self,
         tail: usize,
@@ -74,8 +74,8 @@ impl<'a> PartNumbers<'a> {
     }
 }
 
-/// Returns the index, below `count`, of the map of the part that has these bytes, and whose tail
-/// has the number `tail`.
+/// Returns the index, below `count`, of the map of the part with the given bytes and a tail with
+/// the number `tail`.
 fn bucket_at(tail: usize, bytes: &[u8], count: usize) -> usize
     requires { 0 < count }
     ensures bucket { result ≡ bucket_of count (tail, bytes.entry.now) }

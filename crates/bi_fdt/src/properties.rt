@@ -10,7 +10,7 @@ ghost use Rattle.bi_fdt.specs.Properties.{GivesProperty};
 use crate::table::{Entry, Property};
 use std::marker::Model;
 
-/// The properties of a node that are left, in their order in the file.
+/// An iterator over the properties of a node, in their order in the file.
 #[derive(Drop)]
 pub struct Properties<'a, 'b> {
     file: &'a [u8],

@@ -17,7 +17,7 @@ use std::alloc::{AllocError, Global};
 pub struct NameRanks<'a> {
     /// The names in byte order.
     pub names: Vec<&'a [u8]>,
-    /// The rank of the name of each number.
+    /// The rank of each name, by its number.
     pub ranks: Vec<usize>,
 }
 
@@ -32,7 +32,7 @@ fn order_names<'a>(
 {
     let mut order = Vec::with_capacity(alloc, names.len())?;
     for (number, name) in names.iter().enumerate() {
-        // The call gives the proof that the name is of bytes, so that prefixes keep their order.
+        // The call tells the proof that the name is of bytes, so that prefixes keep their order.
         are_bytes(name);
         order.push((name_prefix(name), *name, number))?;
     }
@@ -50,7 +50,7 @@ fn names_of_order<'a>(
     order.iter().map(|numbered| numbered.1).collect(alloc)
 }
 
-/// Returns the index in this order of the name of each number. Fails if memory runs out.
+/// Returns the index of each name in this order, by its number. Fails if memory runs out.
 fn ranks_of_order(
     alloc: Global,
     names: &[&[u8]],
@@ -67,9 +67,9 @@ fn ranks_of_order(
     Ok(ranks)
 }
 
-/// Returns these distinct names in byte order, and the rank of each by its number, which is its
-/// index among the names that are given. Takes n log n comparisons for n names, most of which are
-/// of numbers. Fails if memory runs out.
+/// Returns these names in byte order, and the rank of each by its number: its index in `names`.
+/// Takes n log n comparisons for n names; most of them compare numbers. Fails if memory runs out.
+/// Requires: the names are distinct.
 pub fn rank_names<'a>(alloc: Global, names: &[&'a [u8]]) -> Result<NameRanks<'a>, AllocError>
     requires { AreDistinct (bytes_of names.now) }
     ensures { IfOk result (λ ranked.
@@ -82,9 +82,9 @@ pub fn rank_names<'a>(alloc: Global, names: &[&'a [u8]]) -> Result<NameRanks<'a>
     })
 }
 
-/// Returns the key at each of these numbers, or 0 where there is none. So if the keys are the
-/// numbers of names by another list, the result has the numbers by that list of what `numbers` has
-/// the numbers of. Fails if memory runs out.
+/// Returns the key at each of these numbers, or 0 if there is none. So if the keys are the numbers
+/// of names in another list, the result has the numbers in that list of the names that `numbers`
+/// gives. Fails if memory runs out.
 pub fn keys_at(alloc: Global, keys: &[usize], numbers: &[usize]) -> Result<Vec<usize>, AllocError>
     ensures count { IfOk result (λ found. length found.items ≡ length numbers.now) }
     ensures numbers { (names others : List (List ℕ)) → (table : List TableItem)
@@ -94,7 +94,7 @@ pub fn keys_at(alloc: Global, keys: &[usize], numbers: &[usize]) -> Result<Vec<u
     pick_keys(alloc, keys, numbers)
 }
 
-/// Returns the key at each of these numbers, or 0 where there is none. Fails if memory runs out.
+/// Returns the key at each of these numbers, or 0 if there is none. Fails if memory runs out.
 fn pick_keys(alloc: Global, keys: &[usize], numbers: &[usize]) -> Result<Vec<usize>, AllocError>
     ensures { IfOk result (λ found. found.items ≡ map (slice_index keys.now) numbers.now) }
 {

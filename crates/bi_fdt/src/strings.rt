@@ -11,11 +11,11 @@ use crate::names::name_at;
 use std::alloc::{AllocError, Global};
 use std::marker::Model;
 
-/// How far apart the offsets are whose names' ends are kept.
+/// The distance between the offsets at which the end of the name is kept.
 pub(crate) const STRIDE: usize = 64;
 
-/// A strings block. It keeps where the name at each multiple of `STRIDE` ends, so that a name is
-/// found as fast however long it is.
+/// A strings block. It keeps where the name at each multiple of `STRIDE` ends, so finding a name
+/// takes the same time however long it is.
 #[derive(Drop)]
 pub(crate) struct Strings<'a> {
     bytes: &'a [u8],
@@ -35,7 +35,7 @@ impl<'a> Model for Strings<'a> {
 }
 
 impl<'a> Strings<'a> {
-    /// Returns the strings block of these bytes. Takes time linear in them.
+    /// Returns the strings block of the given bytes. Takes time linear in their number.
     pub(crate) fn new(alloc: Global, bytes: &'a [u8]) -> Result<Strings<'a>, AllocError>
         ensures { IfOk result (λ strings. strings ≡ bytes.entry.now) }
     {
@@ -43,7 +43,7 @@ impl<'a> Strings<'a> {
         Ok(Strings { bytes, ends })
     }
 
-    /// Returns the name at offset `at`. Returns None exactly if no zero byte ends it.
+    /// Returns the name at offset `at`. Returns None if no zero byte ends it.
     pub(crate) fn name_at(&self, at: usize) -> Option<&'a [u8]>
         ensures some { IsSome result ↔ HasName self.now at (length self.now) }
         ensures value { IfSome result (λ name. name.now ≡ name_from self.now at) }
@@ -79,8 +79,8 @@ impl<'a> Strings<'a> {
     }
 }
 
-/// Returns the index of the first multiple of 64 from which on a name of this length, which begins
-/// at offset `at`, has one whole block less.
+/// Returns the index of the first multiple of 64 from which on a name has one whole block less. The
+/// name has this length, and begins at offset `at`. Requires: it has at least 128 bytes.
 pub(crate) fn index_of_later_blocks(at: usize, length: usize) -> usize
     requires long { 128 ≤ length }
     ensures after { at < 64 * result }

@@ -21,7 +21,7 @@ pub(crate) struct NodeEntry {
     pub(crate) name_length: u32,
     /// How many nodes contain the node.
     pub(crate) depth: u32,
-    /// The number of the properties, whose entries follow.
+    /// The number of the properties. Their entries follow.
     pub(crate) property_count: u32,
     /// The index of the entry after the last descendant. It is zero while the node is open.
     pub(crate) after: u32,

@@ -41,7 +41,7 @@ impl<'a> Model for UsedNames<'a> {
 }
 
 impl<'a> UsedNames<'a> {
-    /// Returns a strings block of which no name was used. Takes time and memory linear in it.
+    /// Returns a strings block with no name used yet. Takes time and memory linear in its length.
     pub(crate) fn new(alloc: Global, strings: &Strings<'a>) -> Result<UsedNames<'a>, AllocError>
         ensures { IfOk result (λ names. names ≡ record { strings = strings.now; used = [] }) }
     {
@@ -69,7 +69,7 @@ impl<'a> UsedNames<'a> {
         self.table.add(name, tail)
     }
 
-    /// Returns the names as they are kept.
+    /// Returns the names in the form in which they are kept.
     pub(crate) fn into_kept(self) -> KeptNames<'a>
         ensures { result ≡ self.entry.used }
     {

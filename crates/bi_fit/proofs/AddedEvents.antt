@@ -29,7 +29,8 @@ same_names document more events is = ap (λ document. document.names) is
 -- so that an order by these stays one by these.
 pub still_ordered : (order : NameOrder) (node : NodeRef) (document more : Doc) (events : List Event) → more ≡ with_events document events →
     HasOrder document.names order node → HasOrder more.names order node
-still_ordered order node document more events is has = subst (λ names. HasOrder names order node) (sym (same_names document more events is)) has
+still_ordered order node document more events is has = subst (λ names. HasOrder names order node)
+    (sym (same_names document more events is)) has
 
 -- The order is of the next node, if there is one.
 abbrev pub HasNextOrder : List (List ℕ) → NameOrder → Option NodeRef → Type 0
@@ -77,10 +78,11 @@ MayAdd-back document events later may =
     subst (λ stage. AllFollow MayFollowInText stage later) (sym (fold-append next_stage BeforeRoot document.events events))
     (follow-back (stage_of_events document.events) events later may)
 
--- Nodes of one name and of the same properties begin in the same way.
+-- Nodes with the same name and the same properties begin in the same way.
 pub begin_events-same : (name other : List ℕ) (properties others : PropertyMap) → name ≡ other → properties ≡ others →
     begin_events name properties ≡ begin_events other others
-begin_events-same name other properties others same_name same = ap (λ name. begin_events name properties) same_name ∙ ap (begin_events other) same
+begin_events-same name other properties others same_name same = ap (λ name. begin_events name properties) same_name
+    ∙ ap (begin_events other) same
 
 -- A node is added by some events that begin it, those of its children, and its end.
 module _ (document : Doc) (begin children : List Event) where

@@ -11,7 +11,7 @@ use Rattle.bi_fit.proofs.AddedEvents.{with_events-append, MayAdd-back}
 
 -- The first of the entries that are left to be added to a document may be added, and then the others are left.
 
--- What is read where there is no entry.
+-- What is read if there is no entry.
 abbrev pub no_map_entry : ℕ × Value
 no_map_entry = (0, Slice (record { ref_ptr = (0, 0); now = [] }))
 

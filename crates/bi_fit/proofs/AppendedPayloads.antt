@@ -16,7 +16,8 @@ use Rattle.bi_fit.proofs.TextLaws.{payloads_end-append, payloads_end_later}
 pub area_zeros : (end begin : ℕ) → begin ≡ up4 end → take {A = ℕ} (begin - end) (0 ∷ 0 ∷ 0 ∷ []) ≡ padding_to_4 end
 area_zeros end begin is =
     let same : begin - end ≡ up4 end - end = omega (arith, is) in
-    let zeros : take {A = ℕ} (begin - end) (0 ∷ 0 ∷ 0 ∷ []) ≡ replicate (begin - end) 0 = take-replicate (begin - end) 3 0 (omega (arith, is)) in
+    let zeros : take {A = ℕ} (begin - end) (0 ∷ 0 ∷ 0 ∷ [])
+    ≡ replicate (begin - end) 0 = take-replicate (begin - end) 3 0 (omega (arith, is)) in
     subst (λ (count : ℕ). take {A = ℕ} (begin - end) (0 ∷ 0 ∷ 0 ∷ []) ≡ replicate count 0) same zeros
 
 -- Payloads take up what the first of them do, and then what the others do.

@@ -19,8 +19,10 @@ appended_as appends IsText IsOther old new implies appended = record {
 pub failed_as : {S : Type 0} (fails : S → List ℕ → S → Error → Type 0) (IsText IsOther : List ℕ → Type 0)
     (HasError HasOther : Error → Type 0) (old new : S) (error : Error) → ((text : List ℕ) → IsText text → IsOther text) →
     (HasError error → HasOther error) → AppendFailed fails IsText HasError old new error → AppendFailed fails IsOther HasOther old new error
-failed_as fails IsText IsOther HasError HasOther old new error text_implies error_implies (WasRefused is same) = WasRefused (error_implies is) same
-failed_as fails IsText IsOther HasError HasOther old new error text_implies error_implies (SinkFailed text cause is failed same) = SinkFailed text cause (text_implies text is) failed same
+failed_as fails IsText IsOther HasError HasOther old new error text_implies error_implies
+    (WasRefused is same) = WasRefused (error_implies is) same
+failed_as fails IsText IsOther HasError HasOther old new error text_implies error_implies
+    (SinkFailed text cause is failed same) = SinkFailed text cause (text_implies text is) failed same
 
 -- The same of a call's result.
 pub result_appended_as : {S V : Type 0} (appends : S → List ℕ → S → Type 0) (IsText IsOther : List ℕ → Type 0) (old new : S)

@@ -49,7 +49,8 @@ known_is_tree =
           (node (codes "hash-1") (entries_in_order (built_hash_properties (codes "abc")) i) none none)
           none))
           (node (codes "configurations") (entries_in_order ((default_name, text_value configuration_name) ∷ []) i)
-          (node (codes "conf-1") (entries_in_order (built_configuration_properties known_head (known_kernel ∷ known_ramdisk ∷ [])) i) none none)
+          (node (codes "conf-1") (entries_in_order
+          (built_configuration_properties known_head (known_kernel ∷ known_ramdisk ∷ [])) i) none none)
           none);
     }
 
@@ -79,7 +80,8 @@ all_elements (suc n) (byte ∷ bytes) e =
 known_is_text : known_text ≡ text_with (elements hello_digest 0 32) (elements abc_digest 0 32)
 known_is_text =
     ap (λ root. text_of_tree 0 [] root ++ []) known_is_tree
-    ∙ ap₂ text_with (all_elements 32 hello_digest (length-digest_of Sha256 (codes "hello"))) (all_elements 32 abc_digest (length-digest_of Sha256 (codes "abc")))
+    ∙ ap₂ text_with (all_elements 32 hello_digest (length-digest_of Sha256 (codes "hello")))
+    (all_elements 32 abc_digest (length-digest_of Sha256 (codes "abc")))
 
 pub built_is_known : BuiltIsKnown
 unfolding text_of_events text_of_blocks cell cell8 u32_at

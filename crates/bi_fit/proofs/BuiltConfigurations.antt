@@ -18,7 +18,7 @@ use Rattle.bi_fit.specs.declared.key.Key.TheVariants.{Kernel, Fdt, Ramdisk, Firm
 use Rattle.bi_fit.specs.Names.{key_name, all_keys, default_name}
 use Rattle.bi_fit.specs.Judgement.{Image, images_with, ListedImages, image_named, list_images, listed_at}
 use Rattle.bi_fit.specs.Building.{HeadModel, ImageSpecModel, text_value, built_image_properties, built_hash_properties, hash_node_name}
-use Rattle.bi_fit.specs.Building.{built_images, is_under, names_under, list_property, configuration_name, built_configuration_properties}
+use Rattle.bi_fit.specs.Building.{built_images, key_eq, names_under, list_property, configuration_name, built_configuration_properties}
 use Rattle.bi_fit.specs.Building.{IsImageSpec}
 use Rattle.bi_fit.specs.Laws.{list_of_built, BuiltHasConfiguration}
 use Rattle.bi_fit.proofs.NameLists.{ends_later, names_listed}
@@ -77,20 +77,24 @@ module _ (images : List ImageSpecModel) where
       find (slice_cmp nat_cmp) (key_name key) (lists_of keys) ≡ None
   none_of key [] differ = refl
   none_of key (other ∷ later) differ =
-      let both = and_parts (not (bytes_eq (key_name key) (key_name other))) (list_all (λ other. not (bytes_eq (key_name key) (key_name other))) later) differ in
+      let both = and_parts (not (bytes_eq (key_name key) (key_name other)))
+      (list_all (λ other. not (bytes_eq (key_name key) (key_name other))) later) differ in
       skip key other (not-true (bytes_eq (key_name key) (key_name other)) both.0) (names_under other images) (lists_of later)
       ∙ none_of key later both.1
 
   -- The property of a key is found among those of all keys.
   found_key : (key : Key) → find (slice_cmp nat_cmp) (key_name key) (lists_of all_keys) ≡ list_value (names_under key images)
-  found_key Kernel = hit Kernel (names_under Kernel images) (lists_of (Fdt ∷ Ramdisk ∷ Firmware ∷ Loadables ∷ Script ∷ [])) (none_of Kernel (Fdt ∷ Ramdisk ∷ Firmware ∷ Loadables ∷ Script ∷ []) refl)
+  found_key Kernel = hit Kernel (names_under Kernel images) (lists_of (Fdt ∷ Ramdisk ∷ Firmware ∷ Loadables ∷ Script ∷ []))
+      (none_of Kernel (Fdt ∷ Ramdisk ∷ Firmware ∷ Loadables ∷ Script ∷ []) refl)
   found_key Fdt =
       skip Fdt Kernel refl (names_under Kernel images) (lists_of (Fdt ∷ Ramdisk ∷ Firmware ∷ Loadables ∷ Script ∷ []))
-      ∙ hit Fdt (names_under Fdt images) (lists_of (Ramdisk ∷ Firmware ∷ Loadables ∷ Script ∷ [])) (none_of Fdt (Ramdisk ∷ Firmware ∷ Loadables ∷ Script ∷ []) refl)
+      ∙ hit Fdt (names_under Fdt images) (lists_of (Ramdisk ∷ Firmware ∷ Loadables ∷ Script ∷ []))
+      (none_of Fdt (Ramdisk ∷ Firmware ∷ Loadables ∷ Script ∷ []) refl)
   found_key Ramdisk =
       skip Ramdisk Kernel refl (names_under Kernel images) (lists_of (Fdt ∷ Ramdisk ∷ Firmware ∷ Loadables ∷ Script ∷ []))
       ∙ skip Ramdisk Fdt refl (names_under Fdt images) (lists_of (Ramdisk ∷ Firmware ∷ Loadables ∷ Script ∷ []))
-      ∙ hit Ramdisk (names_under Ramdisk images) (lists_of (Firmware ∷ Loadables ∷ Script ∷ [])) (none_of Ramdisk (Firmware ∷ Loadables ∷ Script ∷ []) refl)
+      ∙ hit Ramdisk (names_under Ramdisk images) (lists_of (Firmware ∷ Loadables ∷ Script ∷ []))
+      (none_of Ramdisk (Firmware ∷ Loadables ∷ Script ∷ []) refl)
   found_key Firmware =
       skip Firmware Kernel refl (names_under Kernel images) (lists_of (Fdt ∷ Ramdisk ∷ Firmware ∷ Loadables ∷ Script ∷ []))
       ∙ skip Firmware Fdt refl (names_under Fdt images) (lists_of (Ramdisk ∷ Firmware ∷ Loadables ∷ Script ∷ []))
@@ -114,7 +118,7 @@ module _ (images : List ImageSpecModel) where
 abbrev configuration_by_name : HeadModel → List ImageSpecModel → PropertyMap
 configuration_by_name head images = from_entries (built_configuration_properties head images)
 
--- The description is no list.
+-- The description is not a list.
 after_description : (key : Key) (value : List ℕ) (rest : List Property) →
     find (slice_cmp nat_cmp) (key_name key) ((codes "description", value) ∷ rest) ≡ find (slice_cmp nat_cmp) (key_name key) rest
 after_description Kernel value rest = refl
@@ -185,7 +189,10 @@ images_listed : (images : List Image) (index : ℕ) (some : List ImageSpecModel)
 images_listed images index [] found = refl
 images_listed images index (image ∷ some) found =
     rw (found.0.1, images_listed images (index + 1) some found.1)
-    (ap (λ payload. ListedImages (record { name = image.name; payload = payload } ∷ map (λ image. record { name = image.name; payload = Some image.payload }) some)) found.0.2)
+    (ap (λ payload. ListedImages (record {
+      name = image.name;
+      payload = payload;
+    } ∷ map (λ image. record { name = image.name; payload = Some image.payload }) some)) found.0.2)
 
 -- What the value of a key lists.
 value_lists : (images : List Image) (some : List ImageSpecModel) → AllByRecursion (IsFoundIn images) some →
@@ -201,10 +208,10 @@ unfolding text_before_nul
 built_has_configuration head images can = record {
   listed = λ key.
       ap (listed_at (images_in head images)) (has_under head images key)
-      ∙ value_lists (images_in head images) (filter (λ image. is_under key image.key) images)
-      (each-filter (IsFoundIn (images_in head images)) (λ image. is_under key image.key) images (all_found head images can.distinct))
-      (each-map HasNoZero (λ image. image.name) (filter (λ image. is_under key image.key) images)
-      (each-filter (λ image. HasNoZero image.name) (λ image. is_under key image.key) images
+      ∙ value_lists (images_in head images) (filter (λ image. key_eq key image.key) images)
+      (each-filter (IsFoundIn (images_in head images)) (λ image. key_eq key image.key) images (all_found head images can.distinct))
+      (each-map HasNoZero (λ image. image.name) (filter (λ image. key_eq key image.key) images)
+      (each-filter (λ image. HasNoZero image.name) (λ image. key_eq key image.key) images
       (each-weaker IsImageSpec (λ image. HasNoZero image.name) (λ image is. is.is_name.no_zero) images can.each)));
   default = ap (option_and_then text_before_nul) (default_is);
 }

@@ -18,7 +18,8 @@ use Rattle.bi_fit.specs.declared.form.Form.{Form}
 use Rattle.bi_fit.specs.declared.form.Form.TheVariants.{Embedded, External}
 use Rattle.bi_fit.specs.NormalNodes.{MayAdd, with_events, begin_events, next_end, leaf}
 use Rattle.bi_fit.specs.PropertyMapModels.{PropertyMapModel, among}
-use Rattle.bi_fit.specs.Building.{HeadModel, ImageSpecModel, CanBeBuilt, built_tree, cell_property, built_image_properties, built_root_properties, sha256_properties, hash_node_name}
+use Rattle.bi_fit.specs.Building.{HeadModel, ImageSpecModel, CanBeBuilt, built_tree, cell_property, built_image_properties}
+use Rattle.bi_fit.specs.Building.{built_root_properties, sha256_properties, hash_node_name}
 use Rattle.bi_fit.specs.Documents.{document_of}
 use Rattle.bi_fit.specs.ImageTree.{with_image_nodes, without_payload}
 use Rattle.bi_fit.specs.Names.{is_payload_name}
@@ -67,8 +68,23 @@ properties_apart head image =
     taken_out (from_entries (built_image_properties head image)) (from_entries (built_image_properties head image))
     (λ name is.
     get-from_entries nat_list_cmp_total (built_image_properties head image) name
-    ∙ none_found is_payload_name name (built_image_properties head image) is
-    (refl, (refl, (refl, (refl, (refl, each-append (λ property. is_payload_name property.0 ≡ false) (cell_property (codes "load") image.load) (cell_property (codes "entry") image.entry) (load_is_no_payload image.load) (entry_is_no_payload image.entry)))))))
+    ∙ none_found is_payload_name name (built_image_properties head image) is (
+      refl,
+      (
+        refl,
+        (
+          refl,
+          (
+            refl,
+            (
+              refl,
+              each-append (λ property. is_payload_name property.0 ≡ false) (cell_property (codes "load") image.load)
+                  (cell_property (codes "entry") image.entry) (load_is_no_payload image.load) (entry_is_no_payload image.entry),
+            ),
+          ),
+        ),
+      ),
+    ))
     (λ name other. refl)
 
 -- With those that give its payload they are these.
@@ -89,10 +105,13 @@ pub same_built_image : (one form : Form) (begin : ℕ) (head : HeadModel) (image
     (leaf hash_node_name hash.by_name) none
     ≡ built_image_node form begin head image
 same_built_image one form begin head image made hash digest same_form is_made is_hash is_digest =
-    ap (λ (hash : PropertyMapModel). node image.name (entries (with_payload one begin (Some image.payload) (without_payload made.by_name))) (leaf hash_node_name hash.by_name) none) is_hash
-    ∙ ap (λ one. node image.name (entries (with_payload one begin (Some image.payload) (without_payload made.by_name))) (hash_node_with digest) none) same_form
+    ap (λ (hash : PropertyMapModel). node image.name (entries (with_payload one begin (Some image.payload) (without_payload made.by_name)))
+    (leaf hash_node_name hash.by_name) none) is_hash
+    ∙ ap (λ one. node image.name (entries (with_payload one begin (Some image.payload) (without_payload made.by_name)))
+    (hash_node_with digest) none) same_form
     ∙ ap (λ own. node image.name (entries own) (hash_node_with digest) none)
-    (properties_placed form begin head image made.by_name (with_payload form begin (Some image.payload) (without_payload made.by_name)) (ap (λ properties. properties.by_name) is_made) refl)
+    (properties_placed form begin head image made.by_name (with_payload form begin (Some image.payload) (without_payload made.by_name))
+    (ap (λ properties. properties.by_name) is_made) refl)
     ∙ ap (λ digest. node image.name (entries (placed_properties form begin head image)) (hash_node_with digest) none) is_digest
 
 -- Embedded payloads have no offsets.
@@ -140,7 +159,8 @@ module _ (form : Form) (head : HeadModel) (images : List ImageSpecModel) where
   -- Both children of the root, added in turn, are its children.
   module _ (started : Doc) (is_started : started ≡ empty_with_names 0 built_names) (can : CanBeBuilt head images) where
     may_all : MayAdd started (whole started root_begin root_children)
-    may_all = subst (λ document. MayAdd document (events_of (normal_tree form (built_tree head images)))) (sym is_started) (built_closed can).follow
+    may_all = subst (λ document. MayAdd document (events_of (normal_tree form (built_tree head images))))
+        (sym is_started) (built_closed can).follow
 
     -- The root may begin.
     pub may_begin_root : MayAdd started root_begin
@@ -148,7 +168,8 @@ module _ (form : Form) (head : HeadModel) (images : List ImageSpecModel) where
 
     module _ (begun : Doc) (is_begun : begun ≡ with_events started root_begin) where
       adding : IsAdding begun (with_events begun root_children) (normal_tree form (built_tree head images)).children
-      adding = adding_all begun (normal_tree form (built_tree head images)).children (may_have_children started root_begin root_children begun is_begun may_all)
+      adding = adding_all begun (normal_tree form (built_tree head images)).children
+          (may_have_children started root_begin root_children begun is_begun may_all)
 
       -- The node of the images may be added,
       pub may_add_images : MayAdd begun (events (built_images_node form head images))
@@ -164,7 +185,8 @@ module _ (form : Form) (head : HeadModel) (images : List ImageSpecModel) where
 
         module _ (filled : Doc) (is_filled : filled ≡ with_events more (events (built_configurations_node head images))) where
           all_children : filled ≡ with_events begun root_children
-          all_children = adding_none filled (with_events begun root_children) (adding_later more (with_events begun root_children) _ _ _ _ after_images filled is_filled)
+          all_children = adding_none filled (with_events begun root_children)
+              (adding_later more (with_events begun root_children) _ _ _ _ after_images filled is_filled)
 
           -- then the root may end,
           pub may_end_root : MayEnd (stage_of_events filled.events)

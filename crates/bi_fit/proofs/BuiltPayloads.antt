@@ -54,4 +54,5 @@ pub digest_at : (images : List NamedImage) (digests : List (List ℕ)) (index : 
     digests ≡ map (λ image. digest_of Sha256 image.payload.now) images →
     get_or digests index [] ≡ digest_of Sha256 (get_or images index no_named_image).payload.now
 digest_at images digests index within is =
-    ap (λ digests. get_or digests index []) is ∙ get_or-map (λ image. digest_of Sha256 image.payload.now) images index no_named_image [] within
+    ap (λ digests. get_or digests index []) is
+    ∙ get_or-map (λ image. digest_of Sha256 image.payload.now) images index no_named_image [] within

@@ -22,8 +22,9 @@ use Rattle.bi_fit.specs.declared.key.Key.{Key}
 use Rattle.bi_fit.specs.declared.key.Key.TheVariants.{Kernel, Fdt, Ramdisk, Firmware, Loadables, Script}
 use Rattle.bi_fit.specs.Names.{is_payload_name, all_keys, images_name, configurations_name, default_name}
 use Rattle.bi_fit.specs.ImageTree.{IsProperty, ArePropertiesByName, HaveByteNames, IsApart, IsImageTree, each_own}
-use Rattle.bi_fit.specs.Building.{HeadModel, ImageSpecModel, text_value, type_name, cell_property, built_root_properties, built_image_properties}
-use Rattle.bi_fit.specs.Building.{built_hash_properties, configuration_name, built_images, is_under, names_under, list_property}
+use Rattle.bi_fit.specs.Building.{HeadModel, ImageSpecModel, text_value, type_name, cell_property, built_root_properties}
+use Rattle.bi_fit.specs.Building.{built_image_properties}
+use Rattle.bi_fit.specs.Building.{built_hash_properties, configuration_name, built_images, key_eq, names_under, list_property}
 use Rattle.bi_fit.specs.Building.{built_configuration_properties, built_tree, IsText, IsImageSpec, CanBeBuilt}
 use Rattle.bi_fit.proofs.TreeContents.{may_be_in_name, tested_name, tested_property, AreBlobProperties, properties-empty}
 use Rattle.bi_fit.proofs.TreeContents.{properties-from_entries}
@@ -92,7 +93,8 @@ good_image head image description is = (
         tested_property _ _ (text_value image.os) refl (bytes-text_value image.os is.os.bytes),
         (
           tested_property _ _ (text_value (type_name image.key)) refl (bytes-text_value (type_name image.key) (type_bytes image.key)),
-          each-append (λ property. IsProperty property.0 property.1) (cell_property (codes "load") image.load) (cell_property (codes "entry") image.entry)
+          each-append (λ property. IsProperty property.0 property.1) (cell_property (codes "load") image.load)
+              (cell_property (codes "entry") image.entry)
               (good_load image.load) (good_entry image.entry),
         ),
       ),
@@ -112,12 +114,13 @@ listed_bytes : (key : Key) (images : List ImageSpecModel) → AllByRecursion IsI
     AreBytes (strings_of (names_under key images))
 listed_bytes key [] each = AreBytes-none
 listed_bytes key (image ∷ later) each =
-    where_first (is_under key image.key) refl (listed_bytes key later each.1)
+    where_first (key_eq key image.key) refl (listed_bytes key later each.1)
   where
-    where_first : (b : Bool) → is_under key image.key ≡ b → AreBytes (strings_of (names_under key later)) →
+    where_first : (b : Bool) → key_eq key image.key ≡ b → AreBytes (strings_of (names_under key later)) →
         AreBytes (strings_of (names_under key (image ∷ later)))
     where_first true is rest =
-        rw is (AreBytes-append (text_value image.name) (strings_of (names_under key later)) (bytes-text_value image.name each.0.name_bytes) rest)
+        rw is (AreBytes-append (text_value image.name) (strings_of (names_under key later))
+        (bytes-text_value image.name each.0.name_bytes) rest)
     where_first false is rest = rw is rest
 
 -- The property of a key is good.
@@ -135,14 +138,17 @@ good_lists : (keys : List Key) (images : List ImageSpecModel) → AllByRecursion
     AreBlobProperties (flat_map (λ key. list_property key (names_under key images)) keys)
 good_lists [] images each = tt
 good_lists (key ∷ later) images each =
-    each-append (λ property. IsProperty property.0 property.1) (list_property key (names_under key images)) (flat_map (λ key. list_property key (names_under key images)) later)
+    each-append (λ property. IsProperty property.0 property.1) (list_property key (names_under key images))
+    (flat_map (λ key. list_property key (names_under key images)) later)
     (good_list key (names_under key images) (listed_bytes key images each)) (good_lists later images each)
 
 -- The properties of the configuration are good.
 good_configuration : (head : HeadModel) (images : List ImageSpecModel) → CanBeBuilt head images →
     AreBlobProperties (built_configuration_properties head images)
-good_configuration head images can =
-    (tested_property _ _ (text_value head.description) refl (bytes-text_value head.description can.description.bytes), good_lists all_keys images can.each)
+good_configuration head images can = (
+  tested_property _ _ (text_value head.description) refl (bytes-text_value head.description can.description.bytes),
+  good_lists all_keys images can.each,
+)
 
 -- The names of the image nodes are those of the images.
 names-built_images : (head : HeadModel) (images : List ImageSpecModel) → names (built_images head images) ≡ map (λ image. image.name) images
@@ -211,8 +217,23 @@ built_images_apart head (image ∷ later) each = (
   record {
     no_payload_name = λ name is.
         get-from_entries nat_list_cmp_total (built_image_properties head image) name
-        ∙ none_found is_payload_name name (built_image_properties head image) is
-        (refl, (refl, (refl, (refl, (refl, each-append (λ property. is_payload_name property.0 ≡ false) (cell_property (codes "load") image.load) (cell_property (codes "entry") image.entry) (load_is_no_payload image.load) (entry_is_no_payload image.entry))))));
+        ∙ none_found is_payload_name name (built_image_properties head image) is (
+          refl,
+          (
+            refl,
+            (
+              refl,
+              (
+                refl,
+                (
+                  refl,
+                  each-append (λ property. is_payload_name property.0 ≡ false) (cell_property (codes "load") image.load)
+                      (cell_property (codes "entry") image.entry) (load_is_no_payload image.load) (entry_is_no_payload image.entry),
+                ),
+              ),
+            ),
+          ),
+        );
     bytes = each.0.payload_bytes;
   },
   built_images_apart head later each.1,
@@ -261,7 +282,8 @@ built_is_image_tree head images can = record {
 -- Image nodes and their hash nodes are two deep.
 depth-built_images : (head : HeadModel) (images : List ImageSpecModel) → depth (built_images head images) ≤ 2
 depth-built_images head [] = omega arith
-depth-built_images head (image ∷ later) = let rest : depth (built_images head later) ≤ 2 = depth-built_images head later in omega (arith, rest)
+depth-built_images head (image ∷ later) = let rest : depth
+    (built_images head later) ≤ 2 = depth-built_images head later in omega (arith, rest)
 
 -- A built tree is four deep at most.
 pub depth-built : (head : HeadModel) (images : List ImageSpecModel) → depth_of (built_tree head images).root ≤ 4

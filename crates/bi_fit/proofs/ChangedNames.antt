@@ -1,4 +1,5 @@
-use Rattle.std.proofs.Common.{◌≡◌, ◌⊎◌, ℕ, zero, suc, Bool, true, false, inl, inr, List, [], ◌∷◌, ◌++◌, length, fold, bytes_eq, All, Contains, IsPermutation, get_or}
+use Rattle.std.proofs.Common.{◌≡◌, ◌⊎◌, ℕ, zero, suc, Bool, true, false, inl, inr, List, [], ◌∷◌, ◌++◌, length, fold, bytes_eq, All}
+use Rattle.std.proofs.Common.{Contains, IsPermutation, get_or}
 use Rattle.std.proofs.Common.{refl, sym, ap, subst, ◌∙◌, append_assoc, append-nil, true≢false}
 use Rattle.std.specs.Prelude.{◌||◌, if◌then◌else◌, slice_index_or}
 use Rattle.std.specs.Borrow.{Bor}
@@ -34,7 +35,10 @@ pub numbered_more : (base names : List (List ℕ)) → BeginsWith names base →
 numbered_more base names begin [] [] are = tt
 numbered_more base names begin [] (number ∷ numbers) are = absurd are
 numbered_more base names begin (item ∷ table) [] are = absurd are
-numbered_more base names begin (NodeItem depth place name ∷ table) (number ∷ numbers) are = (tt, numbered_more base names begin table numbers are.1)
+numbered_more base names begin (NodeItem depth place name ∷ table) (number ∷ numbers) are = (
+  tt,
+  numbered_more base names begin table numbers are.1,
+)
 numbered_more base names begin (PropertyItem property ∷ table) (number ∷ numbers) are = (
   subst (λ names. IsNumberOf names property.name number) (sym begin.1) (number_append base begin.0 property.name number are.0),
   numbered_more base names begin table numbers are.1,
@@ -141,7 +145,8 @@ module _ (base : List (List ℕ)) where
 
   pub number_stays : (names more : List (List ℕ)) (name other : List ℕ) (number : ℕ) → more ≡ with_missing base names name →
       IsNumberOf names other number → IsNumberOf more other number
-  number_stays names more name other number is has = subst (λ names. IsNumberOf names other number) (sym is) (number_kept names name other number has)
+  number_stays names more name other number is has = subst (λ names. IsNumberOf names other number) (sym is)
+      (number_kept names name other number has)
 
   -- Names that are to be added are new after one of them is.
   still_new : (names added : List (List ℕ)) (name : List ℕ) → IsNew name added →
@@ -153,13 +158,14 @@ module _ (base : List (List ℕ)) where
     still_new names added name differ.1 new.1,
   )
 
-  -- Distinct names, and others of which each is new if it is none of the base, are distinct.
+  -- Distinct names are distinct with others, if each of the others is new or one of the base.
   distinct_all : (names added : List (List ℕ)) → AreDistinct added → AreDistinct names →
       AllByRecursion (λ other. IsNew other base → IsNew other names) added → AreDistinct (fold (with_missing base) names added)
   distinct_all names [] distinct_added distinct new = distinct
   distinct_all names (name ∷ added) distinct_added distinct new =
       by_test (is_among name base) refl (distinct_all names added distinct_added.1 distinct new.1)
-      (λ fresh. distinct_all (names ++ name ∷ []) added distinct_added.1 (AreDistinct-push names name distinct (new.0 fresh)) (still_new names added name distinct_added.0 new.1))
+      (λ fresh. distinct_all (names ++ name ∷ []) added distinct_added.1 (AreDistinct-push names name distinct (new.0 fresh))
+      (still_new names added name distinct_added.0 new.1))
     where
       by_test : (b : Bool) → is_among name base ≡ b → AreDistinct (fold (with_missing base) names added) →
           (IsNew name base → AreDistinct (fold (with_missing base) (names ++ name ∷ []) added)) →
@@ -194,7 +200,8 @@ module _ (base : List (List ℕ)) where
   -- The names are distinct,
   pub changed_distinct : AreDistinct base → AreDistinct (with_changed_names base)
   changed_distinct distinct =
-      distinct_all base changed_names (distinct_in_order changed_names (names_in_order changed_names refl)) distinct (each_itself changed_names)
+      distinct_all base changed_names
+      (distinct_in_order changed_names (names_in_order changed_names refl)) distinct (each_itself changed_names)
 
   -- and begin with those of the file.
   pub changed_begin : BeginsWith (with_changed_names base) base
@@ -205,7 +212,11 @@ module _ (base : List (List ℕ)) where
   changed_short sorted moved =
       let P : List ℕ → Type 0 = λ name. (long_length name ≡ 0) ⊎ Contains base name in
       let all : AllByRecursion P (with_changed_names base) =
-      each_all P base changed_names (each_itself_among base base (λ name has. inr has)) (inl refl, (inl refl, (inl refl, (inl refl, (inl refl, (inl refl, tt)))))) in
+      each_all P base changed_names (each_itself_among base base (λ name has. inr has)) (
+        inl refl,
+        (inl refl, (inl refl, (inl refl, (inl refl, (inl refl, tt))))),
+      ) in
       each_from_all P sorted
       (All-permutation P (with_changed_names base) sorted moved
-      (λ k d within. each-contains P (with_changed_names base) (get_or (with_changed_names base) k d) all (Contains-get_or (with_changed_names base) k d within)))
+      (λ k d within. each-contains P (with_changed_names base) (get_or (with_changed_names base) k d) all
+      (Contains-get_or (with_changed_names base) k d within)))

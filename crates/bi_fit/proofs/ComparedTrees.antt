@@ -13,15 +13,15 @@ use Rattle.bi_fit.specs.ComparedNodes.{compared_nodes, compared_tree, AreSameBlo
 use Rattle.bi_fit.proofs.NodeEvents.{nodes_from}
 use Rattle.bi_fit.proofs.NormalTrees.{other_name, held_nodes}
 
--- Image trees are equal exactly if what is compared of them is.
+-- Image trees are equal if and only if what is compared of them is.
 
--- After two nodes that are equal, the later ones are equal exactly if all are.
+-- After two nodes that are equal, the later ones are equal if and only if all are.
 pub same_later : (role : Role) (one other : Sibling FileNode) → compared_nodes role (alone one) ≡ compared_nodes role (alone other) →
     (compared_nodes role one.later ≡ compared_nodes role other.later)
     ↔ (compared_nodes role (nodes_from (Some one)) ≡ compared_nodes role (nodes_from (Some other)))
 same_later role one other same = ((λ later. cc), (λ all. cc))
 
--- Nodes that are no image nodes keep all properties.
+-- Nodes that are not image nodes keep all properties.
 compared_others : (nodes : Nodes FileNode) → compared_nodes OtherNode nodes ≡ nodes_by_name nodes
 compared_others none = refl
 compared_others (node name own children later) =
@@ -33,7 +33,7 @@ compared_images none = refl
 compared_images (node name own children later) =
     ap₂ (node name (without_payload (properties_by_name own))) (compared_others children) (compared_images later)
 
--- Children of the root none of which has the name `images` keep all properties.
+-- Children of the root keep all properties, if none has the name `images`.
 compared_without_images : (nodes : Nodes FileNode) → IsNew images_name (names nodes) → compared_nodes RootChild nodes ≡ nodes_by_name nodes
 compared_without_images none new = refl
 compared_without_images (node name own children later) new =
@@ -51,7 +51,8 @@ compared_root_children IsOwn (node name own children later) are =
         compared_nodes RootChild (node name own children later) ≡
         with_children_of images_name without_payloads (nodes_by_name (node name own children later))
     where_first true is rest =
-        let new : IsNew images_name (names later) = subst (λ name. IsNew name (names later)) ((bytes_eq-Decides name images_name).0 is) are.0.is_new in
+        let new : IsNew images_name (names later) = subst (λ name. IsNew name (names later))
+        ((bytes_eq-Decides name images_name).0 is) are.0.is_new in
         rw is (ap₂ (node name (properties_by_name own)) (compared_images children) (compared_without_images later new))
     where_first false is rest =
         rw is (ap₂ (node name (properties_by_name own)) (compared_others children) rest)
@@ -68,10 +69,16 @@ module _ (one other : FitModel) (held : IsHeld one) (held_other : IsHeld other) 
   one_compared_tree are payloads =
       let cpu = are.same_cpu in
       let reservations = are.same_reservations in
-      let roots : as_nodes (tree_of one).root ≡ as_nodes (tree_of other).root = sym (compared_root one held) ∙ are.same_tree ∙ compared_root other held_other in
+      let roots : as_nodes (tree_of one).root ≡ as_nodes (tree_of other).root = sym (compared_root one held) ∙ are.same_tree
+      ∙ compared_root other held_other in
       let own : (tree_of one).root.own ≡ (tree_of other).root.own = cc in
       let children : (tree_of one).root.children ≡ (tree_of other).root.children = cc in
-      λ i. record { cpu = cpu i; reservations = reservations i; root = record { own = own i; children = children i }; payloads = payloads i }
+      λ i. record {
+        cpu = cpu i;
+        reservations = reservations i;
+        root = record { own = own i; children = children i };
+        payloads = payloads i;
+      }
 
   -- and one tree is of the same blobs.
   pub same_blobs : tree_of one ≡ tree_of other → AreSameBlobs one.blob other.blob

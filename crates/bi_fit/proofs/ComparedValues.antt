@@ -70,7 +70,8 @@ named_is : (name : List ℕ) (keyed : List KeyedProperty) →
     lookup (one_name_each name) (map (λ one. property_of one.1) keyed) ≡ value_named name keyed
 named_is name [] = refl
 named_is name (one ∷ keyed) =
-    ap (λ b. cond b (Some one.1.value) (lookup (one_name_each name) (map (λ one. property_of one.1) keyed))) (is_eq-slice_cmp name one.1.name)
+    ap (λ b. cond b (Some one.1.value) (lookup (one_name_each name) (map (λ one. property_of one.1) keyed)))
+    (is_eq-slice_cmp name one.1.name)
     ∙ ap (cond (bytes_eq name one.1.name) (Some one.1.value)) (named_is name keyed)
 
 got : (role : Role) (own : FileNode) (keyed : List KeyedProperty) → HasDistinctNames own →

@@ -43,24 +43,31 @@ pub without_images : WithoutImages
 unfolding text_of_events text_of_blocks cell cell8 u32_at
 without_images = record {
   no_child = in_tree (record { own = []; children = none }) [] _ refl refl (lit≤ tt) (lit≤ tt) (lit≤ tt) (inl (false≢true, refl));
-  elsewhere = in_tree (record { own = []; children = node (codes "x") [] (node images_name [] none none) none }) [] _ refl refl (lit≤ tt) (lit≤ tt) (lit≤ tt)
+  elsewhere = in_tree (record { own = []; children = node (codes "x") [] (node images_name [] none none) none }) [] _ refl
+      refl (lit≤ tt) (lit≤ tt) (lit≤ tt)
       (inl (false≢true, refl));
 }
 
 pub regions_have_faults : RegionsHaveFaults
 unfolding text_of_events text_of_blocks cell cell8 u32_at
 regions_have_faults = record {
-  offset_no_cell = in_tree (one_image ((data_offset_name, codes "abc") ∷ (data_size_name, cell 0) ∷ [])) [] _ refl refl (lit≤ tt) (lit≤ tt) (lit≤ tt)
+  offset_no_cell = in_tree (one_image ((data_offset_name, codes "abc") ∷ (data_size_name, cell 0) ∷ [])) [] _ refl
+      refl (lit≤ tt) (lit≤ tt) (lit≤ tt)
       (inr (refl, inl (eqb-false 3 4 refl, refl)));
-  position_no_cell = in_tree (one_image ((data_position_name, codes "abcde") ∷ (data_size_name, cell 0) ∷ [])) [] _ refl refl (lit≤ tt) (lit≤ tt) (lit≤ tt)
+  position_no_cell = in_tree (one_image ((data_position_name, codes "abcde") ∷ (data_size_name, cell 0) ∷ [])) [] _ refl
+      refl (lit≤ tt) (lit≤ tt) (lit≤ tt)
       (inr (refl, inl (eqb-false 5 4 refl, refl)));
   no_size = in_tree (one_image ((data_offset_name, cell 0) ∷ [])) [] _ refl refl (lit≤ tt) (lit≤ tt) (lit≤ tt)
       (inr (refl, inr (refl, inl (false≢true, refl))));
-  size_no_cell = in_tree (one_image ((data_offset_name, cell 0) ∷ (data_size_name, codes "abc") ∷ [])) [] _ refl refl (lit≤ tt) (lit≤ tt) (lit≤ tt)
+  size_no_cell = in_tree (one_image ((data_offset_name, cell 0) ∷ (data_size_name, codes "abc") ∷ [])) [] _ refl
+      refl (lit≤ tt) (lit≤ tt) (lit≤ tt)
       (inr (refl, inr (refl, inr (refl, inl (eqb-false 3 4 refl, refl)))));
-  offset_outside = in_tree (tree_with_images (node (codes "a") (region_of 0 1001) none (node (codes "b") (region_of 0 1000) none (node (codes "c") (region_of 0 1000) none none)))) shared_region _ refl refl (lit≤ tt) (lit≤ tt) (lit≤ tt)
+  offset_outside = in_tree (tree_with_images
+      (node (codes "a") (region_of 0 1001) none (node (codes "b") (region_of 0 1000) none (node (codes "c") (region_of 0 1000) none none))))
+      shared_region _ refl refl (lit≤ tt) (lit≤ tt) (lit≤ tt)
       (inr (refl, inr (refl, inr (refl, inr (refl, inl (past _ _ refl, refl))))));
-  position_outside = in_tree (one_image ((data_position_name, cell 172) ∷ (data_size_name, cell 1) ∷ [])) [] _ refl refl (lit≤ tt) (lit≤ tt) (lit≤ tt)
+  position_outside = in_tree (one_image ((data_position_name, cell 172) ∷ (data_size_name, cell 1) ∷ [])) [] _ refl
+      refl (lit≤ tt) (lit≤ tt) (lit≤ tt)
       (inr (refl, inr (refl, inr (refl, inr (refl, inl (past _ _ refl, refl))))));
 }
 
@@ -69,11 +76,15 @@ unfolding text_of_events text_of_blocks cell cell8 u32_at
 first_fault_counts = record {
   cell_before_size = in_tree (one_image ((data_offset_name, codes "abc") ∷ [])) [] _ refl refl (lit≤ tt) (lit≤ tt) (lit≤ tt)
       (inr (refl, inl (eqb-false 3 4 refl, refl)));
-  cell_before_size_cell = in_tree (one_image ((data_size_name, codes "abc") ∷ (data_offset_name, codes "abc") ∷ [])) [] _ refl refl (lit≤ tt) (lit≤ tt) (lit≤ tt)
+  cell_before_size_cell = in_tree
+      (one_image ((data_size_name, codes "abc") ∷ (data_offset_name, codes "abc") ∷ [])) [] _ refl refl (lit≤ tt) (lit≤ tt) (lit≤ tt)
       (inr (refl, inl (eqb-false 3 4 refl, refl)));
-  size_cell_before_region = in_tree (one_image ((data_offset_name, cell 0xffffffff) ∷ (data_size_name, codes "abc") ∷ [])) [] _ refl refl (lit≤ tt) (lit≤ tt) (lit≤ tt)
+  size_cell_before_region = in_tree
+      (one_image ((data_offset_name, cell 0xffffffff) ∷ (data_size_name, codes "abc") ∷ [])) [] _ refl refl (lit≤ tt) (lit≤ tt) (lit≤ tt)
       (inr (refl, inr (refl, inr (refl, inl (eqb-false 3 4 refl, refl)))));
-  position_alone = in_tree (one_image ((data_offset_name, codes "abc") ∷ (data_position_name, cell 0xffffffff) ∷ (data_size_name, cell 1) ∷ [])) [] _ refl refl (lit≤ tt) (lit≤ tt) (lit≤ tt)
+  position_alone = in_tree (one_image
+      ((data_offset_name, codes "abc") ∷ (data_position_name, cell 0xffffffff) ∷ (data_size_name, cell 1) ∷ [])) [] _ refl
+      refl (lit≤ tt) (lit≤ tt) (lit≤ tt)
       (inr (refl, inr (refl, inr (refl, inr (refl, inl (past _ _ refl, refl))))));
   first_image = in_tree (two_images (region_of 0 1000) ((data_offset_name, codes "abc") ∷ [])) [] _ refl refl (lit≤ tt) (lit≤ tt) (lit≤ tt)
       (inr (refl, inr (refl, inr (refl, inr (refl, inl (past _ _ refl, refl))))));

@@ -22,7 +22,7 @@ use Rattle.bi_fit.specs.Faults.{FitCheck, HasImages, HasBeginCell, HasSize, HasS
 use Rattle.bi_fit.specs.Faults.{source_checks, image_checks, images_checks, fit_checks, IsFitFault, InBlob, InTree}
 use Rattle.bi_fit.specs.Laws.{FitHasNoFault, OneFitFault, FitMeaningOrFault, FitMeaningWhereNoFault}
 
--- A file has a meaning exactly where it has no fault, and one fault at most.
+-- A file has a meaning if and only if it has no fault, and at most one fault.
 
 -- Whether an option has a value is decided.
 some_or_not : {A : Type 0} (o : Option A) → IsSome o ⊎ ¬ (IsSome o)
@@ -61,7 +61,7 @@ module _ (file : List ℕ) where
       each-append (FitPasses file) (source_checks file (source_of own)) (image_checks file later)
       (source_passes (source_of own) payload have.0) (images_pass later payloads have.1)
 
-  -- A region whose checks pass is a payload.
+  -- A region is a payload, if its checks pass.
   region_has_payload : (base : ℕ) (begin : FileProperty) (size : Option FileProperty) →
       HasNoFault (FitPasses file) (region_checks base begin size) → (payload : Option (List ℕ)) × IsSizedRegion file base begin size payload
   region_has_payload base begin None fine = absurd (false≢true fine.1.0)
@@ -70,7 +70,7 @@ module _ (file : List ℕ) where
     record { begin_cell = fine.0; size_cell = fine.1.1.0; in_file = fine.1.1.1.0; is_slice = refl },
   )
 
-  -- A source whose checks pass has a payload, or none.
+  -- A source has a payload, or none, if its checks pass.
   source_has_payload : (source : PayloadSource) → HasNoFault (FitPasses file) (source_checks file source) →
       (payload : Option (List ℕ)) × IsPayload file source payload
   source_has_payload NoSource fine = (None, refl)
@@ -78,13 +78,15 @@ module _ (file : List ℕ) where
   source_has_payload (DataOffset offset size) fine = region_has_payload (external_base file) offset size fine
   source_has_payload (DataPosition position size) fine = region_has_payload 0 position size fine
 
-  -- Image nodes whose checks pass have payloads.
+  -- Image nodes have payloads, if their checks pass.
   images_have_payloads : (nodes : Nodes FileNode) → HasNoFault (FitPasses file) (image_checks file nodes) →
       (payloads : List (Option (List ℕ))) × AllZip (HasPayload file) (each_own nodes) payloads
   images_have_payloads none fine = ([], tt)
   images_have_payloads (node name own children later) fine =
-      let first_payload = source_has_payload (source_of own) (each-front (FitPasses file) (source_checks file (source_of own)) (image_checks file later) fine) in
-      let rest = images_have_payloads later (each-back (FitPasses file) (source_checks file (source_of own)) (image_checks file later) fine) in
+      let first_payload = source_has_payload (source_of own)
+      (each-front (FitPasses file) (source_checks file (source_of own)) (image_checks file later) fine) in
+      let rest = images_have_payloads later
+      (each-back (FitPasses file) (source_checks file (source_of own)) (image_checks file later) fine) in
       (first_payload.0 ∷ rest.0, (first_payload.1, rest.1))
 
   -- The checks of the tree of a file with a meaning pass.
@@ -92,7 +94,7 @@ module _ (file : List ℕ) where
   tree_passes tree is =
       (rw is.has_images refl, rw is.has_images (images_pass is.images tree.payloads is.payloads))
 
-  -- A blob whose checks pass has a meaning.
+  -- A blob has a meaning, if its checks pass.
   tree_has_meaning : (cpu : ℕ) (reservations : List Reservation) (root : Root FileNode) → IsBlob file cpu reservations root →
       (images : Option (Nodes FileNode)) → image_nodes root ≡ images → IsSome images →
       HasNoFault (FitPasses file) (images_checks file images) → (tree : ImageTree) × (is : IsFitFile file tree) × (is.root ≡ root)
@@ -129,10 +131,13 @@ fit_has_no_fault bounds file tree fault means (InTree cpu reservations root blob
 pub one_fit_fault : OneFitFault
 one_fit_fault bounds file one other (InBlob a) (InBlob b) = one_blob_fault bounds file one other a b
 one_fit_fault bounds file one other (InBlob a) (InTree cpu reservations root blob within b) =
-    absurd (blob_has_no_fault bounds file one (record { cpu = cpu; reservations = reservations; root = root; blob = blob; within = within }) a)
+    absurd (blob_has_no_fault bounds file one
+    (record { cpu = cpu; reservations = reservations; root = root; blob = blob; within = within }) a)
 one_fit_fault bounds file one other (InTree cpu reservations root blob within a) (InBlob b) =
-    absurd (blob_has_no_fault bounds file other (record { cpu = cpu; reservations = reservations; root = root; blob = blob; within = within }) b)
-one_fit_fault bounds file one other (InTree cpu reservations root blob within a) (InTree cpu_too reservations_too root_too blob_too within_too b) =
+    absurd (blob_has_no_fault bounds file other
+    (record { cpu = cpu; reservations = reservations; root = root; blob = blob; within = within }) b)
+one_fit_fault bounds file one other (InTree cpu reservations root blob within a)
+    (InTree cpu_too reservations_too root_too blob_too within_too b) =
     let same = one_blob file cpu cpu_too reservations reservations_too root root_too blob blob_too in
     first.one_fault (FitPasses file) fit_fault (fit_checks file root) one other a
     (subst (λ root. IsFirstFault (FitPasses file) fit_fault (fit_checks file root) other) (sym same.same_root) b)

@@ -62,7 +62,8 @@ pub default_is : (content : FitModel) →
     (λ found. option_and_then text_before_nul (value_named (properties_of found.own) default_name)) (configurations_in content.blob)
 default_is content =
     of_parts (node_named (tree_of content).root.children configurations_name)
-    ∙ ap (λ (o : Option (PropertyMap × Nodes PropertyMap)). option_and_then (λ parts. option_and_then text_before_nul (get parts.0 default_name)) o) (configurations_parts content)
+    ∙ ap (λ (o : Option (PropertyMap × Nodes PropertyMap)). option_and_then
+    (λ parts. option_and_then text_before_nul (get parts.0 default_name)) o) (configurations_parts content)
     ∙ of_file (configurations_in content.blob)
   where
     of_parts : (found : Option (Sibling PropertyMap)) →
@@ -102,7 +103,8 @@ distinct_configurations blob is =
     by_found (Some nodes) there =
         subst AreDistinct (names-with_each properties_of nodes)
         (names_are_distinct AreProperties (with_each properties_of nodes)
-        (AreNodes-children_of AreProperties configurations_name (with_each properties_of (root_of blob).children) (with_each properties_of nodes)
+        (AreNodes-children_of AreProperties configurations_name (with_each properties_of (root_of blob).children)
+        (with_each properties_of nodes)
         (children_of-with_each properties_of configurations_name (root_of blob).children ∙ ap (option_map (with_each properties_of)) there)
         is.children))
 

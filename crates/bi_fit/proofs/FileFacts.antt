@@ -33,7 +33,7 @@ use Rattle.bi_base.proofs.ByteLists.{bytes_by_test}
 -- Small image trees have known texts and payloads: `data-position` comes before `data-offset` and both before `data`, and properties that
 -- give no payload have no meaning.
 
--- No bytes are no entries.
+-- Without bytes there are no entries.
 pub no_entries : entries (empty {X = List ℕ} {R = slice_cmp nat_cmp}) ≡ []
 no_entries = by_length (entries empty) (sym (len-entries empty) ∙ len-empty (slice_cmp nat_cmp) (List ℕ))
   where
@@ -46,7 +46,7 @@ pub blob_by_test : (root : Root (List Property)) (rest : List ℕ) → is_tree r
     length (text_of_tree 0 [] root) ≤ longest_text → IsBlob (text_of_tree 0 [] root ++ rest) 0 [] (tree_with_places [] root)
 blob_by_test root rest tree bytes short = text_blob 0 [] root rest (content_by_test root tree) short (bytes_by_test rest bytes)
 
--- Properties of payloads alone leave none.
+-- Only properties of payloads leave none.
 all_taken_out : (properties : List Property) → AllByRecursion (λ property. not (is_payload_name property.0) ≡ false) properties →
     without_payload (from_entries properties) ≡ empty
 all_taken_out properties are =
@@ -73,7 +73,8 @@ entries_listed Embedded begin (Some payload) =
 entries_listed External begin (Some payload) =
     entries-insert nat_list_cmp_total (insert empty data_offset_name (cell begin)) data_size_name (cell (length payload))
     ∙ ap (put (slice_cmp nat_cmp) data_size_name (cell (length payload)))
-    (entries-insert nat_list_cmp_total empty data_offset_name (cell begin) ∙ ap (put (slice_cmp nat_cmp) data_offset_name (cell begin)) no_entries)
+    (entries-insert nat_list_cmp_total empty data_offset_name (cell begin)
+    ∙ ap (put (slice_cmp nat_cmp) data_offset_name (cell begin)) no_entries)
 
 -- Image nodes that have no other properties, as lists.
 abbrev listed_images : Form → ℕ → List (Option (List ℕ)) → List (List ℕ) → Nodes (List Property)
@@ -90,7 +91,8 @@ images_listed form end [] (name ∷ names) =
     ap₂ (λ own later. node name own none later) no_entries (images_listed form end [] names)
 images_listed form end (payload ∷ payloads) [] = refl
 images_listed form end (payload ∷ payloads) (name ∷ names) =
-    ap₂ (λ own later. node name own none later) (entries_listed form (up4 end) payload) (images_listed form (end_after end payload) payloads names)
+    ap₂ (λ own later. node name own none later) (entries_listed form (up4 end) payload)
+    (images_listed form (end_after end payload) payloads names)
 
 -- The blob of image nodes that have no other properties.
 plain_blob : (form : Form) (names : List (List ℕ)) (payloads : List (Option (List ℕ))) →
@@ -173,16 +175,20 @@ pub three_images_have_texts : ThreeImagesHaveTexts
 unfolding text_of_events text_of_blocks cell cell8 u32_at
 three_images_have_texts = record {
   embedded_means = record {
-    root = tree_with_places [] (tree_with_images (three_nodes ((data_name, codes "hello") ∷ []) ((data_name, []) ∷ []) ((data_name, codes "x") ∷ [])));
-    blob = blob_by_test (tree_with_images (three_nodes ((data_name, codes "hello") ∷ []) ((data_name, []) ∷ []) ((data_name, codes "x") ∷ []))) [] refl refl (lit≤ tt);
+    root = tree_with_places [] (tree_with_images
+        (three_nodes ((data_name, codes "hello") ∷ []) ((data_name, []) ∷ []) ((data_name, codes "x") ∷ [])));
+    blob = blob_by_test (tree_with_images
+        (three_nodes ((data_name, codes "hello") ∷ []) ((data_name, []) ∷ []) ((data_name, codes "x") ∷ []))) [] refl refl (lit≤ tt);
     images = _;
     has_images = refl;
     payloads = (refl, (refl, (refl, tt)));
-    is_root = three_plain ((data_name, codes "hello") ∷ []) ((data_name, []) ∷ []) ((data_name, codes "x") ∷ []) (refl, tt) (refl, tt) (refl, tt);
+    is_root = three_plain ((data_name, codes "hello") ∷ []) ((data_name, []) ∷ []) ((data_name, codes "x") ∷ [])
+        (refl, tt) (refl, tt) (refl, tt);
   };
   external_means = record {
     root = tree_with_places [] (tree_with_images (three_nodes (region_of 0 5) (region_of 8 0) (region_of 8 1)));
-    blob = blob_by_test (tree_with_images (three_nodes (region_of 0 5) (region_of 8 0) (region_of 8 1))) (codes "hello" ++ 0 ∷ 0 ∷ 0 ∷ codes "x") refl refl (lit≤ tt);
+    blob = blob_by_test (tree_with_images (three_nodes (region_of 0 5) (region_of 8 0) (region_of 8 1)))
+        (codes "hello" ++ 0 ∷ 0 ∷ 0 ∷ codes "x") refl refl (lit≤ tt);
     images = _;
     has_images = refl;
     payloads = (
@@ -197,7 +203,8 @@ three_images_have_texts = record {
   embedded = plain_text Embedded (codes "a" ∷ codes "b" ∷ codes "c" ∷ []) (Some (codes "hello") ∷ Some [] ∷ Some (codes "x") ∷ []);
   external = plain_text External (codes "a" ∷ codes "b" ∷ codes "c" ∷ []) (Some (codes "hello") ∷ Some [] ∷ Some (codes "x") ∷ []);
   embedded_length = refl;
-  external_blob = ap length (plain_blob External (codes "a" ∷ codes "b" ∷ codes "c" ∷ []) (Some (codes "hello") ∷ Some [] ∷ Some (codes "x") ∷ []));
+  external_blob = ap length (plain_blob External (codes "a" ∷ codes "b" ∷ codes "c" ∷ [])
+      (Some (codes "hello") ∷ Some [] ∷ Some (codes "x") ∷ []));
   external_length = refl;
   places = refl;
 }
@@ -207,7 +214,8 @@ unfolding text_of_events text_of_blocks cell cell8 u32_at
 payloads_are_aligned = record {
   means = record {
     root = tree_with_places [] (tree_with_images (three_nodes (region_of 0 1) (region_of 4 0) (region_of 4 1)));
-    blob = blob_by_test (tree_with_images (three_nodes (region_of 0 1) (region_of 4 0) (region_of 4 1))) (codes "x" ++ 0 ∷ 0 ∷ 0 ∷ codes "y") refl refl (lit≤ tt);
+    blob = blob_by_test (tree_with_images (three_nodes (region_of 0 1) (region_of 4 0) (region_of 4 1)))
+        (codes "x" ++ 0 ∷ 0 ∷ 0 ∷ codes "y") refl refl (lit≤ tt);
     images = _;
     has_images = refl;
     payloads = (
@@ -243,8 +251,11 @@ pub children_keep_order : ChildrenKeepOrder
 unfolding text_of_events text_of_blocks cell cell8 u32_at
 children_keep_order = record {
   means = record {
-    root = tree_with_places [] (tree_with_images (node (codes "b") ((data_name, codes "x") ∷ []) none (node (codes "a") ((data_name, codes "y") ∷ []) none none)));
-    blob = blob_by_test (tree_with_images (node (codes "b") ((data_name, codes "x") ∷ []) none (node (codes "a") ((data_name, codes "y") ∷ []) none none))) [] refl refl (lit≤ tt);
+    root = tree_with_places [] (tree_with_images
+        (node (codes "b") ((data_name, codes "x") ∷ []) none (node (codes "a") ((data_name, codes "y") ∷ []) none none)));
+    blob = blob_by_test (tree_with_images
+        (node (codes "b") ((data_name, codes "x") ∷ []) none
+        (node (codes "a") ((data_name, codes "y") ∷ []) none none))) [] refl refl (lit≤ tt);
     images = _;
     has_images = refl;
     payloads = (refl, (refl, tt));
@@ -368,8 +379,10 @@ shared_region_is_repeated = record {
     is_root = three_plain (region_of 0 1000) (region_of 0 1000) (region_of 0 1000) (refl, (refl, tt)) (refl, (refl, tt)) (refl, (refl, tt));
   };
   is_length = refl;
-  embedded_length = ap length (plain_text Embedded (codes "a" ∷ codes "b" ∷ codes "c" ∷ []) (Some shared_region ∷ Some shared_region ∷ Some shared_region ∷ []));
-  external_length = ap length (plain_text External (codes "a" ∷ codes "b" ∷ codes "c" ∷ []) (Some shared_region ∷ Some shared_region ∷ Some shared_region ∷ []));
+  embedded_length = ap length (plain_text Embedded (codes "a" ∷ codes "b" ∷ codes "c" ∷ [])
+      (Some shared_region ∷ Some shared_region ∷ Some shared_region ∷ []));
+  external_length = ap length (plain_text External (codes "a" ∷ codes "b" ∷ codes "c" ∷ [])
+      (Some shared_region ∷ Some shared_region ∷ Some shared_region ∷ []));
   empty_at_end = record {
     root = tree_with_places [] (shared_root 1000 0);
     blob = blob_by_test (shared_root 1000 0) shared_region refl refl (lit≤ tt);
@@ -403,7 +416,8 @@ nested_normal : normal_tree Embedded nested_image_tree ≡ nested_tree
 nested_normal =
     λ i. record {
       own = entries_data (codes "r") i;
-      children = node (codes "other") (no_entries i) (node images_name (no_entries i) (node (codes "n") (entries_data (codes "o") i) none none) none)
+      children = node (codes "other") (no_entries i)
+          (node images_name (no_entries i) (node (codes "n") (entries_data (codes "o") i) none none) none)
           (node images_name (entries_data (codes "p") i)
           (node (codes "a") (entries_data (codes "q") i) (node (codes "hash-1") (entries_data (codes "s") i) none none) none)
           none);
@@ -418,7 +432,8 @@ only_images_have_payloads = record {
     images = _;
     has_images = refl;
     payloads = (refl, tt);
-    is_root = ap (λ own. record { own = only_data (codes "r"); children = nested_nodes own }) (sym (all_taken_out ((data_name, codes "q") ∷ []) (refl, tt)));
+    is_root = ap (λ own. record { own = only_data (codes "r"); children = nested_nodes own })
+        (sym (all_taken_out ((data_name, codes "q") ∷ []) (refl, tt)));
   };
   embedded = ap (λ root. text_of_tree 0 [] root ++ []) nested_normal;
 }
@@ -427,19 +442,25 @@ pub unused_have_no_meaning : UnusedHaveNoMeaning
 unfolding text_of_events text_of_blocks cell cell8 u32_at
 unused_have_no_meaning = record {
   size = record {
-    root = tree_with_places [] (tree_with_images (node (codes "a") ((data_name, codes "abc") ∷ (data_size_name, codes "s") ∷ []) none none));
-    blob = blob_by_test (tree_with_images (node (codes "a") ((data_name, codes "abc") ∷ (data_size_name, codes "s") ∷ []) none none)) [] refl refl (lit≤ tt);
+    root = tree_with_places [] (tree_with_images
+        (node (codes "a") ((data_name, codes "abc") ∷ (data_size_name, codes "s") ∷ []) none none));
+    blob = blob_by_test (tree_with_images
+        (node (codes "a") ((data_name, codes "abc") ∷ (data_size_name, codes "s") ∷ []) none none)) [] refl refl (lit≤ tt);
     images = _;
     has_images = refl;
     payloads = (refl, tt);
     is_root = one_plain (codes "a") ((data_name, codes "abc") ∷ (data_size_name, codes "s") ∷ []) (refl, (refl, tt));
   };
   offset = record {
-    root = tree_with_places [] (tree_with_images (node (codes "a") ((data_offset_name, codes "o") ∷ (data_position_name, cell 0) ∷ (data_size_name, cell 4) ∷ []) none none));
-    blob = blob_by_test (tree_with_images (node (codes "a") ((data_offset_name, codes "o") ∷ (data_position_name, cell 0) ∷ (data_size_name, cell 4) ∷ []) none none)) [] refl refl (lit≤ tt);
+    root = tree_with_places [] (tree_with_images
+        (node (codes "a") ((data_offset_name, codes "o") ∷ (data_position_name, cell 0) ∷ (data_size_name, cell 4) ∷ []) none none));
+    blob = blob_by_test (tree_with_images
+        (node (codes "a") ((data_offset_name, codes "o") ∷ (data_position_name, cell 0) ∷ (data_size_name, cell 4) ∷ []) none
+        none)) [] refl refl (lit≤ tt);
     images = _;
     has_images = refl;
     payloads = (record { begin_cell = refl; size_cell = refl; in_file = lit≤ tt; is_slice = refl }, tt);
-    is_root = one_plain (codes "a") ((data_offset_name, codes "o") ∷ (data_position_name, cell 0) ∷ (data_size_name, cell 4) ∷ []) (refl, (refl, (refl, tt)));
+    is_root = one_plain (codes "a")
+        ((data_offset_name, codes "o") ∷ (data_position_name, cell 0) ∷ (data_size_name, cell 4) ∷ []) (refl, (refl, (refl, tt)));
   };
 }

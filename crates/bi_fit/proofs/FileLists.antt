@@ -96,7 +96,8 @@ unfolding text_before_nul
 next_name value name is =
     let there = cond_some (list_any is_zero value) (before_first is_zero value) name is in
     subst (λ (text : List ℕ). listed_names value ≡ text ∷ listed_names (drop (length text + 1) value)) there.1
-    (first_name value there.0 ∙ ap (λ n. before_first is_zero value ∷ listed_names (drop n value)) (one (length (before_first is_zero value))))
+    (first_name value there.0 ∙ ap (λ n. before_first is_zero value ∷ listed_names (drop n value))
+    (one (length (before_first is_zero value))))
   where
     one : (n : ℕ) → suc n ≡ n + 1
     one n = omega arith
@@ -106,7 +107,8 @@ unfolding text_before_nul
 no_listed_name value is = by_test (list_any is_zero value) refl
   where
     by_test : (b : Bool) → list_any is_zero value ≡ b → listed_names value ≡ []
-    by_test true some = absurd (let e : Some (before_first is_zero value) ≡ None = sym (ap (λ b. cond b (Some (before_first is_zero value)) None) some) ∙ is in cc)
+    by_test true some = absurd (let e : Some (before_first is_zero value)
+        ≡ None = sym (ap (λ b. cond b (Some (before_first is_zero value)) None) some) ∙ is in cc)
     by_test false none = without_zero value none
 
 pub name_is_shorter : (value name : List ℕ) → text_before_nul value ≡ Some name → length name + 1 ≤ length value
@@ -127,7 +129,7 @@ abbrev payload_at : List ImageModel → ℕ → Option (List ℕ)
 payload_at images index = option_and_then (λ image. image.payload) (slice_get images index)
 
 module _ (name : List ℕ) where
-  -- The image at the index that is found for a name is the one of this name.
+  -- The image at the index that is found for a name is the one with this name.
   found_from : (base : ℕ) (images : List ImageModel) (index : ℕ) → index_from base name images ≡ Some index →
       (k : ℕ) × (index ≡ base + k) × (payload_named name images ≡ Some (payload_at images k))
   found_from base [] index is = absurd cc
@@ -209,7 +211,8 @@ module _ (images : List ImageModel) (value rest : List ℕ) (done : List ListedI
   next_is_missing name later begins none =
       so_far
       ∙ ap (λ names. with_images done (file_list images index names)) begins.listed
-      ∙ ap (λ found. with_images done (listed_payload index name found (file_list images (index + 1) (listed_names later)))) (payload_named-missing name images none)
+      ∙ ap (λ found. with_images done (listed_payload index name found (file_list images (index + 1) (listed_names later))))
+      (payload_named-missing name images none)
       ∙ missing_after done index
 
   -- The next image is found.
@@ -220,7 +223,8 @@ module _ (images : List ImageModel) (value rest : List ℕ) (done : List ListedI
   next_is_found name later found payload begins there is =
       so_far
       ∙ ap (λ names. with_images done (file_list images index names)) begins.listed
-      ∙ ap (λ found. with_images done (listed_payload index name found (file_list images (index + 1) (listed_names later)))) (payload_found name images found there ∙ ap Some (sym is))
+      ∙ ap (λ found. with_images done (listed_payload index name found (file_list images (index + 1) (listed_names later))))
+      (payload_found name images found there ∙ ap Some (sym is))
       ∙ sym (with_one_more done (record { name = name; payload = payload }) (file_list images (index + 1) (listed_names later)))
 
   -- No name is left.
@@ -259,7 +263,8 @@ module _ (content : FitModel) (held : IsHeld content) where
   payload_in_tree : (name : List ℕ) →
       option_map (λ image. image.payload) (image_named name (images_of (tree_of content))) ≡ payload_named name content.images
   payload_in_tree name =
-      ap (λ (entries : List (Sibling PropertyMap)). option_map (λ image. image.payload) (image_named name (images_with entries (map (λ image. image.payload) content.images)))) (image_siblings content)
+      ap (λ (entries : List (Sibling PropertyMap)). option_map (λ image. image.payload)
+      (image_named name (images_with entries (map (λ image. image.payload) content.images)))) (image_siblings content)
       ∙ payload_same name content.blob.file (siblings (file_images content.blob)) content.images held.images
 
   -- So names list the same images.

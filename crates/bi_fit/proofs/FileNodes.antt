@@ -35,7 +35,7 @@ bare_image sibling = record {
   later = without_payloads (nodes_by_name sibling.later);
 }
 
--- The value of a property in a map is that in the list of which it was made.
+-- The value of a property in a map is that in the list from which the map was made.
 pub get-by_name : (properties : List Property) (name : List ℕ) →
     get (from_entries {R = slice_cmp nat_cmp} properties) name ≡ value_named properties name
 get-by_name properties name = get-from_entries nat_list_cmp_total properties name ∙ in_list properties
@@ -103,7 +103,8 @@ named-other {Own = Own} changed wanted change differ (node name own children lat
     where_other : (b : Bool) → bytes_eq name wanted ≡ b → bytes_eq name changed ≡ true →
         option_map own_and_children (node_named (node name own (change children) later) wanted) ≡
         option_map own_and_children (node_named (node name own children later) wanted)
-    where_other true is is_changed = absurd (let e : bytes_eq name changed ≡ false = differ name is in let f : true ≡ false = sym is_changed ∙ e in cc)
+    where_other true is is_changed = absurd
+        (let e : bytes_eq name changed ≡ false = differ name is in let f : true ≡ false = sym is_changed ∙ e in cc)
     where_other false is is_changed = rw is refl
 
     where_changed : (b : Bool) → bytes_eq name changed ≡ b →

@@ -46,7 +46,15 @@ token_value file at offset value is = record {
     ends = omega (arith, length-cell 3, length-cell (length value), length-cell offset)
 
     long : length (token_bytes (Prop offset value)) ≡ 12 + length value
-    long = omega (arith, length-append (cell 3) (cell (length value) ++ (cell offset ++ value)), length-append (cell (length value)) (cell offset ++ value), length-append (cell offset) value, length-cell 3, length-cell (length value), length-cell offset)
+    long = omega (
+      arith,
+      length-append (cell 3) (cell (length value) ++ (cell offset ++ value)),
+      length-append (cell (length value)) (cell offset ++ value),
+      length-append (cell offset) value,
+      length-cell 3,
+      length-cell (length value),
+      length-cell offset,
+    )
 
 -- The values of the events that tokens of a file encode.
 tokens_values : (file strings : List ℕ) (at : ℕ) (tokens : List Token) (events : List FileEvent) → AllStand file at (tokens ++ End ∷ []) →
@@ -75,9 +83,11 @@ HaveValues file (node name own children later) =
 nodes_values : (file : List ℕ) (nodes : Nodes FileNode) → AllByRecursion (HasEventValue file) (file_events nodes) → HaveValues file nodes
 nodes_values file none each = tt
 nodes_values file (node name own children later) each =
-    let below = each-back (HasEventValue file) (map FileNodeProperty own.properties) (file_events children ++ (FileNodeEnd ∷ file_events later)) each.1 in (
+    let below = each-back (HasEventValue file) (map FileNodeProperty own.properties)
+    (file_events children ++ (FileNodeEnd ∷ file_events later)) each.1 in (
       each-map_back (HasEventValue file) FileNodeProperty own.properties
-          (each-front (HasEventValue file) (map FileNodeProperty own.properties) (file_events children ++ (FileNodeEnd ∷ file_events later)) each.1),
+          (each-front (HasEventValue file) (map FileNodeProperty own.properties)
+          (file_events children ++ (FileNodeEnd ∷ file_events later)) each.1),
       nodes_values file children (each-front (HasEventValue file) (file_events children) (FileNodeEnd ∷ file_events later) below),
       nodes_values file later (each-back (HasEventValue file) (file_events children) (FileNodeEnd ∷ file_events later) below).1,
     )
@@ -154,10 +164,12 @@ images_places file (node name own children later) (payload ∷ payloads) have ha
 pub image_values : (file : List ℕ) (cpu : ℕ) (reservations : List Reservation) (root : Root FileNode) (images : Nodes FileNode) →
     IsBlob file cpu reservations root → image_nodes root ≡ Some images → HaveValues file images
 image_values file cpu reservations root images blob has =
-    let values = tokens_values file (tree_blocks file).strings (tree_blocks file).begin blob.holds.tokens (file_events_of root) (HoldsTree-stand (tree_blocks file) root blob.holds) blob.holds.encodes in
+    let values = tokens_values file (tree_blocks file).strings (tree_blocks file).begin blob.holds.tokens (file_events_of root)
+    (HoldsTree-stand (tree_blocks file) root blob.holds) blob.holds.encodes in
     let have = nodes_values file (as_nodes root) values in
     found_values file images_name root.children images has have.1
 
 pub payloads_are_at_places : PayloadsAreAtPlaces
 payloads_are_at_places file tree is =
-    images_places file is.images tree.payloads (image_values file tree.cpu tree.reservations is.root is.images is.blob is.has_images) is.payloads
+    images_places file is.images tree.payloads
+    (image_values file tree.cpu tree.reservations is.root is.images is.blob is.has_images) is.payloads

@@ -128,14 +128,19 @@ is_image_tree file tree is = record {
     is_own = properties-from_entries (properties_of is.root.own)
         (good_properties (properties_of is.root.own) content.is_tree.is_own.named
         (each-front AreEventBytes (map NodeProperty (properties_of is.root.own)) (events plain ++ (NodeEnd ∷ [])) content.bytes.1));
-    children = AreNodes-with_children_of images_name without_payloads ArePropertiesByName by_name (with_each from_entries (with_each properties_of is.images)) found_by_name
-        (nodes-without_payloads (with_each from_entries (with_each properties_of is.images)) (AreNodes-children_of ArePropertiesByName images_name by_name (with_each from_entries (with_each properties_of is.images)) found_by_name named))
+    children = AreNodes-with_children_of images_name without_payloads ArePropertiesByName by_name
+        (with_each from_entries (with_each properties_of is.images)) found_by_name
+        (nodes-without_payloads (with_each from_entries (with_each properties_of is.images))
+        (AreNodes-children_of ArePropertiesByName images_name by_name
+        (with_each from_entries (with_each properties_of is.images)) found_by_name named))
         named;
   });
   name_bytes = subst (λ root. HaveByteNames root.children) (sym is.is_root)
       (bytes-with_children_of images_name without_payloads bytes-without_payloads by_name (bytes-with_each from_entries plain good.1));
   images = without_payloads (with_each from_entries (with_each properties_of is.images));
-  has_images = ap image_nodes is.is_root ∙ children_of-with_children_of images_name without_payloads by_name (with_each from_entries (with_each properties_of is.images)) found_by_name;
+  has_images = ap image_nodes is.is_root
+      ∙ children_of-with_children_of images_name without_payloads by_name
+      (with_each from_entries (with_each properties_of is.images)) found_by_name;
   apart = nodes_apart file is.images tree.payloads is.blob.bytes
       (AreNodes-children_of AreBlobProperties images_name plain (with_each properties_of is.images) found_plain good.0) is.payloads;
 }
@@ -151,7 +156,8 @@ is_image_tree file tree is = record {
 
     good : AreNodes AreBlobProperties plain × HaveByteNames plain
     good = good_nodes plain content.is_tree.children
-        (each-front AreEventBytes (events plain) (NodeEnd ∷ []) (each-back AreEventBytes (map NodeProperty (properties_of is.root.own)) (events plain ++ (NodeEnd ∷ [])) content.bytes.1))
+        (each-front AreEventBytes (events plain) (NodeEnd ∷ [])
+        (each-back AreEventBytes (map NodeProperty (properties_of is.root.own)) (events plain ++ (NodeEnd ∷ [])) content.bytes.1))
 
     named : AreNodes ArePropertiesByName by_name
     named = AreNodes-with_each AreBlobProperties ArePropertiesByName from_entries properties-from_entries plain good.0
@@ -167,5 +173,6 @@ pub depth-image_tree : (file : List ℕ) (tree : ImageTree) (is : IsFitFile file
 depth-image_tree file tree is =
     ap depth_of is.is_root
     ∙ ap (λ n. max (n + 1) 0)
-    (depth-with_children_of images_name without_payloads depth-without_payloads (with_each from_entries (with_each properties_of is.root.children))
+    (depth-with_children_of images_name without_payloads depth-without_payloads
+    (with_each from_entries (with_each properties_of is.root.children))
     ∙ sym (depth-with_each properties_of is.root.children ∙ depth-with_each from_entries (with_each properties_of is.root.children)))

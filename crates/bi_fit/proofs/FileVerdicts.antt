@@ -47,13 +47,15 @@ verdicts_with [] images = refl
 verdicts_with (entry ∷ entries) [] = refl
 verdicts_with (entry ∷ entries) (image ∷ images) =
     ap₂ (λ (a b : List CheckedHash). a ++ b)
-    (ap (λ children. map (checked_hash (record { entry = bare_image entry; payload = image.payload })) (filter (λ child. is_hash_name child.name) children)) (siblings-by_name entry.children)
+    (ap (λ children. map (checked_hash (record { entry = bare_image entry; payload = image.payload }))
+    (filter (λ child. is_hash_name child.name) children)) (siblings-by_name entry.children)
     ∙ hashes_are (record { entry = bare_image entry; payload = image.payload }) (siblings entry.children))
     (verdicts_with entries images)
 
 pub verdicts_are : (content : FitModel) → verdicts_of (tree_of content) ≡ file_verdicts (siblings (file_images content.blob)) content.images
 verdicts_are content =
-    ap (λ (entries : List (Sibling PropertyMap)). flat_map (λ image. map (checked_hash image) (hash_nodes image)) (images_with entries (map (λ image. image.payload) content.images))) (image_siblings content)
+    ap (λ (entries : List (Sibling PropertyMap)). flat_map (λ image. map (checked_hash image) (hash_nodes image))
+    (images_with entries (map (λ image. image.payload) content.images))) (image_siblings content)
     ∙ verdicts_with (siblings (file_images content.blob)) content.images
 
 -- After the last image nothing is added.

@@ -53,7 +53,8 @@ embedded_anywhere one other (payload ∷ payloads) none = refl
 embedded_anywhere one other (None ∷ payloads) (node name own children later) =
     ap (node name own children) (embedded_anywhere one other payloads later)
 embedded_anywhere one other (Some payload ∷ payloads) (node name own children later) =
-    ap (node name (insert own data_name payload) children) (embedded_anywhere (end_after one (Some payload)) (end_after other (Some payload)) payloads later)
+    ap (node name (insert own data_name payload) children)
+    (embedded_anywhere (end_after one (Some payload)) (end_after other (Some payload)) payloads later)
 
 -- The image nodes after the first.
 pub images-later : (hashes : Bool) (form : Form) (end : ℕ) (payload : Option (List ℕ)) (payloads : List (Option (List ℕ)))
@@ -62,7 +63,8 @@ pub images-later : (hashes : Bool) (form : Form) (end : ℕ) (payload : Option (
     ≡ sorted_images hashes form (next_end form end payload) payloads digests nodes
 images-later hashes Embedded end payload payloads digests nodes =
     ap (with_each entries)
-    (embedded_anywhere (end_after end payload) end payloads (images_with_digests_from hashes payloads digests (without_payloads (nodes_by_name nodes))))
+    (embedded_anywhere (end_after end payload) end payloads
+    (images_with_digests_from hashes payloads digests (without_payloads (nodes_by_name nodes))))
 images-later hashes External end payload payloads digests nodes = refl
 
 -- Where payloads are within the longest text, the size of the first fits a cell,
@@ -71,7 +73,8 @@ pub within_sized : (form : Form) (end : ℕ) (payload : Option (List ℕ)) (payl
 within_sized Embedded end payload payloads within = tt
 within_sized External end None payloads within = tt
 within_sized External end (Some payload) payloads within =
-    let least : up4 end + length payload ≤ payloads_end (up4 end + length payload) payloads = payloads_end-le (up4 end + length payload) payloads in
+    let least : up4 end + length payload ≤ payloads_end (up4 end + length payload) payloads = payloads_end-le
+    (up4 end + length payload) payloads in
     omega (arith, within)
 
 -- the first ends within it,
@@ -95,7 +98,11 @@ pub added_is_sorted : (one form : Form) (begin : ℕ) (payload : Option (List �
     node name (entries (with_payload one begin payload (without_payload own))) (sorted_image_children was digests s.children) none
     ≡ sorted_image (image_properties form begin payload s.own) hashed digests s
 added_is_sorted one form begin payload digests s name own was hashed same_form same_name same_own same_hashed =
-    ap (λ one. node name (entries (with_payload one begin payload (without_payload own))) (sorted_image_children was digests s.children) none) same_form
-    ∙ ap (λ name. node name (entries (with_payload form begin payload (without_payload own))) (sorted_image_children was digests s.children) none) same_name
-    ∙ ap (λ own. node s.name (entries (with_payload form begin payload (without_payload own))) (sorted_image_children was digests s.children) none) same_own
-    ∙ ap (λ was. node s.name (entries (image_properties form begin payload s.own)) (sorted_image_children was digests s.children) none) same_hashed
+    ap (λ one. node name (entries (with_payload one begin payload (without_payload own)))
+    (sorted_image_children was digests s.children) none) same_form
+    ∙ ap (λ name. node name (entries (with_payload form begin payload (without_payload own)))
+    (sorted_image_children was digests s.children) none) same_name
+    ∙ ap (λ own. node s.name (entries (with_payload form begin payload (without_payload own)))
+    (sorted_image_children was digests s.children) none) same_own
+    ∙ ap (λ was. node s.name (entries (image_properties form begin payload s.own))
+    (sorted_image_children was digests s.children) none) same_hashed

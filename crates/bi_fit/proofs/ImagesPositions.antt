@@ -45,12 +45,13 @@ images_after IsOwn (node name own children later) zero found are there named =
 images_after IsOwn (node name own children later) (suc position) found are there named =
     let some : eqb (suc position) 0 ≡ false = ne_eqb (suc position) 0 (λ is. absurd (omega (arith, is))) in
     let fewer : suc position - 1 ≡ position = omega arith in (
-      other_name name (λ is. not_among later position found there (subst (λ name. IsNew name (names later)) (is ∙ sym named) are.0.is_new)) ∙ sym some,
+      other_name name (λ is. not_among later position found there
+          (subst (λ name. IsNew name (names later)) (is ∙ sym named) are.0.is_new)) ∙ sym some,
       subst (λ is_none. HaveImagesAfter (if is_none then None else Some (suc position - 1)) later) (sym some)
           (subst (λ count. HaveImagesAfter (Some count) later) (sym fewer) (images_after IsOwn later position found are.2 there named)),
     )
 
--- The position of the child `images` of the root is that of the one child of this name.
+-- The position of the child `images` of the root is that of the one child with this name.
 pub position_there : (content : FitModel) → IsHeld content → (position : ℕ) → IsImagesPosition content.blob position →
     HaveImagesAfter (Some position) (root_of content.blob).children
 position_there content held position at = by_search (node_named nodes images_name) refl
@@ -59,7 +60,8 @@ position_there content held position at = by_search (node_named nodes images_nam
     nodes = (root_of content.blob).children
 
     by_search : (found : Option (Sibling FileNode)) → node_named nodes images_name ≡ found → HaveImagesAfter (Some position) nodes
-    by_search None is = absurd (true≢false (sym (subst (λ found. IsSome (option_map (λ (images : Sibling FileNode). images.children) found)) is held.has_images)))
+    by_search None is = absurd (true≢false
+        (sym (subst (λ found. IsSome (option_map (λ (images : Sibling FileNode). images.children) found)) is held.has_images)))
     by_search (Some found) is =
         let are = held_nodes content held in
         images_after (λ own. AreProperties (properties_of own)) nodes position found are (at ∙ is)

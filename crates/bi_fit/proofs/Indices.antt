@@ -23,5 +23,6 @@ first_inserted images index next default old new is_next within updates indices 
     let image = get_or images index default in
     updates.0 key
     ∙ ap (λ b. cond b (Some index) (get_by (λ other. slice_cmp nat_cmp name other.now) old)) (is_eq-slice_cmp image.name.now name)
-    ∙ ap (cond (bytes_eq image.name.now name) (Some index)) (indices name ∙ ap (λ n. index_from n name (map image_model (drop n images))) is_next)
+    ∙ ap (cond (bytes_eq image.name.now name) (Some index))
+    (indices name ∙ ap (λ n. index_from n name (map image_model (drop n images))) is_next)
     ∙ ap (λ l. index_from index name (map image_model l)) (sym (drop_more images index default within))

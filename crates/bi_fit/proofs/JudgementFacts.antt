@@ -12,7 +12,8 @@ use Rattle.bi_hash.specs.Verdicts.{verdict_of}
 use Rattle.bi_fit.specs.declared.key.Key.TheVariants.{Kernel, Fdt, Ramdisk, Firmware, Loadables, Script}
 use Rattle.bi_fit.specs.Names.{key_name, default_name, algo_name, value_name}
 use Rattle.bi_fit.specs.Judgement.{images_of, listed_at}
-use Rattle.bi_fit.specs.KnownJudgements.{configuration_lists, other_lists, default_list, configured_tree, ListsAreRead, good_crc, short_crc, other_crc, no_value, HashesAreJudged}
+use Rattle.bi_fit.specs.KnownJudgements.{configuration_lists, other_lists, default_list, configured_tree, ListsAreRead, good_crc, short_crc}
+use Rattle.bi_fit.specs.KnownJudgements.{other_crc, no_value, HashesAreJudged}
 
 -- The configurations of a small tree have known lists, and its hash nodes have known verdicts.
 
@@ -39,5 +40,14 @@ lists_are_read = record {
 pub hashes_are_judged : HashesAreJudged
 unfolding text_before_nul verdict_of find_algorithm digest_of cell crc32 crc_after low_bits
 hashes_are_judged =
-    rw (find-properties good_crc algo_name, find-properties good_crc value_name, find-properties short_crc algo_name, find-properties short_crc value_name, find-properties other_crc algo_name, find-properties other_crc value_name, find-properties no_value algo_name, find-properties no_value value_name)
+    rw (
+      find-properties good_crc algo_name,
+      find-properties good_crc value_name,
+      find-properties short_crc algo_name,
+      find-properties short_crc value_name,
+      find-properties other_crc algo_name,
+      find-properties other_crc value_name,
+      find-properties no_value algo_name,
+      find-properties no_value value_name,
+    )
     refl

@@ -16,7 +16,7 @@ use Rattle.bi_fdt.specs.Order.{KeyedProperty, sorted_properties}
 use Rattle.bi_fit.specs.PropertyMaps.{named_values, AreRanksWithin, IsEntryOf}
 use Rattle.bi_fit.proofs.RankedProperties.{named_in_order}
 
--- The entries of the properties of a node, whose keys are the ranks of their names, are the properties by name.
+-- The entries of the properties of a node are the properties by name. Their keys are the ranks of their names.
 
 -- A rank that is before the keys of properties is before their entries.
 below_entries : (rank : ℕ) (keyed : List KeyedProperty) (items : List (ℕ × Value)) → AllZip IsEntryOf keyed items →
@@ -38,7 +38,8 @@ entries_ascend (one ∷ keyed) [] are ascend = absurd are
 entries_ascend (one ∷ keyed) (item ∷ items) are ascend =
     both_hold (below_all nat_cmp item.0 items) (is_sorted nat_cmp items)
     (below_entries item.0 keyed items are.1
-    (subst (λ rank. AllByRecursion (λ other. nat_cmp rank other ≡ Less) (keys_of keyed)) are.0.0 (sorted_head nat_cmp one.0 (keys_of keyed) ascend)))
+    (subst (λ rank. AllByRecursion (λ other. nat_cmp rank other ≡ Less) (keys_of keyed)) are.0.0
+    (sorted_head nat_cmp one.0 (keys_of keyed) ascend)))
     (entries_ascend keyed items are.1 (sorted_tail nat_cmp one.0 (keys_of keyed) ascend))
 
 module _ (names : List (List ℕ)) where

@@ -3,7 +3,7 @@ use Rattle.std.proofs.lemmas.List.{at_drop_more}
 use Rattle.bi_blob.specs.Layout.{strings_of}
 use Rattle.bi_fit.specs.declared.key.Key.{Key}
 use Rattle.bi_fit.specs.declared.key.Key.TheVariants.{Kernel, Fdt, Ramdisk, Firmware, Loadables, Script}
-use Rattle.bi_fit.specs.Building.{is_under, names_under}
+use Rattle.bi_fit.specs.Building.{key_eq, names_under}
 use Rattle.bi_fit.specs.declared.building.NamedImage.{NamedImage}
 use Rattle.bi_fit.specs.NamedImages.{named_model, named_models}
 
@@ -11,7 +11,7 @@ use Rattle.bi_fit.specs.NamedImages.{named_model, named_models}
 -- out.
 
 -- An image is listed under its key,
-under_key : (key : Key) → is_under key key ≡ true
+under_key : (key : Key) → key_eq key key ≡ true
 under_key Kernel = refl
 under_key Fdt = refl
 under_key Ramdisk = refl
@@ -20,7 +20,7 @@ under_key Loadables = refl
 under_key Script = refl
 
 -- and under no other.
-under_other : (key other : Key) → ¬ (other ≡ key) → is_under key other ≡ false
+under_other : (key other : Key) → ¬ (other ≡ key) → key_eq key other ≡ false
 under_other Kernel Kernel differ = absurd (differ refl)
 under_other Kernel Fdt differ = refl
 under_other Kernel Ramdisk differ = refl
@@ -71,7 +71,7 @@ module _ (key : Key) (images : List NamedImage) (index : ℕ) (d : NamedImage) (
       let later = names_from key images (index + 1) in
       let first : names_from key images index ≡ (name ++ 0 ∷ []) ++ later =
       at_drop_more (λ l. strings_of (names_under key (named_models l))) images index d within
-      ∙ rw (ap (is_under key) is ∙ under_key key) refl in
+      ∙ rw (ap (key_eq key) is ∙ under_key key) refl in
       ap (λ l. l ++ later) (append_assoc names name (0 ∷ [])) ∙ append_assoc names (name ++ 0 ∷ []) later ∙ sym (ap (λ l. names ++ l) first)
 
   -- and left out if it is not.

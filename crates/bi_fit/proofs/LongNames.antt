@@ -1,4 +1,5 @@
-use Rattle.std.proofs.Common.{◌≡◌, ◌⊎◌, ℕ, ◌+◌, ◌≤◌, ◌||◌, Bool, true, false, cond, not, nat_le, inl, inr, List, [], ◌∷◌, ◌++◌, Option, Some, None, length, map}
+use Rattle.std.proofs.Common.{◌≡◌, ◌⊎◌, ℕ, ◌+◌, ◌≤◌, ◌||◌, Bool, true, false, cond, not, nat_le, inl, inr, List, [], ◌∷◌, ◌++◌, Option}
+use Rattle.std.proofs.Common.{Some, None, length, map}
 use Rattle.std.proofs.Common.{Contains, filter, flat_map, bytes_eq, nat_cmp, refl, sym, ap, subst, ◌∙◌, arith}
 use Rattle.std.specs.Prelude.{if◌then◌else◌}
 use Rattle.std.proofs.Common.{Less, Equal, true≢false}
@@ -51,7 +52,7 @@ use Rattle.bi_base.specs.Reading.{too_large}
 
 -- The text of a file's tree is at least as long as the different long names of the file's properties together.
 
--- What is in place of a name is no longer than the name.
+-- What stands for a name is no longer than the name.
 pub length-name_if_long : (name : List ℕ) → length (name_if_long name) ≤ length name
 length-name_if_long name = where_long (nat_le 64 (length name))
   where
@@ -73,7 +74,7 @@ one_of_short name (other ∷ others) short is = where_first (bytes_eq name other
 pub payload_name_short : (name : List ℕ) → is_payload_name name ≡ true → name_if_long name ≡ []
 payload_name_short name is = one_of_short name payload_names (refl, (refl, (refl, (refl, tt)))) is
 
--- How many bytes there are in place of a name.
+-- How many bytes stand for a name.
 abbrev pub long_length : List ℕ → ℕ
 long_length name = length (name_if_long name)
 
@@ -87,7 +88,8 @@ one_and_others : (name : List ℕ) (names : List (List ℕ)) → Contains names 
     long_length name + sum_by long_length (filter (λ other. not (bytes_eq name other)) names) ≤ sum_by long_length names
 one_and_others name names has =
     let both = sum_by-filter_both (bytes_eq name) (λ other. not (bytes_eq name other)) (λ other. refl) long_length names in
-    let one = one_of_all name (filter (bytes_eq name) names) (Contains-filter (bytes_eq name) names name ((bytes_eq-Decides name name).1 refl) has) in
+    let one = one_of_all name (filter (bytes_eq name) names)
+    (Contains-filter (bytes_eq name) names name ((bytes_eq-Decides name name).1 refl) has) in
     omega (arith, both, one)
 
 -- Each of these names is short or among others.
@@ -110,7 +112,7 @@ short_or_left name others (first ∷ later) new are = (where_short are.0, short_
     where_short (inr has) =
         inr (Contains-filter (λ other. not (bytes_eq name other)) others first (ap not (differs (bytes_eq name first) refl)) has)
 
--- Distinct names, each of which is short or among others, are together no longer than the others, as far as they are long.
+-- Distinct names, if each is short or among others, are together no longer than the others, as far as they are long.
 no_longer_than_others : (names others : List (List ℕ)) → AreDistinct names → AreShortOrAmong others names →
     sum_by long_length names ≤ sum_by long_length others
 no_longer_than_others [] others distinct are = omega arith
@@ -145,7 +147,7 @@ distinct_in_order (name ∷ later) ordered = (
   distinct_in_order later (sorted_tail (slice_cmp nat_cmp) name later ordered),
 )
 
--- Long names in byte order, each of which is short or among others, are together no longer than those.
+-- Long names in byte order, if each is short or among others, are together no longer than those.
 pub long_names_in_order : (sorted names : List (List ℕ)) → IsStrictlySortedBy (slice_cmp nat_cmp) sorted → AreShortOrAmong names sorted →
     length (flat_map name_if_long sorted) ≤ length (flat_map name_if_long names)
 long_names_in_order sorted names ordered among =
@@ -185,7 +187,7 @@ some_with_children_of {Own = Own} P wanted change keeps (node name own children 
     where_wanted false (inr (inl below)) rest = inr (inl below)
     where_wanted false (inr (inr after)) rest = inr (inr (rest after))
 
--- Properties of which one has this name: in a list,
+-- Properties, one of them with this name: in a list,
 abbrev HasName : List ℕ → List Property → Type 0
 HasName name properties = Contains (map (λ property. property.0) properties) name
 
@@ -203,7 +205,9 @@ key_by_name name properties has =
 -- and the other way round.
 name_in_order : (name : List ℕ) (properties : PropertyMap) → HasKey name properties → HasName name (entries properties)
 name_in_order name properties has =
-    Contains-from_any {eq = eq_by_cmp (slice_cmp nat_cmp)} (λ one other same. (bytes_eq-Decides one other).0 (sym (is_eq-slice_cmp one other) ∙ same)) name (map (λ property. property.0) (entries properties))
+    Contains-from_any {eq = eq_by_cmp (slice_cmp nat_cmp)}
+    (λ one other same. (bytes_eq-Decides one other).0 (sym (is_eq-slice_cmp one other) ∙ same)) name
+    (map (λ property. property.0) (entries properties))
     (sym (is_some-find (slice_cmp nat_cmp) name (entries properties)) ∙ ap is_some (sym (get-entries properties name)) ∙ has)
 
 -- A property that is put in takes away no name,
@@ -295,7 +299,7 @@ some_without_payloads name other (node n own children later) (inr (inl below)) =
 some_without_payloads name other (node n own children later) (inr (inr after)) =
     inr (inr (some_without_payloads name other later after))
 
--- One of the nodes of a file has a property of this name.
+-- One of the nodes of a file has a property with this name.
 abbrev SomeNamed : List ℕ → Nodes FileNode → Type 0
 SomeNamed name nodes = SomeOwn (λ own. HasName name (properties_of own)) nodes
 
@@ -305,7 +309,8 @@ some_in_tree : (content : FitModel) (name : List ℕ) → is_payload_name name �
 some_in_tree content name other (inl here) = inl (key_by_name name (properties_of (root_of content.blob).own) here)
 some_in_tree content name other (inr (inr after)) = absurd after
 some_in_tree content name other (inr (inl below)) =
-    let in_lists = some_with_each (λ own. HasName name (properties_of own)) (HasName name) properties_of (λ own has. has) (root_of content.blob).children below in
+    let in_lists = some_with_each (λ own. HasName name (properties_of own)) (HasName name) properties_of (λ own has. has)
+    (root_of content.blob).children below in
     let by_name = some_with_each (HasName name) (HasKey name) from_entries (key_by_name name) _ in_lists in
     inr (inl (some_with_children_of (HasKey name) images_name without_payloads (some_without_payloads name other) _ by_name))
 
@@ -319,7 +324,8 @@ some_in_text form changes content name (inr (inr after)) = absurd after
 some_in_text form changes content name (inr (inl below)) =
     let payloads = (tree_of content).payloads in
     let changed = some_with_new_digests name changes.hashes payloads _ below in
-    let whole = some_with_children_of (HasKey name) images_name (with_payloads form 0 payloads) (some_with_payloads name form 0 payloads) _ changed in
+    let whole = some_with_children_of (HasKey name) images_name (with_payloads form 0 payloads)
+    (some_with_payloads name form 0 payloads) _ changed in
     inr (inl (some_with_each (HasKey name) (HasName name) entries (name_in_order name) _ whole))
 
 -- A property among the events of a node's properties is one of these.
@@ -327,7 +333,8 @@ name_of_one : (properties : List FileProperty) (property : FileProperty) →
     Contains (map FileNodeProperty properties) (FileNodeProperty property) → HasName property.name (map property_of properties)
 name_of_one [] property has = absurd (Contains-none (FileNodeProperty property) has)
 name_of_one (first ∷ others) property has =
-    where_first (Contains-cases (FileNodeProperty first) (map FileNodeProperty others) (FileNodeProperty property) has) (λ has. name_of_one others property has)
+    where_first (Contains-cases (FileNodeProperty first) (map FileNodeProperty others) (FileNodeProperty property) has)
+    (λ has. name_of_one others property has)
   where
     where_first : (FileNodeProperty first ≡ FileNodeProperty property) ⊎
         Contains (map FileNodeProperty others) (FileNodeProperty property) →
@@ -335,7 +342,8 @@ name_of_one (first ∷ others) property has =
         HasName property.name (map property_of (first ∷ others))
     where_first (inl same) rest =
         let is : first ≡ property = cc in
-        subst (λ found. Contains (first.name ∷ map (λ property. property.0) (map property_of others)) found.name) is (Contains-first first.name _)
+        subst (λ found. Contains (first.name ∷ map (λ property. property.0) (map property_of others)) found.name)
+        is (Contains-first first.name _)
     where_first (inr has) rest = Contains-others first.name _ property.name (rest has)
 
 -- A property is among events.
@@ -346,7 +354,8 @@ IsAmong property events = Contains events (FileNodeProperty property)
 some_in_events : (nodes : Nodes FileNode) (property : FileProperty) → IsAmong property (file_events nodes) → SomeNamed property.name nodes
 some_in_events none property has = absurd (Contains-none (FileNodeProperty property) has)
 some_in_events (node name own children later) property has =
-    by_start (Contains-cases (FileNodeStart own.place name) (map FileNodeProperty own.properties ++ (file_events children ++ (FileNodeEnd ∷ file_events later))) (FileNodeProperty property) has)
+    by_start (Contains-cases (FileNodeStart own.place name)
+    (map FileNodeProperty own.properties ++ (file_events children ++ (FileNodeEnd ∷ file_events later))) (FileNodeProperty property) has)
     (λ has. some_in_events children property has) (λ has. some_in_events later property has)
   where
     by_end : (FileNodeEnd ≡ FileNodeProperty property) ⊎ IsAmong property (file_events later) →
@@ -374,17 +383,20 @@ some_in_events (node name own children later) property has =
         (IsAmong property (file_events later) → SomeNamed property.name later) → SomeNamed property.name (node name own children later)
     by_start (inl same) below after = absurd cc
     by_start (inr has) below after =
-        by_part (Contains-append_cases (map FileNodeProperty own.properties) (file_events children ++ (FileNodeEnd ∷ file_events later)) (FileNodeProperty property) has) below after
+        by_part (Contains-append_cases (map FileNodeProperty own.properties) (file_events children ++ (FileNodeEnd ∷ file_events later))
+        (FileNodeProperty property) has) below after
 
 -- What is used by the first of some events is used by all of them,
 used_first : (name : List ℕ) (front back : List Event) → Contains (used_names front) name → Contains (used_names (front ++ back)) name
 used_first name front back has =
-    subst (λ names. Contains names name) (sym (flat_map-append event_names front back)) (Contains-append_left (used_names front) (used_names back) name has)
+    subst (λ names. Contains names name) (sym (flat_map-append event_names front back))
+    (Contains-append_left (used_names front) (used_names back) name has)
 
 -- and what is used by the later ones.
 used_later : (name : List ℕ) (front back : List Event) → Contains (used_names back) name → Contains (used_names (front ++ back)) name
 used_later name front back has =
-    subst (λ names. Contains names name) (sym (flat_map-append event_names front back)) (Contains-append_right (used_names front) (used_names back) name has)
+    subst (λ names. Contains names name) (sym (flat_map-append event_names front back))
+    (Contains-append_right (used_names front) (used_names back) name has)
 
 -- The events of a tree use the name of each of its properties.
 names_of_properties : (properties : List Property) → used_names (map NodeProperty properties) ≡ map (λ property. property.0) properties
@@ -396,15 +408,23 @@ some_used name none some = absurd some
 some_used name (node n properties children later) (inl here) =
     used_first name (map NodeProperty properties) _ (subst (λ names. Contains names name) (sym (names_of_properties properties)) here)
 some_used name (node n properties children later) (inr (inl below)) =
-    used_later name (map NodeProperty properties) _ (used_first name (events children) (NodeEnd ∷ events later) (some_used name children below))
+    used_later name (map NodeProperty properties) _
+    (used_first name (events children) (NodeEnd ∷ events later) (some_used name children below))
 some_used name (node n properties children later) (inr (inr after)) =
-    used_later name (map NodeProperty properties) _ (used_later name (events children) (NodeEnd ∷ events later) (some_used name later after))
+    used_later name (map NodeProperty properties) _
+    (used_later name (events children) (NodeEnd ∷ events later) (some_used name later after))
 
 -- Long names together are no longer than all names with a zero byte after each.
 no_longer_than_all : (names : List (List ℕ)) → sum_by long_length names ≤ sum_by (λ name. length name + 1) names
 no_longer_than_all [] = omega arith
 no_longer_than_all (name ∷ later) =
-    omega (arith, length-name_if_long name, no_longer_than_all later, sum_by-cons long_length name later, sum_by-cons (λ name. length name + 1) name later)
+    omega (
+      arith,
+      length-name_if_long name,
+      no_longer_than_all later,
+      sum_by-cons long_length name later,
+      sum_by-cons (λ name. length name + 1) name later,
+    )
 
 -- The names of the properties of nodes, in their order.
 abbrev pub names_of_nodes : Nodes PropertyMap → List (List ℕ)
@@ -434,7 +454,8 @@ module _ (content : FitModel) where
       where_payload true is = inl (ap length (payload_name_short name is))
       where_payload false is =
           let (property, has, same) = are.0 in
-          let of_file = subst (λ name. SomeNamed name (as_nodes (root_of content.blob))) same (some_in_events (as_nodes (root_of content.blob)) property has) in
+          let of_file = subst (λ name. SomeNamed name (as_nodes (root_of content.blob))) same
+          (some_in_events (as_nodes (root_of content.blob)) property has) in
           inr (among name (some_in_tree content name is of_file))
 
   -- Different long names of properties of a file are together no longer than those of the tree that it means.
@@ -444,7 +465,8 @@ module _ (content : FitModel) where
       let nodes = as_nodes (tree_of content).root in
       let others = names_of_nodes nodes in
       let among : (name : List ℕ) → SomeOwn (HasKey name) nodes → Contains others name =
-      λ name some. some_used name (with_each entries nodes) (some_with_each (HasKey name) (HasName name) entries (name_in_order name) nodes some) in
+      λ name some. some_used name (with_each entries nodes)
+      (some_with_each (HasKey name) (HasName name) entries (name_in_order name) nodes some) in
       let long_ones = no_longer_than_others names others distinct (short_or_among others among names are) in
       omega (arith, length-flat_map name_if_long names, length-flat_map name_if_long others, long_ones)
 
@@ -461,15 +483,22 @@ module _ (content : FitModel) (form : Form) (changes : Changes) where
       distinct_names-all (used_names text_events) name
       (some_used name (as_nodes (normal_tree form (with_changes changes (tree_of content)))) (some_in_text form changes content name some))
 
-  -- The text of the tree of a file, with these changes, is at least as long as long names of properties of the file together, of
-  -- which no two are the same.
+  -- The text of the tree of a file, with these changes, is at least as long as different long names of properties of the file together.
   pub long_names_within : (names : List (List ℕ)) → AreDistinct names → AreNamesIn names (root_of content.blob) →
       length (flat_map name_if_long names) ≤ length (fit_text form (with_changes changes (tree_of content)))
   long_names_within names distinct are =
       let tree = with_changes changes (tree_of content) in
       let lengths = text_of_events_has_length tree.cpu tree.reservations text_events in
       let long_ones = no_longer_than_others names text_names distinct (short_or_among content text_names in_text names are) in
-      omega (arith, length-flat_map name_if_long names, long_ones, no_longer_than_all text_names, lengths.strings, lengths.is_length, length-fit_text form tree)
+      omega (
+        arith,
+        length-flat_map name_if_long names,
+        long_ones,
+        no_longer_than_all text_names,
+        lengths.strings,
+        lengths.is_length,
+        length-fit_text form tree,
+      )
 
   -- So the text is too long where such names have more bytes than the limit.
   pub too_long_names : (limits : Limits) (limit : ℕ) → limit ≡ limits.file →

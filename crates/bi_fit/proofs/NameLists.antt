@@ -48,7 +48,8 @@ whole_listed (byte ∷ []) ends = where_first (byte == 0) refl
     where_first : (b : Bool) → (byte == 0) ≡ b → strings_of (listed_names (byte ∷ [])) ≡ byte ∷ []
     where_first true is = rw is (ap (λ n. n ∷ []) is_zero)
     where_first false is = absurd (eqb-false byte 0 is (sym is_zero))
-whole_listed (byte ∷ next ∷ later) ends = where_first (byte == 0) refl (whole_listed (next ∷ later) (sym (ends_later byte next later) ∙ ends))
+whole_listed (byte ∷ next ∷ later) ends = where_first (byte == 0) refl
+    (whole_listed (next ∷ later) (sym (ends_later byte next later) ∙ ends))
   where
     where_first : (b : Bool) → (byte == 0) ≡ b → strings_of (listed_names (next ∷ later)) ≡ next ∷ later →
         strings_of (listed_names (byte ∷ next ∷ later)) ≡ byte ∷ next ∷ later

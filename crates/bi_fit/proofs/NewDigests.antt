@@ -24,7 +24,8 @@ pub algorithm_named : (name read : List ℕ) (own : FileNode) → read ≡ name 
     ≡ option_and_then find_algorithm (option_and_then text_before_nul (value_named (properties_of own) algo_name))
 algorithm_named name read own same is =
     let here : is_hash_name name ≡ true = ap is_hash_name (sym same) ∙ is in
-    rw here (ap (λ value. option_and_then find_algorithm (option_and_then text_before_nul value)) (get-by_name (properties_of own) algo_name))
+    rw here (ap (λ value. option_and_then find_algorithm (option_and_then text_before_nul value))
+    (get-by_name (properties_of own) algo_name))
 
 -- The digest of a payload by this algorithm, if there are both.
 abbrev pub digest_if_both : Option (List ℕ) → Option Algo → List ℕ
@@ -47,7 +48,8 @@ digests_are None (node name own children later) = by_algorithm (hash_algorithm n
     by_algorithm None rest = rest
     by_algorithm (Some algo) rest = rest
 digests_are (Some payload) none = refl
-digests_are (Some payload) (node name own children later) = by_algorithm (hash_algorithm name (properties_by_name own)) refl (digests_are (Some payload) later)
+digests_are (Some payload) (node name own children later) = by_algorithm (hash_algorithm name (properties_by_name own)) refl
+    (digests_are (Some payload) later)
   where
     by_algorithm : (algo : Option Algo) → hash_algorithm name (properties_by_name own) ≡ algo →
         file_digests (Some payload) (siblings later) ≡ digests_for payload (nodes_by_name later) →
@@ -56,7 +58,7 @@ digests_are (Some payload) (node name own children later) = by_algorithm (hash_a
     by_algorithm None is rest = rw is rest
     by_algorithm (Some algo) is rest = rw is (ap (λ l. digest_or_nothing algo (Some payload) ++ l) rest)
 
--- The digests for the hash nodes of these image nodes, whose images were read.
+-- The digests for the hash nodes of these image nodes, of images that were read.
 abbrev pub file_new_digests : List (Sibling FileNode) → List ImageModel → List ℕ
 file_new_digests [] images = []
 file_new_digests (entry ∷ entries) [] = []

@@ -43,7 +43,8 @@ module _ (document target : Doc) (name : List ℕ) (own : List Property) (childr
   -- The first of them may be added,
   pub may_add_first : MayAdd document (events (node name own children none))
   may_add_first =
-      MayAdd-front document (events (node name own children none)) (events later) (subst (MayAdd document) (events-first name own children later) adding.may)
+      MayAdd-front document (events (node name own children none)) (events later)
+      (subst (MayAdd document) (events-first name own children later) adding.may)
 
   -- and then the others are left.
   pub adding_later : (more : Doc) → more ≡ with_events document (events (node name own children none)) → IsAdding more target later
@@ -53,5 +54,6 @@ module _ (document target : Doc) (name : List ℕ) (own : List Property) (childr
         ∙ ap (with_events document) (sym (events-first name own children later))
         ∙ adding.added;
     may = subst (λ document. MayAdd document (events later)) (sym is)
-        (MayAdd-back document (events (node name own children none)) (events later) (subst (MayAdd document) (events-first name own children later) adding.may));
+        (MayAdd-back document (events (node name own children none)) (events later)
+        (subst (MayAdd document) (events-first name own children later) adding.may));
   }

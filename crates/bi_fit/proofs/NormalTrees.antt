@@ -54,18 +54,19 @@ other_name name differs = where_same (bytes_eq name images_name) refl
     where_same true is = absurd (differs ((bytes_eq-Decides name images_name).0 is))
     where_same false is = is
 
--- Nodes none of which has the name `images`.
+-- Nodes, none of them with the name `images`.
 others_sorted : (hashes : Bool) (form : Form) (payloads : List (Option (List ℕ))) (digests : List ℕ) (nodes : Nodes FileNode) →
     IsNew images_name (names nodes) → sorted_root_children hashes form payloads digests nodes ≡ sorted_nodes nodes
 others_sorted hashes form payloads digests none new = refl
 others_sorted hashes form payloads digests (node name own children later) new =
-    rw (other_name name new.0) (ap (node name (entries (properties_by_name own)) (sorted_nodes children)) (others_sorted hashes form payloads digests later new.1))
+    rw (other_name name new.0) (ap (node name (entries (properties_by_name own)) (sorted_nodes children))
+    (others_sorted hashes form payloads digests later new.1))
 
 -- The image nodes of the tree.
 abbrev bare_images : Nodes FileNode → Nodes PropertyMap
 bare_images nodes = nodes_or_none (children_of images_name (with_children_of images_name without_payloads (nodes_by_name nodes)))
 
--- The children of the root of the normal tree, of which one at most has the name `images`.
+-- The children of the root of the normal tree. At most one has the name `images`.
 module _ (hashes : Bool) (form : Form) (payloads : List (Option (List ℕ))) (digests : List ℕ) where
   changed : Nodes FileNode → Nodes (List Property)
   changed nodes =
@@ -87,9 +88,12 @@ module _ (hashes : Bool) (form : Form) (payloads : List (Option (List ℕ))) (di
           changed later ≡ sorted_root_children hashes form payloads digests later) →
           changed (node name own children later) ≡ sorted_root_children hashes form payloads digests (node name own children later)
       where_first true is is_digests rest =
-          let new : IsNew images_name (names later) = subst (λ name. IsNew name (names later)) ((bytes_eq-Decides name images_name).0 is) are.0.is_new in
+          let new : IsNew images_name (names later) = subst (λ name. IsNew name (names later))
+          ((bytes_eq-Decides name images_name).0 is) are.0.is_new in
           let here : digests ≡ digests_if_changed hashes payloads (without_payloads (nodes_by_name children)) = rw (is, is) at is_digests in
-          let taken : images_with_digests_from hashes payloads digests (without_payloads (nodes_by_name children)) ≡ new_images hashes payloads (without_payloads (nodes_by_name children)) = (are_taken hashes payloads (without_payloads (nodes_by_name children)) digests here).same in
+          let taken : images_with_digests_from hashes payloads digests (without_payloads (nodes_by_name children))
+          ≡ new_images hashes payloads (without_payloads (nodes_by_name children)) =
+          (are_taken hashes payloads (without_payloads (nodes_by_name children)) digests here).same in
           rw (is, is, is)
           (ap₂ (node name (entries (properties_by_name own)))
           (ap (λ images. with_each entries (with_payloads form 0 payloads images)) (sym taken))
@@ -148,7 +152,8 @@ images_found AreImages IsOwn (node name own children later) inner has are images
         HaveImageNodes AreImages (node name own children later)
     where_first true is has rest =
         let found : children ≡ inner = same_in_some children inner (rw is at has) in
-        let new : IsNew images_name (names later) = subst (λ name. IsNew name (names later)) ((bytes_eq-Decides name images_name).0 is) are.0.is_new in
+        let new : IsNew images_name (names later) = subst (λ name. IsNew name (names later))
+        ((bytes_eq-Decides name images_name).0 is) are.0.is_new in
         ((λ same. subst AreImages (sym found) images), no_images AreImages later new)
     where_first false is has rest =
         ((λ same. absurd (true≢false (sym ((bytes_eq-Decides name images_name).1 same) ∙ is))), rest (rw is at has))
@@ -178,8 +183,10 @@ module _ (content : FitModel) (held : IsHeld content) where
   -- The names of each node's properties are distinct.
   pub held_distinct : EachOwn HasDistinctNames (alone (root_node (root_of content.blob)))
   held_distinct = (
-    (blob_has_content content.blob.file content.blob.cpu content.blob.reservations (root_of content.blob) held.is_blob).is_tree.is_own.distinct,
-    each_own_from (λ own. AreProperties (properties_of own)) HasDistinctNames (λ own are. are.distinct) (root_of content.blob).children held_nodes,
+    (blob_has_content content.blob.file content.blob.cpu content.blob.reservations
+        (root_of content.blob) held.is_blob).is_tree.is_own.distinct,
+    each_own_from (λ own. AreProperties (properties_of own)) HasDistinctNames (λ own are. are.distinct)
+        (root_of content.blob).children held_nodes,
     tt,
   )
 
@@ -192,15 +199,18 @@ module _ (content : FitModel) (held : IsHeld content) where
     pub held_images : (images : List Image) → map image_model images ≡ content.images →
         HaveImageNodes (AreImageNodes changes.hashes images digests) (root_of content.blob).children
     held_images images is_images =
-        images_found (AreImageNodes changes.hashes images digests) (λ own. AreProperties (properties_of own)) (root_of content.blob).children (file_images content.blob)
+        images_found (AreImageNodes changes.hashes images digests) (λ own. AreProperties (properties_of own))
+        (root_of content.blob).children (file_images content.blob)
         (some_nodes (image_nodes (root_of content.blob)) held.has_images) held_nodes
         (record {
           same_count = sym (AllZip-long (IsReadImage content.blob.file) (siblings (file_images content.blob)) content.images held.images)
               ∙ ap length (sym is_images) ∙ length-map images image_model;
-          has_digests = subst (λ payloads. HaveImageDigests changes.hashes payloads digests (nodes_by_name (file_images content.blob))) (ap (map (λ image. image.payload)) (sym is_images))
+          has_digests = subst (λ payloads. HaveImageDigests changes.hashes payloads digests (nodes_by_name (file_images content.blob)))
+              (ap (map (λ image. image.payload)) (sym is_images))
               (digests_bare changes.hashes (tree_of content).payloads digests (nodes_by_name (file_images content.blob))
               (are_taken changes.hashes (tree_of content).payloads (without_payloads (nodes_by_name (file_images content.blob))) digests
-              (is_digests ∙ ap (digests_if_changed changes.hashes (tree_of content).payloads) (image_nodes_named (root_of content.blob).children))).there);
+              (is_digests ∙ ap (digests_if_changed changes.hashes (tree_of content).payloads)
+              (image_nodes_named (root_of content.blob).children))).there);
         })
 
     module _ (form : Form) where
@@ -210,8 +220,10 @@ module _ (content : FitModel) (held : IsHeld content) where
       unfolding changed
       held_events =
           ap (λ children. events (node [] (entries (with_time changes.time (properties_by_name (root_of content.blob).own))) children none))
-          (sym (root_children changes.hashes form (tree_of content).payloads digests (λ own. AreProperties (properties_of own)) (root_of content.blob).children held_nodes is_digests)
-          ∙ ap (λ nodes. with_each entries (with_children_of images_name (with_payloads form 0 (tree_of content).payloads) nodes)) (sym (with_new_images changes.hashes (tree_of content).payloads (tree_of content).root.children)))
+          (sym (root_children changes.hashes form (tree_of content).payloads digests (λ own. AreProperties (properties_of own))
+          (root_of content.blob).children held_nodes is_digests)
+          ∙ ap (λ nodes. with_each entries (with_children_of images_name (with_payloads form 0 (tree_of content).payloads) nodes))
+          (sym (with_new_images changes.hashes (tree_of content).payloads (tree_of content).root.children)))
 
       -- They may follow one another, and they end the root.
       pub held_closed : AreClosedEvents MayFollowInText (events_of (normal_tree form (with_changes changes (tree_of content))))
@@ -221,10 +233,14 @@ module _ (content : FitModel) (held : IsHeld content) where
           root = normal_tree form (with_changes changes (tree_of content));
           same = refl;
           only = λ other also. same_events other (normal_tree form (with_changes changes (tree_of content))) also;
-          is_tree = (content-normal_tree form (with_changes changes (tree_of content)) (updated_is_image_tree changes (tree_of content) (is_image_tree content.blob.file (tree_of content) held_means))).is_tree;
-          shallow = subst (λ n. n ≤ most_open_nodes) (sym (depth-normal_tree form (with_changes changes (tree_of content)) ∙ depth-updated changes (tree_of content) ∙ depth-image_tree content.blob.file (tree_of content) held_means)) held.shallow;
+          is_tree = (content-normal_tree form (with_changes changes (tree_of content))
+              (updated_is_image_tree changes (tree_of content) (is_image_tree content.blob.file (tree_of content) held_means))).is_tree;
+          shallow = subst (λ n. n ≤ most_open_nodes)
+              (sym (depth-normal_tree form (with_changes changes (tree_of content)) ∙ depth-updated changes (tree_of content)
+              ∙ depth-image_tree content.blob.file (tree_of content) held_means)) held.shallow;
         };
-        is_normal = (has_one_order (with_image_nodes (with_payloads form 0 (tree_of content).payloads) (with_changes changes (tree_of content)).root)).is_normal;
+        is_normal = (has_one_order (with_image_nodes (with_payloads form 0 (tree_of content).payloads)
+            (with_changes changes (tree_of content)).root)).is_normal;
       })
 
 -- The length of a normal text.

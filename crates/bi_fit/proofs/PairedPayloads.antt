@@ -10,7 +10,7 @@ use Rattle.bi_fit.specs.RegionPairs.{AreInFiles, HasSameBytes, IsPairOfPayloads}
 
 -- The payloads of two lists of images are paired one by one.
 
--- The payloads of all images are the same exactly if the regions of the pairs so far and the payloads of the images that are left are.
+-- The payloads of all images are the same if and only if the regions of the pairs so far and the payloads of the images that are left are.
 abbrev pub IsPairing : (file other : List ℕ) → List RegionPair → (images others : List ImageModel) → (AllSame : Type 0) → Type 0
 IsPairing file other pairs images others AllSame =
     (length images ≡ length others)
@@ -34,7 +34,8 @@ pairing_next file other pairs pair image other_image images others AllSame is is
     (λ same.
         is.4.0 (
           each-front (HasSameBytes file other) pairs (pair ∷ []) same.0,
-          ap (λ payload. payload ∷ payloads_of_models images) (is_pair.same.0 (each-back (HasSameBytes file other) pairs (pair ∷ []) same.0).0)
+          ap (λ payload. payload ∷ payloads_of_models images)
+              (is_pair.same.0 (each-back (HasSameBytes file other) pairs (pair ∷ []) same.0).0)
               ∙ ap (λ payloads. other_image.payload ∷ payloads) same.1,
         )),
     (λ all. (

@@ -18,7 +18,7 @@ use Rattle.bi_fit.proofs.PayloadSources.{IsThere, has_payload}
 
 -- A file that goes on with payloads has each payload where it begins, and the image nodes of its text have these payloads.
 
--- What a file has to have of the payloads of image nodes in a form.
+-- What a file must have of the payloads of image nodes in a form.
 abbrev pub AreThere : Form → List ℕ → ℕ → List (Option (List ℕ)) → Type 0
 AreThere form file end [] = ⊤
 AreThere form file end (payload ∷ later) =
@@ -48,7 +48,8 @@ pub payloads_end-le : (end : ℕ) (payloads : List (Option (List ℕ))) → end 
 payloads_end-le end [] = omega arith
 payloads_end-le end (None ∷ later) = payloads_end-le end later
 payloads_end-le end (Some payload ∷ later) =
-    let rest : up4 end + length payload ≤ payloads_end (up4 end + length payload) later = payloads_end-le (up4 end + length payload) later in
+    let rest : up4 end + length payload ≤ payloads_end (up4 end + length payload) later = payloads_end-le
+    (up4 end + length payload) later in
     omega (arith, rest)
 
 -- How many bytes the payloads take, with the zeros before them.
@@ -57,10 +58,17 @@ pub length-payload_area : (end : ℕ) (payloads : List (Option (List ℕ))) →
 length-payload_area end [] = omega arith
 length-payload_area end (None ∷ later) = length-payload_area end later
 length-payload_area end (Some payload ∷ later) =
-    let rest : up4 end + length payload + length (payload_area (up4 end + length payload) later) ≡ payloads_end (up4 end + length payload) later =
+    let rest : up4 end + length payload + length (payload_area (up4 end + length payload) later)
+    ≡ payloads_end (up4 end + length payload) later =
     length-payload_area (up4 end + length payload) later in
     let pad : end + length (padding_to_4 end) ≡ up4 end = length-padding_to_4 end in
-    omega (arith, rest, pad, length-append (padding_to_4 end) (payload ++ payload_area (up4 end + length payload) later), length-append payload (payload_area (up4 end + length payload) later))
+    omega (
+      arith,
+      rest,
+      pad,
+      length-append (padding_to_4 end) (payload ++ payload_area (up4 end + length payload) later),
+      length-append payload (payload_area (up4 end + length payload) later),
+    )
 
 -- A file that goes on with payloads has each of them where it begins.
 pub external_are_there : (file front : List ℕ) (end : ℕ) (payloads : List (Option (List ℕ))) → file ≡ front ++ payload_area end payloads →
@@ -72,7 +80,8 @@ external_are_there file front end (Some payload ∷ later) is begins short = (
     begin_fits = omega (arith, long, second, short);
     size_fits = omega (arith, long, short);
     in_file = omega (arith, long, second);
-    is_slice = ap (λ n. slice file n (length payload)) (sym second) ∙ ap (λ f. slice f (length (front ++ pad)) (length payload)) parts ∙ slice-append (front ++ pad) payload area;
+    is_slice = ap (λ n. slice file n (length payload)) (sym second) ∙ ap (λ f. slice f (length (front ++ pad)) (length payload)) parts
+        ∙ slice-append (front ++ pad) payload area;
   },
   external_are_there file ((front ++ pad) ++ payload) (up4 end + length payload) later
       (parts ∙ sym (append_assoc (front ++ pad) payload area))

@@ -18,7 +18,8 @@ module _ (images : List Image) (index : ℕ) (within : index < length images) wh
   pub payloads_from : payloads_of (drop index images)
       ≡ (image_model (get_or images index no_image)).payload ∷ payloads_of (drop (index + 1) images)
   payloads_from =
-      let cons : drop index images ≡ get_or images index no_image ∷ drop (index + 1) images = rw add-one (drop-cons images index no_image within) in
+      let cons : drop index images ≡ get_or images index no_image
+      ∷ drop (index + 1) images = rw add-one (drop-cons images index no_image within) in
       ap payloads_of cons
 
   -- Where they end is not before the end of this payload.

@@ -29,12 +29,14 @@ place_payloads file at end [] (node name own children later) apart there = absur
 place_payloads file at end (payload ∷ payloads) none apart there = absurd apart
 place_payloads file at end (None ∷ payloads) (node name own children later) apart there = (
   external_place file at (at + event_width (NodeStart name)) (up4 end) own None apart.0 there.0,
-  place_payloads file (place_after_events at (events (node name (entries (with_payload External (up4 end) None own)) (with_each entries children) none)))
+  place_payloads file (place_after_events at
+      (events (node name (entries (with_payload External (up4 end) None own)) (with_each entries children) none)))
       end payloads later apart.1 there.1,
 )
 place_payloads file at end (Some payload ∷ payloads) (node name own children later) apart there = (
   external_place file at (at + event_width (NodeStart name)) (up4 end) own (Some payload) apart.0 there.0,
-  place_payloads file (place_after_events at (events (node name (entries (with_payload External (up4 end) (Some payload) own)) (with_each entries children) none)))
+  place_payloads file (place_after_events at
+      (events (node name (entries (with_payload External (up4 end) (Some payload) own)) (with_each entries children) none)))
       (end_after end (Some payload)) payloads later apart.1 there.1,
 )
 
@@ -45,6 +47,10 @@ external_payloads_are_placed tree short is =
     let found = text_images External tree tree_is in
     let root = (blob.only tree.cpu tree.reservations is.root is.blob).same_root in
     let images = same_in_some _ is.images (sym found.1 ∙ ap image_nodes root ∙ is.has_images) in
-    subst (λ nodes. AllZip (λ own place. payload_place (fit_text External tree) (source_of own) ≡ place) (each_own nodes) (payload_places (length (blob_of External tree)) 0 tree.payloads)) images
-    (subst (λ base. AllZip (λ own place. payload_place (fit_text External tree) (source_of own) ≡ place) (each_own (with_places found.0 (with_each entries (with_payloads External 0 tree.payloads tree_is.images)))) (payload_places base 0 tree.payloads)) (text_base External tree tree_is short)
-    (place_payloads (fit_text External tree) found.0 0 tree.payloads tree_is.images tree_is.apart (text_has_payloads External tree tree_is short)))
+    subst (λ nodes. AllZip (λ own place. payload_place (fit_text External tree) (source_of own) ≡ place) (each_own nodes)
+    (payload_places (length (blob_of External tree)) 0 tree.payloads)) images
+    (subst (λ base. AllZip (λ own place. payload_place (fit_text External tree) (source_of own) ≡ place)
+    (each_own (with_places found.0 (with_each entries (with_payloads External 0 tree.payloads tree_is.images))))
+    (payload_places base 0 tree.payloads)) (text_base External tree tree_is short)
+    (place_payloads (fit_text External tree) found.0 0 tree.payloads tree_is.images tree_is.apart
+    (text_has_payloads External tree tree_is short)))

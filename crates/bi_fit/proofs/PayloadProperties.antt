@@ -45,7 +45,7 @@ get-without properties name =
     get-retain_keys properties (λ name. not (is_payload_name name)) name
     (λ other tied. ap (λ name. not (is_payload_name name)) (sym (order_tells name other tied)))
 
--- Without the four properties, properties that differ in these alone from ones without them are the latter.
+-- Without the four properties, properties that differ only in these from ones without them are the latter.
 pub taken_out : (properties bare : PropertyMap) → ((name : List ℕ) → is_payload_name name ≡ true → get bare name ≡ None) →
     ((name : List ℕ) → is_payload_name name ≡ false → get properties name ≡ get bare name) → without_payload properties ≡ bare
 taken_out properties bare no_name others =

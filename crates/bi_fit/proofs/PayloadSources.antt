@@ -70,19 +70,19 @@ pub is_placed : (name : List ℕ) (at : ℕ) (properties : PropertyMap) (value :
     (property : FileProperty) × (property_named (text_properties at properties) name ≡ Some property) × (property.value ≡ value)
 is_placed name at properties value is = some_image (λ property. property.value) _ value (value_placed name at properties ∙ is)
 
--- A region of a file that has a payload, and whose numbers are cells.
+-- A region of a file that has a payload, with numbers that are cells.
 pub record IsPayloadAt (file : List ℕ) (begin : ℕ) (payload : List ℕ) : Type 0 where
   pub begin_fits : begin < 2 ^ 32
   pub size_fits : length payload < 2 ^ 32
   pub in_file : external_base file + begin + length payload ≤ length file
   pub is_slice : slice file (external_base file + begin) (length payload) ≡ payload
 
--- What a file has to have of an external payload.
+-- What a file must have of an external payload.
 abbrev pub IsExternalAt : List ℕ → ℕ → Option (List ℕ) → Type 0
 IsExternalAt file begin None = ⊤
 IsExternalAt file begin (Some payload) = IsPayloadAt file begin payload
 
--- What a file has to have of a payload in a form.
+-- What a file must have of a payload in a form.
 abbrev pub IsThere : Form → List ℕ → ℕ → Option (List ℕ) → Type 0
 IsThere Embedded file begin payload = ⊤
 IsThere External file begin payload = IsExternalAt file begin payload
@@ -100,7 +100,11 @@ module _ (file : List ℕ) (place at begin : ℕ) where
   -- Without the four properties there is no payload.
   no_payload : (properties : PropertyMap) → IsApart properties None → HasPayload file (node_with properties) None
   no_payload properties apart =
-      rw (not_placed data_position_name at properties (apart.no_payload_name data_position_name refl), not_placed data_offset_name at properties (apart.no_payload_name data_offset_name refl), not_placed data_name at properties (apart.no_payload_name data_name refl)) refl
+      rw (
+        not_placed data_position_name at properties (apart.no_payload_name data_position_name refl),
+        not_placed data_offset_name at properties (apart.no_payload_name data_offset_name refl),
+        not_placed data_name at properties (apart.no_payload_name data_name refl),
+      ) refl
 
   -- The payload is the value of `data`.
   embedded_payload : (properties : PropertyMap) (payload : List ℕ) → IsApart properties (Some payload) →
@@ -108,7 +112,13 @@ module _ (file : List ℕ) (place at begin : ℕ) where
   embedded_payload properties payload apart =
       let new = with_payload Embedded begin (Some payload) properties in
       let found = is_placed data_name at new payload (get-put properties data_name payload) in
-      rw (not_placed data_position_name at new (get-put_other properties data_name payload data_position_name refl ∙ apart.no_payload_name data_position_name refl), not_placed data_offset_name at new (get-put_other properties data_name payload data_offset_name refl ∙ apart.no_payload_name data_offset_name refl), found.1)
+      rw (
+        not_placed data_position_name at new
+            (get-put_other properties data_name payload data_position_name refl ∙ apart.no_payload_name data_position_name refl),
+        not_placed data_offset_name at new
+            (get-put_other properties data_name payload data_offset_name refl ∙ apart.no_payload_name data_offset_name refl),
+        found.1,
+      )
       (ap Some (sym found.2))
 
   -- The payload is a region.
@@ -116,11 +126,18 @@ module _ (file : List ℕ) (place at begin : ℕ) where
       HasPayload file (node_with (with_payload External begin (Some payload) properties)) (Some payload)
   external_payload properties payload apart there =
       let new = with_payload External begin (Some payload) properties in
-      let offset = is_placed data_offset_name at new (cell begin) (get-put_other _ data_size_name _ data_offset_name refl ∙ get-put properties data_offset_name (cell begin)) in
+      let offset = is_placed data_offset_name at new (cell begin)
+      (get-put_other _ data_size_name _ data_offset_name refl ∙ get-put properties data_offset_name (cell begin)) in
       let size = is_placed data_size_name at new (cell (length payload)) (get-put _ data_size_name (cell (length payload))) in
       let begin_is : cell_number offset.0 ≡ begin = number-cell offset.0 begin there.begin_fits offset.2 in
       let size_is : cell_number size.0 ≡ length payload = number-cell size.0 (length payload) there.size_fits size.2 in
-      rw (not_placed data_position_name at new (get-put_other _ data_size_name _ data_position_name refl ∙ get-put_other properties data_offset_name _ data_position_name refl ∙ apart.no_payload_name data_position_name refl), offset.1, size.1)
+      rw (
+        not_placed data_position_name at new
+            (get-put_other _ data_size_name _ data_position_name refl ∙ get-put_other properties data_offset_name _ data_position_name refl
+            ∙ apart.no_payload_name data_position_name refl),
+        offset.1,
+        size.1,
+      )
       (record {
         begin_cell = ap length offset.2 ∙ length-cell begin;
         size_cell = ap length size.2 ∙ length-cell (length payload);
@@ -142,9 +159,19 @@ module _ (file : List ℕ) (place at begin : ℕ) where
       payload_place file (source_of (node_with (with_payload External begin payload properties)))
       ≡ option_map (λ payload. external_base file + begin) payload
   external_place properties None apart there =
-      rw (not_placed data_position_name at properties (apart.no_payload_name data_position_name refl), not_placed data_offset_name at properties (apart.no_payload_name data_offset_name refl), not_placed data_name at properties (apart.no_payload_name data_name refl)) refl
+      rw (
+        not_placed data_position_name at properties (apart.no_payload_name data_position_name refl),
+        not_placed data_offset_name at properties (apart.no_payload_name data_offset_name refl),
+        not_placed data_name at properties (apart.no_payload_name data_name refl),
+      ) refl
   external_place properties (Some payload) apart there =
       let new = with_payload External begin (Some payload) properties in
-      let offset = is_placed data_offset_name at new (cell begin) (get-put_other _ data_size_name _ data_offset_name refl ∙ get-put properties data_offset_name (cell begin)) in
-      rw (not_placed data_position_name at new (get-put_other _ data_size_name _ data_position_name refl ∙ get-put_other properties data_offset_name _ data_position_name refl ∙ apart.no_payload_name data_position_name refl), offset.1)
+      let offset = is_placed data_offset_name at new (cell begin)
+      (get-put_other _ data_size_name _ data_offset_name refl ∙ get-put properties data_offset_name (cell begin)) in
+      rw (
+        not_placed data_position_name at new
+            (get-put_other _ data_size_name _ data_position_name refl ∙ get-put_other properties data_offset_name _ data_position_name refl
+            ∙ apart.no_payload_name data_position_name refl),
+        offset.1,
+      )
       (ap (λ n. Some (external_base file + n)) (number-cell offset.0 begin there.begin_fits offset.2))

@@ -51,7 +51,8 @@ insert_all properties (property ∷ later) = insert_all (insert properties prope
 -- Properties of two names may be inserted in either order.
 insert-insert : (properties : PropertyMap) (name value other other_value : List ℕ) → other ≢ name →
     insert (insert properties name value) other other_value ≡ insert (insert properties other other_value) name value
-insert-insert properties name value other other_value differ = same _ _ (λ wanted. by_name wanted (bytes_eq wanted name) refl (bytes_eq wanted other) refl)
+insert-insert properties name value other other_value differ = same _ _
+    (λ wanted. by_name wanted (bytes_eq wanted name) refl (bytes_eq wanted other) refl)
   where
     by_name : (wanted : List ℕ) → (a : Bool) → bytes_eq wanted name ≡ a → (b : Bool) → bytes_eq wanted other ≡ b →
         get (insert (insert properties name value) other other_value) wanted
@@ -61,15 +62,19 @@ insert-insert properties name value other other_value differ = same _ _ (λ want
         let at : wanted ≡ name = (bytes_eq-Decides wanted name).0 a in
         get-put_other (insert properties name value) other other_value wanted b
         ∙ subst (λ n. get (insert properties name value) n ≡ Some value) (sym at) (get-put properties name value)
-        ∙ sym (subst (λ n. get (insert (insert properties other other_value) name value) n ≡ Some value) (sym at) (get-put (insert properties other other_value) name value))
+        ∙ sym (subst (λ n. get (insert (insert properties other other_value) name value) n ≡ Some value) (sym at)
+        (get-put (insert properties other other_value) name value))
     by_name wanted false a true b =
         let at : wanted ≡ other = (bytes_eq-Decides wanted other).0 b in
-        subst (λ n. get (insert (insert properties name value) other other_value) n ≡ Some other_value) (sym at) (get-put (insert properties name value) other other_value)
-        ∙ sym (get-put_other (insert properties other other_value) name value wanted a ∙ subst (λ n. get (insert properties other other_value) n ≡ Some other_value) (sym at) (get-put properties other other_value))
+        subst (λ n. get (insert (insert properties name value) other other_value) n ≡ Some other_value) (sym at)
+        (get-put (insert properties name value) other other_value)
+        ∙ sym (get-put_other (insert properties other other_value) name value wanted a
+        ∙ subst (λ n. get (insert properties other other_value) n ≡ Some other_value) (sym at) (get-put properties other other_value))
     by_name wanted false a false b =
         get-put_other (insert properties name value) other other_value wanted b
         ∙ get-put_other properties name value wanted a
-        ∙ sym (get-put_other (insert properties other other_value) name value wanted a ∙ get-put_other properties other other_value wanted b)
+        ∙ sym (get-put_other (insert properties other other_value) name value wanted a
+        ∙ get-put_other properties other other_value wanted b)
 
 -- A property of another name than these may be inserted after them.
 inserted-insert : (properties : PropertyMap) (name value : List ℕ) (later : List Property) →

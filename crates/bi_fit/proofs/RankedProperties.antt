@@ -1,4 +1,5 @@
-use Rattle.std.proofs.Common.{◌≡◌, ℕ, zero, suc, ◌<◌, ◌≤◌, Bool, true, false, cond, not, nat_le, T, List, [], ◌∷◌, length, set, filter, bytes_eq}
+use Rattle.std.proofs.Common.{◌≡◌, ℕ, zero, suc, ◌<◌, ◌≤◌, Bool, true, false, cond, not, nat_le, T, List, [], ◌∷◌, length, set, filter}
+use Rattle.std.proofs.Common.{bytes_eq}
 use Rattle.std.proofs.Common.{true≢false, Ordering, Less, Equal, Greater, Some, slice_get, refl, sym, ap, ap₂, subst, ◌∙◌, nat_cmp, arith}
 use Rattle.std.specs.Prelude.{◌==◌, ◌&&◌, ◌||◌, if◌then◌else◌}
 use Rattle.std.specs.Cmp.{tied_itself, nat_cmp_is, ranks as nat_cmp_order}
@@ -144,7 +145,7 @@ module _ (names : List (List ℕ)) (ordered : IsStrictlySortedBy (slice_cmp nat_
         by_cmp Equal rest = are
         by_cmp Greater rest = (are.0, rest)
 
-    -- The map has the property of this name.
+    -- The map has the property with this name.
     pub model-put : (entries items : List (ℕ × Value)) → items ≡ put nat_cmp rank value entries → AreRanksWithin names entries →
         T (is_sorted nat_cmp entries) → (name : List ℕ) → IsNumberOf names name rank →
         among names (from_sorted (named_values names items)) ≡ with_property_value name (value_bytes value) (among names (from_sorted

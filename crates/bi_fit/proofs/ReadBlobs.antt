@@ -39,7 +39,8 @@ pub found_images : (root : NodeRef) (blob : Blob) (found : Option (ℕ × NodeRe
     option_map (λ found. node_of found.1) found ≡ node_named (node_of root).children images_name →
     image_nodes (root_of blob) ≡ option_map (λ found. (node_of found.1).children) found
 found_images root blob found is_root is_child =
-    ap (λ (node : Sibling FileNode). option_map (λ (images : Sibling FileNode). images.children) (node_named node.children images_name)) (sym is_root)
+    ap (λ (node : Sibling FileNode). option_map (λ (images : Sibling FileNode). images.children)
+    (node_named node.children images_name)) (sym is_root)
     ∙ ap (option_map (λ (images : Sibling FileNode). images.children)) (sym is_child)
     ∙ by found
   where
@@ -111,7 +112,9 @@ module _ (limits : Limits) (file : List ℕ) (blob : Blob) (accepts : IsBlobWith
     (is : IsBlob file blob.cpu blob.reservations (root_of blob)) where
   -- The tree of the blob is within the limits.
   within : IsWithin limits file (root_of blob)
-  within = subst (IsWithin limits file) (one_blob file accepts.cpu blob.cpu accepts.reservations blob.reservations accepts.root (root_of blob) accepts.blob is).same_root accepts.within
+  within = subst (IsWithin limits file)
+      (one_blob file accepts.cpu blob.cpu accepts.reservations blob.reservations accepts.root
+      (root_of blob) accepts.blob is).same_root accepts.within
 
   -- Memory runs out only after the checks before the tree.
   pub out_of_memory : IsFitReadError limits file OutOfMemory
@@ -156,7 +159,14 @@ module _ (limits : Limits) (file : List ℕ) (blob : Blob) (accepts : IsBlobWith
       -- The file means it.
       abbrev means : FitMeans limits file (tree_of content)
       means = record {
-        is_file = record { root = root_of blob; blob = is; images = images; has_images = has; payloads = read_payloads file images read are; is_root = refl };
+        is_file = record {
+          root = root_of blob;
+          blob = is;
+          images = images;
+          has_images = has;
+          payloads = read_payloads file images read are;
+          is_root = refl;
+        };
         within = within;
       }
 

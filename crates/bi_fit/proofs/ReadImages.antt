@@ -24,7 +24,7 @@ siblings_have_checks file none = refl
 siblings_have_checks file (node name own children later) =
     ap (λ checks. source_checks file (source_of own) ++ checks) (siblings_have_checks file later)
 
--- Image nodes of which these images were read, and these nodes are left.
+-- Image nodes. These images were read from some of them, and these nodes are left.
 pub record AreReadTo (file : List ℕ) (nodes : Nodes FileNode) (images : List ImageModel) (left : List (Sibling FileNode)) : Type 0 where
   pub have_data : AllByRecursion (λ sibling. HasDataInFile file sibling.own) left
   pub read : (later : List ImageModel) → AllZip (IsReadImage file) left later → AllZip (IsReadImage file) (siblings nodes) (images ++ later)

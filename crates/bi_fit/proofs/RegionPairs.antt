@@ -8,7 +8,7 @@ use Rattle.bi_fit.specs.Payloads.{IsAt, IsAtPlace}
 use Rattle.bi_fit.specs.RegionPairs.{AreInFiles, HasSameBytes, IsPairOfPayloads}
 use Rattle.bi_fit.proofs.Meanings.{same_in_some}
 
--- Two regions of files have the same bytes, one by one, exactly if they are the same list of bytes.
+-- Two regions of files have the same bytes, one by one, if and only if they are the same list of bytes.
 
 -- The bytes from one offset to another.
 abbrev pub region : List ℕ → (begin end : ℕ) → List ℕ
@@ -53,7 +53,8 @@ module _ (file other : List ℕ) (pair : RegionPair) (is : AreInFiles file other
       let after_begin : length file ≤ pair.begin + pair.distance = is.after_begin in
       let other_within : pair.end + pair.distance ≤ length other + length file = is.other_within in
       let long : length (region file pair.begin pair.end) ≡ pair.end - pair.begin = length-region file pair.begin pair.end ordered within in
-      let other_long : length (region other other_begin other_end) ≡ other_end - other_begin = length-region other other_begin other_end (omega arith) (omega arith) in
+      let other_long : length (region other other_begin other_end)
+      ≡ other_end - other_begin = length-region other other_begin other_end (omega arith) (omega arith) in
       ext_get_or 0 (region file pair.begin pair.end) (region other other_begin other_end) (omega arith)
       (λ index below.
       get_or-region file pair.begin pair.end index (omega arith)
@@ -106,7 +107,8 @@ pair_of_two file other begin other_offset payload other_payload is other_is same
     there =
         let in_file : begin + length payload ≤ length file = is.in_file in
         let from : begin + (other_offset + length file - begin) - length file ≡ other_offset = omega arith in
-        let to : begin + length payload + (other_offset + length file - begin) - length file ≡ other_offset + length other_payload = omega arith in
+        let to : begin + length payload + (other_offset + length file - begin) - length file
+        ≡ other_offset + length other_payload = omega arith in
         ap (λ n. region other n (begin + length payload + (other_offset + length file - begin) - length file)) from
         ∙ ap (region other other_offset) to
         ∙ region_is other other_offset (other_offset + length other_payload) other_payload other_is refl

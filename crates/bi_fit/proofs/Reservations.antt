@@ -1,4 +1,5 @@
-use Rattle.std.proofs.Common.{◌≡◌, ℕ, zero, suc, true, ◌&&◌, List, [], ◌∷◌, take, drop, map, Option, Some, None, slice_get, refl, ap, ap₂, append_assoc}
+use Rattle.std.proofs.Common.{◌≡◌, ℕ, zero, suc, true, ◌&&◌, List, [], ◌∷◌, take, drop, map, Option, Some, None, slice_get, refl, ap, ap₂}
+use Rattle.std.proofs.Common.{append_assoc}
 use Rattle.std.specs.Prelude.{nat_eq}
 use Rattle.std.specs.Option.{option_eq}
 use Rattle.std.proofs.lemmas.Bool.{and_parts}
@@ -29,7 +30,8 @@ pub with_reservations-cons : (document : Doc) (address size : ℕ) (later : List
     with_reservations (with_reservation document address size) later
     ≡ with_reservations document (record { address = address; size = size } ∷ later)
 with_reservations-cons document address size later =
-    ap (λ l. record document { reservations = l }) (append_assoc document.reservations (record { address = address; size = size } ∷ []) later)
+    ap (λ l. record document { reservations = l })
+    (append_assoc document.reservations (record { address = address; size = size } ∷ []) later)
 
 -- The test of two pairs that may be there is true only if they are the same.
 pub same_pairs : (one other : Option (ℕ × ℕ)) → option_eq (λ x y. nat_eq x.0 y.0 && nat_eq x.1 y.1) one other ≡ true → one ≡ other

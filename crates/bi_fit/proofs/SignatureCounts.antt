@@ -16,7 +16,7 @@ use Rattle.bi_fit.specs.NormalNodes.{nodes_by_name}
 
 -- The number of signature nodes of an image tree that was read is that of its image nodes and its configuration nodes together.
 
--- There are no more signature nodes than nodes.
+-- There are at most as many signature nodes as nodes.
 few_of : (children : List (Sibling FileNode)) → length (filter (λ child. is_signature_name child.name) children) ≤ length children
 few_of [] = omega arith
 few_of (child ∷ later) = where_first (is_signature_name child.name) refl (few_of later)
@@ -32,15 +32,20 @@ few_signatures [] = omega arith
 few_signatures (entry ∷ entries) =
     let first : length (file_signatures entry) ≤ length (siblings entry.children) = few_of (siblings entry.children) in
     let later : length (flat_map file_signatures entries) ≤ length (children_of_each entries) = few_signatures entries in
-    let few : length (file_signatures entry ++ flat_map file_signatures entries) ≡ length (file_signatures entry) + length (flat_map file_signatures entries) = length-append (file_signatures entry) (flat_map file_signatures entries) in
-    let all : length (siblings entry.children ++ children_of_each entries) ≡ length (siblings entry.children) + length (children_of_each entries) = length-append (siblings entry.children) (children_of_each entries) in
+    let few : length (file_signatures entry ++ flat_map file_signatures entries)
+    ≡ length (file_signatures entry) + length (flat_map file_signatures entries) = length-append (file_signatures entry)
+    (flat_map file_signatures entries) in
+    let all : length (siblings entry.children ++ children_of_each entries)
+    ≡ length (siblings entry.children) + length (children_of_each entries) = length-append
+    (siblings entry.children) (children_of_each entries) in
     omega arith
 
 -- The nodes below the node of a name are among the nodes.
 node_count-children_of : {Own : Type 0} (wanted : List ℕ) (nodes : Nodes Own) →
     node_count (nodes_or_none (children_of wanted nodes)) ≤ node_count nodes
 node_count-children_of wanted none = omega arith
-node_count-children_of {Own = Own} wanted (node name own children later) = where_first (bytes_eq name wanted) refl (node_count-children_of wanted later)
+node_count-children_of {Own = Own} wanted (node name own children later) = where_first (bytes_eq name wanted) refl
+    (node_count-children_of wanted later)
   where
     where_first : (b : Bool) → bytes_eq name wanted ≡ b → node_count (nodes_or_none (children_of wanted later)) ≤ node_count later →
         node_count (nodes_or_none (children_of wanted (node name own children later))) ≤ node_count (node name own children later)
@@ -55,7 +60,8 @@ children_few content name held =
     let all : node_count_of (root_of content.blob) < length content.blob.file =
     fewer_nodes_than_bytes content.blob.file content.blob.cpu content.blob.reservations (root_of content.blob) held.is_blob in
     let short : length content.blob.file ≤ 0x7fffffff = held.short in
-    let inside : node_count nodes ≤ node_count (root_of content.blob).children = node_count-children_of name (root_of content.blob).children in
+    let inside : node_count nodes ≤ node_count (root_of content.blob).children = node_count-children_of name
+    (root_of content.blob).children in
     let few : length (siblings nodes) + length (children_of_each (siblings nodes)) ≤ node_count nodes = siblings_and_children nodes in
     omega arith
 
@@ -101,7 +107,8 @@ in_images file [] [] read = refl
 in_images file [] (image ∷ images) read = absurd read
 in_images file (entry ∷ entries) [] read = absurd read
 in_images file (entry ∷ entries) (image ∷ images) read =
-    both _ _ (file_signatures entry) (flat_map file_signatures entries) (signatures_by_name entry.children) (in_images file entries images read.1)
+    both _ _ (file_signatures entry) (flat_map file_signatures entries) (signatures_by_name entry.children)
+    (in_images file entries images read.1)
 
 in_configurations : (entries : List (Sibling FileNode)) →
     length (flat_map signatures_in (map sibling_by_name entries)) ≡ length (flat_map file_signatures entries)
@@ -116,8 +123,11 @@ pub signature_count_is : (content : FitModel) → IsHeld content →
     + length (flat_map file_signatures (siblings (file_configurations content.blob)))
 signature_count_is content held =
     ap₂ (λ m n. m + n)
-    (ap (λ (entries : List (Sibling PropertyMap)). length (flat_map (λ image. signatures_in image.entry) (images_with entries (map (λ image. image.payload) content.images)))) (image_siblings content)
+    (ap (λ (entries : List (Sibling PropertyMap)). length
+    (flat_map (λ image. signatures_in image.entry)
+    (images_with entries (map (λ image. image.payload) content.images)))) (image_siblings content)
     ∙ in_images content.blob.file (siblings (file_images content.blob)) content.images held.images)
     (ap (λ (nodes : Nodes PropertyMap). length (flat_map signatures_in (siblings nodes))) (configuration_nodes_are content)
-    ∙ ap (λ (entries : List (Sibling PropertyMap)). length (flat_map signatures_in entries)) (siblings-by_name (file_configurations content.blob))
+    ∙ ap (λ (entries : List (Sibling PropertyMap)). length (flat_map signatures_in entries))
+    (siblings-by_name (file_configurations content.blob))
     ∙ in_configurations (siblings (file_configurations content.blob)))

@@ -1,4 +1,5 @@
-use Rattle.std.proofs.Common.{◌≡◌, ℕ, Bool, true, false, List, [], ◌∷◌, ◌++◌, take, drop, length, Option, Some, None, refl, sym, ap, ap₂, subst, ◌∙◌, arith, append_assoc, length-append}
+use Rattle.std.proofs.Common.{◌≡◌, ℕ, Bool, true, false, List, [], ◌∷◌, ◌++◌, take, drop, length, Option, Some, None, refl, sym, ap, ap₂}
+use Rattle.std.proofs.Common.{subst, ◌∙◌, arith, append_assoc, length-append}
 use Rattle.std.proofs.Math.Seq.{take-append_seam, drop-append_seam}
 use Rattle.std.specs.FinMap.{insert}
 use Rattle.bi_blob.specs.Tree.{Nodes, none, node, PropertyMap}
@@ -9,7 +10,8 @@ use Rattle.bi_fit.specs.Names.{value_name, is_hash_name}
 use Rattle.bi_fit.specs.ImageTree.{without_payloads}
 use Rattle.bi_fit.specs.Updating.{with_digest_by, with_digest, with_digests, images_with_digests}
 use Rattle.bi_fit.specs.NewDigests.{hash_algorithm, digest_by, digests_for, digests_of_images, digests_if_changed}
-use Rattle.bi_fit.specs.TakenDigests.{HasDigest, with_first_digest, after_digest, HaveDigests, with_digests_from, after_digests, is_hashed, HaveImageDigests, images_with_digests_from}
+use Rattle.bi_fit.specs.TakenDigests.{HasDigest, with_first_digest, after_digest, HaveDigests, with_digests_from, after_digests, is_hashed}
+use Rattle.bi_fit.specs.TakenDigests.{HaveImageDigests, images_with_digests_from}
 use Rattle.bi_fit.proofs.UpdatedTrees.{new_images}
 
 -- The digests of image nodes are taken in turn from the bytes that hold them, and the properties of the nodes make no difference.
@@ -79,7 +81,8 @@ none_taken (node name own children later) digests =
     record { there = (tt, rest.there); same = ap (node name own children) rest.same; left = rest.left }
 
 -- The same of image nodes.
-pub record AreTaken (hashes : Bool) (payloads : List (Option (List ℕ))) (digests : List ℕ) (nodes : Nodes PropertyMap) (taken : Nodes PropertyMap) : Type 0 where
+pub record AreTaken (hashes : Bool) (payloads : List (Option (List ℕ))) (digests : List ℕ) (nodes : Nodes PropertyMap)
+    (taken : Nodes PropertyMap) : Type 0 where
   pub there : HaveImageDigests hashes payloads digests nodes
   pub same : images_with_digests_from hashes payloads digests nodes ≡ taken
 
@@ -101,7 +104,8 @@ taken_by_images (None ∷ payloads) (node name own children later) digests is =
     one_more_image true None payloads digests digests name own children later children (images_with_digests payloads later)
     (none_taken children digests) (taken_by_images payloads later digests is)
 taken_by_images (Some payload ∷ payloads) (node name own children later) digests is =
-    one_more_image true (Some payload) payloads digests (digests_of_images payloads later) name own children later (with_digests payload children) (images_with_digests payloads later)
+    one_more_image true (Some payload) payloads digests (digests_of_images payloads later) name own children later
+    (with_digests payload children) (images_with_digests payloads later)
     (taken_in_turn payload (digests_of_images payloads later) children digests is)
     (taken_by_images payloads later (digests_of_images payloads later) refl)
 

@@ -16,7 +16,7 @@ use Rattle.bi_blob.specs.Layout.{AreEventBytes, IsContent}
 abbrev are_bytes : List ℕ → Bool
 are_bytes bytes = list_all (λ byte. ltb byte 256) bytes
 
--- Whether none of these bytes is this one.
+-- Whether none of the given bytes is this one.
 abbrev has_no : ℕ → List ℕ → Bool
 has_no byte bytes = list_all (λ other. not (other == byte)) bytes
 
@@ -57,9 +57,12 @@ properties_by_test : (properties : List Property) → are_properties properties 
     AreProperties properties × AllByRecursion AreEventBytes (map NodeProperty properties)
 properties_by_test [] passes = (record { named = tt; distinct = tt }, tt)
 properties_by_test (property ∷ later) passes =
-    let first = and_parts (has_some property.0 && has_no 0 property.0) ((are_bytes property.0 && are_bytes property.1) && (is_new property.0 (map (λ property. property.0) later) && are_properties later)) passes in
+    let first = and_parts (has_some property.0 && has_no 0 property.0)
+    ((are_bytes property.0 && are_bytes property.1) &&
+    (is_new property.0 (map (λ property. property.0) later) && are_properties later)) passes in
     let name = and_parts (has_some property.0) (has_no 0 property.0) first.0 in
-    let second = and_parts (are_bytes property.0 && are_bytes property.1) (is_new property.0 (map (λ property. property.0) later) && are_properties later) first.1 in
+    let second = and_parts (are_bytes property.0 && are_bytes property.1)
+    (is_new property.0 (map (λ property. property.0) later) && are_properties later) first.1 in
     let bytes = and_parts (are_bytes property.0) (are_bytes property.1) second.0 in
     let third = and_parts (is_new property.0 (map (λ property. property.0) later)) (are_properties later) second.1 in
     let rest = properties_by_test later third.1 in (
@@ -93,7 +96,8 @@ nodes_by_test : (nodes : Nodes (List Property)) → are_nodes nodes ≡ true →
     AreNodes AreProperties nodes × AllByRecursion AreEventBytes (events nodes)
 nodes_by_test none passes = (tt, tt)
 nodes_by_test (node name own children later) passes =
-    let first = and_parts (is_child_name_of_bytes name) (is_new name (names later) && (are_properties own && (are_nodes children && are_nodes later))) passes in
+    let first = and_parts (is_child_name_of_bytes name)
+    (is_new name (names later) && (are_properties own && (are_nodes children && are_nodes later))) passes in
     let second = and_parts (is_new name (names later)) (are_properties own && (are_nodes children && are_nodes later)) first.1 in
     let third = and_parts (are_properties own) (are_nodes children && are_nodes later) second.1 in
     let fourth = and_parts (are_nodes children) (are_nodes later) third.1 in

@@ -18,7 +18,7 @@ use Rattle.bi_fit.proofs.PayloadAreas.{length-payload_area, payloads_end-le}
 use Rattle.bi_fit.proofs.FileTrees.{is_image_tree, depth-image_tree}
 use Rattle.bi_fit.proofs.Texts.{blob_of_text, fit_text_means, depth-normal_tree}
 
--- The text of an image tree is accepted and means the tree, texts are the same exactly if the trees are, and a text keeps verdicts,
+-- The text of an image tree is accepted and means the tree, texts are the same if and only if the trees are, and a text keeps verdicts,
 -- configurations, default and signatures.
 
 pub file_means_image_tree : FileMeansImageTree

@@ -48,7 +48,8 @@ without-with_payloads form end [] none apart = refl
 without-with_payloads form end [] (node name own children later) apart = absurd apart
 without-with_payloads form end (payload ∷ payloads) none apart = refl
 without-with_payloads form end (payload ∷ payloads) (node name own children later) apart =
-    ap (λ own. node name own children (without_payloads (with_payloads form (end_after end payload) payloads later))) (without-with_payload form (up4 end) payload own apart.0)
+    ap (λ own. node name own children (without_payloads (with_payloads form (end_after end payload) payloads later)))
+    (without-with_payload form (up4 end) payload own apart.0)
     ∙ ap (node name own children) (without-with_payloads form (end_after end payload) payloads later apart.1)
 
 -- The blob of a text begins it, and is a blob of its tree.
@@ -80,14 +81,16 @@ normal_images : (form : Form) (tree : ImageTree) (is : IsImageTree tree) →
     image_nodes (normal_tree form tree) ≡ Some (with_each entries (with_payloads form 0 tree.payloads is.images))
 normal_images form tree is =
     children_of-with_each entries images_name (with_image_nodes (with_payloads form 0 tree.payloads) tree.root).children
-    ∙ ap (option_map (with_each entries)) (children_of-with_children_of images_name (with_payloads form 0 tree.payloads) tree.root.children is.images is.has_images)
+    ∙ ap (option_map (with_each entries))
+    (children_of-with_children_of images_name (with_payloads form 0 tree.payloads) tree.root.children is.images is.has_images)
 
 -- The same at the places of the layout.
 pub text_images : (form : Form) (tree : ImageTree) (is : IsImageTree tree) →
     (place : ℕ) × (image_nodes (tree_with_places tree.reservations (normal_tree form tree))
     ≡ Some (with_places place (with_each entries (with_payloads form 0 tree.payloads is.images))))
 text_images form tree is =
-    children_of-with_places _ images_name (normal_tree form tree).children (with_each entries (with_payloads form 0 tree.payloads is.images)) (normal_images form tree is)
+    children_of-with_places _ images_name (normal_tree form tree).children
+    (with_each entries (with_payloads form 0 tree.payloads is.images)) (normal_images form tree is)
 
 -- The tree of a text is the tree, with the properties that give payloads.
 normal_root : (form : Form) (tree : ImageTree) → IsImageTree tree →
@@ -109,7 +112,8 @@ fit_text_means form tree is short =
         blob = blob.blob;
         images = with_places found.0 (with_each entries (with_payloads form 0 tree.payloads is.images));
         has_images = found.1;
-        payloads = have_payloads form (fit_text form tree) found.0 0 tree.payloads is.images is.apart (text_has_payloads form tree is short);
+        payloads = have_payloads form (fit_text form tree) found.0 0 tree.payloads is.images is.apart
+            (text_has_payloads form tree is short);
         is_root = sym (ap (λ root. tree_without_payloads (tree_without_order root)) blob.same_tree ∙ normal_root form tree is);
       },
       refl,

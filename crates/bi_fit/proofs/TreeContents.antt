@@ -116,8 +116,13 @@ good-events none bytes are = tt
 good-events (node name properties children later) bytes are = (
   bytes.0,
   each-append AreEventBytes (map NodeProperty properties) (events children ++ (NodeEnd ∷ events later))
-      (each-map AreEventBytes NodeProperty properties (each-weaker (λ property. IsProperty property.0 property.1) (λ property. AreEventBytes (NodeProperty property)) (λ property is. (is.name_bytes, is.value_bytes)) properties are.0.is_own))
-      (each-append AreEventBytes (events children) (NodeEnd ∷ events later) (good-events children bytes.1 are.1) (tt, good-events later bytes.2 are.2)),
+      (each-map AreEventBytes NodeProperty properties
+      (each-weaker (λ property. IsProperty property.0 property.1) (λ property. AreEventBytes (NodeProperty property))
+      (λ property is. (is.name_bytes, is.value_bytes)) properties are.0.is_own))
+      (each-append AreEventBytes (events children) (NodeEnd ∷ events later) (good-events children bytes.1 are.1) (
+        tt,
+        good-events later bytes.2 are.2,
+      )),
 )
 
 -- A tree of properties by name can be laid out in byte order.
@@ -134,7 +139,9 @@ content-in_byte_order cpu reservations root fits are is bytes = record {
   bytes = (
     AreBytes-none,
     each-append AreEventBytes (map NodeProperty (entries root.own)) (events (with_each entries root.children) ++ (NodeEnd ∷ []))
-        (each-map AreEventBytes NodeProperty (entries root.own) (each-weaker (λ property. IsProperty property.0 property.1) (λ property. AreEventBytes (NodeProperty property)) (λ property is. (is.name_bytes, is.value_bytes)) (entries root.own) (good-entries root.own is.is_own)))
+        (each-map AreEventBytes NodeProperty (entries root.own)
+        (each-weaker (λ property. IsProperty property.0 property.1) (λ property. AreEventBytes (NodeProperty property))
+        (λ property is. (is.name_bytes, is.value_bytes)) (entries root.own) (good-entries root.own is.is_own)))
         (each-append AreEventBytes (events (with_each entries root.children)) (NodeEnd ∷ [])
         (good-events (with_each entries root.children) (bytes-with_each entries root.children bytes)
         (AreNodes-with_each ArePropertiesByName AreBlobProperties entries good-entries root.children is.children))
@@ -175,11 +182,15 @@ nodes-without_payloads (node name own children later) are = (
 -- The tree of a text can be laid out.
 pub content-normal_tree : (form : Form) (tree : ImageTree) → IsImageTree tree → IsContent tree.cpu tree.reservations (normal_tree form tree)
 content-normal_tree form tree is =
-    content-in_byte_order tree.cpu tree.reservations (with_image_nodes (with_payloads form 0 tree.payloads) tree.root) is.cpu_fits is.are_reservations
+    content-in_byte_order tree.cpu tree.reservations
+    (with_image_nodes (with_payloads form 0 tree.payloads) tree.root) is.cpu_fits is.are_reservations
     (record {
       is_own = is.is_tree.is_own;
-      children = AreNodes-with_children_of images_name (with_payloads form 0 tree.payloads) ArePropertiesByName tree.root.children is.images is.has_images
-          (nodes-with_payloads form 0 tree.payloads is.images is.apart (AreNodes-children_of ArePropertiesByName images_name tree.root.children is.images is.has_images is.is_tree.children))
+      children = AreNodes-with_children_of images_name
+          (with_payloads form 0 tree.payloads) ArePropertiesByName tree.root.children is.images is.has_images
+          (nodes-with_payloads form 0 tree.payloads is.images is.apart
+          (AreNodes-children_of ArePropertiesByName images_name tree.root.children is.images is.has_images is.is_tree.children))
           is.is_tree.children;
     })
-    (bytes-with_children_of images_name (with_payloads form 0 tree.payloads) (bytes-with_payloads form 0 tree.payloads) tree.root.children is.name_bytes)
+    (bytes-with_children_of images_name (with_payloads form 0 tree.payloads)
+    (bytes-with_payloads form 0 tree.payloads) tree.root.children is.name_bytes)

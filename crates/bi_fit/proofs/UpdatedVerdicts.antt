@@ -49,7 +49,7 @@ children_of-with_other wanted change (node name own children later) =
     where_first true is rest = rw (is, is) refl
     where_first false is rest = rw (is, is) rest
 
--- Where there are no image nodes, there are none with digests.
+-- If there are no image nodes, there are none with digests.
 no_images : (payloads : List (Option (List ℕ))) → none ≡ images_with_digests payloads none
 no_images [] = refl
 no_images (payload ∷ payloads) = refl
@@ -98,7 +98,7 @@ unfolding verdict_of
 good_verdict properties algo payload is =
     good_by_name (option_and_then text_before_nul (get properties algo_name)) algo payload is
 
--- A hash node of this name, of an image of this name, with these properties and this payload.
+-- A hash node with a name, of an image with a name, with these properties and this payload.
 abbrev hash_of : (image name : List ℕ) → (algo value payload : Option (List ℕ)) → CheckedHash
 hash_of image name algo value payload = record {
   image = image;
@@ -319,7 +319,7 @@ payload_named (payload ∷ payloads) (node name own children later) wanted =
     where_first true is rest = rw is refl
     where_first false is rest = rw is rest
 
--- What is listed depends on the payloads of the images alone.
+-- What is listed depends only on the payloads of the images.
 listed_from-same : (index : ℕ) (name : List ℕ) (one other : Option Image) (later : ListResult) →
     option_map (λ image. image.payload) one ≡ option_map (λ image. image.payload) other →
     listed_from index name one later ≡ listed_from index name other later
@@ -344,7 +344,8 @@ listed_at-same : (images others : List Image) →
     listed_at images value ≡ listed_at others value
 listed_at-same images others same None = refl
 listed_at-same images others same (Some value) =
-    ap (λ (l : ListResult). if ends_with nat_eq value (0 ∷ []) then l else BadList) (list_images-same images others same 0 (listed_names value))
+    ap (λ (l : ListResult). if ends_with nat_eq value (0 ∷ []) then l else BadList)
+    (list_images-same images others same 0 (listed_names value))
 
 listed_under-same : (images others : List Image) →
     ((wanted : List ℕ) → option_map (λ image. image.payload) (image_named wanted images)
@@ -365,7 +366,8 @@ payload_named_new true payloads nodes wanted = payload_named payloads nodes want
 pub listed_of-updated : (changes : Changes) (tree : ImageTree) (configuration : List ℕ) (key : Key) →
     listed_of (with_changes changes tree) configuration key ≡ listed_of tree configuration key
 listed_of-updated changes tree configuration key =
-    ap₂ (λ images nodes. listed_under images (node_named nodes configuration) key) (images_of-updated changes tree) (configuration_nodes-updated changes tree)
+    ap₂ (λ images nodes. listed_under images (node_named nodes configuration) key) (images_of-updated changes tree)
+    (configuration_nodes-updated changes tree)
     ∙ listed_under-same (new_images_with changes.hashes tree.payloads (nodes_or_none (image_nodes tree.root))) (images_of tree)
     (payload_named_new changes.hashes tree.payloads (nodes_or_none (image_nodes tree.root)))
     (node_named (configuration_nodes tree) configuration) key

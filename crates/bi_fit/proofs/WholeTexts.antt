@@ -56,7 +56,8 @@ module _ (form : Form) (tree : ImageTree) (payloads : List (Option (List ℕ))) 
   -- The text of a tree is too long where what follows its blob is.
   pub late_payloads : (limit : ℕ) → limit < length_after_blob form payloads → limit < length (fit_text form tree)
   late_payloads limit late =
-      let late_there : limit < length_after_blob form tree.payloads = subst (λ payloads. limit < length_after_blob form payloads) same late in
+      let late_there : limit < length_after_blob form tree.payloads = subst
+      (λ payloads. limit < length_after_blob form payloads) same late in
       omega (arith, late_there, length-fit_text form tree)
 
   module _ (limits : Limits) (limit : ℕ) (is_limit : limit ≡ limits.file) (fault : Fault) (is_fault : fault ≡ too_large limit) where

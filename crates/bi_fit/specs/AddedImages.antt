@@ -31,16 +31,15 @@ added_children (OfNode parent) =
     sorted_image_children parent.hashed parent.digests.now (node_of parent.node).children
 added_children (Hash properties) = leaf hash_node_name properties.now.by_name
 
--- The digests that are left after those of the hash nodes of a file. None are left where the hash
--- node is given.
+-- The digests after those of the hash nodes of a file. There are none if the hash node is given.
 abbrev pub digests_left : ImageChildren → List ℕ
 digests_left (OfNode parent) =
     after_digests parent.hashed parent.digests.now (nodes_by_name (node_of parent.node).children)
 digests_left (Hash properties) = []
 
--- The children may be added to a document with these names: the order of a file, or the properties
--- of the hash node, are by these names, there are digests for the hash nodes of the file, and none
--- of its nodes has two properties of one name.
+-- The children may be added to a document with these names. The order of a file, or the properties
+-- of the hash node, are by these names. There are digests for the hash nodes of the file, and none
+-- of its nodes has two properties with the same name.
 abbrev pub AreAddable : List (List ℕ) → ImageChildren → Type 0
 AreAddable names (OfNode parent) =
     HasOrder names parent.order.now parent.node

@@ -19,8 +19,8 @@ use Rattle.bi_fit.specs.ImageTree.{ImageTree}
 -- The flattened image tree that is built from a description and a list of images (Flattened Image
 -- Tree Specification; what is built is profile of this project).
 
--- What a built tree has beside its images: a description and a time. Numbers become cells, modulo
--- 2^32.
+-- What a built tree has in addition to its images: a description and a time. Numbers become cells,
+-- modulo 2^32.
 pub record HeadModel : Type 0 where
   pub description : List ℕ
   pub time : ℕ
@@ -52,7 +52,7 @@ type_name Firmware = codes "firmware"
 type_name Loadables = codes "standalone"
 type_name Script = codes "script"
 
--- A property of one cell, where its number is given.
+-- A property of one cell, if its number is given.
 abbrev pub cell_property : List ℕ → Option ℕ → List Property
 cell_property name None = []
 cell_property name (Some number) = (name, cell number) ∷ []
@@ -100,22 +100,22 @@ built_images head (image ∷ later) =
     (node hash_node_name (from_entries (built_hash_properties image.payload)) none none)
     (built_images head later)
 
--- Whether an image is listed under this key.
-abbrev pub is_under : Key → Key → Bool
-is_under Kernel Kernel = true
-is_under Fdt Fdt = true
-is_under Ramdisk Ramdisk = true
-is_under Firmware Firmware = true
-is_under Loadables Loadables = true
-is_under Script Script = true
-is_under key other = false
+-- Whether two keys are the same.
+abbrev pub key_eq : Key → Key → Bool
+key_eq Kernel Kernel = true
+key_eq Fdt Fdt = true
+key_eq Ramdisk Ramdisk = true
+key_eq Firmware Firmware = true
+key_eq Loadables Loadables = true
+key_eq Script Script = true
+key_eq key other = false
 
 -- The names of the images that are listed under a key, in their order.
 abbrev pub names_under : Key → List ImageSpecModel → List (List ℕ)
 names_under key images =
-    map (λ image. image.name) (filter (λ image. is_under key image.key) images)
+    map (λ image. image.name) (filter (λ image. key_eq key image.key) images)
 
--- The property of a key that lists these names, where there is one at least.
+-- The property of a key that lists these names, if there is at least one.
 abbrev pub list_property : Key → List (List ℕ) → List Property
 list_property key [] = []
 list_property key (name ∷ later) = (key_name key, strings_of (name ∷ later)) ∷ []
@@ -161,7 +161,8 @@ pub record IsImageSpec (image : ImageSpecModel) : Type 0 where
   pub compression : IsText image.compression
   pub payload_bytes : AreBytes image.payload
 
--- What can be built: each image can, no two of them have one name, and the description is a text.
+-- What can be built: each image can, no two of them have the same name, and the description is a
+-- text.
 pub record CanBeBuilt (head : HeadModel) (images : List ImageSpecModel) : Type 0 where
   pub description : IsText head.description
   pub each : AllByRecursion IsImageSpec images

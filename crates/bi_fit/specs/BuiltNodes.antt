@@ -44,7 +44,7 @@ built_payloads images = map (λ image. Some image.payload) images
 abbrev pub hash_node_with : (digest : List ℕ) → Nodes (List Property)
 hash_node_with digest = node hash_node_name (in_order (sha256_properties digest)) none none
 
--- Image nodes, where the payloads before theirs end at `end`.
+-- Image nodes, if the payloads before theirs end at `end`.
 abbrev pub built_image_nodes : Form → (end : ℕ) → HeadModel → List ImageSpecModel
     → Nodes (List Property)
 built_image_nodes form end head images =

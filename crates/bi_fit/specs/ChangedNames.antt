@@ -32,7 +32,7 @@ pub record AreRankedNames (names : List (List ℕ)) (ranks : ChangedNumbers) : T
   pub in_order : IsStrictlySortedBy (slice_cmp nat_cmp) names
   pub numbers : AreChangedNumbers names ranks
 
--- Names with one more, if it is none of those of a file.
+-- Names with one more, if it is not one of those of a file.
 abbrev pub with_missing : (base names : List (List ℕ)) → (name : List ℕ) → List (List ℕ)
 with_missing base names name = if is_among name base then names else names ++ name ∷ []
 

@@ -5,7 +5,7 @@ use Rattle.bi_fdt.specs.Numbers.{IsNumberOf}
 
 -- Numbers of the names of two lists.
 
--- Other names have these numbers by a list of distinct names that begins with these names.
+-- Other names have these numbers in a list of distinct names that begins with these names.
 pub record HaveNumbersAfter (names others : List (List ℕ)) (numbers : List ℕ) : Type 0 where
   pub more : List (List ℕ)
   pub distinct : AreDistinct (names ++ more)

@@ -16,29 +16,29 @@ use Rattle.bi_fit.specs.NormalNodes.{properties_by_name, alone}
 
 -- What is compared of the nodes of two image trees, node by node of their files.
 
--- The role of the children of a node that has this role and this name.
+-- The role of the children of a node with this role and the given name.
 abbrev pub role_below : Role → (name : List ℕ) → Role
 role_below RootNode name = RootChild
 role_below RootChild name = if bytes_eq name images_name then ImageNode else OtherNode
 role_below ImageNode name = OtherNode
 role_below OtherNode name = OtherNode
 
--- Whether properties of this name are compared in a node of this role: in image nodes, the four
--- that hold a payload or name its region are not.
+-- Whether properties with the given name are compared in a node with this role. In image nodes, the
+-- four properties that hold a payload or name its region are not compared.
 abbrev pub is_compared : Role → (name : List ℕ) → Bool
 is_compared RootNode name = true
 is_compared RootChild name = true
 is_compared ImageNode name = not (is_payload_name name)
 is_compared OtherNode name = true
 
--- The properties of a node of this role that are compared, by name.
+-- The properties of a node with this role that are compared, by name.
 abbrev pub compared_properties : Role → FileNode → PropertyMap
 compared_properties RootNode own = properties_by_name own
 compared_properties RootChild own = properties_by_name own
 compared_properties ImageNode own = without_payload (properties_by_name own)
 compared_properties OtherNode own = properties_by_name own
 
--- Nodes of this role, and all below them, with their properties that are compared.
+-- Nodes with this role, and all below them, with their properties that are compared.
 abbrev pub compared_nodes : Role → Nodes FileNode → Nodes PropertyMap
 compared_nodes role none = none
 compared_nodes role (node name own children later) =
@@ -56,9 +56,9 @@ pub record AreSameBlobs (own other : Blob) : Type 0 where
   pub same_reservations : own.reservations ≡ other.reservations
   pub same_tree : compared_tree own ≡ compared_tree other
 
--- The properties of the nodes of two blobs are in the order of the numbers of their names by one
--- list: the names of the first blob, and those that the second one has besides. These are the blobs
--- that the two nodes are of.
+-- The properties of the nodes of two blobs are in the order of the numbers of their names in one
+-- list: the names of the first blob, and then those that only the second one has. These are the
+-- blobs that the two nodes are of.
 pub record HaveOneOrder (own other : NodeRef) (orders : Orders) : Type 0 where
   pub names : List (List ℕ)
   pub more : List (List ℕ)
@@ -66,7 +66,7 @@ pub record HaveOneOrder (own other : NodeRef) (orders : Orders) : Type 0 where
   pub own_order : IsNumberOrder names (table_of_node own) orders.own
   pub other_order : IsNumberOrder (names ++ more) (table_of_node other) orders.other
 
--- The values of these properties that are compared in a node of this role, each after its key.
+-- The values of these properties that are compared in a node with this role, each after its key.
 abbrev pub compared_values : Role → List KeyedProperty → List (ℕ × List ℕ)
 compared_values role [] = []
 compared_values role (keyed ∷ later) =

@@ -75,17 +75,17 @@ pub record IsHeld (content : FitModel) : Type 0 where
   pub images : AllZip (IsReadImage content.blob.file)
       (siblings (nodes_or_none (image_nodes (root_of content.blob)))) content.images
 
--- The index of the first image of a name, where the first of these images has this index.
+-- The index of the first image with a name, if the first of these images has this index.
 abbrev pub index_from : ℕ → List ℕ → List ImageModel → Option ℕ
 index_from index name [] = None
 index_from index name (image ∷ later) =
     if bytes_eq image.name name then Some index else index_from (index + 1) name later
 
--- The index of the image of a name.
+-- The index of the image with a name.
 abbrev pub index_of : List ℕ → List ImageModel → Option ℕ
 index_of name images = index_from 0 name images
 
--- A map has the index of the first image of each name.
+-- A map has the index of the first image with each name.
 pub record HasIndices (indices : BTreeMap (Bor (List ℕ)) ℕ) (images : List ImageModel)
     : Type 0 where
   pub each : (name : List ℕ) → get_by (λ other. slice_cmp nat_cmp name other.now) indices
@@ -101,7 +101,7 @@ abbrev pub IsImagesPosition : Blob → (position : ℕ) → Type 0
 IsImagesPosition blob position =
     node_at (root_of blob).children position ≡ node_named (root_of blob).children images_name
 
--- The place of the image at an index, where there is one.
+-- The place of the image at an index, if there is one.
 abbrev pub place_or_absent : Option ImageModel → Place
 place_or_absent None = place.Absent
 place_or_absent (Some image) = image.place

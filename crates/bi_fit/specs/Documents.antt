@@ -23,7 +23,7 @@ document_of form tree = record {
   names = [];
 }
 
--- How many bytes follow the blob in a form: external payloads, of which these are all.
+-- How many bytes follow the blob in a form: all of these payloads, if they are external.
 abbrev pub length_after_blob : Form → List (Option (List ℕ)) → ℕ
 length_after_blob Embedded payloads = 0
 length_after_blob External payloads = payloads_end 0 payloads
@@ -38,13 +38,13 @@ pub record IsTextOfTree (limits : Limits) (form : Form) (tree : ImageTree) (text
     pub is_text : text ≡ fit_text form tree
     pub short : length text ≤ limits.file
 
--- The fault of a tree whose text is longer than the limit.
+-- The fault of a tree with a text that is longer than the limit.
 abbrev pub IsTextFault : Limits → Form → ImageTree → Fault → Type 0
 IsTextFault limits form tree fault =
     (fault ≡ too_large limits.file) × (limits.file < length (fit_text form tree))
 
 -- The error of laying out the text of a tree: it is too long, or memory ran out. Memory never runs
--- out where what follows the blob is longer than the limit by itself.
+-- out if what follows the blob is by itself longer than the limit.
 abbrev pub IsTextError : Limits → Form → ImageTree → Error → Type 0
 IsTextError limits form tree =
     FailsWith (IsTextFault limits form tree) (length_after_blob form tree.payloads ≤ limits.file)

@@ -11,7 +11,7 @@ use Rattle.bi_fit.specs.ImageTree.{image_nodes}
 use Rattle.bi_fit.specs.Payloads.{PayloadSource, NoSource, Data, DataOffset, DataPosition}
 use Rattle.bi_fit.specs.Payloads.{source_of, cell_number, external_base}
 
--- Why a blob within limits is no flattened image tree, and at which offset: the first check that
+-- Why a blob within limits is not a flattened image tree, and at which offset: the first check that
 -- fails. The order of the checks, and that a file with a fault is refused, is profile of this
 -- project.
 
@@ -53,7 +53,7 @@ abbrev pub region_checks : (base : ℕ) → FileProperty → Option FileProperty
 region_checks base begin size =
     HasBeginCell begin ∷ size_checks (base + cell_number begin) begin.place size
 
--- The checks of the source of a payload: none where it is no region.
+-- The checks of the source of a payload. There are none if it is not a region.
 abbrev pub source_checks : List ℕ → PayloadSource → List FitCheck
 source_checks file NoSource = []
 source_checks file (Data data_property) = []
@@ -66,7 +66,7 @@ image_checks file none = []
 image_checks file (node name own children later) =
     source_checks file (source_of own) ++ image_checks file later
 
--- The checks of image nodes, where there may be no child `images`.
+-- The checks of image nodes. There may be no child `images`.
 abbrev pub images_checks : List ℕ → Option (Nodes FileNode) → List FitCheck
 images_checks file None = []
 images_checks file (Some images) = image_checks file images

@@ -8,7 +8,7 @@ use Rattle.bi_fit.specs.Payloads.{HasPayload}
 
 -- The file is a flattened image tree that means this (Flattened Image Tree Specification): a blob
 -- whose root has a child `images`, and each child of that has this payload, or none. The order of
--- properties is no part of the meaning, the order of children is (profile of this project).
+-- children is part of the meaning; the order of properties is not (profile of this project).
 pub record IsFitFile (file : List ℕ) (tree : ImageTree) : Type 0 where
   pub root : Root FileNode
   pub blob : IsBlob file tree.cpu tree.reservations root

@@ -26,7 +26,7 @@ file_images blob = nodes_or_none (image_nodes (root_of blob))
 abbrev pub file_configurations : Blob → Nodes FileNode
 file_configurations blob = nodes_or_none (children_of configurations_name (root_of blob).children)
 
--- A hash node of an image of this name and payload, with its verdict.
+-- A hash node of an image with the given name and payload, with its verdict.
 abbrev pub file_hash : List ℕ → Option (List ℕ) → Sibling FileNode → CheckedHash
 file_hash image payload hash = record {
   image = image;
@@ -44,7 +44,7 @@ abbrev pub file_hashes : List ℕ → Option (List ℕ) → List (Sibling FileNo
 file_hashes image payload children =
     map (file_hash image payload) (filter (λ child. is_hash_name child.name) children)
 
--- The hash nodes of these image nodes, whose images were read.
+-- The hash nodes of these image nodes, of images that were read.
 abbrev pub file_verdicts : List (Sibling FileNode) → List ImageModel → List CheckedHash
 file_verdicts [] images = []
 file_verdicts (entry ∷ entries) [] = []
@@ -55,19 +55,19 @@ file_verdicts (entry ∷ entries) (image ∷ images) =
 abbrev pub file_signatures : Sibling FileNode → List (Sibling FileNode)
 file_signatures entry = filter (λ child. is_signature_name child.name) (siblings entry.children)
 
--- The payload of the image of a name, and what follows it in the list.
+-- The payload of the image with a name, and what follows it in the list.
 abbrev pub listed_payload : (index : ℕ) → (name : List ℕ) → Option (Option (List ℕ)) → ListResult
     → ListResult
 listed_payload index name None later = Missing index
 listed_payload index name (Some payload) later =
     with_image (record { name = name; payload = payload }) later
 
--- The payload of the image of a name, if there is such an image.
+-- The payload of the image with a name, if there is such an image.
 abbrev pub payload_named : List ℕ → List ImageModel → Option (Option (List ℕ))
 payload_named name images =
     option_map (λ image. image.payload) (find (λ image. bytes_eq image.name name) images)
 
--- The images of these names, or the index of the first name that no image has.
+-- The images with these names, or the index of the first name that no image has.
 abbrev pub file_list : List ImageModel → (index : ℕ) → List (List ℕ) → ListResult
 file_list images index [] = ListedImages []
 file_list images index (name ∷ later) =
@@ -78,7 +78,7 @@ abbrev pub with_images : List ListedImage → ListResult → ListResult
 with_images [] listed = listed
 with_images (image ∷ later) listed = with_image image (with_images later listed)
 
--- The node is a configuration, and the first of its name.
+-- The node is a configuration, and the first with its name.
 pub record IsConfiguration (content : FitModel) (entry : Sibling FileNode) : Type 0 where
   pub is_found : node_named (file_configurations content.blob) entry.name ≡ Some entry
 

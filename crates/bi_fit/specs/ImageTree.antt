@@ -10,19 +10,19 @@ use Rattle.bi_fit.specs.Names.{images_name, is_payload_name}
 
 -- What a flattened image tree means (Flattened Image Tree Specification): the boot processor, the
 -- memory reservations and the tree of a devicetree blob, and the payload of each image node, or
--- that it has none. The four properties that hold a payload or name its region are not in the
--- tree: where a file has its payloads is no part of what it means (profile of this project).
+-- that it has none. The four properties that hold a payload or name its region are not in the tree:
+-- where a file has its payloads is not part of what it means (profile of this project).
 pub record ImageTree : Type 0 where
   pub cpu : ℕ
   pub reservations : List Reservation
   pub root : Root PropertyMap
   pub payloads : List (Option (List ℕ))
 
--- The children of the first of these nodes that has this name, if one has it.
+-- The children of the first of these nodes with the given name, if one has it.
 abbrev pub children_of : {Own : Type 0} → List ℕ → Nodes Own → Option (Nodes Own)
 children_of wanted nodes = option_map (λ found. found.children) (node_named nodes wanted)
 
--- The same nodes, with other children in the first of them that has this name.
+-- The same nodes, with other children in the first of them with the given name.
 abbrev pub with_children_of : {Own : Type 0} → List ℕ → (Nodes Own → Nodes Own) → Nodes Own
     → Nodes Own
 with_children_of wanted change none = none
@@ -35,12 +35,12 @@ abbrev pub each_own : {Own : Type 0} → Nodes Own → List Own
 each_own none = []
 each_own (node name own children later) = own ∷ each_own later
 
--- The image nodes of a tree: the children of the root's child `images`. There are none where the
--- root has no such child, which is not the same as one without children.
+-- The image nodes of a tree: the children of the root's child `images`. There are none if the root
+-- has no such child, which is not the same as a child without children.
 abbrev pub image_nodes : {Own : Type 0} → Root Own → Option (Nodes Own)
 image_nodes root = children_of images_name root.children
 
--- The nodes of a list, where there may be no list.
+-- The nodes of a list. There may be no list.
 abbrev pub nodes_or_none : {Own : Type 0} → Option (Nodes Own) → Nodes Own
 nodes_or_none None = none
 nodes_or_none (Some nodes) = nodes
@@ -50,18 +50,18 @@ abbrev pub with_image_nodes : {Own : Type 0} → (Nodes Own → Nodes Own) → R
 with_image_nodes change root =
     record { own = root.own; children = with_children_of images_name change root.children }
 
--- The properties of an image node but for the four that hold a payload or name its region.
+-- The properties of an image node, except the four that hold a payload or name its region.
 abbrev pub without_payload : PropertyMap → PropertyMap
 without_payload properties = retain_keys properties (λ name. not (is_payload_name name))
 
--- The same nodes, each without these properties. The nodes below them keep theirs: the names have
--- a meaning in image nodes alone (profile of this project).
+-- The same nodes, each without these properties. The nodes below them keep theirs: the names have a
+-- meaning only in image nodes (profile of this project).
 abbrev pub without_payloads : Nodes PropertyMap → Nodes PropertyMap
 without_payloads none = none
 without_payloads (node name own children later) =
     node name (without_payload own) children (without_payloads later)
 
--- A tree whose image nodes are without these properties.
+-- A tree with image nodes without these properties.
 abbrev pub tree_without_payloads : Root PropertyMap → Root PropertyMap
 tree_without_payloads root = with_image_nodes without_payloads root
 
@@ -87,9 +87,9 @@ pub record IsApart (properties : PropertyMap) (payload : Option (List ℕ)) : Ty
   pub no_payload_name : (name : List ℕ) → is_payload_name name ≡ true → get properties name ≡ None
   pub bytes : IfSome payload AreBytes
 
--- What an image tree has to be so that a file can mean it, if the file is not too long: numbers
--- are in their ranges, names are names, names and values are bytes, there is a child `images`, and
--- there is one payload or none for each image node, apart from its properties.
+-- What an image tree must be so that a file can mean it, if the file is not too long: numbers are
+-- in their ranges, names are names, names and values are bytes, there is a child `images`, and each
+-- image node has one payload or none, apart from its properties.
 pub record IsImageTree (tree : ImageTree) : Type 0 where
   pub cpu_fits : tree.cpu < 2 ^ 32
   pub are_reservations : AllByRecursion IsReservation tree.reservations

@@ -26,7 +26,7 @@ pub record Image : Type 0 where
   pub entry : Sibling PropertyMap
   pub payload : Option (List ℕ)
 
--- Nodes and their payloads, of which there are as many, as a list of images.
+-- Nodes and as many payloads, as a list of images.
 abbrev pub images_with : List (Sibling PropertyMap) → List (Option (List ℕ)) → List Image
 images_with [] payloads = []
 images_with entries [] = []
@@ -63,7 +63,7 @@ checked_hash image hash = record {
 abbrev pub hash_nodes : Image → List (Sibling PropertyMap)
 hash_nodes image = filter (λ child. is_hash_name child.name) (siblings image.entry.children)
 
--- The verdicts of a tree: image by image, and of each image hash node by hash node.
+-- The verdicts of a tree: image by image, and, for each image, hash node by hash node.
 abbrev pub verdicts_of : ImageTree → List CheckedHash
 verdicts_of tree = flat_map (λ image. map (checked_hash image) (hash_nodes image)) (images_of tree)
 
@@ -79,7 +79,7 @@ default_of tree =
     (λ configurations. option_and_then text_before_nul (get configurations.own default_name))
     (node_named tree.root.children configurations_name)
 
--- One more byte at the front of the first name of a list. What no zero follows is no name.
+-- One more byte at the front of the first name of a list. What no zero follows is not a name.
 abbrev pub with_byte : ℕ → List (List ℕ) → List (List ℕ)
 with_byte byte [] = []
 with_byte byte (name ∷ later) = (byte ∷ name) ∷ later
@@ -110,7 +110,7 @@ pub data ListResult : Type 0 where
   Missing : (index : ℕ) → ListResult
   ListedImages : (images : List ListedImage) → ListResult
 
--- The image of this name, if there is one.
+-- The image with the given name, if there is one.
 abbrev pub image_named : List ℕ → List Image → Option Image
 image_named name images = find (λ image. bytes_eq image.entry.name name) images
 
@@ -119,20 +119,20 @@ abbrev pub with_image : ListedImage → ListResult → ListResult
 with_image image (ListedImages later) = ListedImages (image ∷ later)
 with_image image refusal = refusal
 
--- The image of a name, and what follows it in the list.
+-- The image with a name, and what follows it in the list.
 abbrev pub listed_from : (index : ℕ) → (name : List ℕ) → Option Image → ListResult → ListResult
 listed_from index name None later = Missing index
 listed_from index name (Some image) later =
     with_image (record { name = name; payload = image.payload }) later
 
--- The images of these names, or the index of the first name that no image has.
+-- The images with these names, or the index of the first name that no image has.
 abbrev pub list_images : List Image → (index : ℕ) → List (List ℕ) → ListResult
 list_images images index [] = ListedImages []
 list_images images index (name ∷ later) =
     listed_from index name (image_named name images) (list_images images (index + 1) later)
 
--- What the value of a key lists. It is a list of names where its last byte is a zero, which an
--- empty value does not have.
+-- What the value of a key lists. It is a list of names if its last byte is a zero, which an empty
+-- value does not have.
 abbrev pub listed_in : List Image → List ℕ → ListResult
 listed_in images value =
     if ends_with nat_eq value (0 ∷ []) then list_images images 0 (listed_names value) else BadList
@@ -142,13 +142,13 @@ abbrev pub listed_at : List Image → Option (List ℕ) → ListResult
 listed_at images None = NoKey
 listed_at images (Some value) = listed_in images value
 
--- What a node lists under a key, where there may be no node.
+-- What a node lists under a key. There may be no node.
 abbrev pub listed_under : List Image → Option (Sibling PropertyMap) → Key → ListResult
 listed_under images None key = NoConfig
 listed_under images (Some configuration) key =
     listed_at images (get configuration.own (key_name key))
 
--- What the configuration of this name lists under a key.
+-- What the configuration with the given name lists under a key.
 abbrev pub listed_of : ImageTree → List ℕ → Key → ListResult
 listed_of tree name key =
     listed_under (images_of tree) (node_named (configuration_nodes tree) name) key

@@ -107,11 +107,11 @@ pub record BuiltIsKnown : Type 0 where
   pub strings_begin : off_dt_strings known_text ≡ 712
   pub strings_size : size_dt_strings known_text ≡ 112
 
--- An image of this name that is listed under a key, otherwise like the ramdisk.
+-- An image with this name that is listed under a key, otherwise like the ramdisk.
 abbrev pub known_image_of : Key → List ℕ → ImageSpecModel
 known_image_of key name = record known_ramdisk { name = name; key = key }
 
--- An image of each key but one, of which there are two, in another order than that of the keys.
+-- An image of each key, and two of one of the keys, in another order than that of the keys.
 abbrev pub images_of_each_key : List ImageSpecModel
 images_of_each_key =
     known_image_of Script (codes "a")

@@ -19,7 +19,7 @@ abbrev pub HasFitFault : Limits → List ℕ → Cause → ℕ → Type 0
 HasFitFault bounds file cause offset =
     IsFitFault bounds file (record { cause = cause; offset = offset })
 
--- A file whose tree is a root with these nodes.
+-- A file with a tree of a root with these nodes.
 abbrev pub file_of_nodes : Nodes (List Property) → List ℕ
 file_of_nodes nodes = text_of_tree 0 [] (record { own = []; children = nodes }) ++ []
 
@@ -32,8 +32,8 @@ abbrev pub file_of_two : (first second : List Property) → List ℕ
 file_of_two first second =
     file_of_images (node (codes "a") first none (node (codes "b") second none none)) []
 
--- Files that have no image nodes: a root alone, and one whose child `images` is no child of the
--- root.
+-- Files that have no image nodes: one with only a root, and one with a node `images` that is not a
+-- child of the root.
 pub record WithoutImages : Type 0 where
   pub no_child : HasFitFault widest (file_of_nodes none) NoImages 56
   pub elsewhere :
@@ -62,9 +62,8 @@ pub record RegionsHaveFaults : Type 0 where
       (file_of_image ((data_position_name, cell 172) ∷ (data_size_name, cell 1) ∷ []))
       OutsideFile 84
 
--- Files in which two checks fail: the fault is that of the first. The checks of one image node
--- come before those of the next, and `data-position` alone is checked where there is `data-offset`
--- too.
+-- Files in which two checks fail: the fault is that of the first. The checks of one image node come
+-- before those of the next, and only `data-position` is checked if there is `data-offset` too.
 pub record FirstFaultCounts : Type 0 where
   pub cell_before_size :
       HasFitFault widest (file_of_image ((data_offset_name, codes "abc") ∷ [])) BadCell 84

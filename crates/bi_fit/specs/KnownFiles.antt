@@ -24,13 +24,13 @@ tree_with_images images = record { own = []; children = node images_name [] imag
 abbrev pub file_of_images : Nodes (List Property) → List ℕ → List ℕ
 file_of_images images rest = text_of_tree 0 [] (tree_with_images images) ++ rest
 
--- Image nodes of these names, without properties.
+-- Image nodes with these names, without properties.
 abbrev pub plain_images : List (List ℕ) → Nodes PropertyMap
 plain_images [] = none
 plain_images (name ∷ later) = node name empty none (plain_images later)
 
--- The meaning of a file that has image nodes of these names, with these payloads and without other
--- properties.
+-- The meaning of a file that has image nodes with these names, with these payloads and without
+-- other properties.
 abbrev pub plain_tree : List (List ℕ) → List (Option (List ℕ)) → ImageTree
 plain_tree names payloads = record {
   cpu = 0;
@@ -211,7 +211,7 @@ shared_region = replicate 1000 7
 abbrev pub region_of : (offset size : ℕ) → List Property
 region_of offset size = (data_offset_name, cell offset) ∷ (data_size_name, cell size) ∷ []
 
--- A file with three images, the first of which has this region, and the other two the whole of the
+-- A file with three images. The first has this region, and the other two have the whole of the
 -- shared region.
 abbrev pub shared_file : (offset size : ℕ) → List ℕ
 shared_file offset size =
@@ -221,7 +221,7 @@ shared_file offset size =
     (node (codes "c") (region_of 0 1000) none none)))
     shared_region
 
--- What it means, where this is the first payload.
+-- What it means, if this is the first payload.
 abbrev pub shared_tree : List ℕ → ImageTree
 shared_tree payload =
     plain_tree
@@ -256,7 +256,7 @@ pub record ChildrenKeepOrder : Type 0 where
   pub embedded : fit_text Embedded unsorted_tree ≡ unsorted_file
 
 -- A tree with `data` in the root, in `images`, in a hash node, and in a child of another node
--- `images` that is no child of the root.
+-- `images` that is not a child of the root.
 abbrev pub nested_tree : Root (List Property)
 nested_tree = record {
   own = (data_name, codes "r") ∷ [];
@@ -298,14 +298,15 @@ pub record OnlyImagesHavePayloads : Type 0 where
   pub means : IsFitFile nested_file nested_image_tree
   pub embedded : fit_text Embedded nested_image_tree ≡ nested_file
 
--- A file whose image `a` has `data` and a `data-size` that is no cell.
+-- A file whose image `a` has `data` and a `data-size` that is not a cell.
 abbrev pub unused_size_file : List ℕ
 unused_size_file =
     file_of_images
     (node (codes "a") ((data_name, codes "abc") ∷ (data_size_name, codes "s") ∷ []) none none)
     []
 
--- A file whose image `a` has `data-position` 0, `data-size` 4 and a `data-offset` that is no cell.
+-- A file whose image `a` has `data-position` 0, `data-size` 4 and a `data-offset` that is not a
+-- cell.
 abbrev pub unused_offset_file : List ℕ
 unused_offset_file =
     file_of_images
@@ -315,7 +316,7 @@ unused_offset_file =
     []
 
 -- Properties that do not give the payload have no meaning. A region may be anywhere in the file,
--- also in its header.
+-- even in its header.
 pub record UnusedHaveNoMeaning : Type 0 where
   pub size : IsFitFile unused_size_file (plain_tree (codes "a" ∷ []) (Some (codes "abc") ∷ []))
   pub offset : IsFitFile unused_offset_file

@@ -32,7 +32,7 @@ other_lists = (codes "kernel", []) ∷ []
 abbrev pub default_list : List Property
 default_list = (default_name, codes "conf-3" ++ 0 ∷ []) ∷ []
 
--- A tree with one image, `a`, whose payload is `abc`, and these two configurations. The image and
+-- A tree with one image `a`, with the payload `abc`, and these two configurations. The image and
 -- the first configuration have a signature each.
 abbrev pub configured_tree : ImageTree
 configured_tree = record {
@@ -52,7 +52,8 @@ configured_tree = record {
 }
 
 -- What the configurations list. One zero byte lists one empty name, and a second zero after a name
--- an empty one too; what does not end with a zero is no list, nor is an empty value.
+-- lists an empty name too. What does not end with a zero is not a list, and an empty value is not a
+-- list.
 pub record ListsAreRead : Type 0 where
   pub listed : listed_of configured_tree (codes "conf-1") Kernel
       ≡ ListedImages (record { name = codes "a"; payload = Some (codes "abc") } ∷ [])
@@ -80,7 +81,7 @@ other_crc = (algo_name, codes "crc16-ccitt" ++ 0 ∷ []) ∷ (value_name, 0 ∷ 
 abbrev pub no_value : List Property
 no_value = (algo_name, codes "crc32" ++ 0 ∷ []) ∷ []
 
--- A tree with an image `a`, whose payload is `abc`, and an image `b` without a payload. Names that
+-- A tree with an image `a`, with the payload `abc`, and an image `b` without a payload. Names that
 -- begin with `hash` are those of hash nodes.
 abbrev pub hashed_tree : ImageTree
 hashed_tree = record {

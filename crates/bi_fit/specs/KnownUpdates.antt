@@ -12,7 +12,7 @@ use Rattle.bi_fit.specs.Updating.{with_changes}
 -- A small tree and what it is after updates, by which a reader can judge the definitions.
 
 -- The properties of its root, with time 1, and those of a hash node with three bytes of the CRC-32
--- of `abc`. Each has one property more, which an update is to keep.
+-- of `abc`. Each has one more property, which an update must keep.
 abbrev pub head_to_update : List Property
 head_to_update = (codes "description", codes "k" ++ 0 ∷ []) ∷ (timestamp_name, cell 1) ∷ []
 
@@ -23,9 +23,9 @@ hash_to_update =
     ∷ (value_name, 1 ∷ 2 ∷ 3 ∷ [])
     ∷ []
 
--- The tree. The image `a` has the payload `abc`, a hash node with a hash node below it, one whose
--- algorithm is not known, a node that is no hash node, and another hash node. The image `b` has no
--- payload.
+-- The tree. The image `a` has the payload `abc`, a hash node with a hash node below it, a hash node
+-- with an unknown algorithm, a node that is not a hash node, and another hash node. The image `b`
+-- has no payload.
 abbrev pub tree_to_update : ImageTree
 tree_to_update = record {
   cpu = 1;

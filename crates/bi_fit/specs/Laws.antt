@@ -22,18 +22,18 @@ use Rattle.bi_fit.specs.Text.{blob_of, payloads_end, payload_places, fit_text}
 use Rattle.bi_fit.specs.Judgement.{judgement, CheckedHash, verdicts_of, ListResult, NoKey}
 use Rattle.bi_fit.specs.Judgement.{ListedImages, listed_names, listed_of, default_of}
 use Rattle.bi_fit.specs.Building.{HeadModel, ImageSpecModel, CanBeBuilt, hash_node_name, built_tree}
-use Rattle.bi_fit.specs.Building.{configuration_name, is_under}
+use Rattle.bi_fit.specs.Building.{configuration_name, key_eq}
 
 -- Laws of what a flattened image tree is (Flattened Image Tree Specification), and of its faults
 -- and texts (profile of this project). Each is the contract of a function in `laws`.
 
--- A file is a flattened image tree of at most one meaning.
+-- As a flattened image tree, a file has at most one meaning.
 abbrev pub OneFitMeaning : Type 0
 OneFitMeaning = (file : List ℕ) (one other : ImageTree) → IsFitFile file one → IsFitFile file other
     → one ≡ other
 
 -- A flattened image tree begins with the magic number of a blob: a file that begins with another
--- is none.
+-- number is not one.
 abbrev pub FitBeginsWithMagic : Type 0
 FitBeginsWithMagic = (file : List ℕ) (tree : ImageTree) → IsFitFile file tree
     → magic file ≡ blob_magic
@@ -57,7 +57,7 @@ FitMeaningOrFault =
     → ((tree : ImageTree) × FitMeans bounds file tree)
     ⊎ ((fault : Fault) × IsFitFault bounds file fault)
 
--- A file of bytes is a flattened image tree within limits exactly where it has no fault under
+-- A file of bytes is a flattened image tree within limits if and only if it has no fault under
 -- them.
 abbrev pub FitMeaningWhereNoFault : Type 0
 FitMeaningWhereNoFault =
@@ -98,8 +98,8 @@ NormalFitTextIsAccepted =
     → length (fit_text form tree) ≤ bounds.file → bounds.file ≤ longest_text
     → IsAcceptedAs bounds (fit_text form tree) tree
 
--- Two image trees have the same text in one form exactly where they are the same, if one of the
--- texts is not too long.
+-- If one of the texts of two image trees in a form is not too long, the texts are the same if and
+-- only if the trees are.
 abbrev pub SameTextSameTree : Type 0
 SameTextSameTree =
     (form : Form) (one other : ImageTree) → IsImageTree one → IsImageTree other
@@ -132,8 +132,8 @@ pub record HasExternalLength (tree : ImageTree) : Type 0 where
 abbrev pub EachExternalTextHasItsLength : Type 0
 EachExternalTextHasItsLength = (tree : ImageTree) → HasExternalLength tree
 
--- Payloads end where some of the first of them do or after: a text is too long as soon as some of
--- its payloads are.
+-- Payloads end no earlier than the first few of them: a text is too long as soon as the first few
+-- of its payloads are.
 abbrev pub PayloadsEndLater : Type 0
 PayloadsEndLater =
     (first later : List (Option (List ℕ))) → payloads_end 0 first ≤ payloads_end 0 (first ++ later)
@@ -168,7 +168,7 @@ good_hash image = record {
 }
 
 -- The payloads of a built tree are those of its images in their order, and each image has one hash
--- node, whose verdict is Good.
+-- node, with the verdict Good.
 pub record HasGoodPayloads (head : HeadModel) (images : List ImageSpecModel) : Type 0 where
   pub payloads : (built_tree head images).payloads ≡ map (λ image. Some image.payload) images
   pub verdicts : verdicts_of (built_tree head images) ≡ map good_hash images
@@ -178,8 +178,8 @@ abbrev pub BuiltHasGoodPayloads : Type 0
 BuiltHasGoodPayloads = (head : HeadModel) (images : List ImageSpecModel)
     → HasGoodPayloads head images
 
--- How a value lists names: each name is followed by a zero. Where the last byte of a value is a
--- zero, all of it is names.
+-- How a value lists names: each name is followed by a zero. If the last byte of a value is a zero,
+-- all of it is names.
 pub record ReadsNames : Type 0 where
   pub listed : (names : List (List ℕ)) → AllByRecursion HasNoZero names
       → listed_names (strings_of names) ≡ names
@@ -187,7 +187,7 @@ pub record ReadsNames : Type 0 where
       → strings_of (listed_names value) ≡ value
   pub no_zero : (value : List ℕ) → AllByRecursion HasNoZero (listed_names value)
 
--- What a list of these images is: none where there is no image.
+-- What a list of these images is: none if there is no image.
 abbrev pub list_of_built : List ImageSpecModel → ListResult
 list_of_built [] = NoKey
 list_of_built (image ∷ later) =
@@ -198,7 +198,7 @@ list_of_built (image ∷ later) =
 -- default.
 pub record HasConfiguration (head : HeadModel) (images : List ImageSpecModel) : Type 0 where
   pub listed : (key : Key) → listed_of (built_tree head images) configuration_name key
-      ≡ list_of_built (filter (λ image. is_under key image.key) images)
+      ≡ list_of_built (filter (λ image. key_eq key image.key) images)
   pub default : default_of (built_tree head images) ≡ Some configuration_name
 
 -- Each tree that can be built has.

@@ -33,7 +33,7 @@ named_models images = map named_model images
 abbrev pub tree_of_named : Head → List NamedImage → ImageTree
 tree_of_named head images = built_tree (head_model head) (named_models images)
 
--- The image whose payload has to be placed in the text. It is in no file.
+-- The image with the payload that must be placed in the text. It is not in a file.
 abbrev pub image_to_place : NamedImage → Image
 image_to_place image =
     record { name = image.name; payload = Some image.payload; place = Absent }

@@ -7,7 +7,7 @@ use Rattle.bi_fit.specs.declared.key.Key.TheVariants.{Script}
 -- The names of nodes and properties in a flattened image tree (Flattened Image Tree Specification;
 -- U-Boot, include/image.h: FIT_*_PROP, FIT_*_PATH).
 
--- The child of the root whose children are the image nodes, and the one whose children are the
+-- The child of the root that has the image nodes as children, and the one that has the
 -- configuration nodes.
 abbrev pub images_name : List ℕ
 images_name = codes "images"

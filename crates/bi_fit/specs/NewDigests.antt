@@ -8,15 +8,15 @@ use Rattle.bi_fit.specs.Names.{is_hash_name}
 use Rattle.bi_fit.specs.ImageTree.{ImageTree, nodes_or_none, image_nodes}
 use Rattle.bi_fit.specs.Updating.{known_algorithm}
 
--- The digests that the hash nodes of a tree get by an update, one after another: image nodes are in
--- their order, and the hash nodes of each in theirs (profile of this project).
+-- The digests that the hash nodes of a tree get by an update, one after another: image nodes in
+-- their order, and the hash nodes of each in their order (profile of this project).
 
 -- The algorithm of a child of an image node, if it is a hash node and names a known algorithm.
 abbrev pub hash_algorithm : (name : List ℕ) → PropertyMap → Option Algo
 hash_algorithm name properties =
     if is_hash_name name then known_algorithm properties else None
 
--- The digest of a payload by this algorithm, if there is one.
+-- The digest of a payload with this algorithm, if there is one.
 abbrev pub digest_by : Option Algo → (payload : List ℕ) → List ℕ
 digest_by None payload = []
 digest_by (Some algo) payload = digest_of algo payload
@@ -33,7 +33,7 @@ abbrev pub digests_of_image : Option (List ℕ) → Nodes PropertyMap → List �
 digests_of_image None children = []
 digests_of_image (Some payload) children = digests_for payload children
 
--- The digests for the hash nodes of image nodes with these payloads, of which there are as many.
+-- The digests for the hash nodes of image nodes with as many payloads.
 abbrev pub digests_of_images : List (Option (List ℕ)) → Nodes PropertyMap → List ℕ
 digests_of_images [] nodes = []
 digests_of_images (payload ∷ payloads) none = []

@@ -31,7 +31,7 @@ with_events document events = record document { events = document.events ++ even
 abbrev pub MayAdd : Doc → List Event → Type 0
 MayAdd document events = AllFollow MayFollowInText (stage_of_events document.events) events
 
--- No two properties of a node have one name.
+-- No two properties of a node have the same name.
 abbrev pub HasDistinctNames : FileNode → Type 0
 HasDistinctNames own = AreDistinct (map (λ property. property.0) (properties_of own))
 
@@ -55,7 +55,7 @@ sorted_nodes nodes = with_each entries (nodes_by_name nodes)
 abbrev pub begin_events : List ℕ → PropertyMap → List Event
 begin_events name properties = NodeStart name ∷ map NodeProperty (entries properties)
 
--- A node of this name with these properties and no children, without its siblings.
+-- A node with the given name, these properties and no children, without its siblings.
 abbrev pub leaf : List ℕ → PropertyMap → Nodes (List Property)
 leaf name properties = node name (entries properties) none none
 
@@ -82,7 +82,7 @@ sorted_images hashes form end payloads digests nodes =
     (with_payloads form end payloads
     (images_with_digests_from hashes payloads digests (without_payloads (nodes_by_name nodes))))
 
--- The node whose children are the image nodes, without its siblings.
+-- The node that has the image nodes as children, without its siblings.
 abbrev pub sorted_images_node : (hashes : Bool) → Form → List (Option (List ℕ))
     → (digests : List ℕ) → Sibling FileNode → Nodes (List Property)
 sorted_images_node hashes form payloads digests sibling =
@@ -94,8 +94,8 @@ abbrev pub HasCellSize : Form → Option (List ℕ) → Type 0
 HasCellSize External (Some payload) = length payload < 2 ^ 32
 HasCellSize form payload = ⊤
 
--- Where the payloads end once there is one more, if they ended at `end` before it. That counts only
--- for external ones.
+-- Where the payloads end once there is one more, if they ended at `end` before it. That matters
+-- only for external payloads.
 abbrev pub next_end : Form → (end : ℕ) → Option (List ℕ) → ℕ
 next_end Embedded end payload = end
 next_end External end payload = end_after end payload
@@ -111,7 +111,7 @@ pub record AreImageNodes (hashes : Bool) (images : List Image) (digests : List �
   pub same_count : length (siblings nodes) ≡ length images
   pub has_digests : HaveImageDigests hashes (payloads_of images) digests (nodes_by_name nodes)
 
--- This holds of the children of each of these nodes that has the name `images`.
+-- This holds for the children of each of these nodes that has the name `images`.
 abbrev pub HaveImageNodes : (Nodes FileNode → Type 0) → Nodes FileNode → Type 0
 HaveImageNodes AreImages none = ⊤
 HaveImageNodes AreImages (node name own children later) =

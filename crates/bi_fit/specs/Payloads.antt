@@ -11,7 +11,7 @@ use Rattle.bi_fit.specs.Names.{data_name, data_offset_name, data_position_name, 
 
 -- Which property of an image node gives its payload: the first that is there of `data-position`,
 -- `data-offset` and `data`. The first two name a region of the file together with `data-size`, if
--- that is there. The others of the four properties have no meaning then (the order and this are
+-- that is there. The others of the four properties then have no meaning (the order and this are
 -- profile of this project).
 pub data PayloadSource : Type 0 where
   NoSource : PayloadSource
@@ -36,7 +36,7 @@ source_of own =
     (property_named own.properties data_size_name)
     (property_named own.properties data_name)
 
--- The number of a property whose value is one cell.
+-- The number in a property whose value is one cell.
 abbrev pub cell_number : FileProperty → ℕ
 cell_number property = from_be_bytes w32 property.value
 
@@ -54,8 +54,8 @@ pub record IsRegion (file : List ℕ) (base : ℕ) (begin size : FileProperty)
   pub in_file : base + cell_number begin + cell_number size ≤ length file
   pub is_slice : payload ≡ Some (slice file (base + cell_number begin) (cell_number size))
 
--- Two properties, each of one cell, name this payload: a region of the file. The second may not be
--- there, and then they name nothing.
+-- Two properties, each of one cell, name this payload: a region of the file. If the second is not
+-- there, they name nothing.
 abbrev pub IsSizedRegion : List ℕ → ℕ → FileProperty → Option FileProperty → Option (List ℕ)
     → Type 0
 IsSizedRegion file base begin None payload = ⊥

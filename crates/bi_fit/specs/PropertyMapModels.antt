@@ -19,11 +19,11 @@ model_code =
     (λ pair. record { names = pair.0; by_name = pair.1 })
     (λ _. refl)
 
--- These properties, whose names are among these.
+-- These properties. Their names are among these names.
 abbrev pub among : List (List ℕ) → PropertyMap → PropertyMapModel
 among names properties = record { names = names; by_name = properties }
 
--- With one more property, or with another value of the property of this name.
+-- With one more property, or with a new value for the property with the given name.
 abbrev pub with_property_value : (name value : List ℕ) → PropertyMapModel → PropertyMapModel
 with_property_value name value properties = record properties {
   by_name = insert properties.by_name name value;

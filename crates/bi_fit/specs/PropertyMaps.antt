@@ -15,15 +15,16 @@ use Rattle.bi_fit.specs.PropertyMapModels.{PropertyMapModel}
 
 -- What the map of a node's properties holds, and what is true of it.
 
--- The names and values of properties, each of which is given by the rank of its name.
+-- The names and values of properties. Each is given by the rank of its name.
 abbrev pub named_values : List (List ℕ) → List (ℕ × Value) → List Property
-named_values names entries = map (λ entry. (name_numbered names entry.0, value_bytes entry.1)) entries
+named_values names entries =
+    map (λ entry. (name_numbered names entry.0, value_bytes entry.1)) entries
 
 -- The ranks are those of names.
 abbrev pub AreRanksWithin : List (List ℕ) → List (ℕ × Value) → Type 0
 AreRanksWithin names entries = AllByRecursion (λ entry. entry.0 < length names) entries
 
--- The entry has the rank and the value of this property, whose key is the rank.
+-- The entry has the rank and the value of this property. Its key is the rank.
 abbrev pub IsEntryOf : KeyedProperty → ℕ × Value → Type 0
 IsEntryOf keyed entry = (keyed.0 ≡ entry.0) × (keyed.1.value ≡ value_bytes entry.1)
 
@@ -40,7 +41,7 @@ pub record IsConsistentMap (properties : Fields) : Type 0 where
   pub within : AreRanksWithin properties.names.now properties.entries.items
   pub ascending : T (is_sorted nat_cmp properties.entries.items)
 
--- The index of the first entry whose rank is not less, or the number of the entries.
+-- The index of the first entry with a rank that is not less, or the number of entries.
 abbrev pub index_of_rank : List (ℕ × Value) → (rank : ℕ) → ℕ
 index_of_rank [] rank = 0
 index_of_rank (entry ∷ entries) rank =

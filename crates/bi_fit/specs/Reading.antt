@@ -22,7 +22,7 @@ pub record IsReadFit (limits : Limits) (file : List ℕ) (content : FitModel) : 
   pub only : (other : ImageTree) → FitMeans limits file other → other ≡ tree_of content
   pub no_fault : (fault : Fault) → ¬ (IsFitFault limits file fault)
 
--- The file has this fault and no other, and is no flattened image tree within the limits.
+-- The file has this fault and no other, and is not a flattened image tree within the limits.
 pub record IsOnlyFitFault (limits : Limits) (file : List ℕ) (fault : Fault) : Type 0 where
   pub is_fault : IsFitFault limits file fault
   pub only : (other : Fault) → IsFitFault limits file other → other ≡ fault

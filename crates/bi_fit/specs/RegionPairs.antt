@@ -18,21 +18,21 @@ HasSameBytes file other pair =
     (index : ℕ) → pair.begin ≤ index → index < pair.end →
     slice_index_or file index 0 ≡ slice_index_or other (index + pair.distance - length file) 0
 
--- A pair of the same distance begins within another pair, or at its end.
+-- A pair with the same distance begins within another pair, or at its end.
 pub record BeginsWithin (compared pair : RegionPair) : Type 0 where
   pub same_distance : pair.distance ≡ compared.distance
   pub no_sooner : compared.begin ≤ pair.begin
   pub no_later : pair.begin ≤ compared.end
 
--- The pair of two payloads, or of none: its regions have the same bytes exactly if the payloads are
--- the same.
+-- The pair of two payloads, or of none: its regions have the same bytes if and only if the payloads
+-- are the same.
 pub record IsPairOfPayloads (file other : List ℕ) (payload other_payload : Option (List ℕ))
     (pair : RegionPair) : Type 0 where
   pub within : AreInFiles file other pair
   pub same : HasSameBytes file other pair ↔ (payload ≡ other_payload)
 
--- The pairs of two lists of payloads: the regions of all have the same bytes exactly if the lists
--- are the same.
+-- The pairs of two lists of payloads: the regions of all have the same bytes if and only if the
+-- lists are the same.
 pub record ArePairsOfPayloads (file other : List ℕ)
     (payloads other_payloads : List (Option (List ℕ))) (pairs : List RegionPair) : Type 0 where
   pub within : AllByRecursion (AreInFiles file other) pairs

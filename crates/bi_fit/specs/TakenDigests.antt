@@ -9,12 +9,13 @@ use Rattle.bi_fit.specs.NewDigests.{hash_algorithm}
 
 -- The values of hash nodes, taken in turn from the bytes of their digests.
 
--- The algorithm by which a child of an image node gets a digest, if the hash nodes of the image do.
+-- The algorithm with which a child of an image node gets a digest, if the hash nodes of the image
+-- do.
 abbrev pub algorithm_if_hashed : (hashed : Bool) → (name : List ℕ) → PropertyMap → Option Algo
 algorithm_if_hashed hashed name properties =
     if hashed then hash_algorithm name properties else None
 
--- The bytes begin with a digest by this algorithm, if there is one.
+-- The bytes begin with a digest with this algorithm, if there is one.
 abbrev pub HasDigest : Option Algo → (digests : List ℕ) → Type 0
 HasDigest None digests = ⊤
 HasDigest (Some algo) digests = digest_size algo ≤ length digests
@@ -51,7 +52,7 @@ after_digests hashed digests none = digests
 after_digests hashed digests (node name own children later) =
     after_digests hashed (after_digest (algorithm_if_hashed hashed name own) digests) later
 
--- Whether the hash nodes of an image with this payload get new digests.
+-- Whether the hash nodes of an image with the given payload get new digests.
 abbrev pub is_hashed : (hashes : Bool) → Option (List ℕ) → Bool
 is_hashed hashes None = false
 is_hashed hashes (Some payload) = hashes
@@ -66,7 +67,7 @@ HaveImageDigests hashes (payload ∷ payloads) digests (node name own children l
     × HaveImageDigests hashes payloads
     (after_digests (is_hashed hashes payload) digests children) later
 
--- Image nodes with these payloads, whose hash nodes have these digests.
+-- Image nodes with these payloads, and with these digests in their hash nodes.
 abbrev pub images_with_digests_from : (hashes : Bool) → List (Option (List ℕ))
     → (digests : List ℕ) → Nodes PropertyMap → Nodes PropertyMap
 images_with_digests_from hashes [] digests nodes = nodes

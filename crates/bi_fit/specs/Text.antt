@@ -34,8 +34,8 @@ abbrev pub payloads_end : (end : ℕ) → List (Option (List ℕ)) → ℕ
 payloads_end end [] = end
 payloads_end end (payload ∷ later) = payloads_end (end_after end payload) later
 
--- The offset in the text of each of these external payloads, if it has a payload, where the blob
--- has `base` bytes and the payloads before them end at `end`.
+-- The offset in the text of each of these external payloads, if there is a payload. The blob has
+-- `base` bytes, and the payloads before them end at `end`.
 abbrev pub payload_places : (base end : ℕ) → List (Option (List ℕ)) → List (Option ℕ)
 payload_places base end [] = []
 payload_places base end (None ∷ later) = None ∷ payload_places base end later
@@ -43,7 +43,7 @@ payload_places base end (Some payload ∷ later) =
     Some (base + up4 end) ∷ payload_places base (end_after end (Some payload)) later
 
 -- Image nodes with the properties that give their payloads, if the external payloads before theirs
--- end at `end`. There are as many entries of payloads as nodes.
+-- end at `end`. There are as many payload entries as nodes.
 abbrev pub with_payloads : Form → (end : ℕ) → List (Option (List ℕ)) → Nodes PropertyMap
     → Nodes PropertyMap
 with_payloads form end [] nodes = nodes
@@ -62,7 +62,7 @@ normal_tree form tree =
 abbrev pub blob_of : Form → ImageTree → List ℕ
 blob_of form tree = text_of_tree tree.cpu tree.reservations (normal_tree form tree)
 
--- These external payloads, where those before them end at `end`: before each, also before an empty
+-- These external payloads, if those before them end at `end`: before each, even before an empty
 -- one, zeros up to a multiple of four.
 abbrev pub payload_area : (end : ℕ) → List (Option (List ℕ)) → List ℕ
 payload_area end [] = []

@@ -8,7 +8,8 @@ use Rattle.bi_fit.specs.NormalNodes.{AreImageNodes, HaveImageNodes, AreWithin, p
 use Rattle.bi_fit.specs.NormalNodes.{sorted_images, sorted_images_node}
 use Rattle.bi_fit.specs.NormalNodes.{sorted_root_children, sorted_root}
 
--- The nodes of a normal text, by the nodes of its file and what the text is made of besides them.
+-- The nodes of a normal text, by the nodes of its file and what the text is made of in addition to
+-- them.
 
 -- The payload of each image, if it has one.
 abbrev pub text_payloads : TextParts → List (Option (List ℕ))
@@ -32,7 +33,7 @@ abbrev pub text_image_nodes : TextParts → Nodes FileNode → Nodes (List Prope
 text_image_nodes parts nodes =
     sorted_images parts.changes.hashes parts.form 0 (text_payloads parts) parts.digests.now nodes
 
--- The node whose children they are, without its siblings.
+-- The node that has them as children, without its siblings.
 abbrev pub text_images_node : TextParts → Sibling FileNode → Nodes (List Property)
 text_images_node parts sibling =
     sorted_images_node parts.changes.hashes parts.form (text_payloads parts) parts.digests.now
@@ -54,7 +55,7 @@ abbrev pub are_none_before : Option ℕ → Bool
 are_none_before None = false
 are_none_before (Some count) = count == 0
 
--- The number less one. After 0 there is no number.
+-- The number minus one. After 0 there is no number.
 abbrev pub one_fewer : Option ℕ → Option ℕ
 one_fewer None = None
 one_fewer (Some count) = if count == 0 then None else Some (count - 1)

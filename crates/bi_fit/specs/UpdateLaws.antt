@@ -26,7 +26,7 @@ abbrev pub NoChangeKeepsTree : Type 0
 NoChangeKeepsTree =
     (tree : ImageTree) → with_changes (record { time = None; hashes = false }) tree ≡ tree
 
--- An updated image tree is an image tree, and as deep.
+-- An updated image tree is an image tree of the same depth.
 pub record IsStillImageTree (changes : Changes) (tree : ImageTree) : Type 0 where
   pub is_image_tree : IsImageTree (with_changes changes tree)
   pub depth : depth_of (with_changes changes tree).root ≡ depth_of tree.root
@@ -57,18 +57,18 @@ pub record HaveNewTime (time : ℕ) (old new : PropertyMap) : Type 0 where
   pub timestamp : get new timestamp_name ≡ Some (cell time)
   pub others : (name : List ℕ) → name ≢ timestamp_name → get new name ≡ get old name
 
--- The same where there may be no time: then all are as they were.
+-- The same if there may be no time: without one, all are as they were.
 abbrev pub HaveTime : Option ℕ → (old new : PropertyMap) → Type 0
 HaveTime None old new = new ≡ old
 HaveTime (Some time) old new = HaveNewTime time old new
 
--- The properties of a hash node have the digest of this payload by this algorithm, and all but
+-- The properties of a hash node have the digest of this payload with this algorithm, and all but
 -- `value` are as they were.
 pub record HaveNewDigest (algo : Algo) (payload : List ℕ) (old new : PropertyMap) : Type 0 where
   pub value : get new value_name ≡ Some (digest_of algo payload)
   pub others : (name : List ℕ) → name ≢ value_name → get new name ≡ get old name
 
--- The same where there may be no algorithm: then all are as they were.
+-- The same if there may be no algorithm: without one, all are as they were.
 abbrev pub HaveDigest : Option Algo → (payload : List ℕ) → (old new : PropertyMap) → Type 0
 HaveDigest None payload old new = new ≡ old
 HaveDigest (Some algo) payload old new = HaveNewDigest algo payload old new
@@ -118,7 +118,7 @@ pub record HasOnlyChanges (changes : Changes) (old new : ImageTree) : Type 0 whe
   pub properties : HaveTime changes.time old.root.own new.root.own
   pub nodes : HasDigests changes.hashes old new
 
--- An update changes what it is to change, and nothing else.
+-- An update changes what it must change, and nothing else.
 abbrev pub EachUpdateHasItsChanges : Type 0
 EachUpdateHasItsChanges =
     (changes : Changes) (tree : ImageTree) → HasOnlyChanges changes tree (with_changes changes tree)

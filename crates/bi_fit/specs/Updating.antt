@@ -35,15 +35,15 @@ abbrev pub known_algorithm : PropertyMap → Option Algo
 known_algorithm properties =
     option_and_then find_algorithm (option_and_then text_before_nul (get properties algo_name))
 
--- The properties of a hash node with the digest of a payload by this algorithm, if there is one.
+-- The properties of a hash node with the digest of a payload with this algorithm, if there is one.
 abbrev pub with_digest_by : Option Algo → (payload : List ℕ) → PropertyMap → PropertyMap
 with_digest_by None payload properties = properties
 with_digest_by (Some algo) payload properties =
     insert properties value_name (digest_of algo payload)
 
--- The properties of a child of an image node with this payload: a hash node whose algorithm is
--- known has the digest of the payload as its value, and any other child has the properties that it
--- had.
+-- The properties of a child of an image node with the given payload: a hash node with a known
+-- algorithm has the digest of the payload as its value, and any other child has the properties that
+-- it had.
 abbrev pub with_digest : (payload name : List ℕ) → PropertyMap → PropertyMap
 with_digest payload name properties =
     if is_hash_name name then with_digest_by (known_algorithm properties) payload properties
@@ -62,14 +62,14 @@ abbrev pub with_digests_of : Option (List ℕ) → Nodes PropertyMap → Nodes P
 with_digests_of None children = children
 with_digests_of (Some payload) children = with_digests payload children
 
--- Image nodes with these payloads, of which there are as many.
+-- Image nodes with as many payloads.
 abbrev pub images_with_digests : List (Option (List ℕ)) → Nodes PropertyMap → Nodes PropertyMap
 images_with_digests [] nodes = nodes
 images_with_digests (payload ∷ payloads) none = none
 images_with_digests (payload ∷ payloads) (node name own children later) =
     node name own (with_digests_of payload children) (images_with_digests payloads later)
 
--- The children of a root whose image nodes have these payloads, if the digests change.
+-- The children of a root with image nodes that have these payloads, if the digests change.
 abbrev pub with_new_digests : (hashes : Bool) → List (Option (List ℕ)) → Nodes PropertyMap
     → Nodes PropertyMap
 with_new_digests false payloads nodes = nodes
@@ -91,7 +91,7 @@ with_changes changes tree =
 
 -- ---- what follows from an updated tree
 
--- A hash node of an image with this payload, by this algorithm, once it has the digest: the verdict
+-- A hash node of an image with this payload and this algorithm, once it has the digest: the verdict
 -- on it is Good.
 abbrev pub hash_with_digest : Image → Sibling PropertyMap → (payload : List ℕ) → Algo
     → CheckedHash
@@ -113,8 +113,8 @@ abbrev pub new_hash : (hashes : Bool) → Image → Sibling PropertyMap → Chec
 new_hash false image hash = checked_hash image hash
 new_hash true image hash = rechecked_by image hash image.payload (known_algorithm hash.own)
 
--- What follows from a tree after an update. If the digests change, the verdict on each hash node of
--- an image with a payload is Good, if its algorithm is known. All other verdicts stay, and so do
+-- What follows from a tree after an update. If the digests change, the verdict on each hash node
+-- with a known algorithm, of an image with a payload, is Good. All other verdicts stay, and so do
 -- the configurations and what they list, the default, and the number of signatures.
 pub record HasUpdatedJudgement (changes : Changes) (tree : ImageTree) : Type 0 where
   pub verdicts : verdicts_of (with_changes changes tree)

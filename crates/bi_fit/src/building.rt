@@ -25,7 +25,7 @@ use crate::text::FitText;
 use bi_base::{Error, Limits, Sink};
 use std::alloc::Global;
 
-/// What a flattened image tree to be built has beside its images.
+/// What a flattened image tree to be built has in addition to its images.
 #[derive(Clone, Copy, Debug, PartialEq, Eq)]
 pub struct Head<'a> {
     /// The description of the tree, of each image and of the configuration, without a zero byte.
@@ -34,8 +34,8 @@ pub struct Head<'a> {
     pub time: u32,
 }
 
-/// An image to be built. Its architecture, operating system and compression are the names that its
-/// node has.
+/// An image to be built. Its architecture, operating system and compression are the names in its
+/// node.
 #[derive(Clone, Copy, Debug, PartialEq, Eq)]
 pub struct NamedImage<'a> {
     /// The name of the image node.
@@ -56,19 +56,19 @@ pub struct NamedImage<'a> {
     pub payload: &'a [u8],
 }
 
-/// Appends the text of a flattened image tree with these images to a sink: each has the SHA-256 of
-/// its payload, and one configuration, `conf-1`, lists them by their keys.
+/// Appends the text of a flattened image tree with these images to a sink. Each image has the
+/// SHA-256 of its payload, and one configuration, `conf-1`, lists the images by their keys.
 ///
-/// It may only be called if the tree can be built: the description has no zero byte, the name of
-/// each image may be that of a node and is no other image's, and no name of an architecture, an
-/// operating system or a compression has a zero byte.
+/// Requires: the tree can be built. The description has no zero byte, each image has a different
+/// name that a node may have, and no name of an architecture, an operating system or a compression
+/// has a zero byte.
 ///
 /// Takes time linear in the length of the text and in the number of images.
 ///
-/// Errors: TooLarge at `limits.file()`, exactly if the text is longer than that, unless memory runs
-/// out; OutOfMemory; those of the sink. After any other error than those of the sink, the sink is
-/// unchanged. After an error of the sink, it is as a failed `put` of the text leaves it. All
-/// allocations but those of the sink are made before the first byte is appended.
+/// Errors: TooLarge at `limits.file()`, if the text is longer than that, unless memory runs out;
+/// OutOfMemory; those of the sink. After an error of the sink, the sink is as a failed `put` of the
+/// text leaves it. After any other error, the sink is unchanged. All allocations, except those of
+/// the sink, are made before the first byte is appended.
 pub fn append_built<S: Sink>(
     alloc: Global,
     head: Head<'_>,

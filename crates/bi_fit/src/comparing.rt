@@ -30,12 +30,12 @@ use std::alloc::{AllocError, Global};
 impl<'a> Fit<'a> {
     /// Returns whether both files mean the same: they have the same boot processor, the same memory
     /// reservations and the same nodes, each in the same order, and nodes have the same properties
-    /// by name. The payloads of images are compared, and not where the files have them.
+    /// by name. The payloads of images are compared, but not where the files have them.
     ///
-    /// No normal text is made, so no limit applies. Properties are put in the order of the numbers
-    /// of their names first, and names are compared by their numbers. Bytes that the payloads of
-    /// several images share are compared once, if the two payloads that are compared are as far
-    /// apart in the two files each time.
+    /// No normal text is made, so no limit applies. Properties are first put in the order of the
+    /// numbers of their names, and names are compared by their numbers. Bytes that the payloads of
+    /// several images share are compared once, if the distance between the offsets of the two
+    /// payloads is the same each time.
     ///
     /// The only error is OutOfMemory.
     pub fn has_same_meaning(&self, alloc: Global, other: &Fit<'_>) -> Result<bool, Error>
@@ -53,7 +53,7 @@ impl<'a> Fit<'a> {
 }
 
 /// Returns whether both blobs have the same boot processor, the same memory reservations and the
-/// same nodes, without what gives the payloads of images.
+/// same nodes, without the properties that give the payloads of images.
 fn are_same_blobs<'a>(alloc: Global, own: &Blob<'a>, other: &Blob<'a>) -> Result<bool, AllocError>
     requires distinct { EachOwn HasDistinctNames (alone (root_node (root_of own.now))) }
     requires other_distinct { EachOwn HasDistinctNames (alone (root_node (root_of other.now))) }

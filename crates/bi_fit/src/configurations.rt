@@ -15,7 +15,7 @@ use bi_fdt::NodeRef;
 use std::alloc::{AllocFailed, Global};
 use std::marker::Model;
 
-/// A name that a configuration lists, and the payload of the image of that name.
+/// A name that a configuration lists, and the payload of the image with that name.
 #[derive(Clone, Copy, Debug, PartialEq, Eq)]
 pub struct Named<'a> {
     /// The name.
@@ -30,7 +30,7 @@ pub enum ConfigError {
     /// There is no such configuration.
     #[error("no such configuration")]
     NoConfig,
-    /// The configuration has no such key.
+    /// The configuration does not have the key.
     #[error("no such key")]
     NoKey,
     /// The value of the key is empty, or its last byte is not zero.
@@ -89,7 +89,7 @@ impl<'a, 'b> Configuration<'a, 'b> {
 
     /// Returns the images that the configuration lists under a key, in their order.
     ///
-    /// Errors, the first that applies: NoKey; BadList; Missing. OutOfMemory comes only if neither
+    /// Errors, the first that applies: NoKey; BadList; Missing. OutOfMemory occurs only if neither
     /// of the first two applies.
     pub fn payloads(&self, alloc: Global, key: Key) -> Result<Vec<Named<'a>>, ConfigError>
         ensures listed { IfOk result (λ listed. listed_of (tree_of self.now.content) self.now.name
@@ -102,7 +102,7 @@ impl<'a, 'b> Configuration<'a, 'b> {
     }
 }
 
-/// The configurations that are left, in their order in the file.
+/// An iterator over the configurations, in their order in the file.
 #[derive(Drop)]
 pub struct Configurations<'a, 'b> {
     fit: &'b Fit<'a>,
@@ -159,7 +159,7 @@ impl<'a> Fit<'a> {
         }
     }
 
-    /// Returns the number of the configurations. Takes time linear in it.
+    /// Returns the number of configurations. Takes time linear in it.
     pub fn config_count(&self) -> usize
         ensures { result ≡ length (names (configuration_nodes (tree_of self.now))) }
     {
@@ -169,8 +169,8 @@ impl<'a> Fit<'a> {
         }
     }
 
-    /// Returns the name of configuration `index`, counted from 0. Returns None exactly if there is
-    /// no such configuration. Takes time linear in the number of configurations before it.
+    /// Returns the name of configuration `index`, counted from 0. Returns None if there is no such
+    /// configuration. Takes time linear in the number of configurations before it.
     pub fn config_name(&self, index: usize) -> Option<&'a [u8]>
         ensures { option_map (λ name. name.now) result
             ≡ slice_get (names (configuration_nodes (tree_of self.now))) index }
@@ -179,18 +179,19 @@ impl<'a> Fit<'a> {
     }
 
     /// Returns the name of the default configuration: the bytes of the property `default` of
-    /// `/configurations` before its first zero. Returns None exactly if there is no such node or
-    /// property, or no zero in it. No configuration need have this name.
+    /// `/configurations` before its first zero. Returns None if there is no such node or property,
+    /// or no zero in it. There may be no configuration with this name.
     pub fn default_config(&self) -> Option<&'a [u8]>
         ensures { option_map (λ name. name.now) result ≡ default_of (tree_of self.now) }
     {
         text_before_nul(self.configurations_node()?.property(b"default")?)
     }
 
-    /// Returns the images that the configuration of this name lists under a key, in their order.
+    /// Returns the images that the configuration with the given name lists under a key, in their
+    /// order.
     ///
-    /// Errors, the first that applies: NoConfig; NoKey; BadList; Missing. OutOfMemory comes only if
-    /// none of the first three applies.
+    /// Errors, the first that applies: NoConfig; NoKey; BadList; Missing. OutOfMemory occurs only
+    /// if none of the first three applies.
     pub fn config_payloads(
         &self,
         alloc: Global,

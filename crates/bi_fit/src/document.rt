@@ -43,22 +43,22 @@ use bi_lay::Doc;
 use std::alloc::{AllocError, Global};
 
 impl<'a> Fit<'a> {
-    /// Lays out the normal text in a form. The boot processor, the memory reservations and the
-    /// nodes are those of the file in their order, and the properties of each node are in byte
-    /// order of their names.
+    /// Lays out the normal text in a form. It has the boot processor, the memory reservations and
+    /// the nodes of the file, in their order. The properties of each node are in byte order of
+    /// their names.
     ///
-    /// Image nodes with a payload have the properties of the form in place of `data`,
-    /// `data-offset`, `data-position` and `data-size`, and those without have none of the four. In
-    /// the form External the payloads follow the blob. The text borrows names, values and payloads,
-    /// and copies none.
+    /// Image nodes with a payload have the properties of the form instead of `data`, `data-offset`,
+    /// `data-position` and `data-size`. Image nodes without a payload have none of the four. In the
+    /// form External the payloads follow the blob. The text borrows names, values and payloads, and
+    /// copies none.
     ///
     /// Takes n log n steps for n nodes and properties. The different names of properties are put in
     /// byte order once, which takes m log m comparisons for m names; names of 64 bytes or more are
     /// compared only if they are together no longer than `limits.file()`.
     ///
-    /// Errors: TooLarge at `limits.file()`, exactly if the text is longer than that, unless memory
-    /// runs out; OutOfMemory, which never comes if the payloads after the blob are longer than that
-    /// by themselves.
+    /// Errors: TooLarge at `limits.file()`, if the text is longer than that, unless memory runs
+    /// out; OutOfMemory, which never occurs if the payloads after the blob are by themselves longer
+    /// than that.
     pub fn text<'b>(
         &'b self,
         alloc: Global,
@@ -71,12 +71,12 @@ impl<'a> Fit<'a> {
         self.updated_text(alloc, Changes::default(), b"", form, limits)
     }
 
-    /// Returns the document of the normal text in a form. It is closed, and its text is the blob of
-    /// the normal text; in the form External the payloads that follow the blob are not part of it.
-    /// The document borrows names, values and payloads of the file.
+    /// Returns the document of the normal text in a form. The document is closed, and its text is
+    /// the blob of the normal text. In the form External, the payloads that follow the blob are not
+    /// part of it. The document borrows names, values and payloads of the file.
     ///
-    /// The errors are those of `text`: the limit is on the whole text, payloads after the blob
-    /// included.
+    /// The errors are those of `text`: the limit is on the whole text, including payloads after the
+    /// blob.
     pub fn to_doc(&self, alloc: Global, form: Form, limits: Limits) -> Result<Doc<'a>, Error>
         ensures document { IfOk result (λ doc.
             HaveSameContent doc (document_of form (tree_of self.now))) }
@@ -91,11 +91,11 @@ impl<'a> Fit<'a> {
         Ok(document)
     }
 
-    /// Lays out the normal text in a form, as `text` does, but of the tree after an update. It may
-    /// only be called if `digests` are those that `new_digests` returns for these changes. The text
-    /// borrows them.
+    /// Lays out the normal text of the tree after an update, in a form, as `text` does. The text
+    /// borrows the digests. Requires: `digests` are those that `new_digests` returns for these
+    /// changes.
     ///
-    /// The errors are those of `text`, by the normal text of the updated tree.
+    /// The errors are those of `text`, for the normal text of the updated tree.
     pub fn updated_text<'b>(
         &'b self,
         alloc: Global,
@@ -159,8 +159,8 @@ impl<'a> Fit<'a> {
     }
 }
 
-/// Fails with TooLarge at the limit, if and only if the text of a document and `after` bytes more
-/// are longer than that.
+/// Fails with TooLarge at the limit if the text of a document and `after` more bytes are longer
+/// than that.
 fn check_length(document: &Doc<'_>, after: u32, limit: u32) -> Result<(), Fault>
     requires closed { stage_of_events document.now.events ≡ AfterRoot }
     requires within { after ≤ limit }

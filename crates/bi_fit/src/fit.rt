@@ -20,7 +20,7 @@ use std::alloc::{AllocError, Global};
 use std::collections::BTreeMap;
 use std::marker::Model;
 
-/// A flattened image tree that was read. It holds slices of its file.
+/// A flattened image tree that was read. It has slices of its file.
 #[derive(Drop)]
 pub struct Fit<'a> {
     blob: Blob<'a>,
@@ -48,15 +48,17 @@ impl<'a> Model for Fit<'a> {
 impl<'a> Fit<'a> {
     /// Reads a flattened image tree. The file may be longer than its blob.
     ///
-    /// Succeeds exactly if the file is a flattened image tree within the limits, unless memory runs
-    /// out. Otherwise it fails with the fault of the first check that fails: those of `Blob::read`;
-    /// NoImages at the token of the root, if it has no child `images`; then for each image node in
-    /// order that has `data-position` or else `data-offset`: BadCell at that property, if its value
-    /// is not four bytes; NoSize there, if there is no `data-size`; BadCell at `data-size`, if its
-    /// value is not four bytes; OutsideFile at the first property, if the payload ends after the
-    /// file.
+    /// Succeeds if the file is a flattened image tree within the limits, unless memory runs out.
+    /// Otherwise it fails with the fault of the first check that fails:
     ///
-    /// OutOfMemory comes only if the header and the memory reservation block have no fault.
+    /// - those of `Blob::read`;
+    /// - NoImages at the token of the root, if it has no child `images`;
+    /// - for each image node in order that has `data-position` or else `data-offset`: BadCell at
+    ///   that property, if its value is not four bytes; NoSize there, if there is no `data-size`;
+    ///   BadCell at `data-size`, if its value is not four bytes; OutsideFile at the first property,
+    ///   if the payload ends after the file.
+    ///
+    /// OutOfMemory occurs only if the header and the memory reservation block have no fault.
     pub fn read(alloc: Global, file: &'a [u8], limits: Limits) -> Result<Fit<'a>, Error>
         ensures read { IfOk result (IsReadFit limits file.entry.now) }
         ensures failed { IfErr result (IsFitReadError limits file.entry.now) }
@@ -111,15 +113,14 @@ impl<'a> Fit<'a> {
         &self.images
     }
 
-    /// Returns the number of the images.
+    /// Returns the number of images.
     pub fn image_count(&self) -> usize
         ensures { result ≡ length self.now.images }
     {
         self.images.len()
     }
 
-    /// Returns the name of image `index`, counted from 0. Returns None exactly if there is no such
-    /// image.
+    /// Returns the name of image `index`, counted from 0. Returns None if there is no such image.
     pub fn image_name(&self, index: usize) -> Option<&'a [u8]>
         ensures { option_map (λ name. name.now) result
             ≡ option_map (λ image. image.name) (slice_get self.now.images index) }
@@ -127,15 +128,15 @@ impl<'a> Fit<'a> {
         Some(self.images.get(index)?.name)
     }
 
-    /// Returns the index of the image of this name. Returns None exactly if there is no such image.
+    /// Returns the index of the image with the given name. Returns None if there is no such image.
     pub fn image(&self, name: &[u8]) -> Option<usize>
         ensures { result ≡ index_of name.now self.now.images }
     {
         self.indices.get(name).copied()
     }
 
-    /// Returns the payload of image `index`, counted from 0. Returns None exactly if there is no
-    /// such image, or it has no payload.
+    /// Returns the payload of image `index`, counted from 0. Returns None if there is no such
+    /// image, or it has no payload.
     pub fn payload(&self, index: usize) -> Option<&'a [u8]>
         ensures { option_map (λ payload. payload.now) result
             ≡ option_and_then (λ image. image.payload) (slice_get self.now.images index) }
@@ -144,7 +145,7 @@ impl<'a> Fit<'a> {
     }
 
     /// Returns where the payload of image `index`, counted from 0, is in the file. Returns
-    /// `Place::Absent` exactly if there is no such image, or it has no payload.
+    /// `Place::Absent` if there is no such image, or it has no payload.
     pub fn place(&self, index: usize) -> Place
         ensures { result ≡ place_or_absent (slice_get self.now.images index) }
     {
@@ -154,7 +155,7 @@ impl<'a> Fit<'a> {
         }
     }
 
-    /// Returns the digests of the regions of the file, of which none is computed yet.
+    /// Returns the digests of the regions of the file. None of them is computed yet.
     pub fn region_digests(&self, alloc: Global) -> RegionDigests<'a>
         ensures file { result ≡ self.now.blob.file }
         ensures placed { AreAtTheirPlaces result self.now.images }
@@ -170,8 +171,8 @@ impl<'a> Fit<'a> {
     }
 }
 
-/// Returns the index of each of these images by its name, or that of the first of several with one
-/// name.
+/// Returns the index of each of these images by its name. If several images have the same name, it
+/// has the index of the first.
 fn index_by_name<'a>(
     alloc: Global,
     images: &[Image<'a>],
@@ -179,7 +180,7 @@ fn index_by_name<'a>(
     ensures { IfOk result (λ indices. HasIndices indices (map image_model images.now)) }
 {
     let mut indices = BTreeMap::new(alloc);
-    // The first image of a name is inserted last, so its index stays.
+    // The first image with a name is inserted last, so its index stays.
     for index in (0..images.len()).rev() {
         indices.insert(images[index].name, index)?;
     }

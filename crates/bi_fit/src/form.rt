@@ -6,6 +6,6 @@ pub enum Form {
     /// Each payload is the value of the property `data` of its image node.
     Embedded,
     /// The payloads follow the blob. `data-offset` and `data-size` of each image node have the
-    /// offset of its payload and its size.
+    /// offset and the size of its payload.
     External,
 }

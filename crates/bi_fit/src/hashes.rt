@@ -26,7 +26,7 @@ pub struct Checked<'a> {
     /// The name of the hash node.
     pub node: &'a [u8],
     /// The name of the algorithm: the bytes of `algo` before its first zero. None if there is no
-    /// `algo`, or no zero in it.
+    /// `algo`, or `algo` has no zero.
     pub algo: Option<&'a [u8]>,
     /// The bytes of `value`, if there is one.
     pub value: Option<&'a [u8]>,
@@ -36,8 +36,8 @@ pub struct Checked<'a> {
 
 impl<'a> Fit<'a> {
     /// Returns each hash node with the verdict on it: images in their order, and the hash nodes of
-    /// an image in their order. A region of the file is read once for each algorithm by which hash
-    /// nodes name its digest, however many images have it as their payload.
+    /// each image in their order. A region of the file is read once for each algorithm that its
+    /// hash nodes name, however many images have it as their payload.
     ///
     /// The only error is OutOfMemory.
     pub fn verdicts(&self, alloc: Global) -> Result<Vec<Checked<'a>>, Error>
@@ -54,7 +54,7 @@ impl<'a> Fit<'a> {
     }
 }
 
-/// Adds the hash nodes of an image with this payload, with their verdicts.
+/// Adds the hash nodes of an image with the given payload, with their verdicts.
 fn check_image<'a>(
     checked: &mut Vec<Checked<'a>>,
     image: NodeRef<'a, '_>,
@@ -77,7 +77,7 @@ fn check_image<'a>(
     Ok(())
 }
 
-/// Judges a hash node of an image with this name and this payload.
+/// Judges a hash node of an image with the given name and payload.
 fn check_hash<'a>(
     image: &'a [u8],
     node: NodeRef<'a, '_>,

@@ -31,8 +31,8 @@ pub struct Image<'a> {
 }
 
 impl<'a> Image<'a> {
-    /// Returns the region of the file that is the payload. Returns None exactly if there is no
-    /// payload, or the image is not in a file.
+    /// Returns the region of the file that is the payload. Returns None if there is no payload, or
+    /// the image is not in a file.
     pub fn region(&self) -> Option<Region>
         ensures { (file : List ℕ) → IsAtItsPlace file (image_model self.now)
             → IsRegionOfPayload file (image_model self.now).payload result }

@@ -80,8 +80,8 @@ fn read_image<'a>(file: PayloadFile<'a>, node: NodeRef<'a, '_>) -> Result<Image<
     })
 }
 
-/// Reads the payload of an image node: that of the first that is there of `data-position`,
-/// `data-offset` and `data`.
+/// Reads the payload of an image node, from the first of `data-position`, `data-offset` and `data`
+/// that the node has.
 fn read_payload<'a>(
     file: PayloadFile<'a>,
     node: NodeRef<'a, '_>,
@@ -110,7 +110,7 @@ fn read_payload<'a>(
 }
 
 /// Reads a region of a file. One property has its offset, counted from `base`, the other its size.
-/// Returns its offset in the file too.
+/// Also returns its offset in the file.
 fn read_region<'a>(
     file: &'a [u8],
     base: usize,
@@ -139,8 +139,8 @@ fn read_region<'a>(
     }
 }
 
-/// Returns the number of a property whose value is one cell. Fails with BadCell at the property if
-/// it is not.
+/// Returns the number in a property whose value is one cell. Fails with BadCell at the property if
+/// the value is not one cell.
 fn read_cell(property: Property<'_>) -> Result<u32, Fault>
     ensures is_cell { IfOk result (λ _. length property.entry.value.now ≡ 4) }
     ensures number { IfOk result (λ number. number

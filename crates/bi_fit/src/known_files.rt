@@ -1,5 +1,5 @@
-//! Small flattened image trees whose meanings, texts and faults are known. Their functions do
-//! nothing: what each of them ensures is a fact about the definitions.
+//! Small flattened image trees with known meanings, texts and faults. The functions do nothing:
+//! what each one ensures is a fact about the definitions.
 
 ghost use Rattle.bi_fit.specs.KnownFiles.{SmallestIsFit, OffsetIsFromAlignedEnd};
 ghost use Rattle.bi_fit.specs.KnownFiles.{PositionIsBeforeData, OffsetIsBeforeData};
@@ -25,12 +25,12 @@ pub fn offset_is_from_aligned_end()
     ensures offset { OffsetIsFromAlignedEnd }
 {}
 
-/// `data-position` gives the payload also where there is `data`.
+/// `data-position` gives the payload even if there is `data`.
 pub fn position_is_before_data()
     ensures position { PositionIsBeforeData }
 {}
 
-/// `data-offset` gives the payload also where there is `data`.
+/// `data-offset` gives the payload even if there is `data`.
 pub fn offset_is_before_data()
     ensures offset { OffsetIsBeforeData }
 {}
@@ -68,8 +68,8 @@ pub fn children_keep_order()
     ensures order { ChildrenKeepOrder }
 {}
 
-/// The properties that hold payloads in image nodes are ordinary ones in all other nodes, and
-/// nodes `images` below another node than the root are ordinary nodes.
+/// The properties that hold payloads in image nodes are ordinary properties in all other nodes, and
+/// nodes `images` below any node other than the root are ordinary nodes.
 pub fn only_images_have_payloads()
     ensures others { OnlyImagesHavePayloads }
 {}
@@ -106,7 +106,7 @@ pub fn hashes_are_judged()
     ensures hashes { HashesAreJudged }
 {}
 
-/// The tree that is built of a small kernel and a small ramdisk has known nodes and properties,
+/// The tree that is built from a small kernel and a small ramdisk has known nodes and properties,
 /// and a text of 824 bytes.
 pub fn built_is_known()
     ensures built { BuiltIsKnown }

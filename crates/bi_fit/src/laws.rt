@@ -1,5 +1,4 @@
-//! Laws of flattened image trees. Their functions do nothing: what each of them ensures is the
-//! law.
+//! Laws of flattened image trees. The functions do nothing: what each one ensures is the law.
 
 ghost use Rattle.bi_fit.specs.Laws.{OneFitMeaning, FitBeginsWithMagic, FitHasNoFault, OneFitFault};
 ghost use Rattle.bi_fit.specs.Laws.{FitMeaningOrFault, FitMeaningWhereNoFault, FileMeansImageTree};
@@ -10,13 +9,13 @@ ghost use Rattle.bi_fit.specs.Laws.{ExternalPayloadsArePlaced, PayloadsAreAtPlac
 ghost use Rattle.bi_fit.specs.Laws.{BuiltIsAccepted, BuiltHasGoodPayloads, ReadsNames};
 ghost use Rattle.bi_fit.specs.Laws.{BuiltHasConfiguration};
 
-/// A file is a flattened image tree of at most one meaning.
+/// As a flattened image tree, a file has at most one meaning.
 pub fn one_meaning()
     ensures { OneFitMeaning }
 {}
 
-/// A flattened image tree begins with the magic number of a blob, 0xd00dfeed. So no file that
-/// begins with another number, as a legacy image does, is one.
+/// A flattened image tree begins with the magic number of a blob, 0xd00dfeed. So a file that begins
+/// with another number, as a legacy image does, is not one.
 pub fn begins_with_magic()
     ensures { FitBeginsWithMagic }
 {}
@@ -36,7 +35,7 @@ pub fn meaning_or_fault()
     ensures { FitMeaningOrFault }
 {}
 
-/// A file of bytes is a flattened image tree within limits exactly where it has no fault under
+/// A file of bytes is a flattened image tree within limits if and only if it has no fault under
 /// them.
 pub fn meaning_where_no_fault()
     ensures { FitMeaningWhereNoFault }
@@ -57,8 +56,8 @@ pub fn file_means_image_tree()
 {}
 
 /// The text of an image tree in either form, if it is no longer than the limit on files, is
-/// accepted under limits that are no less than the depth of the tree, and means the tree. The
-/// limit on files is at most 0x7fffffff.
+/// accepted under limits of at least the depth of the tree, and means the tree. The limit on files
+/// is at most 0x7fffffff.
 pub fn text_is_accepted()
     ensures { FitTextIsAccepted }
 {}
@@ -69,9 +68,9 @@ pub fn normal_text_is_accepted()
     ensures { NormalFitTextIsAccepted }
 {}
 
-/// Two texts in one form, one of which has at most 0x7fffffff bytes, are the same exactly where
-/// they are of one image tree: the same boot processor, memory reservations, nodes in order,
-/// properties by name and payloads.
+/// If one of two texts in the same form has at most 0x7fffffff bytes, the texts are the same if and
+/// only if they are of the same image tree: the same boot processor, memory reservations, nodes in
+/// order, properties by name and payloads.
 pub fn same_text_same_tree()
     ensures { SameTextSameTree }
 {}
@@ -82,20 +81,20 @@ pub fn text_keeps_judgement()
     ensures { TextKeepsJudgement }
 {}
 
-/// Two files with the same normal text in one form, which has at most 0x7fffffff bytes, have the
-/// same verdicts, configurations, default and signatures.
+/// Two files with the same normal text in a form, of at most 0x7fffffff bytes, have the same
+/// verdicts, configurations, default and signatures.
 pub fn same_text_same_judgement()
     ensures { SameTextSameJudgement }
 {}
 
-/// An external text is as long as its blob and, after it, its payloads: the length depends on the
-/// length of the blob and the sizes of the payloads alone.
+/// An external text is as long as its blob and, after it, its payloads: the length depends only on
+/// the length of the blob and the sizes of the payloads.
 pub fn each_external_text_has_its_length()
     ensures { EachExternalTextHasItsLength }
 {}
 
-/// Payloads that follow a blob end no earlier than some of the first of them. So a text is too
-/// long as soon as its blob and some of its payloads are.
+/// Payloads that follow a blob end no earlier than the first few of them. So a text is too long as
+/// soon as its blob and the first few payloads are.
 pub fn payloads_end_later()
     ensures { PayloadsEndLater }
 {}
@@ -120,7 +119,7 @@ pub fn built_has_good_payloads()
 {}
 
 /// The value of a key lists names, each followed by a zero: names without zeros are listed as they
-/// are, and all of a value whose last byte is a zero is names.
+/// are, and a value whose last byte is a zero has only names.
 pub fn reads_names()
     ensures names { ReadsNames }
 {}

@@ -34,7 +34,7 @@ pub(crate) fn list_images<'a>(
     find_images(alloc, fit, value)
 }
 
-/// Returns the images whose names a value lists, in their order.
+/// Returns the images with the names that a value lists, in their order.
 fn find_images<'a>(
     alloc: Global,
     fit: &Fit<'a>,
@@ -60,8 +60,8 @@ fn find_images<'a>(
 }
 
 /// Returns the first name that the value of a key lists, and the bytes after the zero that ends the
-/// name: they list the later names, and are fewer than those of the value. Returns None exactly if
-/// the value has no zero, so that it lists no name.
+/// name. They list the later names, and are fewer than those of the value. Returns None if the
+/// value has no zero: it then lists no name.
 pub fn split_name(value: &[u8]) -> Option<(&[u8], &[u8])>
     ensures { MatchOption result
         (listed_names value.now ≡ [])

@@ -1,6 +1,7 @@
 //! The order of the names of a file's properties.
 
-ghost use Rattle.std.specs.Prelude.{◌≡◌, ◌<◌, ◌≤◌, ℕ, List, slice_index_or, length, flat_map, OnOk, IfOk, IfErr};
+ghost use Rattle.std.specs.Prelude.{◌≡◌, ◌<◌, ◌≤◌, ℕ, List, slice_index_or, length, flat_map};
+ghost use Rattle.std.specs.Prelude.{OnOk, IfOk, IfErr};
 ghost use Rattle.std.specs.List.{AllZip};
 ghost use Rattle.bi_base.specs.Errors.{IsFaultOrNoMemory};
 ghost use Rattle.bi_base.specs.Reading.{too_large};
@@ -33,8 +34,8 @@ impl<'a> Fit<'a> {
 
     /// Puts the names of the properties in byte order, and the properties of each node in the order
     /// of their names. The long names (of 64 bytes or more) are together no longer than the limit,
-    /// which is checked before they are compared. For n different names it makes n log n
-    /// comparisons of names.
+    /// which is checked before they are compared. Makes n log n comparisons of names, for n
+    /// different names.
     ///
     /// Errors: TooLarge at the limit, only if the different long names together are longer than
     /// that; OutOfMemory.
@@ -75,7 +76,7 @@ impl<'a> NameOrder<'a> {
 
 /// Adds the names of the properties that a text adds, changes or leaves out to those of the
 /// properties of a blob, except those that a property of the blob has. Returns the number of each.
-/// It fails if memory runs out.
+/// Fails if memory runs out.
 fn number_changed<'a>(
     blob: &Blob<'a>,
     names: &mut Vec<&'a [u8]>,
@@ -95,8 +96,8 @@ fn number_changed<'a>(
     })
 }
 
-/// Returns the number of a name. If no property of the blob has it, it is added to the names, which
-/// begin with those of the blob. It fails if memory runs out.
+/// Returns the number of a name. If no property of the blob has the name, it is added to the names,
+/// which begin with those of the blob. Fails if memory runs out.
 fn number_name<'a>(
     blob: &Blob<'a>,
     names: &mut Vec<&'a [u8]>,
@@ -116,7 +117,7 @@ fn number_name<'a>(
     Ok(number)
 }
 
-/// Returns the ranks of the names that have these numbers. The ranks are by number.
+/// Returns the ranks of the names with these numbers. `ranks` is by number.
 fn ranks_at(ranks: &[usize], numbers: ChangedNumbers) -> ChangedNumbers
     ensures { (names sorted : List (List ℕ)) → AllZip (IsNumberOf sorted) names ranks.now
         → AreChangedNumbers names numbers → AreChangedNumbers sorted result }

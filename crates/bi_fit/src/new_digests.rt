@@ -19,9 +19,9 @@ use std::alloc::{AllocError, Global};
 
 impl<'a> Fit<'a> {
     /// Returns the digests that an update writes to the hash nodes, one after another: images in
-    /// their order, and the hash nodes of an image in theirs. It returns none if `changes.hashes`
-    /// is not set. A region of the file is read once for each algorithm that hash nodes name,
-    /// however many images have it as their payload.
+    /// their order, and the hash nodes of each image in their order. Returns none if
+    /// `changes.hashes` is not set. A region of the file is read once for each algorithm that its
+    /// hash nodes name, however many images have it as their payload.
     ///
     /// The only error is OutOfMemory.
     pub fn new_digests(&self, alloc: Global, changes: Changes) -> Result<Vec<u8>, Error>
@@ -41,7 +41,7 @@ impl<'a> Fit<'a> {
     }
 }
 
-/// Adds the digests for the hash nodes of an image node with this payload, in their order.
+/// Adds the digests for the hash nodes of an image node with the given payload, in their order.
 fn append_digests(
     digests: &mut Vec<u8>,
     image: NodeRef<'_, '_>,
@@ -62,8 +62,8 @@ fn append_digests(
     Ok(())
 }
 
-/// Returns the algorithm of a child of an image node. Returns None exactly if it is no hash node,
-/// or names no known algorithm.
+/// Returns the algorithm of a child of an image node. Returns None if the child is not a hash node,
+/// or does not name a known algorithm.
 pub(crate) fn hash_algo(node: NodeRef<'_, '_>) -> Option<Algo>
     ensures { result ≡ hash_algorithm
         (node_of node.entry).name

@@ -11,7 +11,7 @@ ghost use Rattle.bi_fit.specs.HashNodes.{file_images, file_configurations};
 use crate::fit::Fit;
 use bi_fdt::NodeRef;
 
-/// The nodes that are left of some siblings, in their order in the file.
+/// An iterator over sibling nodes, in their order in the file.
 #[derive(Drop)]
 pub(crate) struct Siblings<'a, 'b> {
     next: Option<NodeRef<'a, 'b>>,
@@ -57,7 +57,7 @@ impl<'a> Fit<'a> {
         Siblings::children(self.images_node())
     }
 
-    /// Returns the node `/configurations`. Returns None exactly if there is no such node.
+    /// Returns the node `/configurations`. Returns None if there is no such node.
     pub(crate) fn configurations_node<'b>(&'b self) -> Option<NodeRef<'a, 'b>>
         ensures { option_map node_of result
             ≡ node_named (root_of self.now.blob).children configurations_name }
@@ -75,7 +75,7 @@ impl<'a> Fit<'a> {
         }
     }
 
-    /// Returns the configuration node of this name. Returns None exactly if there is no such node.
+    /// Returns the configuration node with the given name. Returns None if there is no such node.
     pub(crate) fn configuration_node<'b>(&'b self, name: &[u8]) -> Option<NodeRef<'a, 'b>>
         ensures { option_map node_of result
             ≡ node_named (file_configurations self.now.blob) name.now }

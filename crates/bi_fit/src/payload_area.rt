@@ -15,8 +15,8 @@ use crate::form::Form;
 use crate::image::Image;
 use bi_base::{Cause, Error, Fault, Sink, refuse, up4};
 
-/// The area of the payloads after the blob, which grows payload by payload. It stays empty in the
-/// form Embedded.
+/// The area of the payloads after the blob, which grows payload by payload. In the form Embedded it
+/// stays empty.
 #[derive(Clone, Copy)]
 pub(crate) struct PayloadArea {
     /// Where the text has the payloads.
@@ -34,8 +34,8 @@ impl PayloadArea {
         PayloadArea { form, end: 0 }
     }
 
-    /// Places the payload of one more image, and returns where it begins in the form External. An
-    /// image without a payload changes nothing. The end saturates at `usize::MAX`.
+    /// Places the payload of one more image, and returns where it begins in the form External.
+    /// Changes nothing for an image without a payload. The end saturates at `usize::MAX`.
     pub(crate) fn place(&mut self, payload: Option<&[u8]>) -> usize
         requires { self.old.end + 3 < 2 ^ 64 }
         ensures begin { result ≡ up4_of self.old.end }
@@ -52,7 +52,7 @@ impl PayloadArea {
 }
 
 /// Returns how many bytes follow the blob: the payloads of these images in the form External, none
-/// in the form Embedded. Fails with TooLarge at the limit, exactly if they are more than that.
+/// in the form Embedded. Fails with TooLarge at the limit, if there are more bytes than that.
 pub(crate) fn length_after_blob(images: &[Image<'_>], form: Form, limit: u32) -> Result<u32, Fault>
     ensures length { IfOk result (λ length.
         length ≡ length_after_blob_of form (payloads_of images.now)) }
@@ -66,8 +66,7 @@ pub(crate) fn length_after_blob(images: &[Image<'_>], form: Form, limit: u32) ->
     }
 }
 
-/// Returns where the payloads of images end. Fails with TooLarge at the limit, exactly if that is
-/// after it.
+/// Returns where the payloads of images end. Fails with TooLarge at the limit, if that is after it.
 fn payloads_end(images: &[Image<'_>], limit: u32) -> Result<u32, Fault>
     ensures end { IfOk result (λ end. end ≡ payloads_end_of 0 (payloads_of images.now)) }
     ensures within { IfOk result (λ end. end ≤ limit) }
@@ -84,8 +83,8 @@ fn payloads_end(images: &[Image<'_>], limit: u32) -> Result<u32, Fault>
     Ok(area.end as u32)
 }
 
-/// Appends the payloads of images in their order, each after zeros up to a multiple of four, also
-/// an empty one. Fails as the sink does.
+/// Appends the payloads of images in their order, each after zeros up to a multiple of four, even
+/// an empty payload. Fails as the sink does.
 pub(crate) fn put_payloads<S: Sink>(images: &[Image<'_>], sink: &mut S) -> Result<(), Error>
     requires { payloads_end_of 0 (payloads_of images.now) ≤ longest_text }
     ensures { Wrote S.appends S.fails sink.old (payload_area 0 (payloads_of images.now)) result

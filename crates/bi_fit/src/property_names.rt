@@ -19,17 +19,17 @@ pub struct PropertyNames<'a> {
 /// list of names. In a list in byte order it is the rank.
 #[derive(Clone, Copy)]
 pub(crate) struct ChangedNumbers {
-    /// That of `data`.
+    /// The number of `data`.
     pub(crate) payload: usize,
-    /// That of `data-offset`.
+    /// The number of `data-offset`.
     pub(crate) offset: usize,
-    /// That of `data-position`.
+    /// The number of `data-position`.
     pub(crate) position: usize,
-    /// That of `data-size`.
+    /// The number of `data-size`.
     pub(crate) size: usize,
-    /// That of `timestamp`.
+    /// The number of `timestamp`.
     pub(crate) time: usize,
-    /// That of `value`.
+    /// The number of `value`.
     pub(crate) digest: usize,
 }
 
@@ -63,7 +63,7 @@ impl<'a> PropertyNames<'a> {
         &self.names
     }
 
-    /// Returns the names as a list of its own. It fails if memory runs out.
+    /// Returns a copy of the list of the names. Fails if memory runs out.
     pub(crate) fn to_vec(&self, alloc: Global) -> Result<Vec<&'a [u8]>, AllocError>
         ensures { IfOk result (λ names. bytes_of names.items ≡ self.now) }
     {
@@ -81,7 +81,7 @@ impl<'a> PropertyNames<'a> {
 }
 
 impl ChangedNumbers {
-    /// Returns whether a property of this rank holds a payload or names its region.
+    /// Returns whether a property with the given rank holds a payload or names its region.
     pub(crate) fn is_payload(self, rank: usize) -> bool
         ensures { result ≡ is_payload_rank self rank }
     {

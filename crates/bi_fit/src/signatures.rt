@@ -14,7 +14,7 @@ use bi_fdt::NodeRef;
 
 impl<'a> Fit<'a> {
     /// Returns the number of signature nodes: children of image nodes and of configuration nodes
-    /// whose names begin with `signature`. Takes time linear in the number of these children.
+    /// with a name that begins with `signature`. Takes time linear in the number of these children.
     pub fn signature_count(&self) -> usize
         ensures { result ≡ signature_count (tree_of self.now) }
     {

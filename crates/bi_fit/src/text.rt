@@ -17,12 +17,12 @@ use bi_lay::{ClosedDoc, Doc};
 use std::marker::Model;
 
 /// The text of a flattened image tree, laid out and measured: a blob, and in the form External the
-/// payloads after it. Names, values and payloads are borrowed and not copied.
+/// payloads after it. Names, values and payloads are borrowed, not copied.
 #[derive(Drop)]
 pub struct FitText<'a> {
     blob: ClosedDoc<'a>,
     form: Form,
-    /// The images whose payloads follow the blob in the form External.
+    /// The images with the payloads that follow the blob in the form External.
     images: &'a [Image<'a>],
     size: u32,
 }
@@ -43,7 +43,7 @@ impl<'a> FitText<'a> {
     /// Lays out a document and, in the form External, the payloads of these images after it, which
     /// take `after` bytes. Takes time linear in the number of the document's events.
     ///
-    /// Error: TooLarge at the limit, exactly if the text is longer than that.
+    /// Error: TooLarge at the limit, if the text is longer than that.
     pub(crate) fn new(
         document: Doc<'a>,
         form: Form,
@@ -86,8 +86,8 @@ impl<'a> FitText<'a> {
 
     /// Appends the text. Takes time linear in the length of the text, and allocates nothing itself.
     ///
-    /// Fails only as the sink does. After an error of the sink, it is as a failed `put` of the
-    /// whole text leaves it.
+    /// The only errors are those of the sink. After one, the sink is as a failed `put` of the whole
+    /// text leaves it.
     pub fn emit<S: Sink>(&self, sink: &mut S) -> Result<(), Error>
         ensures { Wrote S.appends S.fails sink.old self.now result sink.new }
     {

@@ -1,4 +1,5 @@
-//! Laws of updates of flattened image trees. Each is the contract of a function that does nothing.
+//! Laws of updates of flattened image trees. The functions do nothing: what each one ensures is the
+//! law.
 
 ghost use Rattle.bi_fit.specs.UpdateLaws.{EachUpdateHasItsChanges, EachUpdateHasItsJudgement};
 ghost use Rattle.bi_fit.specs.UpdateLaws.{NoChangeKeepsTree};
@@ -9,7 +10,7 @@ pub fn no_change_keeps_tree()
     ensures { NoChangeKeepsTree }
 {}
 
-/// An updated tree is one that a file can mean, if the tree is, and it has as many levels.
+/// If a file can mean a tree, a file can mean the updated tree, which has as many levels.
 pub fn updated_is_image_tree()
     ensures { UpdatedIsImageTree }
 {}
@@ -28,9 +29,9 @@ pub fn each_update_has_its_judgement()
     ensures { EachUpdateHasItsJudgement }
 {}
 
-/// An update of the time changes the property `timestamp` of the root and nothing else. One of the
-/// digests changes the property `value` of each hash node of an image with a payload and a known
-/// algorithm, and nothing else.
+/// An update of the time changes the property `timestamp` of the root and nothing else. An update
+/// of the digests changes the property `value` of each hash node of an image with a payload and a
+/// known algorithm, and nothing else.
 pub fn each_update_has_its_changes()
     ensures { EachUpdateHasItsChanges }
 {}

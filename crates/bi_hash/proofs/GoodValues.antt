@@ -10,7 +10,7 @@ use Rattle.bi_hash.specs.Digests.{digest_of}
 use Rattle.bi_hash.specs.Verdicts.{HasItsDigest, verdict_of, verdict_by_name, verdict_by_algorithm}
 use Rattle.bi_hash.proofs.AlgorithmNames.{find_algorithm-algorithm_name, algorithm_name-find_algorithm}
 
--- Proves that the verdict is Good exactly if the value is the digest of the payload by the algorithm that is named.
+-- Proves that the verdict is Good if and only if the value is the digest of the payload by the algorithm that is named.
 
 -- The text of an algorithm's name, a NUL and any bytes is the name.
 text_before_nul-name : (algo : Algo) (rest : List ℕ) → text_before_nul (algorithm_name algo ++ 0 ∷ rest) ≡ Some (algorithm_name algo)
@@ -28,7 +28,14 @@ pub good-from_digest : (algo value payload : Option (List ℕ)) → HasItsDigest
 unfolding verdict_of
 good-from_digest algo value payload has =
     let same = (bytes_eq-Decides (digest_of has.algorithm has.bytes) (digest_of has.algorithm has.bytes)).1 refl in
-    rw (has.algo_is, has.value_is, has.payload_is, text_before_nul-name has.algorithm has.rest, find_algorithm-algorithm_name has.algorithm, same)
+    rw (
+      has.algo_is,
+      has.value_is,
+      has.payload_is,
+      text_before_nul-name has.algorithm has.rest,
+      find_algorithm-algorithm_name has.algorithm,
+      same,
+    )
     refl
 
 -- Where a choice between Good and Bad is Good, its test holds.

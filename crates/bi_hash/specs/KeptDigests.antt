@@ -23,11 +23,11 @@ by_digest_key one other =
     (ordering_then (nat_cmp one.0 other.0) (nat_cmp one.1 other.1))
     (nat_cmp one.2 other.2)
 
--- The key of the digest of a region by an algorithm.
+-- The key of the digest of a region with an algorithm.
 abbrev pub digest_key : Region → Algo → DigestKey
 digest_key region algo = (region.begin, region.length, algorithm_index algo)
 
--- Each digest that is kept is that of its region by its algorithm.
+-- Each digest that is kept is that of its region with its algorithm.
 pub record AreKept (fields : Fields) : Type 0 where
   pub each : (region : Region) (algo : Algo) (digest : List ℕ)
       → get by_digest_key fields.digests (digest_key region algo) ≡ Some digest

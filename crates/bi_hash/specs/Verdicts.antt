@@ -31,7 +31,7 @@ verdict_of algo value payload =
     verdict_by_name (option_and_then text_before_nul algo) value payload
 
 -- A hash node with the digest of its payload: `algo` is the name of an algorithm, a NUL and
--- anything after it, and `value` is the payload's digest by this algorithm.
+-- anything after it, and `value` is the payload's digest with this algorithm.
 pub record HasItsDigest (algo value payload : Option (List ℕ)) : Type 0 where
   pub algorithm : Algo
   pub rest : List ℕ
@@ -40,7 +40,8 @@ pub record HasItsDigest (algo value payload : Option (List ℕ)) : Type 0 where
   pub value_is : value ≡ Some (digest_of algorithm bytes)
   pub payload_is : payload ≡ Some bytes
 
--- The law that the verdict is Good exactly on a hash node with the digest of its payload.
+-- The law that the verdict on a hash node is Good if and only if the node has the digest of its
+-- payload.
 abbrev pub GoodMeansDigest : Type 0
 GoodMeansDigest =
     (algo value payload : Option (List ℕ))

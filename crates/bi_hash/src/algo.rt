@@ -41,7 +41,7 @@ impl Algo {
         Algo::Sha512,
     ];
 
-    /// Finds the algorithm with exactly this name. Returns None if no algorithm has it.
+    /// Finds the algorithm with exactly the given name. Returns None if no algorithm has it.
     pub fn from_name(name: &[u8]) -> Option<Algo>
         ensures named { (algo : Algo) → (result ≡ Some algo) ↔ (name.now ≡ algorithm_name algo) }
         ensures value { result ≡ find_algorithm name.now }
@@ -103,7 +103,7 @@ impl Algo {
     }
 }
 
-/// Finds the first of these algorithms that has this name.
+/// Finds the first of these algorithms with the given name.
 fn find_by_name(algos: &[Algo], name: &[u8]) -> Option<Algo>
     ensures { result ≡ find (λ algo. bytes_eq (algorithm_name algo) name.now) algos.now }
 {

@@ -35,7 +35,7 @@ pub fn verdict(algo: Option<&[u8]>, value: Option<&[u8]>, payload: Option<&[u8]>
     stated.judge(&digest)
 }
 
-/// The digest that a hash node states: that of the payload by an algorithm is to have this value.
+/// The digest that a hash node states: an algorithm, and the value of the payload's digest.
 #[derive(Clone, Copy)]
 pub(crate) struct StatedDigest<'a> {
     pub(crate) algo: Algo,
@@ -44,7 +44,7 @@ pub(crate) struct StatedDigest<'a> {
 
 impl<'a> StatedDigest<'a> {
     /// Returns the digest that a hash node states by its properties `algo` and `value`. If it
-    /// states none, fails with the verdict on the node, which is then that by any payload.
+    /// states none, fails with the verdict on the node, which is then the same for any payload.
     pub(crate) fn read(
         algo: Option<&[u8]>,
         value: Option<&'a [u8]>,
@@ -67,7 +67,8 @@ impl<'a> StatedDigest<'a> {
         }
     }
 
-    /// Judges the hash node by the digest of the payload by its algorithm, with zeros after it.
+    /// Judges the hash node by the digest of the payload with its algorithm, with zeros after the
+    /// digest.
     pub(crate) fn judge(self, digest: &[u8; 64]) -> Verdict
         ensures { let stated = self.entry in (payload : List ℕ)
             → digest.now ≡ padded_digest stated.algo payload →

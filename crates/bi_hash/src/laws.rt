@@ -3,8 +3,8 @@
 ghost use Rattle.bi_hash.specs.Digests.{DigestsAreBytes};
 ghost use Rattle.bi_hash.specs.Verdicts.{GoodMeansDigest};
 
-/// The verdict is Good exactly if `algo` is the name of an algorithm, a NUL and anything after it,
-/// there is a payload, and `value` is the digest of the payload by that algorithm.
+/// The verdict is Good if and only if `algo` is the name of an algorithm, a NUL and anything after
+/// it, there is a payload, and `value` is the digest of the payload by that algorithm.
 pub fn good_means_the_digest()
     ensures { GoodMeansDigest }
 {}

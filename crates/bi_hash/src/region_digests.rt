@@ -22,12 +22,11 @@ pub struct Region {
     pub length: usize,
 }
 
-/// The digests of regions of a file, each of which is computed once, if it is needed.
+/// The digests of regions of a file. Each is computed once, when it is first needed.
 ///
-/// A digest is kept for its algorithm and its region, by the offset and the length of that. So each
-/// look-up takes log n comparisons, for n digests that are kept, and each digest that is kept takes
-/// 88 bytes in a map. Regions that share bytes, or that have the same bytes, have digests of their
-/// own.
+/// A digest is kept by its algorithm and by the offset and the length of its region. So each
+/// look-up takes log n comparisons for n kept digests, and each kept digest takes 88 bytes in a
+/// map. Regions that share bytes, or that have equal bytes, have separate digests.
 #[derive(Drop)]
 pub struct RegionDigests<'a> {
     file: &'a [u8],
@@ -49,8 +48,8 @@ impl<'a> Model for RegionDigests<'a> {
 }
 
 impl<'a> RegionDigests<'a> {
-    /// Returns the digests of the regions of a file. No digest is computed yet, and it allocates
-    /// nothing.
+    /// Returns the digests of the regions of a file. No digest is computed yet, and nothing is
+    /// allocated.
     pub fn new(alloc: Global, file: &'a [u8]) -> RegionDigests<'a>
         ensures { result ≡ file.entry.now }
     {
@@ -60,9 +59,10 @@ impl<'a> RegionDigests<'a> {
         }
     }
 
-    /// Judges a hash node by the values of its properties `algo` and `value`, as `verdict` does.
-    /// Its payload is a region, if there is one. Reads the region if the verdict needs a digest
-    /// that was not computed before. Fails if memory runs out.
+    /// Judges a hash node by the values of its properties `algo` and `value`, as the function
+    /// `verdict` does. Its payload, if there is one, is a region. Reads the region if the verdict
+    /// needs a digest that was not computed before. Fails if memory runs out. Requires: the region
+    /// is within the file.
     pub fn verdict(
         &mut self,
         algo: Option<&[u8]>,
@@ -87,9 +87,9 @@ impl<'a> RegionDigests<'a> {
         Ok(stated.judge(&digest))
     }
 
-    /// Adds the digest of a payload by this algorithm to the end of `bytes`, or nothing if there is
-    /// no payload. Reads the region that is the payload if the digest was not computed before.
-    /// Fails if memory runs out, and `bytes` is then unchanged.
+    /// Adds the digest of a payload with this algorithm to the end of `bytes`, or nothing if there
+    /// is no payload. Reads the region of the payload if the digest was not computed before. Fails
+    /// if memory runs out. `bytes` is then unchanged. Requires: the region is within the file.
     pub fn append_digest(
         &mut self,
         algo: Algo,
@@ -109,8 +109,34 @@ impl<'a> RegionDigests<'a> {
         Ok(())
     }
 
-    /// Returns the digest of a region by this algorithm, with zeros after it. Reads the region if
-    /// the digest was not computed before. Fails if memory runs out.
+    /// Judges a hash node, as `verdict` does, but allocates nothing: a digest that was not computed
+    /// before is computed and not kept. Takes no longer than a look-up if `verdict` has judged a
+    /// node with the same algorithm and the same payload. Requires: the region is within the file.
+    pub fn judge(
+        &self,
+        algo: Option<&[u8]>,
+        value: Option<&[u8]>,
+        payload: Option<Region>,
+    ) -> Verdict
+        requires within { IfSome payload (IsRegionOf self.now) }
+        ensures { result ≡ verdict_of
+            (option_copied algo.entry)
+            (option_copied value.entry)
+            (option_map (bytes_of_region self.now) payload) }
+    {
+        let stated = match StatedDigest::read(algo, value) {
+            Ok(stated) => stated,
+            Err(verdict) => return verdict,
+        };
+        match payload {
+            Some(payload) => stated.judge(&self.kept_or_computed(stated.algo, payload)),
+            None => Verdict::NoPayload,
+        }
+    }
+
+    /// Returns the digest of a region with this algorithm, with zeros after it. Reads the region if
+    /// the digest was not computed before. Fails if memory runs out. Requires: the region is within
+    /// the file.
     pub fn digest(&mut self, algo: Algo, region: Region) -> Result<[u8; 64], AllocError>
         requires within { IsRegionOf self.old region }
         ensures digest { IfOk result (λ digest. digest
@@ -121,10 +147,34 @@ impl<'a> RegionDigests<'a> {
         if let Some(digest) = self.digests.get(&key) {
             return Ok(*digest);
         }
+        let digest = self.compute(algo, region);
+        self.digests.insert(key, digest)?;
+        Ok(digest)
+    }
+
+    /// Returns the digest of a region with this algorithm, with zeros after it. Reads the region if
+    /// the digest was not computed before. It does not then keep the digest.
+    fn kept_or_computed(&self, algo: Algo, region: Region) -> [u8; 64]
+        requires within { IsRegionOf self.now region }
+        ensures { result ≡ padded_digest algo (bytes_of_region self.now region) }
+    {
+        let kept = self
+            .digests
+            .get(&(region.begin, region.length, algo.index()));
+        match kept {
+            Some(digest) => *digest,
+            None => self.compute(algo, region),
+        }
+    }
+
+    /// Computes the digest of a region with this algorithm, with zeros after it. Reads the region.
+    fn compute(&self, algo: Algo, region: Region) -> [u8; 64]
+        requires within { IsRegionOf self.now region }
+        ensures { result ≡ padded_digest algo (bytes_of_region self.now region) }
+    {
         let bytes = &self.file[region.begin..region.begin + region.length];
         let mut digest = [0; 64];
         algo.digest(bytes, &mut digest);
-        self.digests.insert(key, digest)?;
-        Ok(digest)
+        digest
     }
 }

@@ -33,8 +33,10 @@ pub text_bytes : (cpu : ℕ) (reserved structure strings : List ℕ) (reserved_s
     ≡ text_of_blocks cpu reserved structure strings
 unfolding text_of_blocks
 text_bytes cpu reserved structure strings reserved_size structure_size strings_size size is_reserved is_structure is_strings is_size =
-    (λ j. (blob_header cpu (is_reserved j) (is_structure j) (is_strings j) ++ (reserved ++ structure ++ strings)) ++ padding_to_4 (is_size j))
-    ∙ (λ j. (header ++ (reserved ++ structure ++ strings)) ++ padding_to_4 (length_before_padding (is_reserved j) (is_structure j) (is_strings j)))
+    (λ j. (blob_header cpu (is_reserved j) (is_structure j) (is_strings j)
+    ++ (reserved ++ structure ++ strings)) ++ padding_to_4 (is_size j))
+    ∙ (λ j. (header ++ (reserved ++ structure ++ strings))
+    ++ padding_to_4 (length_before_padding (is_reserved j) (is_structure j) (is_strings j)))
     ∙ append_assoc header (reserved ++ structure ++ strings) padding
     ∙ ap (λ l. header ++ l) (append_assoc (reserved ++ structure) strings padding ∙ append_assoc reserved structure (strings ++ padding))
   where

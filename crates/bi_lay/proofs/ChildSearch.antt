@@ -1,4 +1,5 @@
-use Rattle.std.proofs.Common.{◌≡◌, ◌≢◌, ℕ, ◌+◌, ◌<◌, ◌≤◌, Bool, true, List, [], ◌∷◌, ◌++◌, length, IsTrue, ◌↔◌, refl, sym, subst, arith, inl, inr, ◌⊎◌}
+use Rattle.std.proofs.Common.{◌≡◌, ◌≢◌, ℕ, ◌+◌, ◌<◌, ◌≤◌, Bool, true, List, [], ◌∷◌, ◌++◌, length, IsTrue, ◌↔◌, refl, sym, subst, arith}
+use Rattle.std.proofs.Common.{inl, inr, ◌⊎◌}
 use Rattle.std.proofs.lemmas.Bool.{cases_lt}
 use Rattle.bi_base.proofs.ListMembers.{each-append, each-front, each-back}
 use Rattle.bi_blob.specs.Tree.{IsNew}
@@ -14,12 +15,15 @@ knows-none : (name : List ℕ) (depth : ℕ) (is_new : Bool) (nodes : List OpenN
 knows-none name depth is_new [] less = tt
 knows-none name depth is_new (node ∷ outer) less = (λ is. absurd (omega arith), knows-none name depth is_new outer (omega arith))
 
--- A name is new among children with one more exactly where it is new among these and differs from that one.
+-- A name is new among children with one more if and only if it is new among these and differs from that one.
 new-push : (name child : List ℕ) (children : List (List ℕ)) (old new : Bool) → IsTrue old ↔ IsNew name children →
     IsTrue new ↔ ((old ≡ true) × (child ≢ name)) → IsTrue new ↔ IsNew name (children ++ child ∷ [])
 new-push name child children old new before after = (
   λ is. each-append (λ other. other ≢ name) children (child ∷ []) (before.0 (after.0 is).0) ((after.0 is).1, tt),
-  λ each. after.1 (before.1 (each-front (λ other. other ≢ name) children (child ∷ []) each), (each-back (λ other. other ≢ name) children (child ∷ []) each).0),
+  λ each. after.1 (
+    before.1 (each-front (λ other. other ≢ name) children (child ∷ []) each),
+    (each-back (λ other. other ≢ name) children (child ∷ []) each).0,
+  ),
 )
 
 -- What is known where a node begins.
@@ -28,8 +32,10 @@ pub knows-begun : (name child : List ℕ) (depth scan_depth : ℕ) (old new : Bo
     → (scan_depth ≡ depth → IsTrue new ↔ ((old ≡ true) × (child ≢ name))) → (scan_depth + 1 ≡ depth → IsTrue new) →
     (scan_depth ≢ depth → scan_depth + 1 ≢ depth → new ≡ old)
     → KnowsChildren name depth new (open_nodes (next_stage stage (NodeStart child)))
-knows-begun name child depth scan_depth old new BeforeRoot is_depth knows as_child as_node as_other = (λ is. (λ _. tt, λ _. as_node (omega arith)), tt)
-knows-begun name child depth scan_depth old new AfterRoot is_depth knows as_child as_node as_other = (λ is. (λ _. tt, λ _. as_node (omega arith)), tt)
+knows-begun name child depth scan_depth old new BeforeRoot is_depth knows as_child as_node as_other =
+    (λ is. (λ _. tt, λ _. as_node (omega arith)), tt)
+knows-begun name child depth scan_depth old new AfterRoot is_depth knows as_child as_node as_other =
+    (λ is. (λ _. tt, λ _. as_node (omega arith)), tt)
 knows-begun name child depth scan_depth old new (Inside innermost outer) is_depth knows as_child as_node as_other = (
   λ is. (λ _. tt, λ _. as_node (omega arith)),
   (

@@ -25,7 +25,8 @@ ended : (doc : Fields) → IsConsistentDocument doc → doc.depth ≡ 0 → 0 < 
 ended doc kept none some [] is = absurd (omega (arith, some, doc.items.ok.0, ap length is))
 ended doc kept none some (first ∷ later) is =
     at_end (stage_of_fields doc) (get_or doc.items.items (length doc.items.items - 1) first)
-    (subst (λ item. IsNewest item (stage_of_fields doc)) (slice_get-get_or doc.items.items (length doc.items.items - 1) first (omega (arith, ap length is))) kept.newest)
+    (subst (λ item. IsNewest item (stage_of_fields doc))
+    (slice_get-get_or doc.items.items (length doc.items.items - 1) first (omega (arith, ap length is))) kept.newest)
     (omega (arith, kept.is_depth, none))
 
 -- The events are those of one tree.

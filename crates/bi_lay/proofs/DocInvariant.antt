@@ -38,7 +38,8 @@ follow-more : (old new : Fields) (item : Item) → HasOneMore old new item →
     AllFollow MayFollowInText BeforeRoot (events_of_items old.items.items) → MayFollowInText (stage_of_fields old) (event_of item) →
     AllFollow MayFollowInText BeforeRoot (events_of_items new.items.items)
 follow-more old new item more follow may =
-    rw (ap events_of_items more.items ∙ events-push old.items.items item) (follow-push MayFollowInText BeforeRoot (events_of_items old.items.items) (event_of item) follow may)
+    rw (ap events_of_items more.items ∙ events-push old.items.items item)
+    (follow-push MayFollowInText BeforeRoot (events_of_items old.items.items) (event_of item) follow may)
 
 -- The last of the items is the one that was added.
 newest-more : (old new : Fields) (item : Item) → HasOneMore old new item →
@@ -51,13 +52,15 @@ names-more : (old new : Fields) (item : Item) → HasOneMore old new item →
     distinct_names (used_names (events_of_items old.items.items ++ event_of item ∷ [])) ≡ new.names.in_block →
     new.names.in_block ≡ distinct_names (used_names (events_of_items new.items.items))
 names-more old new item more is =
-    sym is ∙ sym (ap (λ items. distinct_names (used_names (events_of_items items))) more.items ∙ ap (λ events. distinct_names (used_names events)) (events-push old.items.items item))
+    sym is ∙ sym (ap (λ items. distinct_names (used_names (events_of_items items))) more.items
+    ∙ ap (λ events. distinct_names (used_names events)) (events-push old.items.items item))
 
 -- The same of all offsets.
 offsets-more : (old new : Fields) (item : Item) → HasOneMore old new item → AllByRecursion (HasOffset new.names.in_block) old.items.items →
     HasOffset new.names.in_block item → AllByRecursion (HasOffset new.names.in_block) new.items.items
 offsets-more old new item more each has =
-    subst (AllByRecursion (HasOffset new.names.in_block)) (sym more.items) (each-append (HasOffset new.names.in_block) old.items.items (item ∷ []) each (has, tt))
+    subst (AllByRecursion (HasOffset new.names.in_block)) (sym more.items)
+    (each-append (HasOffset new.names.in_block) old.items.items (item ∷ []) each (has, tt))
 
 -- A node begins.
 pub kept-begun : (old new : Fields) (name : Bor (List ℕ)) → IsConsistentDocument old →
@@ -65,13 +68,17 @@ pub kept-begun : (old new : Fields) (name : Bor (List ℕ)) → IsConsistentDocu
     new.names.in_block ≡ old.names.in_block → IsConsistentDocument new
 kept-begun old new name kept may more deeper same = record {
   follow = follow-more old new (Begin name) more kept.follow may;
-  is_depth = deeper ∙ (omega (arith, kept.is_depth, begun-depth (stage_of_fields old) name.now may)) ∙ ap (λ stage. length (open_nodes stage)) (sym (stage-more old new (Begin name) more));
+  is_depth = deeper ∙ (omega (arith, kept.is_depth, begun-depth (stage_of_fields old) name.now may))
+      ∙ ap (λ stage. length (open_nodes stage)) (sym (stage-more old new (Begin name) more));
   shallow = omega (arith, deeper, kept.is_depth, begun-shallow (stage_of_fields old) name.now may);
   room = more.room;
   newest = newest-more old new (Begin name) more (begun-newest (stage_of_fields old) name);
-  parents = subst (λ stage. AllByRecursion HasChild (outer_nodes stage)) (sym (stage-more old new (Begin name) more)) (begun-parents (stage_of_fields old) name.now kept.parents);
-  names = names-more old new (Begin name) more (names-same (events_of_items old.items.items) (NodeStart name.now) refl ∙ sym kept.names ∙ sym same);
-  offsets = offsets-more old new (Begin name) more (subst (λ names. AllByRecursion (HasOffset names) old.items.items) (sym same) kept.offsets) tt;
+  parents = subst (λ stage. AllByRecursion HasChild (outer_nodes stage)) (sym (stage-more old new (Begin name) more))
+      (begun-parents (stage_of_fields old) name.now kept.parents);
+  names = names-more old new (Begin name) more
+      (names-same (events_of_items old.items.items) (NodeStart name.now) refl ∙ sym kept.names ∙ sym same);
+  offsets = offsets-more old new (Begin name) more
+      (subst (λ names. AllByRecursion (HasOffset names) old.items.items) (sym same) kept.offsets) tt;
 }
 
 -- A node ends.
@@ -79,11 +86,13 @@ pub kept-ended : (old new : Fields) → IsConsistentDocument old → MayEnd (sta
     new.depth + 1 ≡ old.depth → new.names.in_block ≡ old.names.in_block → IsConsistentDocument new
 kept-ended old new kept may more less same = record {
   follow = follow-more old new End more kept.follow may;
-  is_depth = (omega (arith, less, kept.is_depth, ended-depth (stage_of_fields old) may)) ∙ ap (λ stage. length (open_nodes stage)) (sym (stage-more old new End more));
+  is_depth = (omega (arith, less, kept.is_depth, ended-depth (stage_of_fields old) may))
+      ∙ ap (λ stage. length (open_nodes stage)) (sym (stage-more old new End more));
   shallow = omega (arith, less, kept.shallow);
   room = more.room;
   newest = newest-more old new End more (ended-newest (stage_of_fields old) may kept.parents);
-  parents = subst (λ stage. AllByRecursion HasChild (outer_nodes stage)) (sym (stage-more old new End more)) (ended-parents (stage_of_fields old) kept.parents);
+  parents = subst (λ stage. AllByRecursion HasChild (outer_nodes stage)) (sym (stage-more old new End more))
+      (ended-parents (stage_of_fields old) kept.parents);
   names = names-more old new End more (names-same (events_of_items old.items.items) NodeEnd refl ∙ sym kept.names ∙ sym same);
   offsets = offsets-more old new End more (subst (λ names. AllByRecursion (HasOffset names) old.items.items) (sym same) kept.offsets) tt;
 }
@@ -96,14 +105,20 @@ pub kept-added : (old new : Fields) (property : PropertyItem) → IsConsistentDo
     IsConsistentDocument new
 kept-added old new property kept may more same names is_offset = record {
   follow = follow-more old new (Property property) more kept.follow may;
-  is_depth = same ∙ kept.is_depth ∙ sym (added-depth (stage_of_fields old) property.name.now (value_bytes property.value)) ∙ ap (λ stage. length (open_nodes stage)) (sym (stage-more old new (Property property) more));
+  is_depth = same ∙ kept.is_depth ∙ sym (added-depth (stage_of_fields old) property.name.now (value_bytes property.value))
+      ∙ ap (λ stage. length (open_nodes stage)) (sym (stage-more old new (Property property) more));
   shallow = omega (arith, same, kept.shallow);
   room = more.room;
   newest = newest-more old new (Property property) more (added-newest (stage_of_fields old) property (value_bytes property.value) may);
-  parents = subst (λ stage. AllByRecursion HasChild (outer_nodes stage)) (sym (stage-more old new (Property property) more)) (added-parents (stage_of_fields old) property.name.now (value_bytes property.value) kept.parents);
+  parents = subst (λ stage. AllByRecursion HasChild (outer_nodes stage)) (sym (stage-more old new (Property property) more))
+      (added-parents (stage_of_fields old) property.name.now (value_bytes property.value) kept.parents);
   names = names-more old new (Property property) more
-      (names-push (events_of_items old.items.items) (property.name.now, value_bytes property.value) ∙ ap (λ l. with_name l property.name.now) (sym kept.names) ∙ sym names);
+      (names-push (events_of_items old.items.items) (
+        property.name.now,
+        value_bytes property.value,
+      ) ∙ ap (λ l. with_name l property.name.now) (sym kept.names) ∙ sym names);
   offsets = offsets-more old new (Property property) more
-      (subst (λ l. AllByRecursion (HasOffset l) old.items.items) (sym names) (each-with_name old.names.in_block property.name.now old.items.items kept.offsets))
+      (subst (λ l. AllByRecursion (HasOffset l) old.items.items) (sym names)
+      (each-with_name old.names.in_block property.name.now old.items.items kept.offsets))
       (subst (λ l. Contains l property.name.now) (sym names) (with_name-has old.names.in_block property.name.now), is_offset);
 }

@@ -46,7 +46,12 @@ length-items (item ∷ later) =
 -- The structure block of items is as long as that of their events.
 length-structure : (items : List Item) → length (structure_of_items items) ≡ sum_by event_width (events_of_items items) + 4
 length-structure items =
-    length-append (flat_map item_encoding items) (encoding EndToken) ∙ omega (arith, length-items items, length-encoding EndToken, length-cell 9)
+    length-append (flat_map item_encoding items) (encoding EndToken) ∙ omega (
+      arith,
+      length-items items,
+      length-encoding EndToken,
+      length-cell 9,
+    )
 
 -- The structure block of the items is as long as that of the document's text, whatever its offsets are.
 pub length-items_structure : (doc : Fields) → length (structure_block (doc_model doc).events) ≡ length (structure_of_items doc.items.items)
@@ -74,7 +79,9 @@ same_items names (item ∷ later) each short = λ j. same_item names item each.0
 same_structure : (doc : Fields) → IsConsistentDocument doc → length (strings_of doc.names.in_block) < 2 ^ 32 →
     structure_of_items doc.items.items ≡ structure_block (events_of_items doc.items.items)
 same_structure doc kept short =
-    ap (λ l. l ++ encoding EndToken) (same_items doc.names.in_block doc.items.items kept.offsets short ∙ ap (λ names. flat_map encoding (map (token_of names) events)) kept.names)
+    ap (λ l. l ++ encoding EndToken)
+    (same_items doc.names.in_block doc.items.items kept.offsets short
+    ∙ ap (λ names. flat_map encoding (map (token_of names) events)) kept.names)
     ∙ ap (λ l. flat_map encoding (tokens_of events) ++ l) (sym (append-nil (encoding EndToken)))
     ∙ sym (flat_map-append encoding (tokens_of events) (EndToken ∷ []))
   where
@@ -133,7 +140,15 @@ measured_length-long : (doc : Fields) (count : ℕ) (items : List Item) (strings
     AreMeasured doc count items strings → longest_text < measured_length count items strings →
     longest_text < length (text_of (doc_model doc))
 measured_length-long doc count items strings kept are long =
-    omega (arith, long, are.is_count, are.is_strings, doc.reservations.ok.0, ap (λ l. length (structure_of_items l)) are.are_items, is_text_length doc kept)
+    omega (
+      arith,
+      long,
+      are.is_count,
+      are.is_strings,
+      doc.reservations.ok.0,
+      ap (λ l. length (structure_of_items l)) are.are_items,
+      is_text_length doc kept,
+    )
 
 -- The text is put together of its blocks.
 pub same_text : (doc : Fields) (pairs : List (ℕ × ℕ)) (items : List Item) (names : List (List ℕ)) → IsConsistentDocument doc →
@@ -143,7 +158,8 @@ pub same_text : (doc : Fields) (pairs : List (ℕ × ℕ)) (items : List Item) (
     ≡ text_of (doc_model doc)
 unfolding text_of_events
 same_text doc pairs items names kept are_pairs are_items are_names short =
-    λ j. text_of_blocks doc.boot_cpu (reservation_block (reservations_of (are_pairs j))) ((ap structure_of_items are_items ∙ same_structure doc kept fits) j) (strings_of ((are_names ∙ kept.names) j))
+    λ j. text_of_blocks doc.boot_cpu (reservation_block (reservations_of (are_pairs j)))
+    ((ap structure_of_items are_items ∙ same_structure doc kept fits) j) (strings_of ((are_names ∙ kept.names) j))
   where
     fits : length (strings_of doc.names.in_block) < 2 ^ 32
     fits = omega (arith, short, is_text_length doc kept)
@@ -159,7 +175,8 @@ are_sizes : (doc : Fields) (count : ℕ) (items : List Item) (strings : ℕ) (si
 are_sizes doc count items strings sizes kept are has = record {
   reservations = has.0 ∙ sym (length-block doc.reservations.items count (omega (arith, are.is_count, doc.reservations.ok.0)));
   structure = has.1 ∙ ap (λ items. length (structure_of_items items)) are.are_items ∙ sym (length-items_structure doc);
-  strings = has.2 ∙ strings-exact doc count items strings are (omega (arith, has.0, has.1, has.2, sizes.fits)) ∙ ap (λ names. length (strings_of names)) kept.names;
+  strings = has.2 ∙ strings-exact doc count items strings are (omega (arith, has.0, has.1, has.2, sizes.fits))
+      ∙ ap (λ names. length (strings_of names)) kept.names;
 }
 
 -- What measuring finds are the sizes of the blocks, or nothing where the text is too long.

@@ -65,10 +65,12 @@ known-set names offsets number offset within known found other value is = by (eq
     by : (b : Bool) → eqb other number ≡ b → Found
     by true same =
         let there : other ≡ number = (Decides-eqb other number).0 same in
-        let is_value : offset ≡ value = same_Some offset value (sym (get_or-set_at offsets number other (Some offset) None there within) ∙ is) in
+        let is_value : offset ≡ value = same_Some offset value
+        (sym (get_or-set_at offsets number other (Some offset) None there within) ∙ is) in
         subst (λ n. offset_among names.in_block (name_numbered names.by_number n) ≡ Some value) (sym there) (found ∙ ap Some is_value)
     by false differs =
-        known other value (sym (get_or-set_other offsets number other (Some offset) None (λ there. true≢false (sym ((Decides-eqb other number).1 there) ∙ differs))) ∙ is)
+        known other value (sym (get_or-set_other offsets number other (Some offset) None
+        (λ there. true≢false (sym ((Decides-eqb other number).1 there) ∙ differs))) ∙ is)
 
 -- An offset that is read is the one that a use of the name finds, and the names stay the same then.
 pub known-read : (names : NumberedNames) (offsets : List (Option ℕ)) (number : ℕ) (stored : Option ℕ) (offset : ℕ) →
@@ -105,7 +107,9 @@ pub known-stored : (names : NumberedNames) (offsets : List (Option ℕ)) (number
     AreKnownOffsets (record names { in_block = new }) (set offsets number (Some offset))
 known-stored names offsets number offset new within known is is_offset =
     known-set (record names { in_block = new }) offsets number offset within
-    (subst (λ l. AreKnownOffsets (record names { in_block = l }) offsets) (sym is) (known-with_use names (name_numbered names.by_number number) offsets known))
-    (subst (λ l. offset_among l (name_numbered names.by_number number) ≡ Some (saturated_usize (offset_in l (name_numbered names.by_number number))))
+    (subst (λ l. AreKnownOffsets (record names { in_block = l }) offsets) (sym is)
+    (known-with_use names (name_numbered names.by_number number) offsets known))
+    (subst (λ l. offset_among l (name_numbered names.by_number number)
+    ≡ Some (saturated_usize (offset_in l (name_numbered names.by_number number))))
     (sym is) (offset_among-added names.in_block (name_numbered names.by_number number))
     ∙ ap Some (sym is_offset))

@@ -12,7 +12,7 @@ use Rattle.bi_base.specs.Slices.{bytes_of}
 use Rattle.bi_blob.specs.Layout.{offset_in, strings_of, is_among}
 use Rattle.bi_lay.specs.Names.{offset_among, saturated_usize, with_name, same_name}
 
--- A look-up finds the offset of a name exactly if the name is among the names, and a new name is at the end of the strings block.
+-- A look-up finds the offset of a name if and only if the name is among the names, and a new name is at the end of the strings block.
 
 -- A look-up that finds a name gives its offset, and the name is among the names.
 pub look_up-some : (names : List (List ℕ)) (name : List ℕ) (value : ℕ) → offset_among names name ≡ Some value →
@@ -48,7 +48,12 @@ offset_in-new (other ∷ later) name new = by (bytes_eq other name) refl (offset
         (is_among name later ≡ false → offset_in (later ++ name ∷ []) name ≡ length (strings_of later)) →
         offset_in ((other ∷ later) ++ name ∷ []) name ≡ length (strings_of (other ∷ later))
     by true is behind = absurd (true≢false (rw is at new))
-    by false is behind = rw is (omega (arith, behind (rw is at new), length-append other (0 ∷ []), length-append (other ++ 0 ∷ []) (strings_of later)))
+    by false is behind = rw is (omega (
+      arith,
+      behind (rw is at new),
+      length-append other (0 ∷ []),
+      length-append (other ++ 0 ∷ []) (strings_of later),
+    ))
 
 -- The offset of a name stays where another comes after it.
 pub offset_in-stays : (names : List (List ℕ)) (name other : List ℕ) → is_among name names ≡ true →
@@ -77,13 +82,15 @@ offset_among-push names key name new = by (bytes_eq key name) refl
         let stays : is_among name (names ++ key ∷ []) ≡ true = among ∙ ap (λ b. b || (bytes_eq key name || false)) is in
         rw (is, stays) (ap (λ n. Some (saturated_usize n)) (sym (offset_in-stays names name key is)))
     other false is differs =
-        let lacks : is_among name (names ++ key ∷ []) ≡ false = among ∙ ap (λ b. b || (bytes_eq key name || false)) is ∙ ap (λ b. b || false) differs in
+        let lacks : is_among name (names ++ key ∷ []) ≡ false = among ∙ ap (λ b. b || (bytes_eq key name || false)) is
+        ∙ ap (λ b. b || false) differs in
         rw (is, lacks) refl
 
     by : (b : Bool) → bytes_eq key name ≡ b →
         cond b (Some (saturated_usize (length (strings_of names)))) (offset_among names name) ≡ offset_among (names ++ key ∷ []) name
     by true is =
-        subst (λ n. Some (saturated_usize (length (strings_of names))) ≡ offset_among (names ++ key ∷ []) n) ((bytes_eq-Decides key name).0 is)
+        subst (λ n. Some (saturated_usize (length (strings_of names))) ≡ offset_among (names ++ key ∷ []) n)
+        ((bytes_eq-Decides key name).0 is)
         (rw (has) (ap (λ n. Some (saturated_usize n)) (sym (offset_in-new names key new))))
       where
         has : is_among key (names ++ key ∷ []) ≡ true

@@ -48,7 +48,8 @@ push-some (first ∷ later) x is = absurd (omega (arith, ap length is))
 pub names-same : (events : List Event) (event : Event) → event_names event ≡ [] →
     distinct_names (used_names (events ++ event ∷ [])) ≡ distinct_names (used_names events)
 names-same events event none =
-    ap distinct_names (flat_map-append event_names events (event ∷ []) ∙ ap (λ names. used_names events ++ (names ++ [])) none ∙ append-nil (used_names events))
+    ap distinct_names (flat_map-append event_names events (event ∷ []) ∙ ap (λ names. used_names events ++ (names ++ [])) none
+    ∙ append-nil (used_names events))
 
 -- What holds of each open node but the innermost.
 abbrev pub HasChild : OpenNode → Type 0

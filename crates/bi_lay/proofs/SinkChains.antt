@@ -26,4 +26,5 @@ module _ {S : Type 0} (appends : S → List ℕ → S → Type 0) (fails : S →
       Wrote appends fails last third result new → Wrote appends fails old whole result new
   third_writes old mid last new result one two wrote =
       subst (λ bytes. Wrote appends fails old bytes result new) is_whole
-      (wrote_after appends fails in_turn after old last new (first ++ second) third result (in_turn old mid last first second one two) wrote)
+      (wrote_after appends fails in_turn after old last new (first ++ second) third result
+      (in_turn old mid last first second one two) wrote)

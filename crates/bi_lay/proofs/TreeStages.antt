@@ -15,7 +15,8 @@ properties_add_their_names [] innermost outer =
     ap (λ l. Inside (record innermost { properties = l }) outer) (sym (append-nil innermost.properties))
 properties_add_their_names (property ∷ later) innermost outer =
     properties_add_their_names later (record innermost { properties = innermost.properties ++ property.0 ∷ [] }) outer
-    ∙ ap (λ l. Inside (record innermost { properties = l }) outer) (append_assoc innermost.properties (property.0 ∷ []) (map (λ property. property.0) later))
+    ∙ ap (λ l. Inside (record innermost { properties = l }) outer)
+    (append_assoc innermost.properties (property.0 ∷ []) (map (λ property. property.0) later))
 
 -- Nodes add their names.
 pub nodes_add_their_names : NodesAddTheirNames
@@ -23,7 +24,8 @@ nodes_add_their_names none innermost outer =
     ap (λ l. Inside (record innermost { children = l }) outer) (sym (append-nil innermost.children))
 nodes_add_their_names (node name properties children later) innermost outer =
     fold-append next_stage (Inside empty_node around) (map NodeProperty properties) (events children ++ (NodeEnd ∷ events later))
-    ∙ ap (λ stage. fold next_stage stage (events children ++ (NodeEnd ∷ events later))) (properties_add_their_names properties empty_node around)
+    ∙ ap (λ stage. fold next_stage stage (events children ++ (NodeEnd ∷ events later)))
+    (properties_add_their_names properties empty_node around)
     ∙ fold-append next_stage (Inside with_names around) (events children) (NodeEnd ∷ events later)
     ∙ ap (λ stage. fold next_stage stage (NodeEnd ∷ events later)) (nodes_add_their_names children with_names around)
     ∙ nodes_add_their_names later (with_child innermost name) outer
@@ -35,7 +37,7 @@ nodes_add_their_names (node name properties children later) innermost outer =
     with_names : OpenNode
     with_names = record empty_node { properties = [] ++ map (λ property. property.0) properties }
 
--- Each event may follow those before it, the first of which is at this stage.
+-- Each event may follow those before it. The first of them is at this stage.
 follows : (stage : Stage) (before : List Event) (event : Event) (later : List Event) →
     AllFollow MayFollowInText stage (before ++ event ∷ later) → MayFollowInText (fold next_stage stage before) event
 follows stage [] event later follow = follow.0

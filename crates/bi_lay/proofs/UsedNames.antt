@@ -14,7 +14,7 @@ use Rattle.bi_lay.proofs.NameOffsets.{offset_in-stays}
 
 -- One more property adds its name to the names of the strings block, and the offsets of the other names stay.
 
--- A name is among the distinct names exactly where it is among the names.
+-- A name is among the distinct names if and only if it is among the names.
 pub is_among-distinct : (names : List (List ℕ)) (name : List ℕ) → is_among name (distinct_names names) ≡ is_among name names
 is_among-distinct names name = by (is_among name names) refl (is_among name (distinct_names names)) refl
   where
@@ -23,9 +23,11 @@ is_among-distinct names name = by (is_among name names) refl (is_among name (dis
     by true is true among = among ∙ sym is
     by false is false among = among ∙ sym is
     by true is false among =
-        absurd (true≢false (sym (found_among (distinct_names names) name (distinct_names-all names name (among_found names name is))) ∙ among))
+        absurd (true≢false (sym (found_among (distinct_names names) name
+        (distinct_names-all names name (among_found names name is))) ∙ among))
     by false is true among =
-        absurd (true≢false (sym (found_among names name (distinct_names-only names name (among_found (distinct_names names) name among))) ∙ is))
+        absurd (true≢false (sym (found_among names name
+        (distinct_names-only names name (among_found (distinct_names names) name among))) ∙ is))
 
 -- The names of events with one more property are those with its name.
 pub names-push : (events : List Event) (property : Property) →

@@ -13,7 +13,7 @@ pub record Doc : Type 0 where
   pub events : List Event
   pub names : List (List ℕ)
 
--- A document without reservations, in which no node was begun. These names may be given by number.
+-- A document without reservations and with no node begun. These names may be given by number.
 abbrev pub empty_with_names : ℕ → List (List ℕ) → Doc
 empty_with_names boot_cpu names = record {
   boot_cpu = boot_cpu;
@@ -22,11 +22,11 @@ empty_with_names boot_cpu names = record {
   names = names;
 }
 
--- A document without reservations, in which no node was begun. No name may be given by number.
+-- A document without reservations and with no node begun. No name may be given by number.
 abbrev pub empty_content : ℕ → Doc
 empty_content boot_cpu = empty_with_names boot_cpu []
 
--- The name of this number, or the empty name if there is none.
+-- The name with this number, or the empty name if there is none.
 abbrev pub name_numbered : List (List ℕ) → ℕ → List ℕ
 name_numbered names number = slice_index_or names number []
 

@@ -5,7 +5,7 @@ use Rattle.bi_lay.specs.declared.numbered_names.NumberedNames.TheInside.{Inside}
 use Rattle.bi_lay.specs.Contents.{name_numbered}
 use Rattle.bi_lay.specs.Names.{with_name, offset_among}
 
--- The names of properties, some of which have numbers.
+-- The names of properties. Some of them have numbers.
 
 -- The names that have numbers, in the order of these, and those that the strings block has, in the
 -- order of their first use.

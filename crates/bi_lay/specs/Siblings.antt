@@ -3,10 +3,10 @@ use Rattle.bi_blob.specs.Tree.{IsNew}
 use Rattle.bi_blob.specs.Stages.{OpenNode, Stage, open_nodes}
 use Rattle.bi_lay.specs.declared.siblings.Scan.{Scan}
 
--- What a search for a child of some name has found so far.
+-- What a search for a child with a given name has found so far.
 
 -- Of these open nodes, the innermost first, the one with this depth, if there is one, has no child
--- of the name exactly if the flag is true.
+-- with the name if and only if the flag is true.
 abbrev pub KnowsChildren : List ℕ → ℕ → Bool → List OpenNode → Type 0
 KnowsChildren name depth is_new [] = Unit {0}
 KnowsChildren name depth is_new (node ∷ outer) =

@@ -34,8 +34,8 @@ impl<'a> Model for ClosedDoc<'a> {
 
 impl<'a> Doc<'a> {
     /// Measures the blocks of the document's text. Returns the closed document, or None if its text
-    /// has more than 0x7fffffff bytes. It may only be called if `is_closed` is true. It takes time
-    /// linear in the number of events.
+    /// has more than 0x7fffffff bytes. Takes time linear in the number of events. Requires:
+    /// `is_closed` is true.
     pub fn close(self) -> Option<ClosedDoc<'a>>
         requires { stage_of_events self.events ≡ AfterRoot }
         ensures { MatchOption result (longest_text < length (text_of self.entry))
@@ -58,10 +58,10 @@ impl<'a> ClosedDoc<'a> {
     /// Appends the document's text: the header, the memory reservation block, the structure block,
     /// the strings block, and zeros up to a multiple of four.
     ///
-    /// Fails only as the sink does. After an error of the sink, it is as a failed `put` of the
-    /// whole text leaves it.
+    /// The only errors are those of the sink. After one, the sink is as a failed `put` of the whole
+    /// text leaves it.
     ///
-    /// It takes time linear in the length of the text, and allocates nothing itself.
+    /// Takes time linear in the length of the text, and allocates nothing itself.
     pub fn emit<S: Sink>(&self, sink: &mut S) -> Result<(), Error>
         ensures { Wrote S.appends S.fails sink.old (text_of self.now) result sink.new }
     {

@@ -20,15 +20,15 @@ const MAX_DEPTH: usize = 64;
 
 /// A devicetree blob in the making: the boot processor, the memory reservations, and the events of
 /// a tree, which come in the order of the structure block (Devicetree Specification, 5.4.2). Names
-/// and values are borrowed and not copied.
+/// and values are borrowed, not copied.
 ///
-/// Each call but `with_names`, `may_begin`, `property_numbered` and `close` takes time linear in the
-/// length of its name, if it has one, apart from allocations. `property` looks its name up in a
-/// table of hashes. `property_numbered` does so at the first use of a number, and takes constant
-/// time at each later one.
+/// Unless its description says otherwise, each call takes time linear in the length of its name, if
+/// it has one, apart from allocations. `property` looks its name up in a table of hashes.
+/// `property_numbered` does so at the first use of a number, and takes constant time at each later
+/// one.
 ///
 /// The key of the hashes depends on all names that `with_names` was given. So a file cannot choose
-/// such names with equal hashes, which a look-up would compare one after the other. Names that only
+/// such names with equal hashes, which a look-up would compare one by one. Names that only
 /// `property` gets are not in the key, so give names that come from a file to `with_names`.
 #[derive(Drop)]
 pub struct Doc<'a> {
@@ -64,8 +64,8 @@ impl<'a> Doc<'a> {
     ghost use Rattle.bi_lay.specs.Sizes.{AreBlockSizes};
     ghost use Rattle.bi_lay.specs.Values.{value_bytes};
 
-    /// Returns a document for this boot processor, without reservations, in which no node was
-    /// begun. The only error is `OutOfMemory`.
+    /// Returns a document for this boot processor, without reservations and with no node begun. The
+    /// only error is `OutOfMemory`.
     pub fn new(alloc: Global, boot_cpu: u32) -> Result<Doc<'a>, Error>
         ensures empty { IfOk result (λ doc. doc ≡ empty_content boot_cpu) }
         ensures failed { IfErr result (λ error. error ≡ OutOfMemory) }
@@ -73,10 +73,10 @@ impl<'a> Doc<'a> {
         Doc::with_names(alloc, boot_cpu, Vec::new(alloc))
     }
 
-    /// Returns a document for this boot processor, without reservations, in which no node was
-    /// begun. The name of a property may be given by its number, which is its index among these
-    /// names. They need be neither distinct nor in byte order. Takes time linear in their number and
-    /// their lengths together. The only error is `OutOfMemory`.
+    /// Returns a document for this boot processor, without reservations and with no node begun. The
+    /// name of a property may be given by its number: its index in `names`. The names need not be
+    /// distinct, nor in byte order. Takes time linear in their number and their total length. The
+    /// only error is `OutOfMemory`.
     pub fn with_names(alloc: Global, boot_cpu: u32, names: Vec<&'a [u8]>) -> Result<Doc<'a>, Error>
         ensures empty { IfOk result (λ doc.
             doc ≡ empty_with_names boot_cpu (bytes_of names.entry.items)) }
@@ -92,9 +92,9 @@ impl<'a> Doc<'a> {
     }
 
     /// Adds a memory reservation (Devicetree Specification, 5.3): `size` bytes from `address` on.
-    /// It may only be called if `address` and `size` are not both 0.
+    /// Requires: `address` and `size` are not both 0.
     ///
-    /// The only error is `OutOfMemory`, and the document is unchanged then.
+    /// The only error is `OutOfMemory`. The document is then unchanged.
     pub fn reserve(&mut self, address: u64, size: u64) -> Result<(), Error>
         requires { 0 < address + size }
         ensures reserved { OnOk result (self.new ≡ with_reservation self.old address size) }
@@ -104,10 +104,10 @@ impl<'a> Doc<'a> {
         Ok(())
     }
 
-    /// Begins a node of this name, as a child of the innermost open node, or as the root, whose
-    /// name is empty. It may only be called if `may_begin` is true.
+    /// Begins a node with the given name: a child of the innermost open node, or the root, which
+    /// has an empty name. Requires: `may_begin` is true for this name.
     ///
-    /// The only error is `OutOfMemory`, and the document is unchanged then.
+    /// The only error is `OutOfMemory`. The document is then unchanged.
     pub fn begin(&mut self, name: &'a [u8]) -> Result<(), Error>
         requires { MayBegin most_open_nodes name.now (stage_of_events self.old.events) }
         ensures begun { OnOk result (self.new ≡ with_event self.old (NodeStart name.entry.now)) }
@@ -119,9 +119,9 @@ impl<'a> Doc<'a> {
         Ok(())
     }
 
-    /// Adds a property to the innermost open node. It may only be called if `may_property` is true.
+    /// Adds a property to the innermost open node. Requires: `may_property` is true for this name.
     ///
-    /// The only error is `OutOfMemory`, and the document is unchanged then.
+    /// The only error is `OutOfMemory`. The document is then unchanged.
     pub fn property(&mut self, name: &'a [u8], value: Value<'a>) -> Result<(), Error>
         requires { MayHaveNextProperty name.now (stage_of_events self.old.events) }
         ensures added { let event = NodeProperty (name.entry.now, value_bytes value.entry) in
@@ -140,11 +140,11 @@ impl<'a> Doc<'a> {
     }
 
     /// Adds a property to the innermost open node, by the number of its name: the index among the
-    /// names that were given to `with_names`. It may only be called if `may_property` is true of
-    /// this name. It takes constant time apart from allocations, except at the first use of a
-    /// number, which looks the name up by its bytes.
+    /// names that were given to `with_names`. Takes constant time apart from allocations, except at
+    /// the first use of a number, which looks the name up by its bytes. Requires: `may_property` is
+    /// true for this name.
     ///
-    /// The only error is `OutOfMemory`, and the document is unchanged then.
+    /// The only error is `OutOfMemory`. The document is then unchanged.
     pub fn property_numbered(&mut self, number: usize, value: Value<'a>) -> Result<(), Error>
         requires { let name = name_numbered self.old.names number in
             MayHaveNextProperty name (stage_of_events self.old.events) }
@@ -165,8 +165,7 @@ impl<'a> Doc<'a> {
         Ok(())
     }
 
-    /// Ends the innermost open node. It may only be called if `may_end` is true. It allocates
-    /// nothing.
+    /// Ends the innermost open node. Allocates nothing. Requires: `may_end` is true.
     pub fn end(&mut self)
         requires { MayEnd (stage_of_events self.old.events) }
         ensures { self.new ≡ with_event self.old NodeEnd }
@@ -176,10 +175,10 @@ impl<'a> Doc<'a> {
     }
 
     /// Returns whether `begin` may be called with this name: no node was begun and the name is
-    /// empty; or 1 to 63 nodes are open, the name has a byte and neither a zero nor a `/`, and no
-    /// child of the innermost open node has it.
+    /// empty; or 1 to 63 nodes are open, the name is not empty and has neither a zero nor a `/`,
+    /// and no child of the innermost open node has it.
     ///
-    /// It takes time linear in the number of events, since it looks for a child of the same name.
+    /// Takes time linear in the number of events, since it looks for a child with the same name.
     /// `begin` itself does not look, so a caller that knows that the names of children differ need
     /// not call this.
     pub fn may_begin(&self, name: &[u8]) -> bool
@@ -196,8 +195,8 @@ impl<'a> Doc<'a> {
     }
 
     /// Returns whether `property` may be called with this name: a node is open and has no child
-    /// yet, the name has a byte and no zero, and it is greater in byte order than that of the
-    /// node's last property.
+    /// yet, the name is not empty and has no zero, and it is greater in byte order than the name of
+    /// the node's last property.
     pub fn may_property(&self, name: &[u8]) -> bool
         ensures { IsTrue result ↔ MayHaveNextProperty name.now (stage_of_events self.now.events) }
     {
@@ -216,7 +215,7 @@ impl<'a> Doc<'a> {
     }
 
     /// Returns whether the root was begun and ended. The events are then those of exactly one tree
-    /// that a blob can hold, and the properties of each of its nodes come in byte order.
+    /// that a blob can hold, and the properties of each node come in byte order.
     pub fn is_closed(&self) -> bool
         ensures ended { IsTrue result ↔ (stage_of_events self.now.events ≡ AfterRoot) }
         ensures tree { IsTrue result → HasOneNormalTree self.now.events }
@@ -225,8 +224,8 @@ impl<'a> Doc<'a> {
     }
 
     /// Returns the length of the document's text in bytes, or None if the text has more than
-    /// 0x7fffffff bytes. It may only be called if `is_closed` is true. It takes time linear in the
-    /// number of events; `close` measures the text once for `size` and `emit` together.
+    /// 0x7fffffff bytes. Takes time linear in the number of events; `close` measures the text once
+    /// for `size` and `emit` together. Requires: `is_closed` is true.
     pub fn size(&self) -> Option<u32>
         requires { stage_of_events self.now.events ≡ AfterRoot }
         ensures { MatchOption result (longest_text < length (text_of self.now))
@@ -237,13 +236,13 @@ impl<'a> Doc<'a> {
     }
 
     /// Appends the document's text: the header, the memory reservation block, the structure block,
-    /// the strings block, and zeros up to a multiple of four. It may only be called if `is_closed`
-    /// is true and `size` is not None.
+    /// the strings block, and zeros up to a multiple of four. Requires: `is_closed` is true and
+    /// `size` is not None.
     ///
-    /// Fails only as the sink does. After an error of the sink, it is as a failed `put` of the
-    /// whole text leaves it.
+    /// The only errors are those of the sink. After one, the sink is as a failed `put` of the whole
+    /// text leaves it.
     ///
-    /// It takes time linear in the number of events and in the length of the text, and allocates
+    /// Takes time linear in the number of events and in the length of the text, and allocates
     /// nothing itself.
     pub fn emit<S: Sink>(&self, sink: &mut S) -> Result<(), Error>
         requires closed { stage_of_events self.now.events ≡ AfterRoot }
@@ -257,7 +256,7 @@ impl<'a> Doc<'a> {
     }
 
     /// Returns the sizes of the blocks of the document's text, or None if the text has more than
-    /// 0x7fffffff bytes. It takes time linear in the number of events.
+    /// 0x7fffffff bytes. Takes time linear in the number of events.
     pub(crate) fn block_sizes(&self) -> Option<BlockSizes>
         ensures { MatchOption result (longest_text < length (text_of self.now))
             (λ sizes. AreBlockSizes self.now sizes) }
@@ -269,7 +268,7 @@ impl<'a> Doc<'a> {
         )
     }
 
-    /// Returns the length of the document's text in bytes, whose blocks have these sizes.
+    /// Returns the length of the document's text in bytes, given the sizes of its blocks.
     pub(crate) fn total_size(&self, sizes: BlockSizes) -> u32
         requires { AreBlockSizes self.now sizes }
         ensures size { result ≡ length (text_of self.now) }
@@ -278,14 +277,14 @@ impl<'a> Doc<'a> {
         sizes.total()
     }
 
-    /// Appends the document's text, whose blocks have these sizes: the header, the memory
+    /// Appends the document's text, given the sizes of its blocks: the header, the memory
     /// reservation block, the structure block, the strings block, and zeros up to a multiple of
     /// four.
     ///
-    /// Fails only as the sink does. After an error of the sink, it is as a failed `put` of the
-    /// whole text leaves it.
+    /// The only errors are those of the sink. After one, the sink is as a failed `put` of the whole
+    /// text leaves it.
     ///
-    /// It takes time linear in the length of the text, and allocates nothing itself.
+    /// Takes time linear in the length of the text, and allocates nothing itself.
     pub(crate) fn put<S: Sink>(&self, sizes: BlockSizes, sink: &mut S) -> Result<(), Error>
         requires { AreBlockSizes self.now sizes }
         ensures { Wrote S.appends S.fails sink.old (text_of self.now) result sink.new }

@@ -17,7 +17,7 @@ pub enum Value<'a> {
 impl<'a> Value<'a> {
     ghost use Rattle.bi_lay.specs.Values.{value_bytes};
 
-    /// Returns how many bytes the value has.
+    /// Returns the length of the value in bytes.
     pub(crate) fn len(&self) -> usize
         ensures { result ≡ length (value_bytes self.now) }
     {

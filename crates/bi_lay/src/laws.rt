@@ -1,4 +1,4 @@
-//! Laws for callers that build a document of a tree. Their functions do nothing: what each of them
+//! Laws for callers that build the document of a tree. The functions do nothing: what each one
 //! ensures is the law.
 
 ghost use Rattle.bi_lay.specs.Laws.{PropertiesAddTheirNames, NodesAddTheirNames, EachMayFollow};

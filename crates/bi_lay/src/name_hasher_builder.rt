@@ -1,12 +1,12 @@
-//! Hashers of names, by a key that depends on all names that have numbers.
+//! Hashers of names, with a key that depends on all names that have numbers.
 
 use sha2::{Digest, Sha256};
 use std::hash::{BuildHasher, DefaultHasher, Hasher};
 
-/// Builds hashers of names. Their key is the SHA-256 digest of all names that have numbers, so a
-/// file whose names are among these cannot choose names with equal hashes: another choice of names
-/// has another key. The hasher by itself, fed with these names, would be a weaker key, since it is
-/// made for keys that are secret. Nothing that is returned depends on a hash.
+/// Builds hashers of names. Their key is the SHA-256 digest of all names that have numbers. So a
+/// file cannot choose such names with equal hashes: a different choice of names has a different
+/// key. Feeding the names to the hasher itself would give a weaker key, since the hasher is made
+/// for secret keys. No result depends on a hash.
 #[derive(Clone, Copy)]
 pub(crate) struct NameHasherBuilder {
     /// The hasher that was fed with the key.
@@ -14,7 +14,7 @@ pub(crate) struct NameHasherBuilder {
 }
 
 impl NameHasherBuilder {
-    /// Returns the builder for these names. Takes time linear in their lengths together.
+    /// Returns the builder for these names. Takes time linear in their total length.
     pub(crate) fn new(names: &[&[u8]]) -> NameHasherBuilder {
         let mut digest = Sha256::new();
         for name in names {

@@ -33,7 +33,7 @@ impl<'a> Names<'a> {
     ghost use Rattle.bi_lay.specs.Names.{with_name, saturated_usize};
     ghost use Rattle.bi_base.specs.Slices.{bytes_of};
 
-    /// Returns an empty list of names. It allocates nothing yet.
+    /// Returns an empty list of names. Allocates nothing yet.
     pub(crate) fn new(alloc: Global, hasher_builder: NameHasherBuilder) -> Names<'a>
         ensures { result ≡ [] }
     {

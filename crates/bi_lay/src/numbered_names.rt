@@ -1,4 +1,4 @@
-//! The names of properties, each of which may be given by its bytes, and some by a number.
+//! The names of properties. Each may be given by its bytes, and some by a number.
 
 ghost use Rattle.std.specs.Prelude.{◌≡◌, ◌<◌, [], IfOk, OnOk, IfErr, length};
 ghost use Rattle.bi_blob.specs.Layout.{offset_in, strings_of};
@@ -35,8 +35,7 @@ impl<'a> NumberedNames<'a> {
     ghost use Rattle.bi_lay.specs.Names.{saturated_usize};
     ghost use Rattle.bi_lay.specs.NumberedNames.{with_use};
 
-    /// Returns these names, none of which is in the strings block yet. The number of each is its
-    /// index.
+    /// Returns these names, with an empty strings block. The number of each name is its index.
     pub(crate) fn new(
         alloc: Global,
         by_number: Vec<&'a [u8]>,
@@ -68,7 +67,7 @@ impl<'a> NumberedNames<'a> {
         self.in_block.as_slice()
     }
 
-    /// Returns the name of a number.
+    /// Returns the name with this number.
     pub(crate) fn name(&self, number: usize) -> &'a [u8]
         requires { number < length self.now.by_number }
         ensures { result.now ≡ name_numbered self.now.by_number number }
@@ -89,8 +88,8 @@ impl<'a> NumberedNames<'a> {
         self.in_block.add(name)
     }
 
-    /// Adds the name of a number as `add` does. It takes a constant number of steps, except at the
-    /// first use of a number, which looks the name up by its bytes.
+    /// Adds the name with this number, as `add` does. Takes a constant number of steps, except at
+    /// the first use of a number, which looks the name up by its bytes.
     ///
     /// If memory runs out, the names are unchanged.
     pub(crate) fn add_numbered(&mut self, number: usize) -> Result<usize, AllocError>

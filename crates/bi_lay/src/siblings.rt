@@ -1,4 +1,4 @@
-//! Whether the innermost open node has a child of some name.
+//! Whether the innermost open node has a child with a given name.
 
 ghost use Rattle.std.specs.Prelude.{◌≡◌, ◌≢◌, ◌+◌, ◌<◌, ◌^◌, ◌↔◌, length, IsTrue, true};
 ghost use Rattle.bi_blob.specs.Tree.{IsNew};
@@ -14,12 +14,12 @@ use crate::items::Item;
 struct Scan {
     /// How many nodes are open.
     depth: usize,
-    /// Whether the node in question, if it is open, has no child of the name so far.
+    /// Whether the node in question, if it is open, has no child with the name so far.
     is_new: bool,
 }
 
-/// Returns whether no child of the innermost open node has this name. After these items, `depth`
-/// nodes are open.
+/// Returns whether no child of the innermost open node has the given name. After these items,
+/// `depth` nodes are open.
 pub(crate) fn is_new_child(items: &[Item<'_>], depth: usize, name: &[u8]) -> bool
     requires open { depth ≡ length (open_nodes (stage_of_events (events_of_items items.now))) }
     requires some { 0 < depth }
@@ -55,7 +55,7 @@ fn scan_after(scan: Scan, item: &Item<'_>, depth: usize, name: &[u8]) -> Scan
     }
 }
 
-/// Returns whether the name is still new after a node of the name `child` begins.
+/// Returns whether the name is still new after a node with the name `child` begins.
 fn is_new_after(scan: Scan, child: &[u8], depth: usize, name: &[u8]) -> bool
     requires { scan.depth + 1 < 2 ^ 64 }
     ensures child { scan.depth ≡ depth →

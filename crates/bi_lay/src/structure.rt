@@ -15,7 +15,7 @@ use bi_base::{CountSink, Error, Sink, put_cell, put_cells, up4};
 use bi_blob::format::{BEGIN_NODE, END, END_NODE, PROP};
 
 /// Returns how many bytes the structure block of these items has, or the greatest u64 if it has
-/// more than that.
+/// more.
 pub(crate) fn structure_size(items: &[Item<'_>]) -> u64
     ensures { result ≡ min (length (structure_of_items items.now)) (2 ^ 64 - 1) }
 {
@@ -45,7 +45,7 @@ fn put_item<S: Sink>(item: Item<'_>, sink: &mut S) -> Result<(), Error>
     }
 }
 
-/// Appends the token that begins a node of this name. Fails as the sink does.
+/// Appends the token that begins a node with this name. Fails as the sink does.
 fn put_begin<S: Sink>(name: &[u8], sink: &mut S) -> Result<(), Error>
     ensures { Wrote S.appends S.fails sink.old (encoding (BeginNode name.now)) result sink.new }
 {
@@ -81,8 +81,8 @@ fn put_value<S: Sink>(value: Value<'_>, sink: &mut S) -> Result<(), Error>
     }
 }
 
-/// Appends a string: these bytes and a zero (Devicetree Specification, 2.2.4.2). Fails as the sink
-/// does.
+/// Appends a string: the given bytes and a zero (Devicetree Specification, 2.2.4.2). Fails as the
+/// sink does.
 pub(crate) fn put_string<S: Sink>(bytes: &[u8], sink: &mut S) -> Result<(), Error>
     ensures { Wrote S.appends S.fails sink.old (bytes.now ++ 0 ∷ []) result sink.new }
 {

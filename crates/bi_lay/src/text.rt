@@ -33,7 +33,7 @@ pub(crate) struct BlobParts<'a> {
     pub(crate) names: &'a [&'a [u8]],
 }
 
-/// Appends the text of these parts, whose blocks have these sizes. Fails as the sink does.
+/// Appends the text of these parts, given the sizes of its blocks. Fails as the sink does.
 pub(crate) fn put_text<S: Sink>(
     parts: BlobParts<'_>,
     sizes: BlockSizes,
@@ -54,7 +54,7 @@ pub(crate) fn put_text<S: Sink>(
     put_padding(sizes.before_padding() as usize, sink)
 }
 
-/// Appends the header of a text whose blocks have these sizes. Fails as the sink does.
+/// Appends the header of a text, given the sizes of its blocks. Fails as the sink does.
 #[tactic(auto, unfolding(bi_base::specs::Cells::cell))]
 fn put_header<S: Sink>(boot_cpu: u32, sizes: BlockSizes, sink: &mut S) -> Result<(), Error>
     ensures { Wrote S.appends S.fails sink.old

@@ -15,7 +15,7 @@ use Rattle.bi_legacy.proofs.LegacyFaultFacts.{past}
 is_long : ¬ (IsImageName long_name)
 is_long is = past 33 32 refl is.short
 
--- A zero byte is no byte of a name.
+-- A zero byte is not a byte of a name.
 has_zero : ¬ (IsImageName name_with_zero)
 has_zero is = is.no_zero.1.0 refl
 

@@ -37,7 +37,8 @@ pub part_table-within : (image_type : ℕ) (slices : List (Bor (List ℕ))) → 
     4 * (length slices + 1) ≤ length (normal_body image_type (bytes_of slices))
 part_table-within image_type slices is_table =
     let parts = bytes_of slices in
-    let P : Bool → Type 0 = λ has_table. 4 * (length slices + 1) ≤ length (if has_table then part_table parts ++ joined_parts parts else joined_parts parts) in
+    let P : Bool → Type 0 = λ has_table. 4 * (length slices + 1) ≤ length
+    (if has_table then part_table parts ++ joined_parts parts else joined_parts parts) in
     subst P (sym is_table)
     (omega (arith, length-append (part_table parts) (joined_parts parts), length-part_table parts, length-map slices (λ slice. slice.now)))
 
@@ -45,7 +46,7 @@ part_table-within image_type slices is_table =
 abbrev pub kind_checks : Bool → LegacyImage → List EmitPartCheck
 kind_checks has_table image = if has_table then emit_part_checks 0 image.parts else []
 
--- An image whose name and number of parts are right, whose text is within the limit and whose parts pass has no fault.
+-- An image has no fault if its name and number of parts are right, its text is within the limit and its parts pass.
 pub can_be_written : (image : LegacyImage) (limits : Limits) (has_table : Bool) → IsImageName image.name →
     MatchBool (has_part_table image.image_type) ⊤ (length image.parts ≡ 1) → length (legacy_text image) ≤ limits.file →
     has_part_table image.image_type ≡ has_table → HasNoFault EmitPartPasses (kind_checks has_table image) → HasNoEmitFault limits image
@@ -60,7 +61,16 @@ pub fault_in_parts : (image : LegacyImage) (limits : Limits) (has_table : Bool) 
     IsEmitFault limits image fault
 fault_in_parts image limits has_table fault name count short e first =
     let P : Bool → Type 0 = λ kind. IsFirstFault EmitPartPasses emit_part_fault (kind_checks kind image) fault in
-    inr (name, inr (count, inr (short, IsFirstFault-map (EmitPasses limits image) (emit_fault limits) IsNotEmpty _ fault (subst P (sym e) first))))
+    inr (
+      name,
+      inr (
+        count,
+        inr (
+          short,
+          IsFirstFault-map (EmitPasses limits image) (emit_fault limits) IsNotEmpty _ fault (subst P (sym e) first),
+        ),
+      ),
+    )
 
 -- Where the text is longer than the limit, that is the first fault.
 pub text_too_long : (image : LegacyImage) (limits : Limits) → IsImageName image.name →

@@ -35,14 +35,16 @@ drop-sizes_of slices i d within =
 pub empty_here : (index : ℕ) (part : List ℕ) (parts later : List (List ℕ)) → parts ≡ part ∷ later → length part ≡ 0 →
     IsFirstFault EmitPartPasses emit_part_fault (emit_part_checks index parts) (emit_part_fault record { index = index; part = part })
 empty_here index part parts later e empty =
-    subst (λ (left : List (List ℕ)). IsFirstFault EmitPartPasses emit_part_fault (emit_part_checks index left) (emit_part_fault record { index = index; part = part })) (sym e) (inl (λ some. omega arith, refl))
+    subst (λ (left : List (List ℕ)). IsFirstFault EmitPartPasses emit_part_fault (emit_part_checks index left)
+    (emit_part_fault record { index = index; part = part })) (sym e) (inl (λ some. omega arith, refl))
 
 -- After a part that is not empty, the first fault is that of the others.
 pub empty_later : (index : ℕ) (part : List ℕ) (parts later : List (List ℕ)) (fault : Fault) → parts ≡ part ∷ later → 0 < length part →
     IsFirstFault EmitPartPasses emit_part_fault (emit_part_checks (index + 1) later) fault →
     IsFirstFault EmitPartPasses emit_part_fault (emit_part_checks index parts) fault
 empty_later index part parts later fault e some rest =
-    subst (λ (left : List (List ℕ)). IsFirstFault EmitPartPasses emit_part_fault (emit_part_checks index left) fault) (sym e) (inr (some, rest))
+    subst (λ (left : List (List ℕ)). IsFirstFault EmitPartPasses emit_part_fault
+    (emit_part_checks index left) fault) (sym e) (inr (some, rest))
 
 -- A part that is not empty passes, and then the others.
 pub none_empty : (index : ℕ) (part : List ℕ) (parts later : List (List ℕ)) → parts ≡ part ∷ later → 0 < length part →

@@ -17,7 +17,7 @@ use Rattle.bi_legacy.proofs.MeansNoFault.{means_no_fault}
 use Rattle.bi_legacy.proofs.TableCells.{zero_within}
 use Rattle.bi_base.proofs.NulLaws.{nul_index}
 
--- A file has a meaning exactly where no check fails, and at most one fault.
+-- A file has a meaning if and only if no check fails, and at most one fault.
 
 -- A number is at most another or not.
 bound_decided : (a b : ℕ) → (a ≤ b) ⊎ (¬ (a ≤ b))
@@ -29,7 +29,8 @@ bound_decided a b = elim (cases_lt b a) [
 -- Numbers contain a zero or not.
 zero_decided : (numbers : List ℕ) → Contains numbers 0 ⊎ (¬ (Contains numbers 0))
 zero_decided numbers = elim (cases_lt (nul_index numbers) (length numbers)) [
-  | inl within ↦ inl (subst (Contains numbers) (eqb-true _ _ (passes_at_first (λ number. number == 0) numbers 0 within)) (Contains-get_or numbers (nul_index numbers) 0 within))
+  | inl within ↦ inl (subst (Contains numbers) (eqb-true _ _ (passes_at_first (λ number. number == 0) numbers 0 within))
+      (Contains-get_or numbers (nul_index numbers) 0 within))
   | inr past ↦ inr (λ there. omega (arith, zero_within numbers there))
 ]
 

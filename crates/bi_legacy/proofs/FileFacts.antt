@@ -21,7 +21,15 @@ free_bytes_have_no_meaning = record {
     body = codes "123456789";
     rest = replicate 7 0xff;
     file_is = refl;
-    ranges = record { time = lit< tt; load = lit< tt; entry = lit< tt; os = lit< tt; arch = lit< tt; image_type = lit< tt; compression = lit< tt };
+    ranges = record {
+      time = lit< tt;
+      load = lit< tt;
+      entry = lit< tt;
+      os = lit< tt;
+      arch = lit< tt;
+      image_type = lit< tt;
+      compression = lit< tt;
+    };
     name = record { padding = 0 ∷ replicate 30 0xff; field_is = refl; padding_is = refl; whole = refl; is_name = k_is_name };
     size = lit< tt;
     parts = refl;
@@ -32,7 +40,15 @@ free_bytes_have_no_meaning = record {
     body = multi_data_with_rest;
     rest = [];
     file_is = refl;
-    ranges = record { time = lit< tt; load = lit< tt; entry = lit< tt; os = lit< tt; arch = lit< tt; image_type = lit< tt; compression = lit< tt };
+    ranges = record {
+      time = lit< tt;
+      load = lit< tt;
+      entry = lit< tt;
+      os = lit< tt;
+      arch = lit< tt;
+      image_type = lit< tt;
+      compression = lit< tt;
+    };
     name = record { padding = 0 ∷ replicate 30 0; field_is = refl; padding_is = refl; whole = refl; is_name = k_is_name };
     size = lit< tt;
     parts = record {
@@ -48,7 +64,15 @@ free_bytes_have_no_meaning = record {
     body = cell 0;
     rest = [];
     file_is = refl;
-    ranges = record { time = lit< tt; load = lit< tt; entry = lit< tt; os = lit< tt; arch = lit< tt; image_type = lit< tt; compression = lit< tt };
+    ranges = record {
+      time = lit< tt;
+      load = lit< tt;
+      entry = lit< tt;
+      os = lit< tt;
+      arch = lit< tt;
+      image_type = lit< tt;
+      compression = lit< tt;
+    };
     name = record { padding = 0 ∷ replicate 30 0; field_is = refl; padding_is = refl; whole = refl; is_name = k_is_name };
     size = lit< tt;
     parts = record { rest = []; body_is = refl; are_table_parts = tt; padded_parts = tt };

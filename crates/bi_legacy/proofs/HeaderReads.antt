@@ -85,7 +85,7 @@ body_read file image is =
     ∙ ap (take (length is.body)) (drop_at is.field (is.body ++ is.rest) 32 is.name.whole)
     ∙ take_at is.body is.rest (length is.body) refl
 
--- The header with zeros in place of its checksum.
+-- The header with zeros instead of its checksum.
 pub header_without_checksum_read : (file : List ℕ) (image : LegacyImage) (is : IsLegacyFile file image) →
     header_without_checksum file ≡ header_with 0 image is.field is.body
 unfolding header cell

@@ -60,7 +60,7 @@ header_after_checksum : (file : List ℕ) (checksum : ℕ) → length (body_of f
 unfolding after_checksum codes_and_name
 header_after_checksum file checksum size sum = rw (size, sum)
 
--- The header with zeros in place of its checksum, by the bytes of the file.
+-- The header with zeros instead of its checksum, by the bytes of the file.
 header_without_checksum_is : (file : List ℕ) → AreBytes file → 64 ≤ length file → u32_at file 0 ≡ 0x27051956 →
     length (body_of file) ≡ u32_at file 12 → crc32 (body_of file) ≡ u32_at file 24 →
     header_with 0 (read_image file) (slice file 32 32) (body_of file) ≡ header_without_checksum file

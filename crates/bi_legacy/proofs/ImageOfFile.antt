@@ -17,8 +17,10 @@ use Rattle.bi_legacy.proofs.PartOffsets.{ArePartsAt}
 -- Parts that are slices of bytes are bytes.
 parts_at-bytes : (at : ℕ) (parts : List (List ℕ)) (body : List ℕ) → AreBytes body → ArePartsAt at parts body → AllByRecursion AreBytes parts
 parts_at-bytes at [] body bytes at_offsets = tt
-parts_at-bytes at (part ∷ parts) body bytes at_offsets =
-    (subst AreBytes at_offsets.1 (AreBytes-slice body at (length part) bytes), parts_at-bytes (up4 (at + length part)) parts body bytes at_offsets.2)
+parts_at-bytes at (part ∷ parts) body bytes at_offsets = (
+  subst AreBytes at_offsets.1 (AreBytes-slice body at (length part) bytes),
+  parts_at-bytes (up4 (at + length part)) parts body bytes at_offsets.2,
+)
 
 -- The parts of data of bytes, with or without a part table, are bytes.
 body_parts_bytes : (has_table : Bool) (parts : List (List ℕ)) (body : List ℕ) → AreBytes body →
@@ -44,7 +46,8 @@ body_bytes file image is = subst AreBytes (body_read file image is) (AreBytes-sl
 -- The name of the image of a file is bytes.
 name_bytes : (file : List ℕ) (image : LegacyImage) (is : IsLegacyFile file image) → AreBytes image.name
 name_bytes file image is =
-    AreBytes-left image.name is.name.padding (subst AreBytes (field_read file image is ∙ is.name.field_is) (AreBytes-slice file 32 32 is.bytes))
+    AreBytes-left image.name is.name.padding
+    (subst AreBytes (field_read file image is ∙ is.name.field_is) (AreBytes-slice file 32 32 is.bytes))
 
 -- The image that a file means fits the format.
 pub image_of_file : (file : List ℕ) (image : LegacyImage) → IsLegacyFile file image → IsLegacyImage image
@@ -56,7 +59,12 @@ image_of_file file image is =
       name_bytes = name_bytes file image is;
       parts = parts;
       parts_bytes = body_parts_bytes (has_part_table image.image_type) image.parts is.body (body_bytes file image is) is.parts;
-      size = omega (arith, length-normal_body image.image_type image.parts, parts_end_in image.image_type image.parts is.body is.parts, is.size);
+      size = omega (
+        arith,
+        length-normal_body image.image_type image.parts,
+        parts_end_in image.image_type image.parts is.body is.parts,
+        is.size,
+      );
     }
 
 -- The normal text of the image that a file means is no longer than the file.

@@ -30,21 +30,60 @@ legacy_files_have_faults = record {
   other_end = inr (lit≤ tt, inr (lit≤ tt, inr (refl, inr (lit≤ tt, inr (refl, inr (lit≤ tt, inl (eqb-false _ _ refl, refl)))))));
 }
 
--- Cells of which none is zero.
+-- Cells, none of them zero.
 no_zero : (numbers : List ℕ) → nul_index numbers ≡ length numbers → ¬ (Contains numbers 0)
 no_zero numbers all has = omega (arith, all, zero_within numbers has)
 
 pub part_tables_have_faults : PartTablesHaveFaults
 unfolding u32_at cell header crc32 crc_after low_bits
 part_tables_have_faults = record {
-  no_end = inr (lit≤ tt, inr (lit≤ tt, inr (refl, inr (lit≤ tt, inr (refl, inr (lit≤ tt, inr (refl, inl (no_zero (5 ∷ []) refl, refl))))))));
-  no_end_of_script = inr (lit≤ tt, inr (lit≤ tt, inr (refl, inr (lit≤ tt, inr (refl, inr (lit≤ tt, inr (refl, inl (no_zero (5 ∷ []) refl, refl))))))));
+  no_end = inr (
+    lit≤ tt,
+    inr (
+      lit≤ tt,
+      inr (refl, inr (lit≤ tt, inr (refl, inr (lit≤ tt, inr (refl, inl (no_zero (5 ∷ []) refl, refl)))))),
+    ),
+  );
+  no_end_of_script = inr (
+    lit≤ tt,
+    inr (lit≤ tt, inr (refl, inr (lit≤ tt, inr (refl, inr (lit≤ tt, inr (refl, inl (no_zero (5 ∷ []) refl, refl))))))),
+  );
   no_data = inr (lit≤ tt, inr (lit≤ tt, inr (refl, inr (lit≤ tt, inr (refl, inr (lit≤ tt, inr (refl, inl (no_zero [] refl, refl))))))));
-  no_whole_cell = inr (lit≤ tt, inr (lit≤ tt, inr (refl, inr (lit≤ tt, inr (refl, inr (lit≤ tt, inr (refl, inl (no_zero [] refl, refl))))))));
-  unaligned_zero = inr (lit≤ tt, inr (lit≤ tt, inr (refl, inr (lit≤ tt, inr (refl, inr (lit≤ tt, inr (refl, inl (no_zero (0x100 ∷ 1 ∷ []) refl, refl))))))));
-  first_part = inr (lit≤ tt, inr (lit≤ tt, inr (refl, inr (lit≤ tt, inr (refl, inr (lit≤ tt, inr (refl, inr ((1, lit< tt, refl), inl (past _ _ refl, refl)))))))));
-  second_part = inr (lit≤ tt, inr (lit≤ tt, inr (refl, inr (lit≤ tt, inr (refl, inr (lit≤ tt, inr (refl, inr ((2, lit< tt, refl), inr (lit≤ tt, inl (past _ _ refl, refl))))))))));
-  part_of_script = inr (lit≤ tt, inr (lit≤ tt, inr (refl, inr (lit≤ tt, inr (refl, inr (lit≤ tt, inr (refl, inr ((2, lit< tt, refl), inr (lit≤ tt, inl (past _ _ refl, refl))))))))));
+  no_whole_cell = inr (
+    lit≤ tt,
+    inr (
+      lit≤ tt,
+      inr (refl, inr (lit≤ tt, inr (refl, inr (lit≤ tt, inr (refl, inl (no_zero [] refl, refl)))))),
+    ),
+  );
+  unaligned_zero = inr (
+    lit≤ tt,
+    inr (
+      lit≤ tt,
+      inr (refl, inr (lit≤ tt, inr (refl, inr (lit≤ tt, inr (refl, inl (no_zero (0x100 ∷ 1 ∷ []) refl, refl)))))),
+    ),
+  );
+  first_part = inr (
+    lit≤ tt,
+    inr (
+      lit≤ tt,
+      inr (refl, inr (lit≤ tt, inr (refl, inr (lit≤ tt, inr (refl, inr ((1, lit< tt, refl), inl (past _ _ refl, refl))))))),
+    ),
+  );
+  second_part = inr (
+    lit≤ tt,
+    inr (
+      lit≤ tt,
+      inr (refl, inr (lit≤ tt, inr (refl, inr (lit≤ tt, inr (refl, inr ((2, lit< tt, refl), inr (lit≤ tt, inl (past _ _ refl, refl)))))))),
+    ),
+  );
+  part_of_script = inr (
+    lit≤ tt,
+    inr (
+      lit≤ tt,
+      inr (refl, inr (lit≤ tt, inr (refl, inr (lit≤ tt, inr (refl, inr ((2, lit< tt, refl), inr (lit≤ tt, inl (past _ _ refl, refl)))))))),
+    ),
+  );
 }
 
 pub legacy_checks_have_order : LegacyChecksHaveOrder
@@ -57,6 +96,12 @@ legacy_checks_have_order = record {
   checksum_before_data = inr (lit≤ tt, inr (lit≤ tt, inr (refl, inr (lit≤ tt, inl (eqb-false _ _ refl, refl)))));
   size_before_data = inr (lit≤ tt, inr (lit≤ tt, inr (refl, inr (lit≤ tt, inr (refl, inl (past _ _ refl, refl))))));
   data_before_table = inr (lit≤ tt, inr (lit≤ tt, inr (refl, inr (lit≤ tt, inr (refl, inr (lit≤ tt, inl (eqb-false _ _ refl, refl)))))));
-  table_before_part = inr (lit≤ tt, inr (lit≤ tt, inr (refl, inr (lit≤ tt, inr (refl, inr (lit≤ tt, inr (refl, inl (no_zero (0xffffffff ∷ []) refl, refl))))))));
-  first_before_second_part = inr (lit≤ tt, inr (lit≤ tt, inr (refl, inr (lit≤ tt, inr (refl, inr (lit≤ tt, inr (refl, inr ((2, lit< tt, refl), inl (past _ _ refl, refl)))))))));
+  table_before_part = inr (
+    lit≤ tt,
+    inr (lit≤ tt, inr (refl, inr (lit≤ tt, inr (refl, inr (lit≤ tt, inr (refl, inl (no_zero (0xffffffff ∷ []) refl, refl))))))),
+  );
+  first_before_second_part = inr (
+    lit≤ tt,
+    inr (lit≤ tt, inr (refl, inr (lit≤ tt, inr (refl, inr (lit≤ tt, inr (refl, inr ((2, lit< tt, refl), inl (past _ _ refl, refl)))))))),
+  );
 }

@@ -34,5 +34,6 @@ means_no_fault file image limits means =
     let held : HoldsParts (slice_index file 30) (body_of file) image.parts = rw (body, type_read file image is) is.parts in
     let sum = header_sum_read file image is ∙ ap crc32 (sym (header_without_checksum_read file image is)) in
     let data_sum = data_sum_read file image is ∙ ap crc32 (sym body) in
-    let parts = HasNoFault-map (Passes limits file) InPartTable _ (parts_pass (has_part_table (slice_index file 30)) (body_of file) image.parts (rw body is.size) held) in
+    let parts = HasNoFault-map (Passes limits file) InPartTable _
+    (parts_pass (has_part_table (slice_index file 30)) (body_of file) image.parts (rw body is.size) held) in
     (means.short, (omega arith, (magic_read file image is, (omega arith, (sum, (omega arith, (data_sum, parts)))))))

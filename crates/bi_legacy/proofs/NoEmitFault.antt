@@ -52,11 +52,12 @@ pub no_emit_fault : (file : List ℕ) (image : LegacyImage) (limits : Limits) �
 no_emit_fault file image limits is short =
     image_no_emit_fault image limits (image_of_file file image is) (omega (arith, text_no_longer file image is))
 
--- An image without a fault, whose numbers fit their fields and whose bytes are bytes, fits the format.
+-- An image without a fault fits the format, if its numbers fit their fields and its bytes are bytes.
 pub no_emit_fault_image : (image : LegacyImage) (limits : Limits) → FitsFields image → AreBytes image.name →
     AllByRecursion AreBytes image.parts → limits.file < 2 ^ 32 → HasNoEmitFault limits image → IsLegacyImage image
 no_emit_fault_image image limits ranges name_bytes parts_bytes fits (name, (count, (short, parts))) =
-    let are : AreParts image.image_type image.parts = kind_passed (has_part_table image.image_type) image.parts count (HasNoFault-unmap (EmitPasses limits image) IsNotEmpty _ parts) in
+    let are : AreParts image.image_type image.parts = kind_passed (has_part_table image.image_type) image.parts count
+    (HasNoFault-unmap (EmitPasses limits image) IsNotEmpty _ parts) in
     record {
       ranges = ranges;
       name = name;

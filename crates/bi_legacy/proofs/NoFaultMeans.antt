@@ -54,7 +54,8 @@ no_fault_means file limits bytes (short, (cell, (magic, (whole, (header_sum, (wh
         ranges = ranges_read file bytes;
         name = field_holds_name (slice file 32 32) (length-slice file 32 32 whole);
         size = rw size (u32_at-fits file 12 bytes);
-        parts = parts_held (has_part_table (slice_index file 30)) (body_of file) (AreBytes-slice file 64 (u32_at file 12) bytes) (HasNoFault-unmap (Passes limits file) InPartTable _ parts);
+        parts = parts_held (has_part_table (slice_index file 30)) (body_of file) (AreBytes-slice file 64 (u32_at file 12) bytes)
+            (HasNoFault-unmap (Passes limits file) InPartTable _ parts);
         bytes = bytes;
       };
       short = short;

@@ -19,14 +19,16 @@ cells_bytes (number ∷ numbers) =
 -- A part table is bytes.
 part_table-bytes : (parts : List (List ℕ)) → AreBytes (part_table parts)
 part_table-bytes parts =
-    rw (part_table-cells parts) (AreBytes-append (flat_map cell (map length parts)) (cell 0) (cells_bytes (map length parts)) (AreBytes-cell 0))
+    rw (part_table-cells parts) (AreBytes-append (flat_map cell (map length parts)) (cell 0)
+    (cells_bytes (map length parts)) (AreBytes-cell 0))
 
 -- Joined parts of bytes are bytes.
 joined_bytes : (parts : List (List ℕ)) → AllByRecursion AreBytes parts → AreBytes (joined_parts parts)
 joined_bytes [] are = AreBytes-none
 joined_bytes (part ∷ []) are = are.0
 joined_bytes (part ∷ next ∷ later) are =
-    AreBytes-append (with_zeros part) (joined_parts (next ∷ later)) (AreBytes-append part _ are.0 (AreBytes-zeros _)) (joined_bytes (next ∷ later) are.1)
+    AreBytes-append (with_zeros part) (joined_parts (next ∷ later)) (AreBytes-append part _ are.0 (AreBytes-zeros _))
+    (joined_bytes (next ∷ later) are.1)
 
 -- The normal data of parts of bytes, with or without a part table, is bytes.
 kind_bytes : (has_table : Bool) (parts : List (List ℕ)) → AllByRecursion AreBytes parts →
@@ -56,5 +58,6 @@ header_bytes image field body ranges are =
 pub legacy_text_bytes : (image : LegacyImage) → IsLegacyImage image → AreBytes (legacy_text image)
 unfolding legacy_text
 legacy_text_bytes image is =
-    AreBytes-append _ _ (header_bytes image (name_field image.name) _ is.ranges (AreBytes-append image.name _ is.name_bytes (AreBytes-zeros _)))
+    AreBytes-append _ _ (header_bytes image (name_field image.name) _ is.ranges
+    (AreBytes-append image.name _ is.name_bytes (AreBytes-zeros _)))
     (kind_bytes (has_part_table image.image_type) image.parts is.parts_bytes)

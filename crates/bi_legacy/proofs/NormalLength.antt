@@ -30,7 +30,12 @@ length-joined_parts at (part ∷ []) aligned = omega (arith, aligned)
 length-joined_parts at (part ∷ next ∷ later) aligned =
     let rest = joined_parts (next ∷ later) in
     let next_at : up4 (at + length part) ≡ at + up4 (length part) = omega (arith, aligned) in
-    let sum : at + length (with_zeros part ++ rest) ≡ up4 (at + length part) + length rest = omega (arith, length-append (with_zeros part) rest, length-padded part, next_at) in
+    let sum : at + length (with_zeros part ++ rest) ≡ up4 (at + length part) + length rest = omega (
+      arith,
+      length-append (with_zeros part) rest,
+      length-padded part,
+      next_at,
+    ) in
     sum ∙ length-joined_parts (up4 (at + length part)) (next ∷ later) (up4-up4 (at + length part))
     ∙ parts_end_from-up4 (at + length part) (length next) (map length later)
     ∙ ap (λ n. parts_end_from (n + length part) (map length (next ∷ later))) (sym aligned)

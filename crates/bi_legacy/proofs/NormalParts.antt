@@ -1,4 +1,5 @@
-use Rattle.std.proofs.Common.{◌≡◌, ℕ, ◌-◌, Bool, true, false, List, ◌++◌, [], ◌∷◌, length, replicate, arith, refl, sym, ◌∙◌, append_assoc, append-nil, MatchBool, if◌then◌else◌}
+use Rattle.std.proofs.Common.{◌≡◌, ℕ, ◌-◌, Bool, true, false, List, ◌++◌, [], ◌∷◌, length, replicate, arith, refl, sym, ◌∙◌, append_assoc}
+use Rattle.std.proofs.Common.{append-nil, MatchBool, if◌then◌else◌}
 use Rattle.std.specs.List.{AllByRecursion}
 use Rattle.std.proofs.lemmas.List.{length-append}
 use Rattle.bi_base.specs.Cells.{up4}

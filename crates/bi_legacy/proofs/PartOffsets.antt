@@ -1,4 +1,5 @@
-use Rattle.std.proofs.Common.{◌≡◌, ℕ, ◌+◌, ◌-◌, ◌*◌, ◌≤◌, List, ◌++◌, [], ◌∷◌, length, take, drop, flat_map, refl, arith, sym, ap, ◌∙◌, subst₂, append_assoc}
+use Rattle.std.proofs.Common.{◌≡◌, ℕ, ◌+◌, ◌-◌, ◌*◌, ◌≤◌, List, ◌++◌, [], ◌∷◌, length, take, drop, flat_map, refl, arith, sym, ap, ◌∙◌}
+use Rattle.std.proofs.Common.{subst₂, append_assoc}
 use Rattle.std.proofs.Math.Seq.{drop-append_seam}
 use Rattle.std.proofs.lemmas.List.{length-append, take-append-drop}
 use Rattle.bi_base.specs.Cells.{cell, slice, up4}
@@ -63,7 +64,8 @@ padded_parts-at front (part ∷ next ∷ later) bytes aligned turn =
     let after = turn.1 in
     let whole : length part + length padding ≡ up4 (length part) = turn.3 in
     let rest : ArePartsAt (up4 (length front + length part)) (next ∷ later) (front ++ (part ++ (padding ++ after))) =
-    subst₂ (λ at body. ArePartsAt at (next ∷ later) body) (padded_end front part padding aligned whole) (padded_front front part padding after)
+    subst₂ (λ at body. ArePartsAt at (next ∷ later) body) (padded_end front part padding aligned whole)
+    (padded_front front part padding after)
     (padded_parts-at (front ++ (part ++ padding)) (next ∷ later) after (padded_aligned front part padding aligned whole) turn.4) in
     rw turn.2 (
       omega (arith, length-append front (part ++ (padding ++ after)), length-append part (padding ++ after)),
@@ -96,5 +98,11 @@ padded_parts-from front (part ∷ next ∷ later) bytes aligned at_offsets =
     subst₂ (λ at body. ArePartsAt at (next ∷ later) body)
     (sym (padded_end front part padding aligned whole))
     (ap (λ list. front ++ list) split ∙ sym (padded_front front part padding after))
-    at_offsets.2 in
-    (padding, after, split, whole, padded_parts-from (front ++ (part ++ padding)) (next ∷ later) after (padded_aligned front part padding aligned whole) rest)
+    at_offsets.2 in (
+      padding,
+      after,
+      split,
+      whole,
+      padded_parts-from (front ++ (part ++ padding)) (next ∷ later) after
+          (padded_aligned front part padding aligned whole) rest,
+    )

@@ -29,8 +29,10 @@ part_slices-at body at (size ∷ sizes) ends =
 pub part_slices-table_parts : (body : List ℕ) (at : ℕ) (sizes : List ℕ) → FitWithin (length body) at sizes →
     AllByRecursion (λ size. size ≢ 0) sizes → AllByRecursion IsTablePart (part_slices body at sizes)
 part_slices-table_parts body at [] ends nonzero = tt
-part_slices-table_parts body at (size ∷ sizes) ends nonzero =
-    (rw (length-slice body at size ends.0) (omega (arith, nonzero.0)), part_slices-table_parts body (up4 (at + size)) sizes ends.1 nonzero.1)
+part_slices-table_parts body at (size ∷ sizes) ends nonzero = (
+  rw (length-slice body at size ends.0) (omega (arith, nonzero.0)),
+  part_slices-table_parts body (up4 (at + size)) sizes ends.1 nonzero.1,
+)
 
 -- Parts at their offsets in data are the slices of their sizes.
 pub part_slices-are : (body : List ℕ) (at : ℕ) (parts : List (List ℕ)) → ArePartsAt at parts body →

@@ -24,7 +24,8 @@ parts_end_from-one end size sizes later e = ap (parts_end_from end) e
 pub first-here : (body : List ℕ) (index at size : ℕ) (sizes later : List ℕ) → sizes ≡ size ∷ later → ¬ (at + size ≤ length body) →
     IsFirstFault (TablePasses body) table_fault (part_checks index at sizes) (table_fault (HasPart index (at + size)))
 first-here body index at size sizes later e fails =
-    subst (λ (left : List ℕ). IsFirstFault (TablePasses body) table_fault (part_checks index at left) (table_fault (HasPart index (at + size)))) (sym e) (inl (fails, refl))
+    subst (λ (left : List ℕ). IsFirstFault (TablePasses body) table_fault (part_checks index at left)
+    (table_fault (HasPart index (at + size)))) (sym e) (inl (fails, refl))
 
 -- Where it fits, the first fault is that of the others.
 pub first-later : (body : List ℕ) (index at size : ℕ) (sizes later : List ℕ) (fault : Fault) → sizes ≡ size ∷ later →

@@ -27,7 +27,8 @@ placed_with : (has_table : Bool) (body : List ℕ) → FitWithin (length body) (
     ∷ [] in placed_slices body (first_part_offset has_table body) (part_sizes has_table body)
     ≡ placed_parts_from (if has_table then length (part_table parts) else 0) parts
 placed_with true body fit =
-    placed_slices-fit body (first_offset body) _ fit ∙ ap (λ at. placed_parts_from at (parts_in_table body)) (sym (first_offset_is body fit))
+    placed_slices-fit body (first_offset body) _ fit
+    ∙ ap (λ at. placed_parts_from at (parts_in_table body)) (sym (first_offset_is body fit))
 placed_with false body fit =
     ap (λ (bytes : List ℕ). record { place = 64; bytes = bytes } ∷ []) (take-length body)
 

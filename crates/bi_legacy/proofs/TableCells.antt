@@ -1,4 +1,5 @@
-use Rattle.std.proofs.Common.{◌≡◌, ◌≢◌, ◌==◌, ℕ, ◌+◌, ◌*◌, ◌<◌, ◌≤◌, ◌^◌, List, ◌++◌, [], ◌∷◌, length, take, drop, map, get_or, arith, refl, ap, ◌∙◌, append_assoc, append-nil, suc, zero, inl, inr, flat_map, Contains}
+use Rattle.std.proofs.Common.{◌≡◌, ◌≢◌, ◌==◌, ℕ, ◌+◌, ◌*◌, ◌<◌, ◌≤◌, ◌^◌, List, ◌++◌, [], ◌∷◌, length, take, drop, map, get_or, arith, refl}
+use Rattle.std.proofs.Common.{ap, ◌∙◌, append_assoc, append-nil, suc, zero, inl, inr, flat_map, Contains}
 use Rattle.std.specs.Int.{from_be_bytes, w32}
 use Rattle.std.specs.List.{AllByRecursion, before_first}
 use Rattle.std.proofs.lemmas.Bool.{cases_lt, eqb-true, eqb-false}
@@ -36,7 +37,8 @@ cells_split (a ∷ b ∷ []) (suc n) bytes within = absurd (omega arith)
 cells_split (a ∷ b ∷ c ∷ []) (suc n) bytes within = absurd (omega arith)
 cells_split (a ∷ b ∷ c ∷ d ∷ later) (suc n) bytes within =
     let four : 4 * suc n ≡ suc (suc (suc (suc (4 * n)))) = omega arith in
-    rw (four, cell_of_bytes a b c d later bytes) (ap (λ list. a ∷ b ∷ c ∷ d ∷ list) (cells_split later n (bytes_after_cell a b c d later bytes) (omega arith)))
+    rw (four, cell_of_bytes a b c d later bytes)
+    (ap (λ list. a ∷ b ∷ c ∷ d ∷ list) (cells_split later n (bytes_after_cell a b c d later bytes) (omega arith)))
 
 -- The first number of a cell and more bytes is that of the cell.
 cells_of-cell : (n : ℕ) (later : List ℕ) → n < 2 ^ 32 → cells_of (cell n ++ later) ≡ n ∷ cells_of later
@@ -93,7 +95,8 @@ part_table-ends sizes after are =
 pub zero_within : (numbers : List ℕ) → Contains numbers 0 → nul_index numbers < length numbers
 zero_within numbers there = elim (cases_lt (nul_index numbers) (length numbers)) [
   | inl within ↦ within
-  | inr past ↦ absurd (eqb-false (get_or numbers there.0 0) 0 (fails_before_first (λ number. number == 0) numbers there.0 0 (omega (arith, there.1))) there.2)
+  | inr past ↦ absurd (eqb-false (get_or numbers there.0 0) 0
+      (fails_before_first (λ number. number == 0) numbers there.0 0 (omega (arith, there.1))) there.2)
 ]
 
 -- Data with a zero among its cells is the part table that is read from it, and the bytes after the table.
@@ -105,9 +108,11 @@ part_table-split body bytes there =
     let within : place < length cells = zero_within cells there in
     let long : place ≡ length (table_sizes body) = omega (arith, length-take place cells) in
     let first : take (place + 1) cells ≡ table_sizes body ++ 0 ∷ [] =
-    take_more cells place 0 within ∙ ap (λ n. take place cells ++ n ∷ []) (eqb-true _ _ (passes_at_first (λ number. number == 0) cells 0 within)) in
+    take_more cells place 0 within ∙ ap (λ n. take place cells ++ n ∷ [])
+    (eqb-true _ _ (passes_at_first (λ number. number == 0) cells 0 within)) in
     let list : flat_map cell (take (place + 1) cells) ≡ flat_map cell (table_sizes body) ++ cell 0 =
-    ap (flat_map cell) first ∙ flat_map-append cell (table_sizes body) (0 ∷ []) ∙ ap (λ end. flat_map cell (table_sizes body) ++ end) (append-nil (cell 0)) in
+    ap (flat_map cell) first ∙ flat_map-append cell (table_sizes body) (0 ∷ [])
+    ∙ ap (λ end. flat_map cell (table_sizes body) ++ end) (append-nil (cell 0)) in
     cells_split body (place + 1) bytes (omega arith)
     ∙ ap (λ first. first ++ drop (4 * (place + 1)) body) list
     ∙ ap (λ n. (flat_map cell (table_sizes body) ++ cell 0) ++ drop (4 * (n + 1)) body) long

@@ -6,7 +6,8 @@ use Rattle.bi_legacy.specs.PartTables.{cells_of, table_sizes}
 use Rattle.bi_legacy.specs.Meaning.{IsTablePart}
 use Rattle.bi_legacy.specs.Parts.{part_table, HasPartTable}
 use Rattle.bi_legacy.specs.PartRanges.{part_slices, FitWithin}
-use Rattle.bi_legacy.proofs.PartSlices.{length-slices, part_slices-at, part_slices-table_parts, part_slices-are, parts_at-fit, sizes_of_parts}
+use Rattle.bi_legacy.proofs.PartSlices.{length-slices, part_slices-at, part_slices-table_parts, part_slices-are, parts_at-fit}
+use Rattle.bi_legacy.proofs.PartSlices.{sizes_of_parts}
 use Rattle.bi_legacy.proofs.TableCells.{part_table-cells, table_sizes-cells, part_table-ends, part_table-split}
 use Rattle.bi_legacy.proofs.PartOffsets.{ArePartsAt, padded_parts-at, padded_parts-from, up4_of_four, length-part_table}
 use Rattle.bi_base.proofs.NulLaws.{before_nul-nonzero}
@@ -29,7 +30,8 @@ parts_at_table parts body after list are at_offsets = record {
   rest = after;
   body_is = list;
   are_table_parts = are;
-  padded_parts = padded_parts-from (part_table parts) parts after (part_table-aligned parts) (subst (ArePartsAt (length (part_table parts)) parts) list at_offsets);
+  padded_parts = padded_parts-from (part_table parts) parts after (part_table-aligned parts)
+      (subst (ArePartsAt (length (part_table parts)) parts) list at_offsets);
 }
 
 -- The offset of the first part in data with a part table.
@@ -40,13 +42,14 @@ first_offset body = 4 * (length (table_sizes body) + 1)
 abbrev pub parts_in_table : List ℕ → List (List ℕ)
 parts_in_table body = part_slices body (first_offset body) (table_sizes body)
 
--- Data with a part table that has an end, and whose parts end within the data, holds these parts.
+-- Data with a part table that has an end, and with parts that end within the data, holds these parts.
 pub table_of_sizes : (body : List ℕ) → AreBytes body → Contains (cells_of body) 0 →
     FitWithin (length body) (first_offset body) (table_sizes body) → HasPartTable (parts_in_table body) body
 table_of_sizes body bytes there ends =
     let sizes : map length (parts_in_table body) ≡ table_sizes body = length-slices body (first_offset body) (table_sizes body) ends in
     let first : first_offset body ≡ length (part_table (parts_in_table body)) =
-    ap (λ n. 4 * (n + 1)) (ap length (sym sizes) ∙ length-map (parts_in_table body) length) ∙ sym (length-part_table (parts_in_table body)) in
+    ap (λ n. 4 * (n + 1)) (ap length (sym sizes) ∙ length-map (parts_in_table body) length)
+    ∙ sym (length-part_table (parts_in_table body)) in
     parts_at_table (parts_in_table body) body (drop (first_offset body) body)
     (part_table-split body bytes there
     ∙ ap (λ list. (flat_map cell list ++ cell 0) ++ drop (first_offset body) body) (sym sizes)

@@ -1,4 +1,5 @@
-use Rattle.std.proofs.Common.{◌≡◌, ◌≢◌, ◌==◌, ℕ, ◌+◌, ◌*◌, ◌/◌, ◌<◌, ◌≤◌, List, [], ◌∷◌, length, take, drop, get_or, zero, suc, arith, refl, sym, ap, ◌∙◌, Bool, true, false}
+use Rattle.std.proofs.Common.{◌≡◌, ◌≢◌, ◌==◌, ℕ, ◌+◌, ◌*◌, ◌/◌, ◌<◌, ◌≤◌, List, [], ◌∷◌, length, take, drop, get_or, zero, suc, arith, refl}
+use Rattle.std.proofs.Common.{sym, ap, ◌∙◌, Bool, true, false}
 use Rattle.std.specs.List.{position_or_len}
 use Rattle.std.proofs.lemmas.List.Sums.{position_or_len_is}
 use Rattle.std.proofs.lemmas.List.{length-take, length-take-le, get_or-take, drop_more}
@@ -49,7 +50,9 @@ pub drop-table_sizes : (body : List ℕ) (i : ℕ) → 4 * (i + 1) ≤ length bo
     drop i (table_sizes body) ≡ u32_at body (4 * i) ∷ drop (i + 1) (table_sizes body)
 drop-table_sizes body i within below =
     let place = position_or_len (λ number. number == 0) (cells_of body) in
-    let read : get_or (table_sizes body) i 0 ≡ u32_at body (4 * i) = get_or-take place (cells_of body) i 0 (omega (arith, length-take place (cells_of body))) ∙ get_or-cells body i within in
+    let read : get_or (table_sizes body) i 0
+    ≡ u32_at body (4 * i) = get_or-take place (cells_of body) i 0 (omega (arith, length-take place (cells_of body)))
+    ∙ get_or-cells body i within in
     drop_more (table_sizes body) i 0 below ∙ ap (λ size. size ∷ drop (i + 1) (table_sizes body)) read
 
 -- The same for data that is known to have a part table.

@@ -54,4 +54,5 @@ text_means_same file image limits means = record {
 
 -- Two images that fit the format and have the same normal text are the same.
 pub legacy_texts_differ : (a b : LegacyImage) → IsLegacyImage a → IsLegacyImage b → legacy_text a ≡ legacy_text b → a ≡ b
-legacy_texts_differ a b is_a is_b same = one_legacy_meaning (legacy_text b) a b (rw (← same) (legacy_text_means a is_a)) (legacy_text_means b is_b)
+legacy_texts_differ a b is_a is_b same = one_legacy_meaning (legacy_text b) a b
+    (rw (← same) (legacy_text_means a is_a)) (legacy_text_means b is_b)

@@ -52,11 +52,18 @@ updated_text_means file image limits time small means =
     let updated : LegacyImage = with_new_time time image in
     record {
       is_file = legacy_text_means updated (is_updated_image image time small is);
-      short = omega (arith, text_no_longer file image means.is_file, means.short, length-legacy_text image is.name, length-legacy_text updated is.name);
+      short = omega (
+        arith,
+        text_no_longer file image means.is_file,
+        means.short,
+        length-legacy_text image is.name,
+        length-legacy_text updated is.name,
+      );
     }
 
 -- So it has a normal form within them.
 pub updated_has_normal_form : (file : List ℕ) (image : LegacyImage) (limits : Limits) (time : ℕ) → LegacyMeans limits file image →
     time < 2 ^ 32 → HasNormalForm limits (with_new_time time image)
 updated_has_normal_form file image limits time means small =
-    has_normal_form (legacy_text (with_new_time time image)) (with_new_time time image) limits (updated_text_means file image limits time small means)
+    has_normal_form (legacy_text (with_new_time time image)) (with_new_time time image) limits
+    (updated_text_means file image limits time small means)

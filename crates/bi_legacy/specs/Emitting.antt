@@ -55,7 +55,7 @@ emit_fault limits HasPartCount = record { cause = BadField; offset = 30 }
 emit_fault limits FitsLimit = record { cause = TooLarge; offset = limits.file }
 emit_fault limits (IsNotEmpty check) = emit_part_fault check
 
--- A check of each of these parts, the first of which is part `index`.
+-- A check of each of these parts. The first of them is part `index`.
 abbrev pub emit_part_checks : ℕ → List (List ℕ) → List EmitPartCheck
 emit_part_checks index [] = []
 emit_part_checks index (part ∷ parts) =

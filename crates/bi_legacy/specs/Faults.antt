@@ -10,13 +10,13 @@ use Rattle.bi_legacy.specs.File.{legacy_magic, LegacyMeans}
 use Rattle.bi_legacy.specs.Meaning.{LegacyImage}
 use Rattle.bi_legacy.specs.PartTables.{TableCheck, TablePasses, table_fault, body_checks}
 
--- The checks of a legacy image, and the fault of a file that is none (profile of this project).
+-- The checks of a legacy image, and the fault of a file that is not one (profile of this project).
 
 -- The data, of the size in the header, or as much of it as the file has.
 abbrev pub body_of : List ℕ → List ℕ
 body_of file = slice file 64 (u32_at file 12)
 
--- The header with zeros in place of its checksum.
+-- The header with zeros instead of its checksum.
 abbrev pub header_without_checksum : List ℕ → List ℕ
 header_without_checksum file = slice file 0 4 ++ (cell 0 ++ slice file 8 56)
 

@@ -27,7 +27,7 @@ header_cells checksum size sum image field =
 abbrev pub header_with : ℕ → LegacyImage → List ℕ → List ℕ → List ℕ
 header_with checksum image field body = header_cells checksum (length body) (crc32 body) image field
 
--- The header. Its checksum is that of the header itself with zeros in place of the checksum.
+-- The header. Its checksum is that of the header itself with zeros instead of the checksum.
 unfoldable pub header : LegacyImage → List ℕ → List ℕ → List ℕ
 header image field body = header_with (crc32 (header_with 0 image field body)) image field body
 

@@ -16,7 +16,7 @@ use Rattle.bi_legacy.specs.KnownImages.{kernel_image, kernel_file, multi_image}
 -- which a reader can judge the definitions: each check is the first that fails in one of them
 -- (profile of this project).
 
--- The widest limits but for this one on files.
+-- The widest limits, except for this limit on files.
 abbrev pub limited_to : ℕ → Limits
 limited_to limit = record { file = limit; depth = 64 }
 
@@ -24,7 +24,7 @@ limited_to limit = record { file = limit; depth = 64 }
 abbrev pub with_byte_at : List ℕ → ℕ → ℕ → List ℕ
 with_byte_at file at byte = take at file ++ (byte ∷ drop (at + 1) file)
 
--- A file of this type with this data, otherwise like that of the kernel image. Its checksums are
+-- A file with this type and this data, otherwise like that of the kernel image. Its checksums are
 -- right.
 abbrev pub file_of_data : ℕ → List ℕ → List ℕ
 file_of_data image_type body =
@@ -50,8 +50,8 @@ pub record LegacyFilesHaveFaults : Type 0 where
   pub other_data : HasLegacyFault widest (with_byte_at kernel_file 64 0x30) BadDataCrc 24
   pub other_end : HasLegacyFault widest (with_byte_at kernel_file 72 0x38) BadDataCrc 24
 
--- The data of a multi-file image whose parts would have 5 and 4 bytes: the second would end one
--- byte after the data.
+-- The data of a multi-file image with parts of 5 and 4 bytes: the second would end one byte after
+-- the data.
 abbrev pub data_with_short_part : List ℕ
 data_with_short_part =
     cell 5 ++ (cell 4 ++ (cell 0 ++ (codes "hello" ++ (0xff ∷ 0xff ∷ 0xff ∷ codes "abc"))))
@@ -96,11 +96,11 @@ long_name = replicate 33 0x6b
 abbrev pub name_with_zero : List ℕ
 name_with_zero = 0x6b ∷ 0 ∷ 0x6b ∷ []
 
--- Two parts, the second of which is empty.
+-- Two parts. The second is empty.
 abbrev pub parts_with_empty : List (List ℕ)
 parts_with_empty = codes "hello" ∷ [] ∷ []
 
--- Images in which one check fails, beside images in which none does. The normal text of the
+-- Images in which one check fails, next to images in which none does. The normal text of the
 -- multi-file image has 87 bytes.
 pub record EmitFaultsAreKnown : Type 0 where
   pub long : HasEmitFault widest (record kernel_image { name = long_name }) BadField 32

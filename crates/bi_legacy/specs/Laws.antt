@@ -29,7 +29,7 @@ NoMeaningWithoutMagic =
 abbrev pub TextBeginsWithMagic : Type 0
 TextBeginsWithMagic = (image : LegacyImage) → BeginsWithMagic (legacy_text image)
 
--- Bytes mean an image within the limits exactly if no check fails.
+-- Bytes mean an image within the limits if and only if no check fails.
 abbrev pub MeaningWithoutFault : Type 0
 MeaningWithoutFault =
     (file : List ℕ) (limits : Limits) → AreBytes file →
@@ -54,7 +54,7 @@ OneLegacyFault =
     (file : List ℕ) (limits : Limits) (a b : Fault) →
     IsLegacyFault limits file a → IsLegacyFault limits file b → a ≡ b
 
--- An image fits the format exactly if some file means it.
+-- An image fits the format if and only if some file means it.
 abbrev pub ImagesOfFiles : Type 0
 ImagesOfFiles =
     (image : LegacyImage) → IsLegacyImage image ↔ ((file : List ℕ) × IsLegacyFile file image)
@@ -77,7 +77,7 @@ TextIsItsOwnNormalForm =
     (image other : LegacyImage) → IsLegacyImage image → IsLegacyFile (legacy_text image) other →
     legacy_text other ≡ legacy_text image
 
--- Two files have the same normal text exactly if they mean the same image.
+-- Two files have the same normal text if and only if they mean the same image.
 abbrev pub TextsDiffer : Type 0
 TextsDiffer =
     (f g : List ℕ) (a b : LegacyImage) → IsLegacyFile f a → IsLegacyFile g b →
@@ -91,7 +91,7 @@ UpdatedHasNormalForm =
     LegacyMeans limits file image → time < 2 ^ 32 →
     HasNormalForm limits (with_new_time time image)
 
--- The image has this time, and all else of it is as it was.
+-- The image has this time, and is otherwise as it was.
 pub record HasNewTime (time : ℕ) (old new : LegacyImage) : Type 0 where
   pub time_is : new.time ≡ time
   pub load : new.load ≡ old.load
@@ -103,7 +103,7 @@ pub record HasNewTime (time : ℕ) (old new : LegacyImage) : Type 0 where
   pub name : new.name ≡ old.name
   pub parts : new.parts ≡ old.parts
 
--- An image with another time has this time, and all else is as it was.
+-- An image with a new time has this time, and is otherwise as it was.
 abbrev pub UpdatedHasNewTime : Type 0
 UpdatedHasNewTime =
     (image : LegacyImage) (time : ℕ) → HasNewTime time image (with_new_time time image)

@@ -8,7 +8,7 @@ use Rattle.bi_legacy.specs.Parts.{parts_end_from}
 use Rattle.bi_legacy.specs.PartTables.{table_sizes}
 use Rattle.bi_legacy.specs.PlacedParts.{PartModel}
 
--- Where the reader finds the parts in the data of an image. It finds them by the sizes alone: no
+-- Where the reader finds the parts in the data of an image. It finds them only by the sizes: no
 -- promise about the format is stated in these terms.
 
 -- The sizes of the parts: those in the part table, or the size of the data, which is the one part.

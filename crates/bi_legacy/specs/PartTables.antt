@@ -17,8 +17,8 @@ cells_of bytes = []
 abbrev pub table_sizes : List ℕ → List ℕ
 table_sizes body = before_first (λ number. number == 0) (cells_of body)
 
--- A check of a part table: the table has an end; or part `index`, whose end is at `end` in the
--- data, is inside the data.
+-- A check of a part table: the table has an end; or part `index`, which ends at `end` in the data,
+-- is inside the data.
 pub data TableCheck : Type 0 where
   HasTableEnd : TableCheck
   HasPart : (index : ℕ) → (end : ℕ) → TableCheck
@@ -33,8 +33,8 @@ abbrev pub table_fault : TableCheck → Fault
 table_fault HasTableEnd = record { cause = BadPartTable; offset = 64 }
 table_fault (HasPart index end) = record { cause = BadPart; offset = 64 + 4 * index }
 
--- The checks of parts of these sizes. The first of them is part `index`, whose first byte is at
--- `at` in the data.
+-- The checks of parts of these sizes. The first of them is part `index`, which begins at `at` in
+-- the data.
 abbrev pub part_checks : ℕ → ℕ → List ℕ → List TableCheck
 part_checks index at [] = []
 part_checks index at (size ∷ sizes) =

@@ -13,8 +13,8 @@ use Rattle.bi_legacy.specs.Meaning.{has_part_table, IsTablePart}
 abbrev pub part_table : List (List ℕ) → List ℕ
 part_table parts = flat_map (λ part. cell (length part)) parts ++ cell 0
 
--- These bytes are the parts in order, and then any bytes. After each part but the last there are 0
--- to 3 bytes of padding, which round its size up to a multiple of four (U-Boot, boot/image.c:
+-- These bytes are the parts in order, and then any bytes. All parts but the last are followed by 0
+-- to 3 bytes of padding, which round the size up to a multiple of four (U-Boot, boot/image.c:
 -- image_multi_getimg).
 abbrev pub ArePaddedParts : List (List ℕ) → List ℕ → Type 0
 ArePaddedParts [] bytes = Unit {0}

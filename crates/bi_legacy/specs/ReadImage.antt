@@ -34,7 +34,7 @@ read_image file =
       parts = parts_of_body (slice_index file 30) (body_of file);
     }
 
--- The end of the last part in the data, by the sizes alone.
+-- The end of the last part in the data, by the sizes only.
 abbrev pub read_end : List ℕ → ℕ
 read_end file =
     let has_table = has_part_table (slice_index file 30) in

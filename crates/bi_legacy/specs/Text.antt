@@ -12,7 +12,7 @@ use Rattle.bi_legacy.specs.File.{header}
 abbrev pub with_zeros : List ℕ → List ℕ
 with_zeros bytes = bytes ++ replicate (up4 (length bytes) - length bytes) 0
 
--- The parts in order, each but the last padded.
+-- The parts in order, all but the last padded.
 abbrev pub joined_parts : List (List ℕ) → List ℕ
 joined_parts [] = []
 joined_parts (part ∷ []) = part

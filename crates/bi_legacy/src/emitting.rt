@@ -24,8 +24,8 @@ use bi_base::{Cause, Error, Fault, Limits, Sink, refuse, up4};
 ///
 /// The text is the header, with zeros after the name, and the data. The data of a multi-file image
 /// or script is the part table, which is the size of each part and a size of zero, and then the
-/// parts, each but the last padded with zeros to a multiple of four bytes. Any other image has one
-/// part, which is the data.
+/// parts. All parts but the last are padded with zeros to a multiple of four bytes. Any other image
+/// has one part, which is the data.
 ///
 /// Fails with the first of these faults, and then appends nothing:
 ///
@@ -35,9 +35,9 @@ use bi_base::{Cause, Error, Fault, Limits, Sink, refuse, up4};
 /// - TooLarge at `limits.file()`, if the text is longer than that;
 /// - EmptyPart at `64 + 4 * index`, for the first empty part of a multi-file image or script.
 ///
-/// Otherwise it fails only as the sink does. After an error of the sink, it is as a failed `put` of
-/// the whole text leaves it. It allocates nothing itself, and takes time linear in the number and
-/// the length of the parts.
+/// All other errors are those of the sink. After one, the sink is as a failed `put` of the whole
+/// text leaves it. Allocates nothing itself, and takes time linear in the number and the length of
+/// the parts.
 pub fn emit<S: Sink>(
     fields: Fields<'_>,
     parts: &[&[u8]],
@@ -52,11 +52,11 @@ pub fn emit<S: Sink>(
 
 /// Appends the normal text of an image that was read, as `emit` does for its fields and parts.
 ///
-/// It may only be called if `parts` are the parts of the image. The CRC-32 of the data is not
-/// computed again if the data is the one part: it was checked when the image was read.
+/// Requires: `parts` are the parts of the image. The CRC-32 of the data is not computed again if
+/// the data is the one part: it was checked when the image was read.
 ///
-/// Fails with the same faults as `emit`, and then appends nothing. Otherwise it fails only as the
-/// sink does. After an error of the sink, it is as a failed `put` of the whole text leaves it.
+/// Fails with the same faults as `emit`, and then appends nothing. All other errors are those of
+/// the sink. After one, the sink is as a failed `put` of the whole text leaves it.
 pub fn emit_image<S: Sink>(
     image: &Legacy<'_>,
     parts: &[&[u8]],
@@ -69,8 +69,9 @@ pub fn emit_image<S: Sink>(
     emit_updated_image(image, image.fields().time, parts, limits, sink)
 }
 
-/// Appends the normal text of an image that was read with another time of creation: `time`, in
-/// seconds since 1970. It has the condition and the errors of `emit_image`, by the changed image.
+/// Appends the normal text of an image that was read, with another time of creation: `time`, in
+/// seconds since 1970. Requires: `parts` are the parts of the image. The errors are those of
+/// `emit_image`, for the changed image.
 pub fn emit_updated_image<S: Sink>(
     image: &Legacy<'_>,
     time: u32,
@@ -89,8 +90,8 @@ pub fn emit_updated_image<S: Sink>(
     emit_with(fields, parts, image.normal_data_checksum(), limits, sink)
 }
 
-/// Appends the normal text of an image with these fields and parts, whose normal data may have a
-/// known CRC-32.
+/// Appends the normal text of an image with these fields and parts. The CRC-32 of its normal data
+/// may be known.
 fn emit_with<S: Sink>(
     fields: Fields<'_>,
     parts: &[&[u8]],
@@ -148,7 +149,7 @@ fn can_have_parts(image_type: u8, part_count: usize) -> bool
     has_part_table(image_type) || part_count == 1
 }
 
-/// Returns the size of the normal data. Returns None exactly if it is more than `most`.
+/// Returns the size of the normal data. Returns None if it is more than `most`.
 fn data_size(image_type: u8, parts: &[&[u8]], most: u32) -> Option<u32>
     ensures { let size = length (normal_body image_type (bytes_of parts.now)) in
         MatchOption result (most < size) (λ n. (n ≡ size) × (n ≤ most)) }
@@ -170,7 +171,7 @@ fn start_of_parts(image_type: u8, parts: &[&[u8]]) -> usize
 }
 
 /// Returns the end of the last of these parts. The first begins at `start`, and each later one at
-/// the next multiple of four. Returns None exactly if the end is after `most`.
+/// the next multiple of four. Returns None if the end is after `most`.
 fn end_within(start: usize, parts: &[&[u8]], most: usize) -> Option<usize>
     requires { most < 2 ^ 32 }
     ensures { let end = parts_end_from start (map length (bytes_of parts.now)) in

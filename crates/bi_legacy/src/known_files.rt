@@ -1,5 +1,5 @@
-//! Small legacy images whose meanings and faults are known. Each function does nothing: what it
-//! ensures is a fact about the definitions.
+//! Small legacy images with known meanings and faults. Each function does nothing: what it ensures
+//! is a fact about the definitions.
 
 ghost use Rattle.bi_legacy.specs.KnownFaults.{LegacyFilesHaveFaults, PartTablesHaveFaults};
 ghost use Rattle.bi_legacy.specs.KnownFaults.{LegacyChecksHaveOrder, EmitFaultsAreKnown};

@@ -1,4 +1,4 @@
-//! The laws of legacy images. Each function does nothing; its contract is the law.
+//! The laws of legacy images. The functions do nothing: what each one ensures is the law.
 
 ghost use Rattle.bi_legacy.specs.Laws.{OneLegacyMeaning, NoMeaningWithoutMagic};
 ghost use Rattle.bi_legacy.specs.Laws.{TextBeginsWithMagic};
@@ -27,7 +27,7 @@ pub fn text_begins_with_magic()
     ensures { TextBeginsWithMagic }
 {}
 
-/// A file means an image within the limits exactly if no check fails.
+/// A file means an image within the limits if and only if no check fails.
 pub fn meaning_without_fault()
     ensures { MeaningWithoutFault }
 {}
@@ -47,7 +47,7 @@ pub fn one_fault()
     ensures { OneLegacyFault }
 {}
 
-/// An image fits the format exactly if some file means it.
+/// An image fits the format if and only if some file means it.
 pub fn images_of_files()
     ensures { ImagesOfFiles }
 {}
@@ -67,7 +67,7 @@ pub fn text_is_its_own_normal_form()
     ensures { TextIsItsOwnNormalForm }
 {}
 
-/// Two files have the same normal text exactly if they mean the same image.
+/// Two files have the same normal text if and only if they mean the same image.
 pub fn texts_differ()
     ensures { TextsDiffer }
 {}
@@ -78,7 +78,7 @@ pub fn updated_has_normal_form()
     ensures { UpdatedHasNormalForm }
 {}
 
-/// An image with another time has this time, and all else of it is as it was.
+/// An image with a new time has this time, and is otherwise as it was.
 pub fn updated_has_new_time()
     ensures { UpdatedHasNewTime }
 {}

@@ -48,8 +48,8 @@ impl<'a> Model for Legacy<'a> {
 impl<'a> Legacy<'a> {
     /// Reads a legacy image (U-Boot, include/image.h). The file may be longer than the image.
     ///
-    /// Succeeds exactly if the file is a legacy image of at most `limits.file()` bytes. Otherwise
-    /// it fails with the fault of the first check that fails:
+    /// Succeeds if the file is a legacy image of at most `limits.file()` bytes. Otherwise it fails
+    /// with the fault of the first check that fails:
     ///
     /// - TooLarge at `limits.file()`, if the file is longer;
     /// - Truncated at 0, if the file has fewer than four bytes;
@@ -58,7 +58,7 @@ impl<'a> Legacy<'a> {
     /// - BadHeaderCrc at 4;
     /// - Truncated at 12, if the data ends after the file;
     /// - BadDataCrc at 24;
-    /// - BadPartTable at 64, for a multi-file image or script whose part table has no end;
+    /// - BadPartTable at 64, for a multi-file image or script if its part table has no end;
     /// - BadPart at `64 + 4 * k`, for the first part k of such an image that ends after the data.
     pub fn read(file: &'a [u8], limits: Limits) -> Result<Legacy<'a>, Fault>
         ensures read { IfOk result (IsReadLegacy limits file.entry.now) }
@@ -74,8 +74,7 @@ impl<'a> Legacy<'a> {
         self.fields
     }
 
-    /// Returns the number of parts. It is 1 for any image that is neither a multi-file image nor a
-    /// script.
+    /// Returns the number of parts. It is 1 unless the image is a multi-file image or a script.
     pub fn part_count(&self) -> usize
         ensures { result ≡ length self.now.image.parts }
     {
@@ -95,8 +94,8 @@ impl<'a> Legacy<'a> {
         )
     }
 
-    /// Returns part `index`, counted from 0. Returns None exactly if there is no such part. Takes
-    /// time linear in `index`.
+    /// Returns part `index`, counted from 0. Returns None if there is no such part. Takes time
+    /// linear in `index`.
     pub fn part(&self, index: usize) -> Option<&'a [u8]>
         ensures { option_map (λ part. part.now) result ≡ slice_get self.now.image.parts index }
     {
@@ -104,16 +103,16 @@ impl<'a> Legacy<'a> {
     }
 
     /// Returns the offset in the file of the first byte of part `index`, counted from 0. Returns
-    /// None exactly if there is no such part. Takes time linear in `index`.
+    /// None if there is no such part. Takes time linear in `index`.
     pub fn part_place(&self, index: usize) -> Option<u32>
         ensures { result ≡ slice_get (part_places self.now.image) index }
     {
         Some(self.parts().nth(index)?.place)
     }
 
-    /// Returns the CRC-32 of the normal data, for an image whose data is its one part: the header
-    /// has it. Returns None for multi-file images and scripts, whose normal data may differ from
-    /// the data of the file.
+    /// Returns the CRC-32 of the normal data from the header, if the data is the one part of the
+    /// image. Returns None for multi-file images and scripts: their normal data may differ from the
+    /// data of the file.
     pub(crate) fn normal_data_checksum(&self) -> Option<u32>
         ensures { let image = self.now.image in IfSome result (λ checksum.
             checksum ≡ crc32 (normal_body image.image_type image.parts)) }

@@ -62,7 +62,7 @@ fn read_part_table(body: &[u8]) -> Result<PartTable, Fault>
 }
 
 /// Returns the number of sizes in the part table, which ends at the first cell of zero. Returns
-/// None exactly if no whole cell of the data is zero.
+/// None if no whole cell of the data is zero.
 fn count_sizes(body: &[u8]) -> Option<usize>
     ensures ends { IsSome result ↔ Contains (cells_of body.now) 0 }
     ensures count { IfSome result (λ count. count ≡ length (table_sizes body.now)) }

@@ -22,7 +22,7 @@ pub(crate) struct DataSummary {
     pub(crate) checksum: u32,
 }
 
-/// Appends the normal text of an image with these fields and parts, whose normal data has this size
+/// Appends the normal text of an image with these fields and parts. Its normal data has this size
 /// and checksum.
 pub(crate) fn put_image<S: Sink>(
     fields: Fields<'_>,
@@ -51,7 +51,7 @@ pub(crate) fn data_checksum(image_type: u8, parts: &[&[u8]]) -> u32
     sum.finish()
 }
 
-/// Returns the header checksum to be written: the CRC-32 of the header with zeros in place of its
+/// Returns the header checksum to be written: the CRC-32 of the header with zeros instead of its
 /// checksum.
 fn checksum_to_write(fields: Fields<'_>, summary: DataSummary) -> u32
     requires { length fields.name.now ≤ 32 }
@@ -128,7 +128,7 @@ fn put_part_table<S: Sink>(parts: &[&[u8]], sink: &mut S) -> Result<(), Error>
     put_cell(sink, 0)
 }
 
-/// Appends the parts, each but the last padded with zeros to a multiple of four bytes.
+/// Appends the parts. All but the last are padded with zeros to a multiple of four bytes.
 fn put_joined_parts<S: Sink>(parts: &[&[u8]], sink: &mut S) -> Result<(), Error>
     ensures { Wrote S.appends S.fails sink.old (joined_parts (bytes_of parts.now)) result sink.new }
 {

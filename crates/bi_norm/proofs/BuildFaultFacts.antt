@@ -13,7 +13,8 @@ use Rattle.bi_fit.specs.Text.{fit_text}
 use Rattle.bi_legacy.specs.Codes.{os_names, arch_names, type_names, compression_names, name_of_code}
 use Rattle.bi_fit.specs.declared.building.Head.{Head}
 use Rattle.bi_norm.specs.declared.fit_building.ImageSpec.{ImageSpec}
-use Rattle.bi_norm.specs.FitBuilding.{BuildCheck, HasFewImages, HasTextDescription, HasFields, HasCodeNames, HasNewName, FitsLimit, HasNames}
+use Rattle.bi_norm.specs.FitBuilding.{BuildCheck, HasFewImages, HasTextDescription, HasFields, HasCodeNames, HasNewName, FitsLimit}
+use Rattle.bi_norm.specs.FitBuilding.{HasNames}
 use Rattle.bi_norm.specs.FitBuilding.{BuildPasses, build_fault, build_checks, IsBuildFault, tree_of_images}
 use Rattle.bi_norm.specs.KnownBuildFaults.{head_like, kernel_like, narrow_limits, description_with_zero, BuildFaultsAreKnown}
 
@@ -31,8 +32,10 @@ has_names image =
 
 has_names_decides : (image : ImageSpec) → Decides (has_names image) (HasNames image)
 has_names_decides image =
-    let first = both_decide _ _ (has_value_decides (name_of_code arch_names image.arch)) (has_value_decides (name_of_code os_names image.os)) in
-    let second = both_decide _ _ (has_value_decides (name_of_code type_names image.image_type)) (has_value_decides (name_of_code compression_names image.compression)) in
+    let first = both_decide _ _ (has_value_decides (name_of_code arch_names image.arch))
+    (has_value_decides (name_of_code os_names image.os)) in
+    let second = both_decide _ _ (has_value_decides (name_of_code type_names image.image_type))
+    (has_value_decides (name_of_code compression_names image.compression)) in
     let all = both_decide _ _ first second in (
       (λ e. let has = all.0 e in record { arch = has.0.0; os = has.0.1; image_type = has.1.0; compression = has.1.1 }),
       (λ has. all.1 ((has.arch, has.os), (has.image_type, has.compression))),
@@ -64,7 +67,8 @@ first_fails : (any : Bor (List ℕ)) (description : List ℕ) (images : List Ima
     IsBuildFault narrow_limits Embedded (head_like any description) images (build_fault narrow_limits check)
 first_fails any description images check =
     let head = head_like any description in
-    fault_by_test (BuildPasses narrow_limits Embedded head images) (build_fault narrow_limits) (test narrow_limits Embedded head images) (test_decides narrow_limits Embedded head images) (build_checks images) check
+    fault_by_test (BuildPasses narrow_limits Embedded head images) (build_fault narrow_limits) (test narrow_limits Embedded head images)
+    (test_decides narrow_limits Embedded head images) (build_checks images) check
 
 pub build_faults_are_known : BuildFaultsAreKnown
 unfolding test first_failing lacks_byte is_new is_child_name is_property_name
@@ -75,23 +79,34 @@ build_faults_are_known any = (
     empty_name = first_fails any (codes "k") (kernel_like any [] ∷ []) (HasFields _) refl;
     name_with_zero = first_fails any (codes "k") (kernel_like any (codes "a" ++ 0 ∷ []) ∷ []) (HasFields _) refl;
     name_with_slash = first_fails any (codes "k") (kernel_like any (codes "a/b") ∷ []) (HasFields _) refl;
-    multi = first_fails any (codes "k") (kernel_like any (codes "a") ∷ record (kernel_like any (codes "b")) { image_type = 4 } ∷ []) (HasFields _) refl;
+    multi = first_fails any (codes "k")
+        (kernel_like any (codes "a") ∷ record (kernel_like any (codes "b")) { image_type = 4 } ∷ []) (HasFields _) refl;
     image_type = first_fails any (codes "k") (record (kernel_like any (codes "a")) { image_type = 7 } ∷ []) (HasCodeNames _) refl;
-    os = first_fails any (codes "k") (kernel_like any (codes "a") ∷ record (kernel_like any (codes "b")) { os = 200 } ∷ []) (HasCodeNames _) refl;
+    os = first_fails any (codes "k")
+        (kernel_like any (codes "a") ∷ record (kernel_like any (codes "b")) { os = 200 } ∷ []) (HasCodeNames _) refl;
     arch = first_fails any (codes "k") (record (kernel_like any (codes "a")) { arch = 200 } ∷ []) (HasCodeNames _) refl;
     compression = first_fails any (codes "k") (record (kernel_like any (codes "a")) { compression = 9 } ∷ []) (HasCodeNames _) refl;
-    same_names = first_fails any (codes "k") (kernel_like any (codes "a") ∷ kernel_like any (codes "b") ∷ kernel_like any (codes "a") ∷ []) (HasNewName _) refl;
+    same_names = first_fails any (codes "k")
+        (kernel_like any (codes "a") ∷ kernel_like any (codes "b") ∷ kernel_like any (codes "a") ∷ []) (HasNewName _) refl;
   },
   record {
     count_before_description = first_fails any description_with_zero (replicate 65 (kernel_like any (codes "a"))) HasFewImages refl;
     count_before_image = first_fails any (codes "k") (replicate 65 (kernel_like any [])) HasFewImages refl;
-    description_before_image = first_fails any description_with_zero (record (kernel_like any (codes "a")) { os = 200 } ∷ []) HasTextDescription refl;
+    description_before_image = first_fails any description_with_zero
+        (record (kernel_like any (codes "a")) { os = 200 } ∷ []) HasTextDescription refl;
     name_before_code = first_fails any (codes "k") (record (kernel_like any (codes "a/b")) { os = 200 } ∷ []) (HasFields _) refl;
-    multi_before_code = first_fails any (codes "k") (record (kernel_like any (codes "a")) { image_type = 4; os = 200 } ∷ []) (HasFields _) refl;
-    multi_before_same_name = first_fails any (codes "k") (kernel_like any (codes "a") ∷ record (kernel_like any (codes "a")) { image_type = 4 } ∷ []) (HasFields _) refl;
-    code_before_same_name = first_fails any (codes "k") (kernel_like any (codes "a") ∷ record (kernel_like any (codes "a")) { os = 200 } ∷ []) (HasCodeNames _) refl;
-    code_before_next_name = first_fails any (codes "k") (record (kernel_like any (codes "a")) { os = 200 } ∷ kernel_like any [] ∷ []) (HasCodeNames _) refl;
-    same_name_before_next_name = first_fails any (codes "k") (kernel_like any (codes "a") ∷ kernel_like any (codes "a") ∷ kernel_like any [] ∷ []) (HasNewName _) refl;
-    same_name_before_next_code = first_fails any (codes "k") (kernel_like any (codes "a") ∷ kernel_like any (codes "a") ∷ record (kernel_like any (codes "b")) { os = 200 } ∷ []) (HasNewName _) refl;
+    multi_before_code = first_fails any (codes "k")
+        (record (kernel_like any (codes "a")) { image_type = 4; os = 200 } ∷ []) (HasFields _) refl;
+    multi_before_same_name = first_fails any (codes "k")
+        (kernel_like any (codes "a") ∷ record (kernel_like any (codes "a")) { image_type = 4 } ∷ []) (HasFields _) refl;
+    code_before_same_name = first_fails any (codes "k")
+        (kernel_like any (codes "a") ∷ record (kernel_like any (codes "a")) { os = 200 } ∷ []) (HasCodeNames _) refl;
+    code_before_next_name = first_fails any (codes "k")
+        (record (kernel_like any (codes "a")) { os = 200 } ∷ kernel_like any [] ∷ []) (HasCodeNames _) refl;
+    same_name_before_next_name = first_fails any (codes "k")
+        (kernel_like any (codes "a") ∷ kernel_like any (codes "a") ∷ kernel_like any [] ∷ []) (HasNewName _) refl;
+    same_name_before_next_code = first_fails any (codes "k")
+        (kernel_like any (codes "a") ∷ kernel_like any (codes "a")
+        ∷ record (kernel_like any (codes "b")) { os = 200 } ∷ []) (HasNewName _) refl;
   },
 )

@@ -49,8 +49,10 @@ module _ (limits : Limits) (form : Form) (head : Head) (all : List ImageSpec) wh
   distinct : (index : ℕ) (earlier : List (List ℕ)) (images : List ImageSpec) → Pass index earlier images →
       AreDistinct (names_of_specs images)
   distinct index earlier [] pass = tt
-  distinct index earlier (image ∷ images) pass =
-      (earlier_new (index + 1) earlier image.name.now [] images pass.1.1.1, distinct (index + 1) (earlier ++ image.name.now ∷ []) images pass.1.1.1)
+  distinct index earlier (image ∷ images) pass = (
+    earlier_new (index + 1) earlier image.name.now [] images pass.1.1.1,
+    distinct (index + 1) (earlier ++ image.name.now ∷ []) images pass.1.1.1,
+  )
 
   -- Each image can be built,
   each_can : (index : ℕ) (earlier : List (List ℕ)) (images : List ImageSpec) → Pass index earlier images → AllByRecursion HasBytes images →
@@ -81,7 +83,14 @@ module _ (limits : Limits) (form : Form) (head : Head) (all : List ImageSpec) wh
 pub image_error : (limits : Limits) (form : Form) (head : Head) (images : List ImageSpec) (error : Error) → length images ≤ limits.file →
     HasNoZero head.description.now → IsImagesError images error → IsBuildError limits form head images error
 image_error limits form head images (Refused fault) few text is =
-    inr (few, inr (text, IsFirstFault-front (BuildPasses limits form head images) (build_fault limits) (spec_checks 0 [] images) (FitsLimit ∷ []) fault (is limits form head images)))
+    inr (
+      few,
+      inr (
+        text,
+        IsFirstFault-front (BuildPasses limits form head images) (build_fault limits) (spec_checks 0 [] images)
+            (FitsLimit ∷ []) fault (is limits form head images),
+      ),
+    )
 image_error limits form head images OutOfMemory few text is = (few, (text, is limits form head images))
 image_error limits form head images ReadFailed few text is = is
 image_error limits form head images WriteFailed few text is = is

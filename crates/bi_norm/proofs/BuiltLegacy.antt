@@ -22,7 +22,9 @@ name_in_header : (image : LegacyImage) (field body : List ℕ) → AreBytes (hea
 unfolding header
 name_in_header image field body bytes =
     AreBytes-right (image.os ∷ image.arch ∷ image.image_type ∷ image.compression ∷ []) field
-    (AreBytes-right (cell _) _ (AreBytes-right (cell _) _ (AreBytes-right (cell _) _ (AreBytes-right (cell _) _ (AreBytes-right (cell _) _ (AreBytes-right (cell _) _ (AreBytes-right (cell _) _ bytes)))))))
+    (AreBytes-right (cell _) _ (AreBytes-right (cell _) _
+    (AreBytes-right (cell _) _ (AreBytes-right (cell _) _
+    (AreBytes-right (cell _) _ (AreBytes-right (cell _) _ (AreBytes-right (cell _) _ bytes)))))))
 
 -- The parts of data of bytes are bytes.
 joined_bytes : (parts : List (List ℕ)) → AreBytes (joined_parts parts) → AllByRecursion AreBytes parts
@@ -42,7 +44,8 @@ name_bytes : (image : LegacyImage) → AreBytes (legacy_text image) → AreBytes
 unfolding legacy_text
 name_bytes image bytes =
     let body = normal_body image.image_type image.parts in
-    AreBytes-left image.name _ (name_in_header image (name_field image.name) body (AreBytes-left (header image (name_field image.name) body) body bytes))
+    AreBytes-left image.name _ (name_in_header image (name_field image.name) body
+    (AreBytes-left (header image (name_field image.name) body) body bytes))
 
 parts_bytes : (image : LegacyImage) → AreBytes (legacy_text image) → AllByRecursion AreBytes image.parts
 unfolding legacy_text
@@ -61,7 +64,8 @@ is_built limits image text ranges small none is bytes =
       no_fault = none;
       is_text = is;
       accepted = subst (λ (file : List ℕ). LegacyMeans limits file image) (sym is) (record {
-        is_file = legacy_text_means image (no_emit_fault_image image limits ranges (name_bytes image all) (parts_bytes image all) small none);
+        is_file = legacy_text_means image
+            (no_emit_fault_image image limits ranges (name_bytes image all) (parts_bytes image all) small none);
         short = none.1.1.0;
       });
     }

@@ -44,13 +44,22 @@ module _ (limits : Limits) (form : Form) (head : Head) (images : List ImageSpec)
   -- The text of the tree is what is built.
   pub text_is_built : (text : List ℕ) → IsTextOfTree limits form (tree_of_images head images) text → IsBuilt limits form head images text
   text_is_built text is =
-      let short : length (fit_text form (tree_of_images head images)) ≤ limits.file = subst (λ text. length text ≤ limits.file) is.is_text is.short in
+      let short : length (fit_text form (tree_of_images head images)) ≤ limits.file = subst
+      (λ text. length text ≤ limits.file) is.is_text is.short in
       record {
-        no_fault = (fine.0, (fine.1.0, each-append (BuildPasses limits form head images) (spec_checks 0 [] images) (FitsLimit ∷ []) fine.1.1 (short, tt)));
+        no_fault = (
+          fine.0,
+          (
+            fine.1.0,
+            each-append (BuildPasses limits form head images) (spec_checks 0 [] images)
+                (FitsLimit ∷ []) fine.1.1 (short, tt),
+          ),
+        );
         is_text = is.is_text;
         accepted = λ bounds same deep.
             subst (λ text. IsAcceptedAs bounds text (tree_of_images head images)) (sym is.is_text)
-            (built_is_accepted bounds form (head_model head) (spec_models images) can deep (omega (arith, same, short)) (omega (arith, same, most)));
+            (built_is_accepted bounds form (head_model head) (spec_models images) can deep
+            (omega (arith, same, short)) (omega (arith, same, most)));
         payloads = built_has_good_payloads (head_model head) (spec_models images);
         configuration = built_has_configuration (head_model head) (spec_models images) can;
       }

@@ -39,7 +39,8 @@ pub error_of_second : (limits : Limits) (one other : List ℕ) (image : BootImag
     IsBootImageReadError limits other error → IsCompareError limits one other error
 error_of_second limits one other image (Refused fault) opened is =
     inr (record { meaning = meaning_of image; means = (opened_means limits one image opened).means; has_error = is })
-error_of_second limits one other image OutOfMemory opened is = needs_memory limits one (meaning_of image) (opened_means limits one image opened).means
+error_of_second limits one other image OutOfMemory opened is = needs_memory limits one (meaning_of image)
+    (opened_means limits one image opened).means
 error_of_second limits one other image ReadFailed opened is = is
 error_of_second limits one other image WriteFailed opened is = is
 
@@ -47,7 +48,8 @@ error_of_second limits one other image WriteFailed opened is = is
 pub result_compared : (limits : Limits) (one other : List ℕ) (image other_image : BootImage) (result : Result Bool Error) →
     IsReadBootImage limits one image → IsReadBootImage limits other other_image →
     IfOk result (λ same. IsTrue same ↔ (meaning_of image ≡ meaning_of other_image)) → IfOk result (AreCompared limits one other)
-result_compared limits one other image other_image (Ok same) opened other_opened is = are_compared limits one other image other_image same opened other_opened is
+result_compared limits one other image other_image
+    (Ok same) opened other_opened is = are_compared limits one other image other_image same opened other_opened is
 result_compared limits one other image other_image (Err error) opened other_opened is = tt
 
 pub result_failed : (limits : Limits) (one other : List ℕ) (image : BootImage) (result : Result Bool Error) →
@@ -55,4 +57,5 @@ pub result_failed : (limits : Limits) (one other : List ℕ) (image : BootImage)
     IfErr result (λ error. error ≡ OutOfMemory) → IfErr result (IsCompareError limits one other)
 result_failed limits one other image (Ok same) opened is = tt
 result_failed limits one other image (Err error) opened is =
-    subst (IsCompareError limits one other) (sym is) (needs_memory limits one (meaning_of image) (opened_means limits one image opened).means)
+    subst (IsCompareError limits one other) (sym is)
+    (needs_memory limits one (meaning_of image) (opened_means limits one image opened).means)

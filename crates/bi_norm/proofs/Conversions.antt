@@ -23,11 +23,13 @@ pub conversion_can_be_built : (limits : Limits) (file : List ℕ) (image : Legac
     LegacyMeans limits file image → head ≡ head_of_image image → images ≡ converted_images image → CanBeBuilt head images
 conversion_can_be_built limits file image head images means same are =
     subst (λ (images : List ImageSpecModel). CanBeBuilt head images) (sym are)
-    (subst (λ (head : HeadModel). CanBeBuilt head (converted_images image)) (sym same) (converted_can_be_built image (image_of_file file image means.is_file)))
+    (subst (λ (head : HeadModel). CanBeBuilt head (converted_images image)) (sym same)
+    (converted_can_be_built image (image_of_file file image means.is_file)))
 
 pub tree_is : (image : LegacyImage) (head : HeadModel) (images : List ImageSpecModel) → head ≡ head_of_image image →
     images ≡ converted_images image → built_tree head images ≡ fit_of image
-tree_is image head images same are = ap (λ (images : List ImageSpecModel). built_tree head images) are ∙ ap (λ (head : HeadModel). built_tree head (converted_images image)) same
+tree_is image head images same are = ap (λ (images : List ImageSpecModel). built_tree head images) are
+    ∙ ap (λ (head : HeadModel). built_tree head (converted_images image)) same
 
 -- The text of this tree is that of the converted file.
 pub is_converted : (limits : Limits) (file : List ℕ) (parsed : LegacyModel) (tree : ImageTree) (text : List ℕ) →

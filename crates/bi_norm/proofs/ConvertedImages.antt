@@ -236,6 +236,7 @@ converted_has_its_parts image is can =
 -- The text of a converted image is accepted.
 pub converted_is_accepted : ConvertedIsAccepted
 converted_is_accepted bounds form image is can deep short small = record {
-  accepted = built_is_accepted bounds form (head_of_image image) (converted_images image) (converted_can_be_built image is) deep short small;
+  accepted = built_is_accepted bounds form (head_of_image image) (converted_images image)
+      (converted_can_be_built image is) deep short small;
   parts = converted_has_its_parts image is can;
 }

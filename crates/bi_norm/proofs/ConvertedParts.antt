@@ -131,7 +131,8 @@ pub after_first : (image : LegacyImage) (keys : List Key) (images : List NamedIm
     IsPartWay image keys (more images next) left
 after_first image keys images placed left next d way few none is part = record {
   are_all = all_parts images next placed left image.parts part way.are_all;
-  are_images = converted_first image keys images next d none (omega (arith, key_of_next image keys images placed left way few)) (is ∙ ap (first_image image (get_or keys (length images) d)) (sym part));
+  are_images = converted_first image keys images next d none (omega (arith, key_of_next image keys images placed left way few))
+      (is ∙ ap (first_image image (get_or keys (length images) d)) (sym part));
 }
 
 pub after_later : (image : LegacyImage) (keys : List Key) (images : List NamedImage) (placed : PartModel) (left : List PartModel)
@@ -140,7 +141,8 @@ pub after_later : (image : LegacyImage) (keys : List Key) (images : List NamedIm
     IsPartWay image keys (more images next) left
 after_later image keys images placed left next d way few some is part = record {
   are_all = all_parts images next placed left image.parts part way.are_all;
-  are_images = converted_later image keys images next d some (key_of_next image keys images placed left way few) way.are_images (is ∙ ap (later_image image (get_or keys (length images) d)) (sym part));
+  are_images = converted_later image keys images next d some (key_of_next image keys images placed left way few) way.are_images
+      (is ∙ ap (later_image image (get_or keys (length images) d)) (sym part));
 }
 
 -- At the end.

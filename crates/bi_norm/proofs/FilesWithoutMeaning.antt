@@ -102,8 +102,11 @@ tree_fault limits file fault other is = by (legacy_or_not file) (nat_le_decided 
   by (inl begins) (inr long) =
       let same : too_large limits.file ≡ fault = is.only (too_large limits.file) (InBlob (InHeader (inl (long, refl)))) in
       (OfLegacyImage begins (inl (long, sym same)), neither_means_nothing limits file (λ image means. long means.short) is.means_nothing)
-  by (inr no_legacy) decided =
-      (OfTree no_legacy is.is_fault, neither_means_nothing limits file (λ image means. no_legacy (means_legacy limits file image means)) is.means_nothing)
+  by (inr no_legacy) decided = (
+    OfTree no_legacy is.is_fault,
+    neither_means_nothing limits file
+        (λ image means. no_legacy (means_legacy limits file image means)) is.means_nothing,
+  )
 
 -- Reading a tree needs memory only for a file that needs it.
 tree_needs_memory : (limits : Limits) (file : List ℕ) → HasNoFaultBeforeTree limits file → NeedsMemory limits file

@@ -10,7 +10,8 @@ use Rattle.bi_fit.specs.declared.building.NamedImage.{NamedImage}
 use Rattle.bi_fit.specs.Building.{ImageSpecModel}
 use Rattle.bi_fit.specs.NamedImages.{named_model, named_models}
 use Rattle.bi_norm.specs.declared.fit_building.ImageSpec.{ImageSpec}
-use Rattle.bi_norm.specs.FitBuilding.{spec_model, spec_models, BuildCheck, HasFields, HasCodeNames, HasNewName, spec_checks, first_image_checks}
+use Rattle.bi_norm.specs.FitBuilding.{spec_model, spec_models, BuildCheck, HasFields, HasCodeNames, HasNewName, spec_checks}
+use Rattle.bi_norm.specs.FitBuilding.{first_image_checks}
 use Rattle.bi_norm.specs.BuildChecks.{AllPass, IsFirstFailure, at_index, fields_and_names, HasBytes}
 
 -- If the images before one pass their checks, a fault of its fields, codes or name is the first of all, and otherwise the images after it
@@ -46,16 +47,22 @@ pub record ArePassedTo (images : List ImageSpec) (index : ℕ) : Type 0 where
 
 -- None was made.
 pub passed_none : (images : List ImageSpec) → ArePassedTo images 0
-passed_none images = record { passes = λ all. all; fails = λ fault first. first; bytes = λ all. all; first = λ some. absurd (omega (arith, some)) }
+passed_none images = record {
+  passes = λ all. all;
+  fails = λ fault first. first;
+  bytes = λ all. all;
+  first = λ some. absurd (omega (arith, some));
+}
 
 -- The checks of an image that look at no other, if it is the first.
 first_fine : (images : List ImageSpec) (index : ℕ) (d : ImageSpec) → index < length images → index ≡ 0 →
     AllPass (fields_and_names index (get_or images index d)) → AllPass (first_image_checks images)
-first_fine images index d within none fine = by images within (subst (λ index. AllPass (fields_and_names index (get_or images index d))) none fine) where
-  by : (images : List ImageSpec) → index < length images → AllPass (fields_and_names 0 (get_or images 0 d)) →
-      AllPass (first_image_checks images)
-  by [] within fine = λ limits form head all. tt
-  by (image ∷ later) within fine = fine
+first_fine images index d within none fine = by images within
+    (subst (λ index. AllPass (fields_and_names index (get_or images index d))) none fine) where
+      by : (images : List ImageSpec) → index < length images → AllPass (fields_and_names 0 (get_or images 0 d)) →
+          AllPass (first_image_checks images)
+      by [] within fine = λ limits form head all. tt
+      by (image ∷ later) within fine = fine
 
 module _ (images : List ImageSpec) (index : ℕ) (d : ImageSpec) (within : index < length images) (passed : ArePassedTo images index) where
   abbrev image : ImageSpec
@@ -64,7 +71,8 @@ module _ (images : List ImageSpec) (index : ℕ) (d : ImageSpec) (within : index
   -- The names before the next image.
   pub names_more : names_of_specs (take (index + 1) images) ≡ names_of_specs (take index images) ++ image.name.now ∷ []
   names_more =
-      ap names_of_specs (take_more images index d within) ∙ map-append (λ (image : ImageSpec). image.name.now) (take index images) (image ∷ [])
+      ap names_of_specs (take_more images index d within)
+      ∙ map-append (λ (image : ImageSpec). image.name.now) (take index images) (image ∷ [])
 
   -- The checks of this image come first.
   first_checks : checks_from images index
@@ -74,7 +82,8 @@ module _ (images : List ImageSpec) (index : ℕ) (d : ImageSpec) (within : index
   first_checks =
       let at = at_index index (names_of_specs (take index images)) image in
       ap (spec_checks index (names_of_specs (take index images))) (drop_more images index d within)
-      ∙ ap (λ names. HasFields at ∷ HasCodeNames at ∷ HasNewName at ∷ spec_checks (index + 1) names (drop (index + 1) images)) (sym names_more)
+      ∙ ap (λ names. HasFields at ∷ HasCodeNames at ∷ HasNewName at
+      ∷ spec_checks (index + 1) names (drop (index + 1) images)) (sym names_more)
 
   -- A fault of its fields or codes is the first of all.
   pub image_fails : (fault : Fault) → IsFirstFailure (fields_and_names index image) fault → IsFirstFailure (spec_checks 0 [] images) fault
@@ -96,7 +105,8 @@ module _ (images : List ImageSpec) (index : ℕ) (d : ImageSpec) (within : index
       IsFirstFailure (spec_checks 0 [] images) (record { cause = DuplicateNode; offset = index })
   name_fails fine held =
       passed.fails (record { cause = DuplicateNode; offset = index })
-      (subst (λ checks. IsFirstFailure checks (record { cause = DuplicateNode; offset = index })) (sym first_checks) (λ limits form head all.
+      (subst (λ checks. IsFirstFailure checks (record { cause = DuplicateNode; offset = index }))
+      (sym first_checks) (λ limits form head all.
       let both = fine limits form head all in
       inr (both.0, inr (both.1.0, inl (held, refl)))))
 
@@ -126,7 +136,8 @@ module _ (images : List ImageSpec) (index : ℕ) (d : ImageSpec) (within : index
 -- After the last image none are left.
 pub passed_all : (images : List ImageSpec) (index : ℕ) → length images ≤ index → AllPass (checks_from images index)
 passed_all images index past =
-    subst (λ left. AllPass (spec_checks index (names_of_specs (take index images)) left)) (sym (drop_all index images past)) (λ limits form head all. tt)
+    subst (λ left. AllPass (spec_checks index (names_of_specs (take index images)) left))
+    (sym (drop_all index images past)) (λ limits form head all. tt)
 
 -- The images with the names of their codes, and one more.
 pub named_more : (images : List ImageSpec) (index : ℕ) (d : ImageSpec) → index < length images →

@@ -25,7 +25,7 @@ pub one_kind : OneKind
 one_kind file image tree legacy fit =
     omega (arith, (file_begins file image legacy).magic, begins_with_magic file tree fit)
 
--- A file of one kind has one meaning of that kind.
+-- A file of a kind has one meaning of that kind.
 pub one_file_meaning : OneLegacyMeaning → OneFileMeaning
 one_file_meaning one_legacy limits other_limits file (OfLegacy one) (OfLegacy other) means other_means =
     ap OfLegacy (one_legacy file one other means.is_file other_means.is_file)
@@ -84,13 +84,15 @@ same_meaning : (form : Form) (limits other_limits : Limits) (file other_file : L
     Means other_limits other_file other → length (normal_text form one) ≤ longest_text → normal_text form one ≡ normal_text form other →
     one ≡ other
 same_meaning form limits other_limits file other_file (OfLegacy one) (OfLegacy other) means other_means short same =
-    ap OfLegacy (legacy_texts_differ one other (image_of_file file one means.is_file) (image_of_file other_file other other_means.is_file) same)
+    ap OfLegacy (legacy_texts_differ one other (image_of_file file one means.is_file)
+    (image_of_file other_file other other_means.is_file) same)
 same_meaning form limits other_limits file other_file (OfLegacy one) (OfFit other) means other_means short same =
     absurd (texts_differ form one other same)
 same_meaning form limits other_limits file other_file (OfFit one) (OfLegacy other) means other_means short same =
     absurd (texts_differ form other one (sym same))
 same_meaning form limits other_limits file other_file (OfFit one) (OfFit other) means other_means short same =
-    ap OfFit ((same_text_same_tree form one other (file_means_image_tree file one means.is_file) (file_means_image_tree other_file other other_means.is_file) short).0 same)
+    ap OfFit ((same_text_same_tree form one other (file_means_image_tree file one means.is_file)
+    (file_means_image_tree other_file other other_means.is_file) short).0 same)
 
 pub normal_texts_differ : NormalTextsDiffer
 normal_texts_differ form limits other_limits file other_file one other means other_means short = (

@@ -84,7 +84,8 @@ legacy_normal_form limits form file parsed opened = record {
   is_text = refl;
   distinguishes = distinguishes_legacy limits form file parsed opened;
   is_own = opened.normal_form.text_means_image;
-  keeps_judgement = λ tree other means text_means. absurd (means_tree limits file tree means (means_legacy limits file parsed.image opened.means));
+  keeps_judgement = λ tree other means text_means. absurd
+      (means_tree limits file tree means (means_legacy limits file parsed.image opened.means));
 }
 
 -- It has no signature nodes.
@@ -106,7 +107,8 @@ distinguishes_tree : (limits : Limits) (form : Form) (file : List ℕ) (tree : I
     (normal_text form other ≡ fit_text form tree) ↔ (other ≡ OfFit tree)
 distinguishes_tree limits form file tree is short other_file (OfFit other) means = (
   λ same.
-      ap OfFit (sym ((same_text_same_tree form tree other (file_means_image_tree file tree is) (file_means_image_tree other_file other means.is_file) short).0 (sym same))),
+      ap OfFit (sym ((same_text_same_tree form tree other (file_means_image_tree file tree is)
+      (file_means_image_tree other_file other means.is_file) short).0 (sym same))),
   λ same. ap (normal_text form) same,
 )
 distinguishes_tree limits form file tree is short other_file (OfLegacy image) means = (
@@ -114,7 +116,7 @@ distinguishes_tree limits form file tree is short other_file (OfLegacy image) me
   λ same. ap (normal_text form) same,
 )
 
--- The normal text of a flattened image tree that was read from a file, if it is no longer than the limit, is the normal form of the file.
+-- The normal text of a flattened image tree that was read from a file is the normal form of the file, if it is no longer than the limit.
 pub tree_normal_form : (limits : Limits) (form : Form) (file : List ℕ) (content : FitModel) → IsReadFit limits file content →
     length (fit_text form (tree_of content)) ≤ limits.file → limits.file ≤ longest_text →
     IsNormalForm limits form file (fit_text form (tree_of content))
@@ -129,7 +131,8 @@ tree_normal_form limits form file content opened fits most =
       distinguishes = distinguishes_tree limits form file tree opened.means.is_file short;
       is_own = (normal_fit_text_is_accepted limits form file tree opened.means fits most).means;
       keeps_judgement = λ one other means text_means.
-          text_keeps_judgement form file tree other opened.means.is_file short text_means.is_file ∙ ap judgement (sym (opened.only one means));
+          text_keeps_judgement form file tree other opened.means.is_file short text_means.is_file
+          ∙ ap judgement (sym (opened.only one means));
     }
 
 -- It has as many signature nodes as the tree.
@@ -137,7 +140,8 @@ pub tree_normalised : (limits : Limits) (form : Form) (file : List ℕ) (content
     length (fit_text form (tree_of content)) ≤ limits.file → limits.file ≤ longest_text → count ≡ signatures_of_tree (tree_of content) →
     IsNormaliseOutput limits form count file (fit_text form (tree_of content))
 unfolding tree_normal_form
-tree_normalised limits form file content count opened fits most is = record { normal = tree_normal_form limits form file content opened fits most; signatures = is }
+tree_normalised limits form file content count opened fits most is = record
+    { normal = tree_normal_form limits form file content opened fits most; signatures = is }
 
 -- A file that means something needs memory.
 pub needs_memory : (limits : Limits) (file : List ℕ) (meaning : Meaning) → Means limits file meaning → NeedsMemory limits file
@@ -145,7 +149,8 @@ needs_memory limits file (OfLegacy image) means = ForLegacyImage image means
 needs_memory limits file (OfFit tree) means = by (fault_before_tree_comes_first limits file).decided where
   by : HasNoFaultBeforeTree limits file ⊎ ((fault : Fault) × IsFaultBeforeTree limits file fault) → NeedsMemory limits file
   by (inl fine) = ForTree (means_tree limits file tree means) fine
-  by (inr faulty) = absurd (fit_has_no_fault limits file tree faulty.0 means (InBlob ((fault_before_tree_comes_first limits file).first faulty.0 faulty.1)))
+  by (inr faulty) = absurd (fit_has_no_fault limits file tree faulty.0 means
+      (InBlob ((fault_before_tree_comes_first limits file).first faulty.0 faulty.1)))
 
 -- A file that has a normal form needs memory.
 pub normal_form_needs_memory : (limits : Limits) (form : Form) (file text : List ℕ) → IsNormalForm limits form file text →
@@ -177,4 +182,5 @@ pub legacy_not_written : {S : Type 0} {fails : S → List ℕ → S → Error �
 legacy_not_written limits form file parsed written old new error opened is_written (WasRefused is same) =
     WasRefused (subst (IsNormaliseError limits form file) (sym is) (ForLegacyImage parsed.image opened.means)) same
 legacy_not_written limits form file parsed written old new error opened is_written (SinkFailed text cause is failed same) =
-    SinkFailed text cause (subst (IsNormalForm limits form file) (sym (is ∙ is_written)) (legacy_normal_form limits form file parsed opened)) failed same
+    SinkFailed text cause (subst (IsNormalForm limits form file) (sym (is ∙ is_written))
+    (legacy_normal_form limits form file parsed opened)) failed same

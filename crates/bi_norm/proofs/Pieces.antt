@@ -1,4 +1,5 @@
-use Rattle.std.proofs.Common.{◌≡◌, ◌+◌, ◌<◌, ◌-◌, ◌≤◌, ℕ, List, [], ◌∷◌, ◌++◌, length, map, take, drop, get_or, sym, ap, ◌∙◌, arith, add-one, append-nil}
+use Rattle.std.proofs.Common.{◌≡◌, ◌+◌, ◌<◌, ◌-◌, ◌≤◌, ℕ, List, [], ◌∷◌, ◌++◌, length, map, take, drop, get_or, sym, ap, ◌∙◌, arith}
+use Rattle.std.proofs.Common.{add-one, append-nil}
 use Rattle.std.specs.List.{concat, sum, slice_range}
 use Rattle.std.proofs.Math.Seq.{take-add, drop-cons}
 use Rattle.std.proofs.lemmas.List.{take_more, take-append-drop, map-append}
@@ -14,7 +15,8 @@ sum_more lengths i within = sum_by_more (λ (n : ℕ). n) lengths i 0 within
 -- The lengths before one of them, itself, and those after it.
 pub lengths_around : (lengths : List ℕ) (i : ℕ) → i < length lengths →
     lengths ≡ take i lengths ++ (get_or lengths i 0 ∷ drop (i + 1) lengths)
-lengths_around lengths i within = sym (take-append-drop i lengths) ∙ ap (λ l. take i lengths ++ l) (rw add-one (drop-cons lengths i 0 within))
+lengths_around lengths i within = sym (take-append-drop i lengths)
+    ∙ ap (λ l. take i lengths ++ l) (rw add-one (drop-cons lengths i 0 within))
 
 -- The lengths of the pieces, and one more.
 pub lengths_more : (pieces : List (List ℕ)) (piece : List ℕ) (lengths : List ℕ) (i : ℕ) → i < length lengths →

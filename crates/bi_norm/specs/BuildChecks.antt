@@ -14,7 +14,7 @@ use Rattle.bi_norm.specs.FitBuilding.{IndexedImage, first_image_checks}
 
 -- The checks of what is to be built, one after the other.
 
--- All checks but that of the text's length.
+-- All checks, except that of the text's length.
 abbrev pub early_checks : List ImageSpec → List BuildCheck
 early_checks images = HasFewImages ∷ HasTextDescription ∷ spec_checks 0 [] images
 
@@ -36,7 +36,7 @@ abbrev pub IsImagesError : List ImageSpec → Error → Type 0
 IsImagesError images =
     FailsWith (IsFirstFailure (spec_checks 0 [] images)) (AllPass (first_image_checks images))
 
--- An image at an index after images of these names.
+-- An image at an index after images with these names.
 abbrev pub at_index : ℕ → List (List ℕ) → ImageSpec → IndexedImage
 at_index index earlier image = record { index = index; earlier = earlier; image = image }
 

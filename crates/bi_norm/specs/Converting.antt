@@ -67,7 +67,7 @@ image_name Firmware = codes "firmware-1"
 image_name Loadables = codes "standalone-1"
 image_name Script = codes "script-1"
 
--- Whether an image of this key keeps the load address and the entry point.
+-- Whether an image with this key keeps the load address and the entry point.
 abbrev pub has_addresses : Key → Bool
 has_addresses Kernel = true
 has_addresses Firmware = true
@@ -109,13 +109,13 @@ later_image image key part = record {
   payload = part;
 }
 
--- The images of later parts, of these keys.
+-- The images of later parts, with these keys.
 abbrev pub later_images : LegacyImage → List Key → List (List ℕ) → List ImageSpecModel
 later_images image (key ∷ keys) (part ∷ parts) =
     later_image image key part ∷ later_images image keys parts
 later_images image keys parts = []
 
--- The images of parts, of these keys.
+-- The images of parts, with these keys.
 abbrev pub images_of_parts : LegacyImage → List Key → List (List ℕ) → List ImageSpecModel
 images_of_parts image (key ∷ keys) (part ∷ parts) =
     first_image image key part ∷ later_images image keys parts
@@ -191,8 +191,8 @@ pub record IsConverted (bounds : Limits) (form : Form) (image : LegacyImage) : T
   pub accepted : IsAcceptedAs bounds (fit_text form (fit_of image)) (fit_of image)
   pub parts : HasConvertedParts image
 
--- The law that this is what the text of a converted image is, within limits that hold it, if four
--- nodes or more may be open.
+-- The law that this is what the text of a converted image is, within limits that hold it, if at
+-- least four nodes may be open.
 abbrev pub ConvertedIsAccepted : Type 0
 ConvertedIsAccepted =
     (bounds : Limits) (form : Form) (image : LegacyImage)
@@ -202,7 +202,7 @@ ConvertedIsAccepted =
     → IsConverted bounds form image
 
 -- The text is that of the flattened image tree to which the legacy image in the file is converted.
--- Under the same limit on files, if four nodes or more may be open, it is accepted and means that
+-- Under the same limit on files, if at least four nodes may be open, it is accepted and means that
 -- tree.
 pub record IsConvertedFile (limits : Limits) (file text : List ℕ) : Type 0 where
   pub image : LegacyImage

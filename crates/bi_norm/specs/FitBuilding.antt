@@ -21,8 +21,8 @@ use Rattle.bi_fit.specs.declared.building.Head.{Head}
 use Rattle.bi_norm.specs.declared.fit_building.ImageSpec.{ImageSpec}
 use Rattle.bi_norm.specs.Converting.{code_name, keys_of_type}
 
--- Building a flattened image tree from images whose codes are those of legacy headers (profile of
--- this project).
+-- Building a flattened image tree from images with the codes of legacy headers (profile of this
+-- project).
 
 -- The key under which images of a type are listed: the first of those for the type. A type without
 -- one is refused before this is used.
@@ -30,7 +30,7 @@ abbrev pub first_key : List Key → Key
 first_key [] = Kernel
 first_key (key ∷ later) = key
 
--- The image to be built, with names in place of its codes.
+-- The image to be built, with names instead of its codes.
 abbrev pub spec_model : ImageSpec → ImageSpecModel
 spec_model image = record {
   name = image.name.now;
@@ -97,7 +97,7 @@ build_fault limits (HasCodeNames at) = record { cause = NoCodeName; offset = at.
 build_fault limits (HasNewName at) = record { cause = DuplicateNode; offset = at.index }
 build_fault limits FitsLimit = record { cause = TooLarge; offset = limits.file }
 
--- The checks of these images, the first of which has this index and comes after images of these
+-- The checks of these images. The first of them has this index and comes after images with these
 -- names.
 abbrev pub spec_checks : ℕ → List (List ℕ) → List ImageSpec → List BuildCheck
 spec_checks index earlier [] = []
@@ -136,7 +136,7 @@ IsBuildError limits form head images =
     FailsWith (IsBuildFault limits form head images)
     (HasNoFault (BuildPasses limits form head images) (checks_without_memory images))
 
--- The text is that of the tree that is built. Under the same limit on files, if four nodes or more
+-- The text is that of the tree that is built. Under the same limit on files, if at least four nodes
 -- may be open, it is accepted and means the tree. Its payloads are those of the images, its
 -- verdicts are Good, and its configuration lists the images.
 pub record IsBuilt (limits : Limits) (form : Form) (head : Head) (images : List ImageSpec)

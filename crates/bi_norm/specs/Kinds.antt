@@ -20,8 +20,8 @@ pub record BeginsAs (file : List ℕ) (kind : Kind) : Type 0 where
   pub whole : 4 ≤ length file
   pub magic : u32_at file 0 ≡ magic_of kind
 
--- The fault of a file of no kind: it has less than four bytes, or it begins with the magic number
--- of no kind (profile of this project).
+-- The fault of a file without a kind: it has fewer than four bytes, or it does not begin with the
+-- magic number of a kind (profile of this project).
 pub data IsKindFault (file : List ℕ) (fault : Fault) : Type 0 where
   TooShort : length file < 4 → fault ≡ record { cause = Truncated; offset = 0 }
       → IsKindFault file fault

@@ -13,7 +13,7 @@ use Rattle.bi_norm.specs.FitBuilding.{IsBuildFault, IsBuildError}
 
 -- Small trees that cannot be built, each with its fault, by which a reader can judge the
 -- definitions (profile of this project). Where the slices of the arguments are makes no difference:
--- they have the bytes that are given, and are otherwise like any slice.
+-- they have the given bytes, and are otherwise like any slice.
 
 -- A slice with these bytes, otherwise like another one.
 abbrev pub slice_like : Bor (List ℕ) → List ℕ → Bor (List ℕ)
@@ -50,7 +50,7 @@ HasBuildFault any description images cause offset =
 abbrev pub description_with_zero : List ℕ
 description_with_zero = codes "k" ++ 0 ∷ codes "k"
 
--- Each check but that of the text's length is the first that fails for one of these.
+-- Each check, except that of the text's length, is the first that fails for one of these.
 pub record HaveBuildFaults (any : Bor (List ℕ)) : Type 0 where
   pub many_images :
       HasBuildFault any (codes "k") (replicate 65 (kernel_like any (codes "a"))) TooLarge 64
@@ -143,7 +143,7 @@ NeedsNoMemory any description images =
     (form : Form)
     → ¬ (IsBuildError narrow_limits form (head_like any description) images OutOfMemory)
 
--- Memory never runs out where a check fails that needs none.
+-- Memory never runs out if a check fails that needs none.
 pub record RefusalsNeedNoMemory (any : Bor (List ℕ)) : Type 0 where
   pub many_images : NeedsNoMemory any (codes "k") (replicate 65 (kernel_like any (codes "a")))
   pub description :

@@ -11,8 +11,8 @@ use Rattle.bi_legacy.specs.Meaning.{LegacyImage}
 use Rattle.bi_norm.specs.FitBuilding.{first_key, multi}
 use Rattle.bi_norm.specs.Converting.{converted_images, fit_of, keys_of_type, IsConvertFault}
 
--- Small legacy images with the images that they are converted to, or with the fault why they cannot
--- be, by which a reader can judge the definitions.
+-- Small legacy images with the images that they are converted to, or with the fault of those that
+-- cannot be converted, by which a reader can judge the definitions.
 
 -- An image for Linux on ARM, with the name `k` and time 1, that is loaded at 0x8000 and entered at
 -- 0x8040.
@@ -68,8 +68,8 @@ pub record ConvertFaultsAreKnown : Type 0 where
   pub four_parts : HasConvertFault (known_image 4 0 (codes "y" ∷ known_parts)) TooManyParts 64
   pub two_scripts : HasConvertFault (known_image 6 0 (codes "x" ∷ codes "y" ∷ [])) TooManyParts 64
 
--- The images of each type with a name, but for multi-file images, are listed under the key whose
--- images have this type.
+-- The images of each type with a name, except multi-file images, are listed under the key for
+-- images of this type.
 abbrev pub TypesHaveTheirKeys : Type 0
 TypesHaveTheirKeys =
     AllByRecursion

@@ -2,10 +2,10 @@ use Rattle.std.specs.Prelude.{ℕ, List, [], ◌∷◌, codes}
 use Rattle.bi_base.specs.declared.fault.Cause.TheVariants.{BadPart}
 use Rattle.bi_norm.specs.Cutting.{IsCut, IsCutFault}
 
--- Small inputs with their pieces, or with the fault why they cannot be cut, by which a reader can
--- judge the definitions.
+-- Small inputs with their pieces, or with the fault of those that cannot be cut, by which a reader
+-- can judge the definitions.
 
--- Inputs and their pieces. A piece may be empty, and no bytes are no pieces.
+-- Inputs and their pieces. A piece may be empty, and an input without bytes has no pieces.
 pub record CutsAreKnown : Type 0 where
   pub two : IsCut (codes "helloabc") (5 ∷ 3 ∷ []) (codes "hello" ∷ codes "abc" ∷ [])
   pub empty : IsCut (codes "abc") (0 ∷ 3 ∷ 0 ∷ []) ([] ∷ codes "abc" ∷ [] ∷ [])

@@ -47,21 +47,21 @@ FileMeaningOrFault =
     → ((meaning : Meaning) × Means limits file meaning)
     ⊎ ((fault : Fault) × IsFileFault limits file fault)
 
--- A file of bytes means something within limits exactly where it has no fault under them.
+-- A file of bytes means something within limits if and only if it has no fault under them.
 abbrev pub FileMeaningWhereNoFault : Type 0
 FileMeaningWhereNoFault =
     (limits : Limits) (file : List ℕ) → AreBytes file
     → ((meaning : Meaning) × Means limits file meaning)
     ↔ ((fault : Fault) → ¬ (IsFileFault limits file fault))
 
--- No normal text of a legacy image is one of a flattened image tree, in any form.
+-- No normal text of a legacy image is the normal text of a flattened image tree, in any form.
 abbrev pub TextsOfKindsDiffer : Type 0
 TextsOfKindsDiffer =
     (form : Form) (image : LegacyImage) (tree : ImageTree)
     → ¬ (legacy_text image ≡ fit_text form tree)
 
--- Two files, each within limits of its own, have the same normal text in one form exactly where
--- they mean the same, if one of the texts is not too long.
+-- If one of the normal texts of two files in a form is not too long, the texts are the same if and
+-- only if the files mean the same. Each file is within its own limits.
 abbrev pub NormalTextsDiffer : Type 0
 NormalTextsDiffer =
     (form : Form) (limits other_limits : Limits) (file other_file : List ℕ) (one other : Meaning)

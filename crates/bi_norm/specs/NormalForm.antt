@@ -10,8 +10,8 @@ use Rattle.bi_fit.specs.Text.{fit_text}
 use Rattle.bi_norm.specs.Meaning.{Meaning, Means, normal_text, meaning_signature_count}
 use Rattle.bi_norm.specs.Reading.{IsReadErrorOrTooLarge}
 
--- What normalising promises: two accepted files of one kind have the same normal form exactly if
--- they mean the same (profile of this project).
+-- What normalising promises: two accepted files of the same kind have the same normal form if and
+-- only if they mean the same (profile of this project).
 
 -- The text is the normal form of the file.
 pub record IsNormalForm (limits : Limits) (form : Form) (file text : List ℕ) : Type 0 where
@@ -38,8 +38,8 @@ pub record IsNormaliseOutput (limits : Limits) (form : Form) (count : ℕ) (file
     pub normal : IsNormalForm limits form file text
     pub signatures : count ≡ meaning_signature_count normal.meaning
 
--- The file means a flattened image tree whose normal text in this form is longer than the limit. No
--- legacy image has such a text.
+-- The file means a flattened image tree, and its normal text in this form is longer than the limit.
+-- No legacy image has such a text.
 pub record IsTooLong (limits : Limits) (form : Form) (file : List ℕ) : Type 0 where
   pub tree : ImageTree
   pub means : FitMeans limits file tree

@@ -25,8 +25,8 @@ IsReadBootImage limits file (Legacy image) = IsReadLegacy limits file image
 IsReadBootImage limits file (Fit content) = IsReadFit limits file content
 
 -- Memory is needed only for a file that passes all checks that need none: a legacy image, or a file
--- that does not begin as one and whose header and memory reservation block, as those of a blob,
--- have no fault.
+-- that does not begin as one and that has no fault, as a blob, in its header and its memory
+-- reservation block.
 pub data NeedsMemory (limits : Limits) (file : List ℕ) : Type 0 where
   ForLegacyImage : (image : LegacyImage) → LegacyMeans limits file image → NeedsMemory limits file
   ForTree : ¬ (BeginsAs file kind.Legacy) → HasNoFaultBeforeTree limits file

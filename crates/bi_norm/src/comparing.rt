@@ -9,12 +9,12 @@ use bi_base::{Error, Limits};
 use bi_legacy::Legacy;
 use std::alloc::Global;
 
-/// Returns whether two boot images mean the same. Images of different kinds do not. The images are
-/// compared without their normal texts, so these may be longer than the limit.
-/// `Fit::has_same_meaning` describes the time that this takes.
+/// Returns whether two boot images mean the same. Images of different kinds never do. No normal
+/// texts are made, so these may be longer than the limit. `Fit::has_same_meaning` says how long
+/// this takes.
 ///
 /// Errors, the first that applies: those of `BootImage::read` for the first file; those for the
-/// second file. OutOfMemory never comes if the first file fails a check that needs no memory.
+/// second file. OutOfMemory never occurs if the first file fails a check that needs no memory.
 pub fn same_meaning(alloc: Global, one: &[u8], other: &[u8], limits: Limits) -> Result<bool, Error>
     ensures compared { IfOk result (AreCompared limits one.now other.now) }
     ensures failed { IfErr result (IsCompareError limits one.now other.now) }
@@ -25,9 +25,9 @@ pub fn same_meaning(alloc: Global, one: &[u8], other: &[u8], limits: Limits) -> 
 }
 
 impl<'a> BootImage<'a> {
-    /// Returns whether both images mean the same. Images of different kinds do not.
+    /// Returns whether both images mean the same. Images of different kinds never do.
     ///
-    /// Fails with OutOfMemory alone.
+    /// The only error is OutOfMemory.
     pub fn has_same_meaning(&self, alloc: Global, other: &BootImage<'_>) -> Result<bool, Error>
         ensures compared { IfOk result (λ same. IsTrue same
             ↔ (meaning_of self.now ≡ meaning_of other.now)) }

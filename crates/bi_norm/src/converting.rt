@@ -19,11 +19,16 @@ use std::alloc::Global;
 
 /// Returns the flattened image tree of a legacy image, with its payloads embedded.
 ///
-/// Errors, the first that applies: those of `Legacy::read`; NoCodeName at 28, 29, 30 or 31, if the
-/// operating system, the architecture, the type or the compression has no name; EmptyPart at 64, if
-/// there are no parts; TooManyParts at 64, if a multi-file image has more than three parts or a
-/// script more than one; TooLarge at the limit, if the flattened image tree is longer; OutOfMemory,
-/// which comes only for a legacy image that passes every check before the last.
+/// Fails with the first of these errors that applies:
+///
+/// - those of `Legacy::read`;
+/// - NoCodeName at 28, 29, 30 or 31, if the operating system, the architecture, the type or the
+///   compression has no name;
+/// - EmptyPart at 64, if there are no parts;
+/// - TooManyParts at 64, if a multi-file image has more than three parts or a script more than one;
+/// - TooLarge at the limit, if the flattened image tree is longer.
+///
+/// OutOfMemory occurs only for a legacy image that passes all checks but the last.
 pub fn convert(alloc: Global, file: &[u8], limits: Limits) -> Result<Vec<u8>, Error>
     ensures converted { IfOk result (λ text. IsConvertedFile limits file.now text.items) }
     ensures failed { IfErr result (IsConvertError limits file.now) }
@@ -35,9 +40,9 @@ pub fn convert(alloc: Global, file: &[u8], limits: Limits) -> Result<Vec<u8>, Er
 
 /// Appends the flattened image tree of a legacy image, with its payloads embedded, to a sink.
 ///
-/// The errors are those of `convert`, and those of the sink. After any other error than those of
-/// the sink, it is unchanged. After an error of the sink, it is as a failed `put` of the text
-/// leaves it. All allocations but those of the sink are made before the first byte is appended.
+/// The errors are those of `convert`, and those of the sink. After an error of the sink, the sink
+/// is as a failed `put` of the text leaves it. After any other error, the sink is unchanged. All
+/// allocations, except those of the sink, are made before the first byte is appended.
 pub fn convert_into<S: Sink>(
     alloc: Global,
     file: &[u8],

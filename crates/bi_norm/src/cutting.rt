@@ -8,11 +8,11 @@ ghost use Rattle.bi_norm.specs.Cutting.{IsCut, IsCutFault, IsCutError};
 use bi_base::{Cause, Error, Fault, refuse};
 use std::alloc::Global;
 
-/// Cuts an input of at most 0x7fffffff bytes into consecutive pieces of these lengths, which
-/// together are the whole input.
+/// Cuts an input into consecutive pieces of these lengths, which together are the whole input.
+/// Requires: the input has at most 0x7fffffff bytes.
 ///
 /// Errors: BadPart at the beginning of the first piece that does not fit, or at the end of the
-/// pieces, if bytes are left; OutOfMemory, which comes only for an input that can be cut.
+/// pieces, if bytes are left; OutOfMemory, which occurs only for an input that can be cut.
 pub fn cut<'a>(alloc: Global, input: &'a [u8], lengths: &[u32]) -> Result<Vec<&'a [u8]>, Error>
     requires { length input.now ≤ longest_text }
     ensures pieces { IfOk result (λ pieces. IsCut input.entry.now lengths.now
@@ -30,7 +30,7 @@ pub fn cut<'a>(alloc: Global, input: &'a [u8], lengths: &[u32]) -> Result<Vec<&'
     Ok(pieces)
 }
 
-/// Checks that pieces of these lengths are together the whole input. Fails as `cut` does, but never
+/// Checks that pieces of these lengths together are the whole input. Fails as `cut` does, but never
 /// with OutOfMemory.
 fn check_lengths(input: &[u8], lengths: &[u32]) -> Result<(), Fault>
     requires { length input.now ≤ longest_text }

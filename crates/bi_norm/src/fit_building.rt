@@ -1,4 +1,4 @@
-//! Building a flattened image tree from images whose codes are those of a legacy header.
+//! Building a flattened image tree from images with the codes of a legacy header.
 
 ghost use Rattle.std.specs.Prelude.{OnOk, IfOk, IfErr};
 ghost use Rattle.bi_base.specs.Commands.{Appended, AppendFailed};
@@ -35,13 +35,17 @@ pub struct ImageSpec<'a> {
 /// Returns a flattened image tree with these images, each with the SHA-256 of its payload, and one
 /// configuration, `conf-1`, that lists them by their types.
 ///
-/// Errors, the first that applies: TooLarge at the limit, if there are more images than that;
-/// BadField at 0, if the description has a zero byte; then for each image in order, at its index
-/// from 0: BadField, if its name is empty or has a zero byte or a `/`, or its type is multi;
-/// NoCodeName, if one of its codes has no name; DuplicateNode, if an earlier image has its name;
-/// then TooLarge at the limit, if the text is longer. OutOfMemory comes only if the number of
-/// images, the description, and the name, type and codes of the first image are accepted, and then
-/// in place of any other error.
+/// Fails with the first of these errors that applies:
+///
+/// - TooLarge at the limit, if there are more images than that;
+/// - BadField at 0, if the description has a zero byte;
+/// - for each image in order, at its index, counted from 0: BadField, if its name is empty or has a
+///   zero byte or a `/`, or its type is multi; NoCodeName, if one of its codes has no name;
+///   DuplicateNode, if an earlier image has its name;
+/// - TooLarge at the limit, if the text is longer.
+///
+/// OutOfMemory occurs only if the number of images, the description, and the name, type and codes
+/// of the first image are accepted, and then instead of any other error.
 pub fn build_fit(
     alloc: Global,
     head: Head<'_>,
@@ -57,11 +61,11 @@ pub fn build_fit(
     Ok(sink.into_vec())
 }
 
-/// Appends a flattened image tree with these images to a sink, as `build_fit` returns it.
+/// Appends the flattened image tree that `build_fit` returns to a sink.
 ///
-/// The errors are those of `build_fit`, and those of the sink. After any other error than those of
-/// the sink, it is unchanged. After an error of the sink, it is as a failed `put` of the text
-/// leaves it. All allocations but those of the sink are made before the first byte is appended.
+/// The errors are those of `build_fit`, and those of the sink. After an error of the sink, the sink
+/// is as a failed `put` of the text leaves it. After any other error, the sink is unchanged. All
+/// allocations, except those of the sink, are made before the first byte is appended.
 pub fn build_fit_into<S: Sink>(
     alloc: Global,
     head: Head<'_>,

@@ -22,10 +22,15 @@ pub enum BootImage<'a> {
 impl<'a> BootImage<'a> {
     /// Reads a boot image. The file may be longer than the image.
     ///
-    /// Errors, the first that applies: TooLarge at the limit, if the file is longer; Truncated at
-    /// 0, if it has fewer than four bytes; BadMagic at 0; those of `Legacy::read` or of
-    /// `Fit::read`. OutOfMemory comes only after the checks of a legacy image, or of the header and
-    /// the memory reservation block of a blob.
+    /// Fails with the first of these errors that applies:
+    ///
+    /// - TooLarge at the limit, if the file is longer;
+    /// - Truncated at 0, if it has fewer than four bytes;
+    /// - BadMagic at 0;
+    /// - those of `Legacy::read` or of `Fit::read`.
+    ///
+    /// OutOfMemory occurs only after the checks of a legacy image, or of the header and the memory
+    /// reservation block of a blob.
     pub fn read(alloc: Global, file: &'a [u8], limits: Limits) -> Result<BootImage<'a>, Error>
         ensures read { IfOk result (IsReadBootImage limits file.entry.now) }
         ensures failed { IfErr result (IsBootImageReadError limits file.entry.now) }
@@ -33,7 +38,7 @@ impl<'a> BootImage<'a> {
         match Fit::read(alloc, file, limits) {
             Ok(fit) => Ok(BootImage::Fit(fit)),
             Err(error) => {
-                // It may be a legacy image. A file of no kind fails with the same fault there.
+                // It may be a legacy image. A file that is neither fails with the same fault there.
                 if is_no_tree(error) {
                     return Ok(BootImage::Legacy(Legacy::read(file, limits)?));
                 }

@@ -18,7 +18,7 @@ pub fn convert_faults_are_known()
     ensures { ConvertFaultsAreKnown }
 {}
 
-/// The images of each type are listed under the key whose images have this type.
+/// The images of each type are listed under the key for images of this type.
 pub fn types_have_their_keys()
     ensures { TypesHaveTheirKeys }
 {}
@@ -33,9 +33,9 @@ pub fn cut_faults_are_known()
     ensures { CutFaultsAreKnown }
 {}
 
-/// Small trees that cannot be built have known faults: each check but that of the text's length is
-/// the first that fails for one of them, and of two checks that fail the first in their order gives
-/// the fault.
+/// Small trees that cannot be built have known faults: each check, except that of the text's
+/// length, is the first that fails for one of them. Of two checks that fail, the first in their
+/// order gives the fault.
 pub fn build_faults_are_known()
     ensures { BuildFaultsAreKnown }
 {}

@@ -1,5 +1,5 @@
-//! Laws of boot images of both kinds. Their functions do nothing: what each of them ensures is the
-//! law. The body of one that follows from a law of legacy images calls the function of that law.
+//! Laws of boot images of both kinds. The functions do nothing: what each one ensures is the law.
+//! If a law follows from a law of legacy images, its body calls the function of that law.
 
 ghost use Rattle.bi_norm.specs.Converting.{ConvertedHasItsParts, ConvertedIsAccepted};
 ghost use Rattle.bi_norm.specs.Laws.{OneKind, OneFileMeaning, OneFileFault, FileHasNoFault};
@@ -35,7 +35,7 @@ pub fn meaning_or_fault()
     bi_legacy::laws::meaning_or_fault();
 }
 
-/// A file of bytes means something within limits exactly where it has no fault under them.
+/// A file of bytes means something within limits if and only if it has no fault under them.
 pub fn meaning_where_no_fault()
     ensures { FileMeaningWhereNoFault }
 {
@@ -43,19 +43,20 @@ pub fn meaning_where_no_fault()
 }
 
 /// A file that is longer than the limit has the fault TooLarge at the limit and means nothing. A
-/// conversion of the file has the same fault. So the calls on readers, which read no more than the
-/// limit and one byte, refuse a longer input as the calls on bytes do.
+/// conversion of the file has the same fault. So the calls on readers, which read at most one byte
+/// more than the limit, refuse a longer input as the calls on bytes do.
 pub fn too_long_is_refused()
     ensures { TooLongIsRefused }
 {}
 
-/// No normal text of a legacy image is one of a flattened image tree, in any form.
+/// No normal text of a legacy image is the normal text of a flattened image tree, in any form.
 pub fn texts_of_kinds_differ()
     ensures { TextsOfKindsDiffer }
 {}
 
-/// Two files of any kinds, each within limits of its own, have the same normal text in one form
-/// exactly where they mean the same, if one of the texts has at most 0x7fffffff bytes.
+/// If one of the normal texts of two files in a form has at most 0x7fffffff bytes, the texts are
+/// the same if and only if the files mean the same. The files may be of any kinds, each within its
+/// own limits.
 pub fn normal_texts_differ()
     ensures { NormalTextsDiffer }
 {}
@@ -66,8 +67,9 @@ pub fn converted_has_its_parts()
     ensures { ConvertedHasItsParts }
 {}
 
-/// The text of this tree, within limits that hold it, if four nodes or more may be open, is
-/// accepted and means the tree, in either form.
+/// The text of this tree in either form, if it is no longer than the limit on files, is accepted
+/// under limits that allow four open nodes, and means the tree. The limit on files is at most
+/// 0x7fffffff.
 pub fn converted_is_accepted()
     ensures { ConvertedIsAccepted }
 {}

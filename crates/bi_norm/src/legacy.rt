@@ -11,11 +11,14 @@ use std::alloc::Global;
 /// Returns the normal text of a legacy image with these fields and parts: `bi_legacy::emit` into
 /// memory.
 ///
-/// Errors, the first that applies: BadField at 32, if the name is longer than 32 bytes or has a
-/// zero byte; BadField at 30, if the image is neither a multi-file image nor a script and does not
-/// have exactly one part; TooLarge at the limit, if the text is longer than that; EmptyPart at `64
-/// + 4 * index` for the first empty part of a multi-file image or script; OutOfMemory, which comes
-/// only for an image without any of these faults.
+/// Fails with the first of these errors that applies:
+///
+/// - BadField at 32, if the name is longer than 32 bytes or has a zero byte;
+/// - BadField at 30, if the image is neither a multi-file image nor a script and does not have
+///   exactly one part;
+/// - TooLarge at the limit, if the text is longer than that;
+/// - EmptyPart at `64 + 4 * index`, for the first empty part of a multi-file image or script;
+/// - OutOfMemory, which occurs only for an image without any of these faults.
 pub fn build_legacy(
     alloc: Global,
     fields: Fields<'_>,

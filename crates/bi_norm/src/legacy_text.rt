@@ -14,9 +14,9 @@ use std::alloc::{AllocError, Global};
 /// Appends the normal text of a legacy image that was read under the limits, with another time of
 /// creation: `time`, in seconds since 1970.
 ///
-/// Fails with OutOfMemory, and the sink is then unchanged, or as the sink does. After an error of
-/// the sink, it is as a failed `put` of the text leaves it. All allocations but those of the sink
-/// are made before the first byte is appended.
+/// Errors: OutOfMemory, and the sink is then unchanged; those of the sink, and the sink is then as
+/// a failed `put` of the text leaves it. All allocations, except those of the sink, are made before
+/// the first byte is appended.
 pub fn append_legacy<S: Sink>(
     alloc: Global,
     image: &Legacy<'_>,

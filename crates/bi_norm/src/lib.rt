@@ -1,4 +1,4 @@
-//! Boot images of any kind: what kind a file is of, reading one, its normal form, and converting,
+//! Boot images of any kind: the kind of a file, reading an image, its normal form, and converting,
 //! building and comparing.
 #![tactic(auto)]
 

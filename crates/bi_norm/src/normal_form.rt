@@ -17,15 +17,20 @@ use bi_legacy::Legacy;
 use std::alloc::Global;
 use std::io::{Read, Write};
 
-/// Returns the normal form of a boot image: two accepted files of one kind have the same normal
-/// form exactly if they mean the same. `form` is where that of a flattened image tree has the
-/// payloads; it has no effect on a legacy image.
+/// Returns the normal form of a boot image. Two accepted files of the same kind have the same
+/// normal form if and only if they mean the same. `form` says where the normal form of a flattened
+/// image tree has the payloads; it has no effect on a legacy image.
 ///
-/// Errors, each `Error::Refused`, the first that applies: TooLarge at the limit, if the file is
-/// longer; Truncated at 0, if it has fewer than four bytes; BadMagic at 0; those of `Legacy::read`
-/// or of `Fit::read`; TooLarge at the limit, if the normal form of a flattened image tree is
-/// longer. OutOfMemory comes only after the checks of a legacy image, or of the header and the
-/// memory reservation block of a blob.
+/// Fails with the first of these errors that applies, each as `Error::Refused`:
+///
+/// - TooLarge at the limit, if the file is longer;
+/// - Truncated at 0, if it has fewer than four bytes;
+/// - BadMagic at 0;
+/// - those of `Legacy::read` or of `Fit::read`;
+/// - TooLarge at the limit, if the normal form of a flattened image tree is longer.
+///
+/// OutOfMemory occurs only after the checks of a legacy image, or of the header and the memory
+/// reservation block of a blob.
 pub fn normalise(alloc: Global, file: &[u8], form: Form, limits: Limits) -> Result<Vec<u8>, Error>
     ensures normal_form { IfOk result (λ text. IsNormalForm limits form file.now text.items) }
     ensures failed { IfErr result (IsNormaliseError limits form file.now) }
@@ -39,9 +44,9 @@ pub fn normalise(alloc: Global, file: &[u8], form: Form, limits: Limits) -> Resu
 /// is 0 for a legacy image. No signature is checked.
 ///
 /// The errors are those of `normalise`, and those of the sink. After an error of the file, which
-/// comes before the first byte is appended, the sink is unchanged. After an error of the sink, it
-/// is as a failed `put` of the normal form leaves it. All allocations but those of the sink are
-/// made before the first byte is appended.
+/// occurs before the first byte is appended, the sink is unchanged. After an error of the sink, the
+/// sink is as a failed `put` of the normal form leaves it. All allocations, except those of the
+/// sink, are made before the first byte is appended.
 pub fn normalise_into<S: Sink>(
     alloc: Global,
     file: &[u8],
@@ -80,7 +85,7 @@ fn emit_legacy<S: Sink>(
 }
 
 /// Appends the normal form of a flattened image tree that was read under the limits, and returns
-/// the number of its signature nodes. All allocations come before the first byte is appended.
+/// the number of its signature nodes. All allocations are made before the first byte is appended.
 fn emit_fit<S: Sink>(
     alloc: Global,
     fit: &Fit<'_>,
@@ -100,7 +105,7 @@ fn emit_fit<S: Sink>(
     Ok(fit.signature_count())
 }
 
-/// Normalising, as a command: `normalise_into` with this form.
+/// Normalising, as a command: `normalise_into` with `form`.
 #[derive(Clone, Copy, Debug, PartialEq, Eq)]
 pub struct Normaliser {
     /// Where the normal form of a flattened image tree has the payloads.
@@ -134,7 +139,7 @@ impl Command for Normaliser {
 /// Reads a boot image to its end, writes its normal form, and flushes: `pipe_to` with a
 /// `Normaliser`. Returns the number of signature nodes, which is 0 for a legacy image.
 ///
-/// The errors are those of `pipe_to`, and of the file those of `normalise`.
+/// The errors are those of `pipe_to`. The errors of the file are those of `normalise`.
 pub fn normalise_to<R: Read, W: Write>(
     alloc: Global,
     reader: &mut R,

@@ -18,15 +18,15 @@ abbrev pub place_in : Option NonZeroU64 → ℕ → ℕ
 place_in None number = number
 place_in (Some period) number = number % non_zero_u64_get period
 
--- The turn of the call of this number, counted from 0: one turn for some calls in a row, another
--- for all others.
+-- The turn of the call with the given number, counted from 0: one turn for some calls in a row,
+-- another for all others.
 abbrev pub turn_at : Script → ℕ → Turn
 turn_at script number =
     let place = place_in script.period number in
     if nat_le script.first place && nat_lt place (script.first + script.calls) then script.turn else
     script.others
 
--- A call returned an error of this kind.
+-- A call returned an error of the given kind.
 abbrev pub FailsBy : {T : Type 0} → ErrorKind → Result T Error → Type 0
 FailsBy kind result = IsErrAnd result (λ error. error_kind error ≡ kind)
 

@@ -22,7 +22,7 @@ pub struct ScriptedReader<'a> {
 impl<'a> ScriptedReader<'a> {
     ghost use Rattle.scripted_io.specs.Reader.{bytes_left, script_of};
 
-    /// Returns a reader of these bytes.
+    /// Returns a reader of the given bytes.
     pub fn new(bytes: &'a [u8], script: Script) -> ScriptedReader<'a>
         ensures bytes { bytes_left result ≡ bytes.now }
         ensures script { script_of result ≡ script }
@@ -67,7 +67,7 @@ impl<'a> Read for ScriptedReader<'a> {
     }
 }
 
-/// A reader without end. Each read fills the whole buffer with the same byte.
+/// An endless reader. Each read fills the whole buffer with the same byte.
 #[derive(Drop)]
 pub struct EndlessReader {
     byte: u8,
@@ -78,7 +78,7 @@ pub struct EndlessReader {
 impl EndlessReader {
     ghost use Rattle.scripted_io.specs.Reader.{byte_of};
 
-    /// Returns a reader of this byte.
+    /// Returns a reader that reads this byte only.
     pub fn new(byte: u8) -> EndlessReader
         ensures byte { byte_of result ≡ byte }
         ensures taken { result.taken ≡ 0 }

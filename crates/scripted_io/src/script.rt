@@ -33,7 +33,7 @@ pub struct Script {
 impl Script {
     ghost use Rattle.scripted_io.specs.Script.{turn_at, Follows};
 
-    /// Returns the script in which each call has this turn.
+    /// Returns the script in which each call has the given turn.
     pub fn always(turn: Turn) -> Script
         ensures { (number : ℕ) → turn_at result number ≡ turn }
     {
@@ -46,8 +46,8 @@ impl Script {
         }
     }
 
-    /// Returns the script in which the call of this number, counted from 0, fails, and each other
-    /// call has this turn.
+    /// Returns the script in which call `number`, counted from 0, fails, and all other calls have
+    /// the turn `others`.
     pub fn failing_among(number: u64, others: Turn) -> Script
         ensures fails { turn_at result number ≡ Turn.Fails }
         ensures others { (other : ℕ) → other ≢ number → turn_at result other ≡ others }
@@ -61,8 +61,8 @@ impl Script {
         }
     }
 
-    /// Returns the script in which the first `calls` calls have the turn `turn`, and each call
-    /// after them has `then`.
+    /// Returns the script in which the first `calls` calls have the turn `turn`, and all later
+    /// calls have `then`.
     pub fn first(calls: u64, turn: Turn, then: Turn) -> Script
         ensures turn { (number : ℕ) → number < calls → turn_at result number ≡ turn }
         ensures then { (number : ℕ) → calls ≤ number → turn_at result number ≡ then }
@@ -91,7 +91,7 @@ impl Script {
         }
     }
 
-    /// Returns the turn of the call of this number, counted from 0.
+    /// Returns the turn of call `number`, counted from 0.
     fn turn(self, number: u64) -> Turn
         ensures { result ≡ turn_at self number }
     {
@@ -106,8 +106,7 @@ impl Script {
         }
     }
 
-    /// Returns how many bytes the call of this number may read or write, or fails as that call
-    /// does.
+    /// Returns how many bytes call `number` may read or write, or fails as that call does.
     pub(crate) fn most(self, number: u64) -> io::Result<usize>
         ensures { Follows (turn_at self number) (λ most. result ≡ Ok most) result }
     {

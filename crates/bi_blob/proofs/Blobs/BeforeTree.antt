@@ -25,7 +25,8 @@ before_tree bounds file =
     by_header : HasNoHeaderFault bounds file ⊎ ((fault : Fault) × IsHeaderFault bounds file fault) →
         HasNoFaultBeforeTree bounds file ⊎ ((fault : Fault) × IsFaultBeforeTree bounds file fault)
     by_header (inl fine) =
-        by_reservations fine (reservations_or_fault file (off_mem_rsvmap file) (totalsize file) (HasNoHeaderFault-Header bounds file fine).reservations_within)
+        by_reservations fine (reservations_or_fault file (off_mem_rsvmap file) (totalsize file)
+        (HasNoHeaderFault-Header bounds file fine).reservations_within)
     by_header (inr first) = inr (first.0, inl first.1)
 
 -- Not both.
@@ -45,7 +46,8 @@ first_fault bounds file fault (inr faulty) = InReservations faulty.0 faulty.1
 structure_fault : (bounds : Limits) (file : List ℕ) (fault : Fault) → HasNoFaultBeforeTree bounds file → IsBlobFault bounds file fault →
     IsStructureFault (tree_blocks file) bounds.depth fault
 structure_fault bounds file fault fine (InHeader first) = absurd (not_both_before bounds file fault fine (inl first))
-structure_fault bounds file fault fine (InReservations header faulty) = absurd (not_both_before bounds file fault fine (inr (header, faulty)))
+structure_fault bounds file fault fine (InReservations header faulty) = absurd
+    (not_both_before bounds file fault fine (inr (header, faulty)))
 structure_fault bounds file fault fine (InStructure header count has faulty) = faulty
 
 -- The faults before the tree come first.

@@ -25,8 +25,10 @@ pub events_without_places : (nodes : Nodes FileNode) → map event_without_place
 events_without_places none = refl
 events_without_places (node name with_places children later) =
     ap (λ l. NodeStart name ∷ l)
-    (map-append event_without_place (map FileNodeProperty with_places.properties) (file_events children ++ (FileNodeEnd ∷ file_events later))
-    ∙ ap (λ l. l ++ map event_without_place (file_events children ++ (FileNodeEnd ∷ file_events later))) (properties_without_places with_places.properties)
+    (map-append event_without_place (map FileNodeProperty with_places.properties)
+    (file_events children ++ (FileNodeEnd ∷ file_events later))
+    ∙ ap (λ l. l ++ map event_without_place (file_events children ++ (FileNodeEnd ∷ file_events later)))
+    (properties_without_places with_places.properties)
     ∙ ap (λ l. map NodeProperty (properties_of with_places) ++ l)
     (map-append event_without_place (file_events children) (FileNodeEnd ∷ file_events later)
     ∙ ap (λ l. l ++ (NodeEnd ∷ map event_without_place (file_events later))) (events_without_places children)
@@ -44,7 +46,8 @@ tree_events_without_places root = events_without_places (node [] root.own root.c
 pub depth-with_each : {A B : Type 0} (change : A → B) (nodes : Nodes A) → depth nodes ≡ depth (with_each change nodes)
 depth-with_each change none = refl
 depth-with_each change (node name own children later) =
-    ap (λ n. max (n + 1) (depth later)) (depth-with_each change children) ∙ ap (λ n. max (depth (with_each change children) + 1) n) (depth-with_each change later)
+    ap (λ n. max (n + 1) (depth later)) (depth-with_each change children)
+    ∙ ap (λ n. max (depth (with_each change children) + 1) n) (depth-with_each change later)
 
 pub depth-properties_of : (root : Root FileNode) → depth_of root ≡ depth_of (tree_without_places root)
 depth-properties_of root = depth-with_each properties_of (node [] root.own root.children none)
@@ -67,7 +70,8 @@ module _ (blocks : TreeBlocks) (depth_limit : ℕ) where
   )
   ends_from (Nop ∷ ts) before token_events passed stand within encodes follow =
       let place : ℕ = place_after blocks before in
-      let here : place + width Nop ≤ place_after_all (place + width Nop) (ts ++ End ∷ []) = place_after_all-past (place + width Nop) (ts ++ End ∷ []) in
+      let here : place + width Nop ≤ place_after_all (place + width Nop) (ts ++ End ∷ []) = place_after_all-past
+      (place + width Nop) (ts ++ End ∷ []) in
       let fits : place + width Nop ≤ blocks.end = omega arith in
       ends_from ts (Nop ∷ before) token_events (
         record {
@@ -83,8 +87,10 @@ module _ (blocks : TreeBlocks) (depth_limit : ℕ) where
       let here : place + width (BeginNode name) ≤ place_after_all (place + width (BeginNode name)) (ts ++ End ∷ []) =
       place_after_all-past (place + width (BeginNode name)) (ts ++ End ∷ []) in
       let fits : place + width (BeginNode name) ≤ blocks.end = omega arith in
-      let both : FollowToEnd (MayFollow depth_limit) (stage_after blocks.strings before) (NodeStart name ∷ map event_without_place token_events) =
-      subst (λ n. FollowToEnd (MayFollow depth_limit) (stage_after blocks.strings before) (NodeStart n ∷ map event_without_place token_events)) (sym encodes.0.same_name) follow in
+      let both : FollowToEnd (MayFollow depth_limit) (stage_after blocks.strings before)
+      (NodeStart name ∷ map event_without_place token_events) =
+      subst (λ n. FollowToEnd (MayFollow depth_limit) (stage_after blocks.strings before)
+      (NodeStart n ∷ map event_without_place token_events)) (sym encodes.0.same_name) follow in
       ends_from ts (BeginNode name ∷ before) token_events (
         record {
           no_end = λ (e : BeginNode name ≡ End). absurd cc;
@@ -106,15 +112,18 @@ module _ (blocks : TreeBlocks) (depth_limit : ℕ) where
         record {
           no_end = λ (e : Prop offset value ≡ End). absurd cc;
           is_at = stand.0;
-          passes = prop_passes blocks depth_limit place (stage_after blocks.strings before) offset value (property_of property) stand.0 fits encodes.0.name follow.0;
+          passes = prop_passes blocks depth_limit place (stage_after blocks.strings before) offset value
+              (property_of property) stand.0 fits encodes.0.name follow.0;
         },
         passed,
       )
       stand.1 within encodes.1
-      (subst (λ (p : Property). FollowToEnd (MayFollow depth_limit) (next_stage (stage_after blocks.strings before) (NodeProperty p)) (map event_without_place token_events)) same follow.1)
+      (subst (λ (p : Property). FollowToEnd (MayFollow depth_limit) (next_stage (stage_after blocks.strings before) (NodeProperty p))
+      (map event_without_place token_events)) same follow.1)
   ends_from (EndNode ∷ ts) before (FileNodeEnd ∷ token_events) passed stand within encodes follow =
       let place : ℕ = place_after blocks before in
-      let here : place + width EndNode ≤ place_after_all (place + width EndNode) (ts ++ End ∷ []) = place_after_all-past (place + width EndNode) (ts ++ End ∷ []) in
+      let here : place + width EndNode ≤ place_after_all (place + width EndNode) (ts ++ End ∷ []) = place_after_all-past
+      (place + width EndNode) (ts ++ End ∷ []) in
       let fits : place + width EndNode ≤ blocks.end = omega arith in
       ends_from ts (EndNode ∷ before) token_events (
         record {

@@ -57,11 +57,12 @@ zero_after (byte ∷ rest) shorter =
       by_test true e later within = ap (λ b. b ∷ rest) (eqb-true byte 0 e)
       by_test false e later within = ap (λ l. byte ∷ l) (later (omega arith))
 
--- The bytes before the first zero byte are no more than all.
+-- The bytes before the first zero byte are at most all bytes.
 pub length_before_zero : (bytes : List ℕ) → length (before_zero bytes) ≤ length bytes
 length_before_zero [] = omega arith
 length_before_zero (byte ∷ rest) =
-    subst (λ front. length front ≤ suc (length rest)) (sym (before_zero-cons byte rest)) (by_test (byte == 0) (length_before_zero rest)) where
+    subst (λ front. length front ≤ suc (length rest)) (sym (before_zero-cons byte rest))
+    (by_test (byte == 0) (length_before_zero rest)) where
       by_test : (zero : Bool) → length (before_zero rest) ≤ length rest →
           length (cond zero [] (byte ∷ before_zero rest)) ≤ suc (length rest)
       by_test true later = omega arith
@@ -90,7 +91,8 @@ IsNameAt-within strings offset name at =
 pub IsNameAt-HasName : (strings : List ℕ) (offset : ℕ) (name : List ℕ) → IsNameAt strings offset name →
     HasName strings offset (length strings)
 IsNameAt-HasName strings offset name at =
-    subst (λ read. offset + length read < length strings) (sym (name_from-IsNameAt strings offset name at)) (IsNameAt-within strings offset name at)
+    subst (λ read. offset + length read < length strings) (sym (name_from-IsNameAt strings offset name at))
+    (IsNameAt-within strings offset name at)
 
 -- A name is at an offset that a zero byte before an end follows.
 pub HasName-IsNameAt : (bytes : List ℕ) (offset end : ℕ) → end ≤ length bytes → HasName bytes offset end →

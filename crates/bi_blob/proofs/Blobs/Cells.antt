@@ -26,13 +26,15 @@ BytesAt-drop file at bytes e =
 pub BytesAt-within : (file : List ℕ) (at : ℕ) (bytes : List ℕ) → 0 < length bytes → BytesAt file at bytes → at + length bytes ≤ length file
 BytesAt-within file at bytes some e =
     let long : length (slice file at (length bytes)) ≡ length bytes = ap length e in
-    let short : length (slice file at (length bytes)) ≡ min (length bytes) (length (drop at file)) = length-take (length bytes) (drop at file) in
+    let short : length (slice file at (length bytes))
+    ≡ min (length bytes) (length (drop at file)) = length-take (length bytes) (drop at file) in
     let left : length (drop at file) ≡ length file - at = length-drop at file in
     omega arith
 
 -- The first of two lists at an offset is there.
 pub BytesAt-left : (file : List ℕ) (at : ℕ) (a b : List ℕ) → BytesAt file at (a ++ b) → BytesAt file at a
-BytesAt-left file at a b e = BytesAt-from file at a (b ++ drop (at + length (a ++ b)) file) (BytesAt-drop file at (a ++ b) e ∙ append_assoc a b _)
+BytesAt-left file at a b e = BytesAt-from file at a (b ++ drop (at + length (a ++ b)) file)
+    (BytesAt-drop file at (a ++ b) e ∙ append_assoc a b _)
 
 -- The second is after it.
 pub BytesAt-right : (file : List ℕ) (at : ℕ) (a b : List ℕ) → BytesAt file at (a ++ b) → BytesAt file (at + length a) b
@@ -78,7 +80,8 @@ u64_at-BytesAt file at n fits e = ap (from_be_bytes w64) e ∙ from_be_bytes-to_
 pub BytesAt-cell8 : (file : List ℕ) (at : ℕ) → AreBytes file → at + 8 ≤ length file → BytesAt file at (cell8 (u64_at file at))
 unfolding u64_at cell8
 BytesAt-cell8 file at bytes within =
-    sym (be_bytes_8 (slice file at 8) (from_be_bytes w64 (slice file at 8)) (length-slice file at 8 within) (AreBytes-slice file at 8 bytes).each refl)
+    sym (be_bytes_8 (slice file at 8) (from_be_bytes w64 (slice file at 8)) (length-slice file at 8 within)
+    (AreBytes-slice file at 8 bytes).each refl)
 
 -- The number of eight bytes is below 2^64.
 from_be_bytes_8-fits : (bytes : List ℕ) → ((i : ℕ) → get_or bytes i 0 < 256) → from_be_bytes w64 bytes < 2 ^ 64

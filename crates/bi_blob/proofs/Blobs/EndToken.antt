@@ -9,7 +9,8 @@ use Rattle.bi_blob.specs.BlobFaults.{place_after}
 use Rattle.bi_blob.specs.OpenNodes.{WholeTree, IsOpenAt}
 use Rattle.bi_blob.proofs.Blobs.Tokens.{End-is_at}
 use Rattle.bi_blob.proofs.Blobs.TokenEncoding.{place_after_all, place_after_all-append, AllStand}
-use Rattle.bi_blob.proofs.Blobs.PassedTokens.{width-End, place_after_all-reverse, place_after_all-past, ArePassed-stand-push, AllStand-encoded}
+use Rattle.bi_blob.proofs.Blobs.PassedTokens.{width-End, place_after_all-reverse, place_after_all-past, ArePassed-stand-push}
+use Rattle.bi_blob.proofs.Blobs.PassedTokens.{AllStand-encoded}
 use Rattle.bi_blob.proofs.Blobs.ReaderSteps.{IsNext, number_within}
 
 -- Proves that FDT_END after the root ends the structure block.
@@ -18,7 +19,7 @@ use Rattle.bi_blob.proofs.Blobs.ReaderSteps.{IsNext, number_within}
 slice-split : (file : List ℕ) (at m k n : ℕ) → n ≡ m + k → slice file at n ≡ slice file at m ++ take k (drop m (drop at file))
 slice-split file at m k n e = ap (λ l. take l (drop at file)) e ∙ take-add m k (drop at file)
 
--- FDT_END after the root ends the structure block: it holds the tree that was read, which is no deeper than the limit.
+-- FDT_END after the root ends the structure block: it holds the tree that was read. The tree is no deeper than the limit.
 pub last_token : (blocks : TreeBlocks) (depth_limit place : ℕ) (root : Root FileNode) → IsOpenAt blocks depth_limit place (WholeTree root) →
     IsNext blocks depth_limit place AfterRoot end_number → HoldsTree blocks root × (depth_of root ≤ depth_limit)
 last_token blocks depth_limit place root position next =
@@ -29,7 +30,8 @@ last_token blocks depth_limit place root position next =
     let past : blocks.begin ≤ place_after_all blocks.begin (tokens ++ End ∷ []) = place_after_all-past blocks.begin (tokens ++ End ∷ []) in
     let end_there : IsTokenAt blocks.file (place_after blocks position.tokens) End =
     subst (λ p. IsTokenAt blocks.file p End) (sym position.is_place)
-    (End-is_at blocks.file place position.readable.bytes (number_within blocks depth_limit place end_number AfterRoot position.readable next) next.is_number) in
+    (End-is_at blocks.file place position.readable.bytes
+    (number_within blocks depth_limit place end_number AfterRoot position.readable next) next.is_number) in
     let stand : AllStand blocks.file blocks.begin (tokens ++ End ∷ []) =
     ArePassed-stand-push blocks depth_limit position.tokens End position.passed end_there in
     let word : place + 4 ≤ blocks.end = next.passes.0 in

@@ -39,7 +39,10 @@ one_event_list strings at tokens a b one other = absurd (assumption (one, other)
 pub EncodeEvents-no_end : (strings : List ℕ) (at : ℕ) (tokens : List Token) (token_events : List FileEvent) →
     EncodeEvents strings at tokens token_events → AllByRecursion (λ t. t ≢ End) tokens
 EncodeEvents-no_end strings at [] [] encodes = tt
-EncodeEvents-no_end strings at (Nop ∷ tokens) token_events encodes = ((λ (e : Nop ≡ End). absurd cc), EncodeEvents-no_end strings (at + width Nop) tokens token_events encodes)
+EncodeEvents-no_end strings at (Nop ∷ tokens) token_events encodes = (
+  (λ (e : Nop ≡ End). absurd cc),
+  EncodeEvents-no_end strings (at + width Nop) tokens token_events encodes,
+)
 EncodeEvents-no_end strings at (BeginNode n ∷ tokens) (FileNodeStart p k ∷ token_events) encodes =
     ((λ (e : BeginNode n ≡ End). absurd cc), EncodeEvents-no_end strings (at + width (BeginNode n)) tokens token_events encodes.1)
 EncodeEvents-no_end strings at (Prop o v ∷ tokens) (FileNodeProperty p ∷ token_events) encodes =

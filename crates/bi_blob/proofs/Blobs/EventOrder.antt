@@ -94,7 +94,8 @@ module _ (depth_limit : ℕ) where
     (refl, named.0, are_new.0),
     properties_follow ps (ns ++ p.0 ∷ []) outer later named.1 distinct.1
         (new_to_more p.0 ns (property_names_of ps) are_new.1 distinct.0)
-        (subst (λ l. FollowToEnd (MayFollow depth_limit) (Inside (open_with l []) outer) later) (sym (append_assoc ns (p.0 ∷ []) (property_names_of ps))) follow),
+        (subst (λ l. FollowToEnd (MayFollow depth_limit) (Inside (open_with l []) outer) later)
+        (sym (append_assoc ns (p.0 ∷ []) (property_names_of ps))) follow),
   )
 
   -- The children of a node may follow its properties and the children before them.
@@ -108,7 +109,8 @@ module _ (depth_limit : ℕ) where
       let round : List OpenNode = open_with ns (cs ++ name ∷ []) ∷ outer in
       let trailing : List Event = NodeEnd ∷ (events siblings ++ later) in
       let after_all : FollowToEnd (MayFollow depth_limit) (Inside (open_with ns ((cs ++ name ∷ []) ++ names siblings)) outer) later =
-      subst (λ l. FollowToEnd (MayFollow depth_limit) (Inside (open_with ns l) outer) later) (sym (append_assoc cs (name ∷ []) (names siblings))) follow in
+      subst (λ l. FollowToEnd (MayFollow depth_limit) (Inside (open_with ns l) outer) later)
+      (sym (append_assoc cs (name ∷ []) (names siblings))) follow in
       let closed : FollowToEnd (MayFollow depth_limit) (Inside (open_with (property_names_of ps) (names children)) round) trailing = (
         tt,
         nodes_follow siblings ns (cs ++ name ∷ []) outer later are.2
@@ -116,19 +118,26 @@ module _ (depth_limit : ℕ) where
       ) in
       let inner : FollowToEnd (MayFollow depth_limit) (Inside (open_with (property_names_of ps) []) round) (events children ++ trailing) =
       nodes_follow children (property_names_of ps) [] round trailing are.1 (new_to_none (names children)) (omega arith) closed in
-      let stage_after : FollowToEnd (MayFollow depth_limit) (Inside (open_with [] []) round) (map NodeProperty ps ++ (events children ++ trailing)) =
-      properties_follow ps [] round (events children ++ trailing) are.0.is_own.named are.0.is_own.distinct (new_to_none (property_names_of ps)) inner in (
+      let stage_after : FollowToEnd (MayFollow depth_limit) (Inside (open_with [] []) round)
+      (map NodeProperty ps ++ (events children ++ trailing)) =
+      properties_follow ps [] round (events children ++ trailing) are.0.is_own.named are.0.is_own.distinct
+      (new_to_none (property_names_of ps)) inner in (
         (omega arith, are.0.is_name, are_new.0),
-        subst (FollowToEnd (MayFollow depth_limit) (Inside (open_with [] []) round)) (sym (append-regroup (map NodeProperty ps) (events children) (NodeEnd ∷ events siblings) later)) stage_after,
+        subst (FollowToEnd (MayFollow depth_limit) (Inside (open_with [] []) round))
+            (sym (append-regroup (map NodeProperty ps) (events children) (NodeEnd ∷ events siblings) later)) stage_after,
       )
 
   -- The events of a tree may follow one another, and end the root.
   pub tree_follows : (root : Root (List Property)) → IsTree AreProperties root → depth_of root ≤ depth_limit →
       FollowToEnd (MayFollow depth_limit) BeforeRoot (events_of root)
   tree_follows root is shallow =
-      let closed : FollowToEnd (MayFollow depth_limit) (Inside (open_with (property_names_of root.own) (names root.children)) []) (NodeEnd ∷ []) = (tt, refl) in
-      let inner : FollowToEnd (MayFollow depth_limit) (Inside (open_with (property_names_of root.own) []) []) (events root.children ++ NodeEnd ∷ []) =
-      nodes_follow root.children (property_names_of root.own) [] [] (NodeEnd ∷ []) is.children (new_to_none (names root.children)) (omega arith) closed in (
+      let closed : FollowToEnd (MayFollow depth_limit) (Inside (open_with (property_names_of root.own) (names root.children)) [])
+      (NodeEnd ∷ []) = (tt, refl) in
+      let inner : FollowToEnd (MayFollow depth_limit) (Inside (open_with (property_names_of root.own) []) [])
+      (events root.children ++ NodeEnd ∷ []) =
+      nodes_follow root.children (property_names_of root.own) [] [] (NodeEnd ∷ []) is.children
+      (new_to_none (names root.children)) (omega arith) closed in (
         (omega arith, refl),
-        properties_follow root.own [] [] (events root.children ++ NodeEnd ∷ []) is.is_own.named is.is_own.distinct (new_to_none (property_names_of root.own)) inner,
+        properties_follow root.own [] [] (events root.children ++ NodeEnd ∷ []) is.is_own.named is.is_own.distinct
+            (new_to_none (property_names_of root.own)) inner,
       )

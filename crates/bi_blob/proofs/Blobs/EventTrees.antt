@@ -59,7 +59,8 @@ property_events-at_0 (property ∷ later) = ap (λ l. FileNodeProperty (property
 nodes-at_0 : (nodes : Nodes (List Property)) → with_each properties_of (with_each node_at_0 nodes) ≡ nodes
 nodes-at_0 none = refl
 nodes-at_0 (node name properties children later) =
-    ap (λ own. node name own (with_each properties_of (with_each node_at_0 children)) (with_each properties_of (with_each node_at_0 later))) (properties-at_0 properties)
+    ap (λ own. node name own (with_each properties_of (with_each node_at_0 children))
+    (with_each properties_of (with_each node_at_0 later))) (properties-at_0 properties)
     ∙ ap₂ (λ below after. node name properties below after) (nodes-at_0 children) (nodes-at_0 later)
 
 -- The events of nodes at place 0 are those of the nodes, at place 0.
@@ -67,7 +68,8 @@ file_events-at_0 : (nodes : Nodes (List Property)) → file_events (with_each no
 file_events-at_0 none = refl
 file_events-at_0 (node name properties children later) =
     ap (λ l. FileNodeStart 0 name ∷ l)
-    (ap (λ l. l ++ (file_events (with_each node_at_0 children) ++ (FileNodeEnd ∷ file_events (with_each node_at_0 later)))) (property_events-at_0 properties)
+    (ap (λ l. l ++ (file_events (with_each node_at_0 children) ++ (FileNodeEnd ∷ file_events (with_each node_at_0 later))))
+    (property_events-at_0 properties)
     ∙ ap (λ l. map event_at_0 (map NodeProperty properties) ++ l)
     (ap₂ (λ below after. below ++ (FileNodeEnd ∷ after)) (file_events-at_0 children) (file_events-at_0 later)
     ∙ sym (map-append event_at_0 (events children) (NodeEnd ∷ events later)))
@@ -119,8 +121,10 @@ module _ (depth_limit : ℕ) where
   grow (OpenTree innermost outer) (NodeProperty property) is may = record {
     after = OpenTree (with_one_property innermost (property_at_0 property)) outer;
     is_tree_so_far = AreOpenNodes-property depth_limit innermost outer (property_at_0 property) is
-        (AreProperties-push innermost.properties (property_at_0 property) (innermost_properties depth_limit innermost outer is) may.1 may.2);
-    is_stage = ap (λ open_node. Inside open_node (outer_nodes_of innermost.name outer)) (sym (open_node_of-property innermost (property_at_0 property)));
+        (AreProperties-push innermost.properties (property_at_0 property)
+        (innermost_properties depth_limit innermost outer is) may.1 may.2);
+    is_stage = ap (λ open_node. Inside open_node (outer_nodes_of innermost.name outer))
+        (sym (open_node_of-property innermost (property_at_0 property)));
     adds_event = events_of_open_nodes-property innermost outer (property_at_0 property) may.0;
   }
   grow (WholeTree root) (NodeProperty property) is may = absurd may
@@ -129,7 +133,10 @@ module _ (depth_limit : ℕ) where
       let shallow = is.0.shallow in
       record {
         after = WholeTree (ended_root outermost);
-        is_tree_so_far = record { is_tree = record { is_own = is.0.properties; children = is.0.children }; shallow = omega (arith, shallow) };
+        is_tree_so_far = record {
+          is_tree = record { is_own = is.0.properties; children = is.0.children };
+          shallow = omega (arith, shallow);
+        };
         is_stage = refl;
         adds_event = events_of_open_nodes-root outermost is.1;
       }
@@ -157,7 +164,8 @@ module _ (depth_limit : ℕ) where
       (done.0, done.1 ∙ sym (append-nil (events_so_far so_far)), done.2)
   grow_to_end so_far (event ∷ later) is follow =
       let one : HasGrown depth_limit so_far event = grow so_far event is follow.0 in
-      let done = grow_to_end one.after later one.is_tree_so_far (subst (λ stage. FollowToEnd (MayFollow depth_limit) stage later) one.is_stage follow.1) in (
+      let done = grow_to_end one.after later one.is_tree_so_far
+      (subst (λ stage. FollowToEnd (MayFollow depth_limit) stage later) one.is_stage follow.1) in (
         done.0,
         done.1
             ∙ ap (λ l. l ++ map event_at_0 later) one.adds_event

@@ -17,7 +17,7 @@ use Rattle.bi_blob.proofs.Blobs.TreeOrFault.{HasTree, tree_or_fault}
 use Rattle.bi_blob.proofs.Blobs.OneFault.{IsEnded, one_structure_fault, no_fault_in_ended}
 use Rattle.bi_blob.proofs.Blobs.BlockEnds.{tree_ends}
 
--- Proves that a file is a blob within limits exactly if it has no fault under them, and that it has at most one fault.
+-- Proves that a file is a blob within limits if and only if it has no fault under them, and that it has at most one fault.
 
 -- A blob's header has no fault, nor do its reservations, nor does its structure block.
 pub blob_has_no_fault : BlobHasNoFault
@@ -27,7 +27,8 @@ blob_has_no_fault bounds file fault within (InHeader first) =
 blob_has_no_fault bounds file fault within (InReservations fine faulty) =
     let header : Header file = within.blob.header in
     no_reservations_with_fault file (off_mem_rsvmap file) (totalsize file) (length within.reservations) fault
-    (BeginsWithReservations-HasReservations file (off_mem_rsvmap file) (totalsize file) within.reservations header.reservations_within header.file_holds_total within.blob.reserved)
+    (BeginsWithReservations-HasReservations file (off_mem_rsvmap file)
+    (totalsize file) within.reservations header.reservations_within header.file_holds_total within.blob.reserved)
     faulty
 blob_has_no_fault bounds file fault within (InStructure fine count has faulty) =
     let ends : (tokens : List Token) × IsEnded (tree_blocks file) bounds.depth tokens =
@@ -39,7 +40,8 @@ no_fault_or_fault : (bounds : Limits) (file : List ℕ) (fault : Fault) → HasN
 no_fault_or_fault bounds file fault fine first = not_both (HeaderPasses bounds file) (header_fault bounds) header_checks fault fine first
 
 pub one_blob_fault : OneBlobFault
-one_blob_fault bounds file f g (InHeader one) (InHeader other) = one_fault (HeaderPasses bounds file) (header_fault bounds) header_checks f g one other
+one_blob_fault bounds file f g (InHeader one) (InHeader other) = one_fault (HeaderPasses bounds file)
+    (header_fault bounds) header_checks f g one other
 one_blob_fault bounds file f g (InHeader one) (InReservations fine other) = absurd (no_fault_or_fault bounds file f fine one)
 one_blob_fault bounds file f g (InHeader one) (InStructure fine count has other) = absurd (no_fault_or_fault bounds file f fine one)
 one_blob_fault bounds file f g (InReservations fine one) (InHeader other) = absurd (no_fault_or_fault bounds file g fine other)
@@ -66,7 +68,8 @@ blob_of_parts bounds file count bytes fine has tree =
         bytes = bytes;
         header = header;
         is_cpu = refl;
-        reserved = HasReservations-BeginsWithReservations file (off_mem_rsvmap file) (totalsize file) count bytes header.file_holds_total has;
+        reserved = HasReservations-BeginsWithReservations file (off_mem_rsvmap file)
+            (totalsize file) count bytes header.file_holds_total has;
         holds = tree.holds;
       };
       within = record { short = fine.0; shallow = tree.shallow };
@@ -91,7 +94,8 @@ blob_or_fault bounds file bytes =
 
       by_header : HasNoHeaderFault bounds file ⊎ ((fault : Fault) × IsHeaderFault bounds file fault) → Outcome
       by_header (inl fine) =
-          by_reservations fine (reservations_or_fault file (off_mem_rsvmap file) (totalsize file) (HasNoHeaderFault-Header bounds file fine).reservations_within)
+          by_reservations fine (reservations_or_fault file (off_mem_rsvmap file) (totalsize file)
+          (HasNoHeaderFault-Header bounds file fine).reservations_within)
       by_header (inr first) = inr (first.0, InHeader first.1)
 
 pub blob_where_no_fault : BlobWhereNoFault

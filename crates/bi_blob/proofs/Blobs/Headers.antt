@@ -25,7 +25,7 @@ pub structure_end-17 : (file : List ℕ) → version file ≡ 17 → structure_e
 structure_end-17 file is_17 =
     ap (λ n. if n == version_without_structure_size then totalsize file else off_dt_struct file + size_dt_struct file) is_17
 
--- A header whose checks pass meets the conditions.
+-- If its checks pass, a header meets the conditions.
 pub HasNoHeaderFault-Header : (bounds : Limits) (file : List ℕ) → HasNoHeaderFault bounds file → Header file
 HasNoHeaderFault-Header bounds file fine =
     let version = fine.1.1.1.1 in

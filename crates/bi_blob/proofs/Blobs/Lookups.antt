@@ -1,4 +1,5 @@
-use Rattle.std.proofs.Common.{◌≡◌, ℕ, zero, suc, Bool, true, false, cond, List, [], ◌∷◌, map, Option, Some, bytes_eq, refl, sym, ap, subst, ◌∙◌, arith}
+use Rattle.std.proofs.Common.{◌≡◌, ℕ, zero, suc, Bool, true, false, cond, List, [], ◌∷◌, map, Option, Some, bytes_eq, refl, sym, ap, subst}
+use Rattle.std.proofs.Common.{◌∙◌, arith}
 use Rattle.std.specs.List.{slice_get}
 use Rattle.std.specs.Map.{lookup}
 use Rattle.std.proofs.lemmas.Slice.Eq.{bytes_eq-Decides}
@@ -38,7 +39,8 @@ module _ {X : Type 0} (name_of : X → List ℕ) where
           lookup (λ other. bytes_eq other (name_of thing)) (by_name later) ≡ Some thing →
           lookup (λ other. bytes_eq other (name_of thing)) (by_name (first ∷ later)) ≡ Some thing
       where_first true is rest =
-          absurd (not_new (name_of first) later index thing there (sym ((bytes_eq-Decides (name_of first) (name_of thing)).0 is)) distinct.0)
+          absurd (not_new (name_of first) later index thing there
+          (sym ((bytes_eq-Decides (name_of first) (name_of thing)).0 is)) distinct.0)
       where_first false is rest = rw is rest
 
   -- What is found by a name has the name, and is at an index.
@@ -79,7 +81,8 @@ siblings_from-first (node name own children later) = refl
 -- From a node on, there are the node and those from the next one on.
 pub siblings_from-next : {Own : Type 0} (next after : Option (Sibling Own)) (first : Sibling Own) → next ≡ Some first →
     after ≡ node_at first.later 0 → siblings_from next ≡ first ∷ siblings_from after
-siblings_from-next next after first is after_is = ap siblings_from is ∙ ap (λ l. first ∷ l) (sym (ap siblings_from after_is ∙ siblings_from-first first.later))
+siblings_from-next next after first is after_is = ap siblings_from is
+    ∙ ap (λ l. first ∷ l) (sym (ap siblings_from after_is ∙ siblings_from-first first.later))
 
 -- After a node comes the first of its later siblings.
 next_node : {Own : Type 0} (nodes : Nodes Own) (index : ℕ) (sibling : Sibling Own) → node_at nodes index ≡ Some sibling →
@@ -94,7 +97,8 @@ next_node (node name own children later) (suc index) sibling there = next_node l
 pub nodes_are_found : NodesAreFound
 nodes_are_found nodes distinct = record {
   at_index = λ index sibling there.
-      found_at (λ (s : Sibling FileNode). s.name) (siblings nodes) index sibling (subst AreDistinct (sym (names-siblings nodes)) distinct) there;
+      found_at (λ (s : Sibling FileNode). s.name) (siblings nodes) index sibling
+      (subst AreDistinct (sym (names-siblings nodes)) distinct) there;
   by_name = λ name sibling found. at_found (λ (s : Sibling FileNode). s.name) (siblings nodes) name sibling found;
   next = λ index sibling there. next_node nodes index sibling there ∙ ap (node_at nodes) (omega arith);
 }

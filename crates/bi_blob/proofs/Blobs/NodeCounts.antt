@@ -9,9 +9,9 @@ use Rattle.bi_blob.specs.Blob.{Reservation, IsBlob, tree_blocks}
 use Rattle.bi_blob.proofs.Blobs.Tokens.{width-at_least}
 use Rattle.bi_blob.proofs.Blobs.TokenEncoding.{place_after_all, place_after_all-append, AreEncodings-length}
 
--- A blob has more bytes than its tree has nodes, and siblings with their children are no more than the nodes that are counted.
+-- A blob has more bytes than its tree has nodes, and siblings with their children are at most the nodes that are counted.
 
--- There are no more nodes than events.
+-- There are at most as many nodes as events.
 events_at_least : (nodes : Nodes FileNode) → node_count nodes ≤ length (file_events nodes)
 events_at_least none = omega arith
 events_at_least (node name own children later) =
@@ -20,7 +20,8 @@ events_at_least (node name own children later) =
     let all : length (map FileNodeProperty own.properties ++ (file_events children ++ (FileNodeEnd ∷ file_events later)))
     ≡ length (map FileNodeProperty own.properties) + length (file_events children ++ (FileNodeEnd ∷ file_events later)) =
     length-append (map FileNodeProperty own.properties) (file_events children ++ (FileNodeEnd ∷ file_events later)) in
-    let parts : length (file_events children ++ (FileNodeEnd ∷ file_events later)) ≡ length (file_events children) + length (FileNodeEnd ∷ file_events later) =
+    let parts : length (file_events children ++ (FileNodeEnd ∷ file_events later))
+    ≡ length (file_events children) + length (FileNodeEnd ∷ file_events later) =
     length-append (file_events children) (FileNodeEnd ∷ file_events later) in
     omega arith
 
@@ -29,18 +30,22 @@ tokens_at_least : (strings : List ℕ) (at : ℕ) (tokens : List Token) (token_e
     EncodeEvents strings at tokens token_events → at + length token_events ≤ place_after_all at tokens
 tokens_at_least strings at [] [] encodes = omega arith
 tokens_at_least strings at (Nop ∷ tokens) token_events encodes =
-    let rest : at + width Nop + length token_events ≤ place_after_all (at + width Nop) tokens = tokens_at_least strings (at + width Nop) tokens token_events encodes in
+    let rest : at + width Nop + length token_events ≤ place_after_all (at + width Nop) tokens = tokens_at_least strings
+    (at + width Nop) tokens token_events encodes in
     omega arith
 tokens_at_least strings at (BeginNode n ∷ tokens) (FileNodeStart p k ∷ later) encodes =
-    let rest : at + width (BeginNode n) + length later ≤ place_after_all (at + width (BeginNode n)) tokens = tokens_at_least strings (at + width (BeginNode n)) tokens later encodes.1 in
+    let rest : at + width (BeginNode n) + length later ≤ place_after_all (at + width (BeginNode n)) tokens = tokens_at_least strings
+    (at + width (BeginNode n)) tokens later encodes.1 in
     let wide : 4 ≤ width (BeginNode n) = (width-at_least (BeginNode n)).0 in
     omega arith
 tokens_at_least strings at (Prop o v ∷ tokens) (FileNodeProperty p ∷ later) encodes =
-    let rest : at + width (Prop o v) + length later ≤ place_after_all (at + width (Prop o v)) tokens = tokens_at_least strings (at + width (Prop o v)) tokens later encodes.1 in
+    let rest : at + width (Prop o v) + length later ≤ place_after_all (at + width (Prop o v)) tokens = tokens_at_least strings
+    (at + width (Prop o v)) tokens later encodes.1 in
     let wide : 4 ≤ width (Prop o v) = (width-at_least (Prop o v)).0 in
     omega arith
 tokens_at_least strings at (EndNode ∷ tokens) (FileNodeEnd ∷ later) encodes =
-    let rest : at + width EndNode + length later ≤ place_after_all (at + width EndNode) tokens = tokens_at_least strings (at + width EndNode) tokens later encodes in
+    let rest : at + width EndNode + length later ≤ place_after_all (at + width EndNode) tokens = tokens_at_least strings
+    (at + width EndNode) tokens later encodes in
     let wide : 4 ≤ width EndNode = (width-at_least EndNode).0 in
     omega arith
 tokens_at_least strings at tokens token_events encodes = absurd encodes
@@ -52,9 +57,12 @@ fewer_nodes_than_bytes file cpu reservations root blob =
     let blocks = tree_blocks file in
     let held = blob.holds in
     let nodes : node_count_of root ≤ length (file_events_of root) = events_at_least (as_nodes root) in
-    let tokens : blocks.begin + length (file_events_of root) ≤ place_after_all blocks.begin held.tokens = tokens_at_least blocks.strings blocks.begin held.tokens (file_events_of root) held.encodes in
+    let tokens : blocks.begin + length
+    (file_events_of root) ≤ place_after_all blocks.begin held.tokens = tokens_at_least blocks.strings blocks.begin held.tokens
+    (file_events_of root) held.encodes in
     let all : blocks.begin + length held.structure ≡ place_after_all (place_after_all blocks.begin held.tokens) (End ∷ []) =
-    AreEncodings-length blocks.begin (held.tokens ++ End ∷ []) held.structure held.is_encoded ∙ place_after_all-append blocks.begin held.tokens (End ∷ []) in
+    AreEncodings-length blocks.begin (held.tokens ++ End ∷ []) held.structure held.is_encoded
+    ∙ place_after_all-append blocks.begin held.tokens (End ∷ []) in
     let wide : 4 ≤ width End = (width-at_least End).0 in
     let parts : length (slice file blocks.begin (blocks.end - blocks.begin)) ≡ length held.structure + length held.trailing =
     ap length held.is_at ∙ length-append held.structure held.trailing in
@@ -67,8 +75,11 @@ pub siblings_and_children : {Own : Type 0} (nodes : Nodes Own) →
     length (siblings nodes) + length (flat_map (λ sibling. siblings sibling.children) (siblings nodes)) ≤ node_count nodes
 siblings_and_children none = omega arith
 siblings_and_children (node name own children later) =
-    let below : length (siblings children) + length (flat_map (λ sibling. siblings sibling.children) (siblings children)) ≤ node_count children = siblings_and_children children in
-    let after : length (siblings later) + length (flat_map (λ sibling. siblings sibling.children) (siblings later)) ≤ node_count later = siblings_and_children later in
-    let all : length (siblings children ++ flat_map (λ sibling. siblings sibling.children) (siblings later)) ≡ length (siblings children) + length (flat_map (λ sibling. siblings sibling.children) (siblings later)) =
+    let below : length (siblings children) + length
+    (flat_map (λ sibling. siblings sibling.children) (siblings children)) ≤ node_count children = siblings_and_children children in
+    let after : length (siblings later) + length
+    (flat_map (λ sibling. siblings sibling.children) (siblings later)) ≤ node_count later = siblings_and_children later in
+    let all : length (siblings children ++ flat_map (λ sibling. siblings sibling.children) (siblings later))
+    ≡ length (siblings children) + length (flat_map (λ sibling. siblings sibling.children) (siblings later)) =
     length-append (siblings children) (flat_map (λ sibling. siblings sibling.children) (siblings later)) in
     omega arith

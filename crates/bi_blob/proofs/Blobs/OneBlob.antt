@@ -17,7 +17,8 @@ pub HoldsTree-stand : (blocks : TreeBlocks) (root : Root FileNode) (holds : Hold
     AllStand blocks.file blocks.begin (holds.tokens ++ End ∷ [])
 HoldsTree-stand blocks root holds =
     let size : ℕ = blocks.end - blocks.begin in
-    AreEncodings-stand blocks.file blocks.begin (holds.tokens ++ End ∷ []) holds.structure (holds.trailing ++ drop size (drop blocks.begin blocks.file)) holds.is_encoded
+    AreEncodings-stand blocks.file blocks.begin (holds.tokens ++ End ∷ []) holds.structure
+    (holds.trailing ++ drop size (drop blocks.begin blocks.file)) holds.is_encoded
     (sym (take-append-drop size (drop blocks.begin blocks.file))
     ∙ ap (λ l. l ++ drop size (drop blocks.begin blocks.file)) holds.is_at
     ∙ append_assoc holds.structure holds.trailing (drop size (drop blocks.begin blocks.file)))
@@ -38,7 +39,8 @@ one_tree blocks a b one other =
 pub one_blob : OneBlob
 one_blob file cpu other_cpu reservations other_reservations root other_root one other = record {
   same_cpu = sym one.is_cpu ∙ other.is_cpu;
-  same_reservations = reservations_agree reservations other_reservations one.reserved.trailing other.reserved.trailing one.reserved.are_reservations other.reserved.are_reservations
+  same_reservations = reservations_agree reservations other_reservations one.reserved.trailing other.reserved.trailing
+      one.reserved.are_reservations other.reserved.are_reservations
       (sym one.reserved.is_at ∙ other.reserved.is_at);
   same_root = one_tree (tree_blocks file) root other_root one.holds other.holds;
 }

@@ -5,7 +5,8 @@ use Rattle.bi_base.specs.Cells.{u32_at}
 use Rattle.bi_base.specs.Checks.{IsFirstFault, HasNoFault}
 use Rattle.bi_blob.specs.Tokens.{Token, End, IsTokenAt}
 use Rattle.bi_blob.specs.Blob.{TreeBlocks}
-use Rattle.bi_blob.specs.BlobFaults.{TokenPasses, token_checks, token_fault, stage_after, place_after, IsPassed, ArePassed, IsStructureFault}
+use Rattle.bi_blob.specs.BlobFaults.{TokenPasses, token_checks, token_fault, stage_after, place_after, IsPassed, ArePassed}
+use Rattle.bi_blob.specs.BlobFaults.{IsStructureFault}
 use Rattle.bi_base.proofs.FirstFault.{one_fault, not_both}
 use Rattle.bi_blob.proofs.Blobs.Tokens.{one_token}
 

@@ -52,7 +52,9 @@ nodes_agree (node n l children later) (node m k others next_stage) x y end_x end
     let same_name : n ≡ m = cc in
     let rest : (map FileNodeProperty l.properties ++ (file_events children ++ (FileNodeEnd ∷ file_events later))) ++ x
     ≡ (map FileNodeProperty k.properties ++ (file_events others ++ (FileNodeEnd ∷ file_events next_stage))) ++ y = cc in
-    let ps : (l.properties ≡ k.properties) × (file_events children ++ (FileNodeEnd ∷ (file_events later ++ x)) ≡ file_events others ++ (FileNodeEnd ∷ (file_events next_stage ++ y))) =
+    let ps : (l.properties ≡ k.properties)
+    × (file_events children ++ (FileNodeEnd ∷ (file_events later ++ x)) ≡ file_events others
+    ++ (FileNodeEnd ∷ (file_events next_stage ++ y))) =
     properties_agree l.properties k.properties _ _
     (ended_properties children (file_events later ++ x)) (ended_properties others (file_events next_stage ++ y))
     (sym (append-regroup (map FileNodeProperty l.properties) (file_events children) (FileNodeEnd ∷ file_events later) x)

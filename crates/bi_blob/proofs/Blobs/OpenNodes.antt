@@ -14,7 +14,7 @@ use Rattle.bi_blob.specs.OpenNodes.{events_of_open_nodes}
 abbrev pub ended_root : OpenFileNode → Root FileNode
 ended_root outermost = record { own = own_of outermost; children = outermost.children }
 
--- What holds of each element of a list holds with one more at its end of which it holds.
+-- What holds for each element of a list still holds with one more at its end for which it holds.
 pub All-push : {X : Type 0} (P : X → Type 0) (xs : List X) (x : X) → AllByRecursion P xs → P x → AllByRecursion P (xs ++ x ∷ [])
 All-push P [] x all last = (last, tt)
 All-push P (y ∷ xs) x all last = (all.0, All-push P xs x all.1 last)
@@ -58,10 +58,13 @@ pub file_events-with_last : (nodes : Nodes FileNode) (name : List ℕ) (with_pla
     file_events (with_last nodes name with_places children) ≡ file_events nodes ++ file_events (node name with_places children none)
 file_events-with_last none name with_places children = refl
 file_events-with_last (node n l cs later) name with_places children =
-    ap (λ x. FileNodeStart l.place n ∷ (map FileNodeProperty l.properties ++ (file_events cs ++ (FileNodeEnd ∷ x)))) (file_events-with_last later name with_places children)
+    ap (λ x. FileNodeStart l.place n ∷ (map FileNodeProperty l.properties ++ (file_events cs ++ (FileNodeEnd ∷ x))))
+    (file_events-with_last later name with_places children)
     ∙ ap (λ x. FileNodeStart l.place n ∷ x)
-    (ap (λ x. map FileNodeProperty l.properties ++ x) (sym (append_assoc (file_events cs) (FileNodeEnd ∷ file_events later) (file_events (node name with_places children none))))
-    ∙ sym (append_assoc (map FileNodeProperty l.properties) (file_events cs ++ (FileNodeEnd ∷ file_events later)) (file_events (node name with_places children none))))
+    (ap (λ x. map FileNodeProperty l.properties ++ x)
+    (sym (append_assoc (file_events cs) (FileNodeEnd ∷ file_events later) (file_events (node name with_places children none))))
+    ∙ sym (append_assoc (map FileNodeProperty l.properties) (file_events cs ++ (FileNodeEnd ∷ file_events later))
+    (file_events (node name with_places children none))))
 
 -- A list of nodes is as deep as what it had, or as its last node.
 pub depth-with_last : {Own : Type 0} (nodes : Nodes Own) (name : List ℕ) (own : Own) (children : Nodes Own) (limit : ℕ) →
@@ -91,13 +94,17 @@ AreNodes-with_last IsOwn (node n o cs later) name own children are is_name is_ne
 -- The names of an open node after one more property.
 pub open_node_of-property : (o : OpenFileNode) (p : FileProperty) →
     open_node_of (with_one_property o p) ≡ with_property (open_node_of o) p.name
-open_node_of-property o p = λ i. record { properties = map_push (λ (q : FileProperty). q.name) o.properties p i; children = names o.children }
+open_node_of-property o p = λ i. record
+    { properties = map_push (λ (q : FileProperty). q.name) o.properties p i; children = names o.children }
 
 -- The names of an open node after one more child.
 pub open_node_of-child : (parent child : OpenFileNode) →
     open_node_of (with_one_child parent child) ≡ with_child (open_node_of parent) child.name
 open_node_of-child parent child =
-    λ i. record { properties = map (λ p. p.name) parent.properties; children = names-with_last parent.children child.name (own_of child) child.children i }
+    λ i. record {
+      properties = map (λ p. p.name) parent.properties;
+      children = names-with_last parent.children child.name (own_of child) child.children i;
+    }
 
 -- A node without names of children has none.
 pub no_children : (nodes : Nodes FileNode) → names nodes ≡ [] → nodes ≡ none
@@ -113,36 +120,45 @@ events_of_open_node-property o p childless =
     (ap (λ c. map FileNodeProperty (o.properties ++ p ∷ []) ++ file_events c) bare
     ∙ append-nil (map FileNodeProperty (o.properties ++ p ∷ []))
     ∙ map_push FileNodeProperty o.properties p
-    ∙ ap (λ l. l ++ FileNodeProperty p ∷ []) (sym (append-nil (map FileNodeProperty o.properties)) ∙ ap (λ c. map FileNodeProperty o.properties ++ file_events c) (sym bare)))
+    ∙ ap (λ l. l ++ FileNodeProperty p ∷ [])
+    (sym (append-nil (map FileNodeProperty o.properties)) ∙ ap (λ c. map FileNodeProperty o.properties ++ file_events c) (sym bare)))
 
 -- The events of all open nodes after one more property of the innermost.
 pub events_of_open_nodes-property : (o : OpenFileNode) (outer : List OpenFileNode) (p : FileProperty) → names o.children ≡ [] →
     events_of_open_nodes (with_one_property o p) outer ≡ events_of_open_nodes o outer ++ FileNodeProperty p ∷ []
 events_of_open_nodes-property o [] p childless = events_of_open_node-property o p childless
 events_of_open_nodes-property o (parent ∷ outer) p childless =
-    ap (λ l. events_of_open_nodes parent outer ++ l) (events_of_open_node-property o p childless) ∙ sym (append_assoc (events_of_open_nodes parent outer) (events_of_open_node o) (FileNodeProperty p ∷ []))
+    ap (λ l. events_of_open_nodes parent outer ++ l) (events_of_open_node-property o p childless)
+    ∙ sym (append_assoc (events_of_open_nodes parent outer) (events_of_open_node o) (FileNodeProperty p ∷ []))
 
 -- The events of a node when it has ended.
 events_of_open_node-closed : (child : OpenFileNode) →
     file_events (node child.name (own_of child) child.children none) ≡ events_of_open_node child ++ FileNodeEnd ∷ []
 events_of_open_node-closed child =
-    ap (λ l. FileNodeStart child.place child.name ∷ l) (sym (append_assoc (map FileNodeProperty child.properties) (file_events child.children) (FileNodeEnd ∷ [])))
+    ap (λ l. FileNodeStart child.place child.name ∷ l)
+    (sym (append_assoc (map FileNodeProperty child.properties) (file_events child.children) (FileNodeEnd ∷ [])))
 
 events_of_open_node-child : (parent child : OpenFileNode) →
     events_of_open_node (with_one_child parent child) ≡ events_of_open_node parent ++ (events_of_open_node child ++ FileNodeEnd ∷ [])
 events_of_open_node-child parent child =
     ap (λ l. FileNodeStart parent.place parent.name ∷ (map FileNodeProperty parent.properties ++ l))
-    (file_events-with_last parent.children child.name (own_of child) child.children ∙ ap (λ l. file_events parent.children ++ l) (events_of_open_node-closed child))
-    ∙ ap (λ l. FileNodeStart parent.place parent.name ∷ l) (sym (append_assoc (map FileNodeProperty parent.properties) (file_events parent.children) (events_of_open_node child ++ FileNodeEnd ∷ [])))
+    (file_events-with_last parent.children child.name (own_of child) child.children
+    ∙ ap (λ l. file_events parent.children ++ l) (events_of_open_node-closed child))
+    ∙ ap (λ l. FileNodeStart parent.place parent.name ∷ l)
+    (sym (append_assoc (map FileNodeProperty parent.properties) (file_events parent.children)
+    (events_of_open_node child ++ FileNodeEnd ∷ [])))
 
 -- The events of all open nodes after the innermost has ended.
 pub events_of_open_nodes-child : (parent child : OpenFileNode) (outer : List OpenFileNode) →
     events_of_open_nodes (with_one_child parent child) outer ≡ events_of_open_nodes child (parent ∷ outer) ++ FileNodeEnd ∷ []
-events_of_open_nodes-child parent child [] = events_of_open_node-child parent child ∙ sym (append_assoc (events_of_open_node parent) (events_of_open_node child) (FileNodeEnd ∷ []))
+events_of_open_nodes-child parent child [] = events_of_open_node-child parent child
+    ∙ sym (append_assoc (events_of_open_node parent) (events_of_open_node child) (FileNodeEnd ∷ []))
 events_of_open_nodes-child parent child (grandparent ∷ outer) =
     ap (λ l. events_of_open_nodes grandparent outer ++ l) (events_of_open_node-child parent child)
-    ∙ sym (append_assoc (events_of_open_nodes grandparent outer) (events_of_open_node parent) (events_of_open_node child ++ FileNodeEnd ∷ []))
-    ∙ sym (append_assoc (events_of_open_nodes grandparent outer ++ events_of_open_node parent) (events_of_open_node child) (FileNodeEnd ∷ []))
+    ∙ sym (append_assoc (events_of_open_nodes grandparent outer) (events_of_open_node parent)
+    (events_of_open_node child ++ FileNodeEnd ∷ []))
+    ∙ sym (append_assoc (events_of_open_nodes grandparent outer ++ events_of_open_node parent)
+    (events_of_open_node child) (FileNodeEnd ∷ []))
 
 -- The events of a tree are those of its root when it has ended.
 pub events_of_open_nodes-root : (outermost : OpenFileNode) → outermost.name ≡ [] →

@@ -70,45 +70,48 @@ module _ (blocks : TreeBlocks) (depth_limit place : ℕ) (stage : Stage) (traili
   passes_within : (token : Token) → IsTokenAt (blocks.file ++ trailing) place token →
       HasNoFault (TokenPasses blocks depth_limit place stage) (token_checks (u32_at blocks.file place)) →
       place + length (token_bytes token) ≤ length blocks.file
-  passes_within token is_at passes = by_token token is_at (subst (λ n. HasNoFault (TokenPasses blocks depth_limit place stage) (token_checks n)) same passes) where
-    word : place + 4 ≤ length blocks.file
-    word = let here : place + 4 ≤ blocks.end = passes.0 in let inside : blocks.end ≤ length blocks.file = readable.within in omega arith
+  passes_within token is_at passes = by_token token is_at
+      (subst (λ n. HasNoFault (TokenPasses blocks depth_limit place stage) (token_checks n)) same passes) where
+        word : place + 4 ≤ length blocks.file
+        word = let here : place + 4 ≤ blocks.end = passes.0 in let inside : blocks.end ≤ length blocks.file = readable.within in omega arith
 
-    same : u32_at blocks.file place ≡ number token
-    same = sym (u32_at-trailing blocks.file trailing place word) ∙ IsTokenAt-number (blocks.file ++ trailing) place token is_at
+        same : u32_at blocks.file place ≡ number token
+        same = sym (u32_at-trailing blocks.file trailing place word) ∙ IsTokenAt-number (blocks.file ++ trailing) place token is_at
 
-    by_token : (t : Token) → IsTokenAt (blocks.file ++ trailing) place t →
-        HasNoFault (TokenPasses blocks depth_limit place stage) (token_checks (number t)) →
-        place + length (token_bytes t) ≤ length blocks.file
-    by_token (BeginNode name) is_at checks =
-        let inside : blocks.end ≤ length blocks.file = readable.within in
-        let read : List ℕ = name_from blocks.file (place + 4) in
-        let ends : place + 4 + length read < blocks.end = checks.1.1.1.0 in
-        let named : name ≡ read = one_name (blocks.file ++ trailing) (place + 4) name read
-        (BeginNode-name (blocks.file ++ trailing) place name is_at)
-        (IsNameAt-trailing blocks.file trailing (place + 4) read word (HasName-IsNameAt blocks.file (place + 4) blocks.end inside ends)) in
-        let long : length name ≡ length read = ap length named in
-        let whole : length (token_bytes (BeginNode name)) ≡ 4 + (length name + 1) =
-        length-token_bytes (BeginNode name) ∙ ap (λ n. 4 + n) (length-append name (0 ∷ [])) in
-        omega arith
-    by_token (Prop offset value) is_at checks =
-        let inside : blocks.end ≤ length blocks.file = readable.within in
-        let ends : place + 12 + u32_at blocks.file (place + 4) ≤ blocks.end = checks.1.1.1.0 in
-        let long : u32_at blocks.file (place + 4) ≡ length value =
-        sym (u32_at-trailing blocks.file trailing (place + 4) (omega arith))
-        ∙ (Prop-parts (blocks.file ++ trailing) place offset value is_at).is_length in
-        let whole : length (token_bytes (Prop offset value)) ≡ 12 + length value = length-Prop offset value in
-        omega arith
-    by_token EndNode is_at checks = let long : length (token_bytes EndNode) ≡ 4 = length-token_bytes EndNode in omega arith
-    by_token Nop is_at checks = let long : length (token_bytes Nop) ≡ 4 = length-token_bytes Nop in omega arith
-    by_token End is_at checks = let long : length (token_bytes End) ≡ 4 = length-token_bytes End in omega arith
+        by_token : (t : Token) → IsTokenAt (blocks.file ++ trailing) place t →
+            HasNoFault (TokenPasses blocks depth_limit place stage) (token_checks (number t)) →
+            place + length (token_bytes t) ≤ length blocks.file
+        by_token (BeginNode name) is_at checks =
+            let inside : blocks.end ≤ length blocks.file = readable.within in
+            let read : List ℕ = name_from blocks.file (place + 4) in
+            let ends : place + 4 + length read < blocks.end = checks.1.1.1.0 in
+            let named : name ≡ read = one_name (blocks.file ++ trailing) (place + 4) name read
+            (BeginNode-name (blocks.file ++ trailing) place name is_at)
+            (IsNameAt-trailing blocks.file trailing (place + 4) read word
+            (HasName-IsNameAt blocks.file (place + 4) blocks.end inside ends)) in
+            let long : length name ≡ length read = ap length named in
+            let whole : length (token_bytes (BeginNode name)) ≡ 4 + (length name + 1) =
+            length-token_bytes (BeginNode name) ∙ ap (λ n. 4 + n) (length-append name (0 ∷ [])) in
+            omega arith
+        by_token (Prop offset value) is_at checks =
+            let inside : blocks.end ≤ length blocks.file = readable.within in
+            let ends : place + 12 + u32_at blocks.file (place + 4) ≤ blocks.end = checks.1.1.1.0 in
+            let long : u32_at blocks.file (place + 4) ≡ length value =
+            sym (u32_at-trailing blocks.file trailing (place + 4) (omega arith))
+            ∙ (Prop-parts (blocks.file ++ trailing) place offset value is_at).is_length in
+            let whole : length (token_bytes (Prop offset value)) ≡ 12 + length value = length-Prop offset value in
+            omega arith
+        by_token EndNode is_at checks = let long : length (token_bytes EndNode) ≡ 4 = length-token_bytes EndNode in omega arith
+        by_token Nop is_at checks = let long : length (token_bytes Nop) ≡ 4 = length-token_bytes Nop in omega arith
+        by_token End is_at checks = let long : length (token_bytes End) ≡ 4 = length-token_bytes End in omega arith
 
 -- Where tokens with one more at their end are in a file, the tokens are, and the last one is after them.
 AllStand-last : (file : List ℕ) (at : ℕ) (tokens : List Token) (t : Token) → AllStand file at (tokens ++ t ∷ []) →
     AllStand file at tokens × IsTokenAt file (place_after_all at tokens) t
 AllStand-last file at [] t stand = (tt, stand.0)
 AllStand-last file at (u ∷ tokens) t stand =
-    let rest : AllStand file (at + width u) tokens × IsTokenAt file (place_after_all (at + width u) tokens) t = AllStand-last file (at + width u) tokens t stand.1 in
+    let rest : AllStand file (at + width u) tokens
+    × IsTokenAt file (place_after_all (at + width u) tokens) t = AllStand-last file (at + width u) tokens t stand.1 in
     ((stand.0, rest.0), rest.1)
 
 -- Tokens in the longer file that pass their checks are passed.
@@ -118,7 +121,8 @@ AllTokensPass-ArePassed : (blocks : TreeBlocks) (depth_limit : ℕ) (tokens : Li
 AllTokensPass-ArePassed blocks depth_limit [] trailing readable pass stand = tt
 AllTokensPass-ArePassed blocks depth_limit (token ∷ before) trailing readable pass stand =
     let place : ℕ = place_after blocks before in
-    let parts : AllStand (blocks.file ++ trailing) blocks.begin (reverse before) × IsTokenAt (blocks.file ++ trailing) (place_after_all blocks.begin (reverse before)) token =
+    let parts : AllStand (blocks.file ++ trailing) blocks.begin (reverse before)
+    × IsTokenAt (blocks.file ++ trailing) (place_after_all blocks.begin (reverse before)) token =
     AllStand-last (blocks.file ++ trailing) blocks.begin (reverse before) token
     (subst (AllStand (blocks.file ++ trailing) blocks.begin) (reverse-cons token before) stand) in
     let there : IsTokenAt (blocks.file ++ trailing) place token =
@@ -148,12 +152,16 @@ ArePassed-is_encoded blocks depth_limit (token ∷ before) trailing three passed
     place_after_all-reverse blocks (token ∷ before) in
     subst (λ p. AreEncodings (reverse (token ∷ before)) (slice (blocks.file ++ trailing) blocks.begin (p - blocks.begin))) place
     (AllStand-encoded (blocks.file ++ trailing) blocks.begin (reverse (token ∷ before))
-    (AllStand-trailing blocks.file trailing blocks.begin (reverse (token ∷ before)) (ArePassed-stand blocks depth_limit (token ∷ before) passed))
+    (AllStand-trailing blocks.file trailing blocks.begin (reverse (token ∷ before))
+    (ArePassed-stand blocks depth_limit (token ∷ before) passed))
     (omega arith))
 
 pub passed_where_encoded : PassedWhereEncoded
 passed_where_encoded blocks depth_limit tokens trailing readable three = (
-  (λ passed. (ArePassed-AllTokensPass blocks depth_limit tokens passed, ArePassed-is_encoded blocks depth_limit tokens trailing three passed)),
+  (λ passed. (
+    ArePassed-AllTokensPass blocks depth_limit tokens passed,
+    ArePassed-is_encoded blocks depth_limit tokens trailing three passed,
+  )),
   (λ both.
       let size : ℕ = place_after blocks tokens - blocks.begin in
       AllTokensPass-ArePassed blocks depth_limit tokens trailing readable both.0

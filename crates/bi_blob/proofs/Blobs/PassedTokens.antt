@@ -1,4 +1,5 @@
-use Rattle.std.proofs.Common.{◌≡◌, ◌≢◌, ℕ, ◌+◌, ◌-◌, ◌≤◌, List, [], ◌∷◌, ◌++◌, length, take, drop, reverse, refl, sym, ap, subst, ◌∙◌, arith}
+use Rattle.std.proofs.Common.{◌≡◌, ◌≢◌, ℕ, ◌+◌, ◌-◌, ◌≤◌, List, [], ◌∷◌, ◌++◌, length, take, drop, reverse, refl, sym, ap, subst, ◌∙◌}
+use Rattle.std.proofs.Common.{arith}
 use Rattle.std.specs.Prelude.{fold}
 use Rattle.std.proofs.lemmas.List.{reverse-append}
 use Rattle.std.proofs.Math.Seq.{take-add}
@@ -59,7 +60,8 @@ ArePassed-stand-push blocks depth_limit tokens t passed last =
 -- What is after tokens is not before them.
 pub place_after_all-past : (at : ℕ) (tokens : List Token) → at ≤ place_after_all at tokens
 place_after_all-past at [] = omega arith
-place_after_all-past at (t ∷ later) = let rest : at + width t ≤ place_after_all (at + width t) later = place_after_all-past (at + width t) later in omega arith
+place_after_all-past at (t ∷ later) = let rest : at + width t ≤ place_after_all (at + width t) later = place_after_all-past
+    (at + width t) later in omega arith
 
 -- The bytes at the offset of a token are its encoding, where the file has them all.
 IsTokenAt-encoded : (file : List ℕ) (at : ℕ) (t : Token) → IsTokenAt file at t → at + width t ≤ length file →
@@ -110,9 +112,11 @@ after_token blocks depth_limit place old new t more position no_end is_at passes
     record {
       no_end = no_end;
       is_at = subst (λ p. IsTokenAt blocks.file p t) (sym position.is_place) is_at;
-      passes = subst (λ p. HasNoFault (TokenPasses blocks depth_limit p (stage_after blocks.strings position.tokens)) (token_checks (u32_at blocks.file p)))
+      passes = subst (λ p. HasNoFault (TokenPasses blocks depth_limit p (stage_after blocks.strings position.tokens))
+          (token_checks (u32_at blocks.file p)))
           (sym position.is_place)
-          (subst (λ stage. HasNoFault (TokenPasses blocks depth_limit place stage) (token_checks (u32_at blocks.file place))) (sym position.is_stage) passes);
+          (subst (λ stage. HasNoFault (TokenPasses blocks depth_limit place stage) (token_checks (u32_at blocks.file place)))
+          (sym position.is_stage) passes);
     },
     position.passed,
   );
@@ -121,6 +125,7 @@ after_token blocks depth_limit place old new t more position no_end is_at passes
   encodes = subst (λ ts. EncodeEvents blocks.strings blocks.begin ts (events_so_far new)) (sym (reverse-cons t position.tokens))
       (subst (EncodeEvents blocks.strings blocks.begin (reverse position.tokens ++ t ∷ [])) (sym grown)
       (EncodeEvents-append blocks.strings blocks.begin (reverse position.tokens) (t ∷ []) (events_so_far old) more position.encodes
-      (subst (λ p. EncodeEvents blocks.strings p (t ∷ []) more) (sym (place_after_all-reverse blocks position.tokens ∙ position.is_place)) encodes_events)));
+      (subst (λ p. EncodeEvents blocks.strings p (t ∷ []) more)
+      (sym (place_after_all-reverse blocks position.tokens ∙ position.is_place)) encodes_events)));
   is_tree_so_far = is_tree_so_far;
 }

@@ -23,7 +23,7 @@ use Rattle.bi_blob.proofs.Blobs.Lookups.{names-with_each}
 -- A token that passes its checks begins a node, adds a property to the innermost open node, ends that node, or, if it is FDT_NOP, changes
 -- nothing.
 
--- A token of this number that passes its checks is next.
+-- A token with this number that passes its checks is next.
 pub record IsNext (blocks : TreeBlocks) (depth_limit place : ℕ) (stage : Stage) (number : ℕ) : Type 0 where
   pub is_number : u32_at blocks.file place ≡ number
   pub passes : HasNoFault (TokenPasses blocks depth_limit place stage) (token_checks number)
@@ -51,7 +51,8 @@ pub next_nop : (blocks : TreeBlocks) (depth_limit place : ℕ) (so_far : TreeSoF
 next_nop blocks depth_limit place so_far position next =
     after_token blocks depth_limit place so_far so_far Nop [] position
     (λ (e : Nop ≡ End). absurd cc)
-    (Nop-is_at blocks.file place position.readable.bytes (number_within blocks depth_limit place nop_number (stage_of so_far) position.readable next) next.is_number)
+    (Nop-is_at blocks.file place position.readable.bytes
+    (number_within blocks depth_limit place nop_number (stage_of so_far) position.readable next) next.is_number)
     (passes_there blocks depth_limit place nop_number (stage_of so_far) next)
     tt
     (sym (append-nil (events_so_far so_far)))
@@ -75,7 +76,8 @@ next_root blocks depth_limit place position next =
     let name : List ℕ = name_from blocks.file (place + 4) in
     let few : 0 < depth_limit = next.passes.1.1.0 in
     let unnamed : name ≡ [] = next.passes.1.1.1.1.0 in
-    after_token blocks depth_limit place NoTree (OpenTree (new_node name place) []) (BeginNode name) (FileNodeStart place name ∷ []) position
+    after_token blocks depth_limit place NoTree (OpenTree (new_node name place) []) (BeginNode name)
+    (FileNodeStart place name ∷ []) position
     (λ (e : BeginNode name ≡ End). absurd cc)
     (start_is_there blocks depth_limit place BeforeRoot position.readable next)
     (passes_there blocks depth_limit place begin_node_number BeforeRoot next)
@@ -95,7 +97,8 @@ next_child blocks depth_limit place parent outer position next =
     let stage : Stage = stage_of (OpenTree parent outer) in
     let few : suc (length (outer_nodes_of parent.name outer)) < depth_limit = next.passes.1.1.0 in
     let open_here : length (outer_nodes_of parent.name outer) ≡ length outer = length-outer_nodes_of parent.name outer in
-    after_token blocks depth_limit place (OpenTree parent outer) (OpenTree (new_node name place) (parent ∷ outer)) (BeginNode name) (FileNodeStart place name ∷ []) position
+    after_token blocks depth_limit place (OpenTree parent outer) (OpenTree (new_node name place) (parent ∷ outer)) (BeginNode name)
+    (FileNodeStart place name ∷ []) position
     (λ (e : BeginNode name ≡ End). absurd cc)
     (start_is_there blocks depth_limit place stage position.readable next)
     (passes_there blocks depth_limit place begin_node_number stage next)
@@ -111,7 +114,8 @@ next_child blocks depth_limit place parent outer position next =
 pub AreOpenNodes-property : (depth_limit : ℕ) (o : OpenFileNode) (outer : List OpenFileNode) (p : FileProperty) →
     AreOpenNodes depth_limit o outer → AreProperties (map (λ (q : FileProperty). (q.name, q.value)) (o.properties ++ p ∷ [])) →
     AreOpenNodes depth_limit (with_one_property o p) outer
-AreOpenNodes-property depth_limit o [] p are good = (record { properties = good; children = are.0.children; shallow = are.0.shallow }, are.1)
+AreOpenNodes-property depth_limit o [] p are good =
+    (record { properties = good; children = are.0.children; shallow = are.0.shallow }, are.1)
 AreOpenNodes-property depth_limit o (parent ∷ outer) p are good = (
   record { properties = good; children = are.0.children; shallow = are.0.shallow },
   record { is_name = are.1.is_name; is_new = are.1.is_new },
@@ -150,7 +154,8 @@ next_property blocks depth_limit place o outer position next =
     let childless : names o.children ≡ [] = next.passes.1.1.0 in
     let named : IsNameAt blocks.strings offset p.name =
     HasName-IsNameAt blocks.strings offset (length blocks.strings) (omega arith) next.passes.1.1.1.1.0 in
-    after_token blocks depth_limit place (OpenTree o outer) (OpenTree (with_one_property o p) outer) (Prop offset p.value) (FileNodeProperty p ∷ []) position
+    after_token blocks depth_limit place (OpenTree o outer) (OpenTree (with_one_property o p) outer) (Prop offset p.value)
+    (FileNodeProperty p ∷ []) position
     (λ (e : Prop offset p.value ≡ End). absurd cc)
     (Prop-is_at blocks.file place position.readable.bytes (omega arith) next.is_number)
     (passes_there blocks depth_limit place prop_number stage next)
@@ -171,8 +176,10 @@ IsOpenNode-child depth_limit above parent child is is_child may =
     depth-with_last parent.children child.name (own_of child) child.children (depth_limit - (above + 1)) (omega arith) (omega arith) in
     record {
       properties = is.properties;
-      children = subst (AreNodes AreProperties) (sym (with_each-with_last properties_of parent.children child.name (own_of child) child.children))
-          (AreNodes-with_last AreProperties (with_each properties_of parent.children) child.name (properties_of (own_of child)) (with_each properties_of child.children)
+      children = subst (AreNodes AreProperties)
+          (sym (with_each-with_last properties_of parent.children child.name (own_of child) child.children))
+          (AreNodes-with_last AreProperties (with_each properties_of parent.children) child.name (properties_of (own_of child))
+          (with_each properties_of child.children)
           is.children may.is_name (subst (λ ns. IsNew child.name ns) (sym (names-with_each properties_of parent.children)) may.is_new)
           is_child.properties is_child.children);
       shallow = omega arith;
@@ -183,7 +190,8 @@ pub AreOpenNodes-child : (depth_limit : ℕ) (child parent : OpenFileNode) (oute
 AreOpenNodes-child depth_limit child parent [] are =
     (IsOpenNode-child depth_limit 0 parent child are.2.0 are.0 are.1, are.2.1)
 AreOpenNodes-child depth_limit child parent (grandparent ∷ outer) are = (
-  IsOpenNode-child depth_limit (length outer + 1) parent child are.2.0 (subst (λ n. IsOpenNode depth_limit n child) (omega arith) are.0) are.1,
+  IsOpenNode-child depth_limit (length outer + 1) parent child are.2.0
+      (subst (λ n. IsOpenNode depth_limit n child) (omega arith) are.0) are.1,
   record { is_name = are.2.1.is_name; is_new = are.2.1.is_new },
   are.2.2,
 )
@@ -195,9 +203,11 @@ pub next_end_of_child : (blocks : TreeBlocks) (depth_limit place : ℕ) (child p
     IsOpenAt blocks depth_limit (place + width EndNode) (OpenTree (with_one_child parent child) outer)
 next_end_of_child blocks depth_limit place child parent outer position next =
     let stage : Stage = stage_of (OpenTree child (parent ∷ outer)) in
-    after_token blocks depth_limit place (OpenTree child (parent ∷ outer)) (OpenTree (with_one_child parent child) outer) EndNode (FileNodeEnd ∷ []) position
+    after_token blocks depth_limit place (OpenTree child (parent ∷ outer))
+    (OpenTree (with_one_child parent child) outer) EndNode (FileNodeEnd ∷ []) position
     (λ (e : EndNode ≡ End). absurd cc)
-    (EndNode-is_at blocks.file place position.readable.bytes (number_within blocks depth_limit place end_node_number stage position.readable next) next.is_number)
+    (EndNode-is_at blocks.file place position.readable.bytes
+    (number_within blocks depth_limit place end_node_number stage position.readable next) next.is_number)
     (passes_there blocks depth_limit place end_node_number stage next)
     tt
     (events_of_open_nodes-child parent child outer)
@@ -215,7 +225,8 @@ next_last blocks depth_limit place outermost position next =
     let shallow : depth outermost.children + 0 + 1 ≤ depth_limit = good.shallow in
     after_token blocks depth_limit place (OpenTree outermost []) (WholeTree (ended_root outermost)) EndNode (FileNodeEnd ∷ []) position
     (λ (e : EndNode ≡ End). absurd cc)
-    (EndNode-is_at blocks.file place position.readable.bytes (number_within blocks depth_limit place end_node_number stage position.readable next) next.is_number)
+    (EndNode-is_at blocks.file place position.readable.bytes
+    (number_within blocks depth_limit place end_node_number stage position.readable next) next.is_number)
     (passes_there blocks depth_limit place end_node_number stage next)
     tt
     (events_of_open_nodes-root outermost position.is_tree_so_far.1)

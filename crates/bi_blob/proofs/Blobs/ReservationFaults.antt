@@ -48,7 +48,8 @@ pub pair_read : (file : List ℕ) (at : ℕ) (pair : Reservation) → pair.addre
 pair_read file at pair address_fits size_fits is_at = (
   u64_at-BytesAt file at pair.address address_fits (BytesAt-left file at (cell8 pair.address) (cell8 pair.size) is_at),
   u64_at-BytesAt file (at + 8) pair.size size_fits
-      (subst (λ n. BytesAt file (at + n) (cell8 pair.size)) (length-cell8 pair.address) (BytesAt-right file at (cell8 pair.address) (cell8 pair.size) is_at)),
+      (subst (λ n. BytesAt file (at + n) (cell8 pair.size)) (length-cell8 pair.address)
+      (BytesAt-right file at (cell8 pair.address) (cell8 pair.size) is_at)),
 )
 
 -- A pair that is not the end pair is a reservation.
@@ -90,7 +91,8 @@ none_before : (file : List ℕ) (at count : ℕ) → ¬ (IsEndPair file at) →
 none_before file at count first later zero below = λ is. first (from_first (IsEndPair file) at is)
 none_before file at count first later (suc index) below =
     let below_there : index < count = omega arith in
-    λ is. later index below_there (one_earlier (IsEndPair file) at index (subst (λ n. IsEndPair file (at + 16 * n)) (one_more index) is)) where
+    λ is. later index below_there (one_earlier (IsEndPair file) at index
+    (subst (λ n. IsEndPair file (at + 16 * n)) (one_more index) is)) where
       one_more : (n : ℕ) → suc n ≡ n + 1
       one_more n = omega arith
 
@@ -147,9 +149,10 @@ past_here file at total fits past = record {
 abbrev pub HasSomeOrFault : List ℕ → ℕ → ℕ → Type 0
 HasSomeOrFault file at total = HasSome file at total ⊎ ((fault : Fault) × IsReservationsFault file at total fault)
 
--- The same with a first pair that is no end pair.
+-- The same with a first pair that is not an end pair.
 found_after : (file : List ℕ) (at total : ℕ) → ¬ (IsEndPair file at) → HasSomeOrFault file (at + 16) total → HasSomeOrFault file at total
-found_after file at total first (inl later) = inl (record { count = later.count + 1; has = HasReservations-cons file at total later.count first later.has })
+found_after file at total first (inl later) = inl
+    (record { count = later.count + 1; has = HasReservations-cons file at total later.count first later.has })
 found_after file at total first (inr later) = inr (later.0, IsReservationsFault-cons file at total later.0 first later.1)
 
 found_from : (steps : ℕ) (file : List ℕ) (at total : ℕ) → at ≤ total → total ≤ at + steps → HasSomeOrFault file at total
@@ -181,7 +184,7 @@ one_reservations_fault file at total f g one other =
     let same : one.index ≡ other.index = omega arith in
     one.is ∙ ap (λ n. record { cause = Truncated; offset = at + 16 * n }) same ∙ sym other.is
 
--- There are no reservations with an end pair where there is a fault.
+-- There are no reservations with an end pair if there is a fault.
 pub no_reservations_with_fault : (file : List ℕ) (at total count : ℕ) (fault : Fault) → HasReservations file at total count →
     IsReservationsFault file at total fault → ⊥
 no_reservations_with_fault file at total count fault has faulty =
@@ -217,7 +220,8 @@ are_reservations_at file at total (suc count) bytes has =
 end_pair_is_there : (file : List ℕ) (at : ℕ) → AreBytes file → at + 16 ≤ length file → IsEndPair file at →
     BytesAt file at (pair_bytes end_pair)
 end_pair_is_there file at bytes within is =
-    subst (λ (pair : Reservation). BytesAt file at (pair_bytes pair)) (λ i. record { address = is.address i; size = is.size i }) (pair_is_there file at bytes within)
+    subst (λ (pair : Reservation). BytesAt file at (pair_bytes pair)) (λ i. record { address = is.address i; size = is.size i })
+    (pair_is_there file at bytes within)
 
 -- Their block is at the offset.
 reservations_are_there : (file : List ℕ) (at total count : ℕ) → AreBytes file → total ≤ length file → HasReservations file at total count →
@@ -230,7 +234,8 @@ reservations_are_there file at total (suc count) bytes inside has =
     subst (BytesAt file at) (sym (reservation_block-first (pair_at file at) (reservations_at file (at + 16) count)))
     (BytesAt-join file at (pair_bytes (pair_at file at)) (reservation_block (reservations_at file (at + 16) count))
     (pair_is_there file at bytes (omega arith))
-    (subst (λ n. BytesAt file (at + n) (reservation_block (reservations_at file (at + 16) count))) (sym (length-pair_bytes (pair_at file at)))
+    (subst (λ n. BytesAt file (at + n) (reservation_block (reservations_at file (at + 16) count)))
+    (sym (length-pair_bytes (pair_at file at)))
     (reservations_are_there file (at + 16) total count bytes inside (HasReservations-later file at total count has))))
 
 pub length-reservations_at : (file : List ℕ) (at count : ℕ) → length (reservations_at file at count) ≡ count
@@ -268,13 +273,15 @@ block_has file at total [] are is_at fits =
     let read : (u64_at file at ≡ 0) × (u64_at file (at + 8) ≡ 0) = pair_read file at end_pair (lit< tt) (lit< tt) is_at in
     ends_here file at total (omega arith) (record { address = read.0; size = read.1 })
 block_has file at total (pair ∷ later) are is_at fits =
-    let split : BytesAt file at (pair_bytes pair ++ reservation_block later) = subst (BytesAt file at) (reservation_block-first pair later) is_at in
+    let split : BytesAt file at (pair_bytes pair ++ reservation_block later) = subst (BytesAt file at)
+    (reservation_block-first pair later) is_at in
     let read : (u64_at file at ≡ pair.address) × (u64_at file (at + 8) ≡ pair.size) =
     pair_read file at pair are.0.address_fits are.0.size_fits (BytesAt-left file at (pair_bytes pair) (reservation_block later) split) in
     let some : 0 < pair.address + pair.size = are.0.some in
     let rest : HasReservations file (at + 16) total (length later) =
     block_has file (at + 16) total later are.1
-    (subst (λ n. BytesAt file (at + n) (reservation_block later)) (length-pair_bytes pair) (BytesAt-right file at (pair_bytes pair) (reservation_block later) split))
+    (subst (λ n. BytesAt file (at + n) (reservation_block later)) (length-pair_bytes pair)
+    (BytesAt-right file at (pair_bytes pair) (reservation_block later) split))
     (omega arith) in
     subst (HasReservations file at total) (one_more (length later))
     (HasReservations-cons file at total (length later) (λ is. not_end is read some) rest) where

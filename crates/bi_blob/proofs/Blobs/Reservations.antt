@@ -49,7 +49,8 @@ reservations_agree (a ∷ rs) [] x y are_rs are_ss e =
     absurd (no_end_pair a (reservation_block rs ++ x) y are_rs.0 (sym (reservation_block-cons a rs x) ∙ e))
 reservations_agree (a ∷ rs) (b ∷ ss) x y are_rs are_ss e =
     let first : (a ≡ b) × (reservation_block rs ++ x ≡ reservation_block ss ++ y) =
-    pairs_agree a b (reservation_block rs ++ x) (reservation_block ss ++ y) are_rs.0.address_fits are_rs.0.size_fits are_ss.0.address_fits are_ss.0.size_fits
+    pairs_agree a b (reservation_block rs ++ x)
+    (reservation_block ss ++ y) are_rs.0.address_fits are_rs.0.size_fits are_ss.0.address_fits are_ss.0.size_fits
     (sym (reservation_block-cons a rs x) ∙ e ∙ reservation_block-cons b ss y) in
     let rest : rs ≡ ss = reservations_agree rs ss x y are_rs.1 are_ss.1 first.1 in
     λ i. first.0 i ∷ rest i

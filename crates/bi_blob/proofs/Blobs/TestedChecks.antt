@@ -41,7 +41,9 @@ header_decided bounds file check = decided_by (test bounds file check) (header_d
 -- An end pair is at an offset, or not.
 pub IsEndPair_decided : (file : List ℕ) (at : ℕ) → IsDecided (IsEndPair file at)
 IsEndPair_decided file at =
-    by_parts (decided_by (u64_at file at == 0 && u64_at file (at + 8) == 0) (both_decide (u64_at file at == 0) (u64_at file (at + 8) == 0) (eq_decides (u64_at file at) 0) (eq_decides (u64_at file (at + 8)) 0))) where
+    by_parts (decided_by (u64_at file at == 0 && u64_at file (at + 8) == 0)
+    (both_decide (u64_at file at == 0) (u64_at file (at + 8) == 0) (eq_decides (u64_at file at) 0)
+    (eq_decides (u64_at file (at + 8)) 0))) where
       by_parts : IsDecided ((u64_at file at ≡ 0) × (u64_at file (at + 8) ≡ 0)) → IsDecided (IsEndPair file at)
       by_parts (inl parts) = inl (record { address = parts.0; size = parts.1 })
       by_parts (inr fails) = inr (λ is. fails (is.address, is.size))

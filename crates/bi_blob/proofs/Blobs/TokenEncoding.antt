@@ -7,7 +7,7 @@ use Rattle.bi_blob.proofs.Blobs.Tokens.{one_token}
 
 -- Proves that tokens are one after the other in a file where their encodings are, and that at most one list of tokens is at an offset.
 
--- The offset of the token after these, the first of which is at this offset.
+-- The offset of the token after these. The first of them is at this offset.
 abbrev pub place_after_all : ℕ → List Token → ℕ
 place_after_all at [] = at
 place_after_all at (token ∷ later) = place_after_all (at + width token) later
@@ -21,7 +21,7 @@ abbrev pub AllStand : List ℕ → ℕ → List Token → Type 0
 AllStand file at [] = Unit {0}
 AllStand file at (token ∷ later) = IsTokenAt file at token × AllStand file (at + width token) later
 
--- A token whose encoding follows an offset is there.
+-- A token is at the offset that its encoding follows.
 IsEncoding-is_at : (file : List ℕ) (at : ℕ) (token : Token) (bytes rest : List ℕ) → IsEncoding token bytes → drop at file ≡ bytes ++ rest →
     IsTokenAt file at token
 IsEncoding-is_at file at token bytes rest is_padded_encoding e = record {
@@ -37,15 +37,17 @@ AreEncodings-first token bytes is_padded_encoding =
     let short : length (take (width token) bytes) ≡ min (width token) (length bytes) = length-take (width token) bytes in
     omega arith
 
--- Tokens whose encodings follow an offset are there.
+-- Tokens are at the offset that their encodings follow.
 pub AreEncodings-stand : (file : List ℕ) (at : ℕ) (tokens : List Token) (bytes rest : List ℕ) → AreEncodings tokens bytes →
     drop at file ≡ bytes ++ rest → AllStand file at tokens
 AreEncodings-stand file at [] bytes rest is_encoded e = tt
 AreEncodings-stand file at (token ∷ later) bytes rest is_encoded e = (
   IsEncoding-is_at file at token (take (width token) bytes) (drop (width token) bytes ++ rest) is_encoded.0
-      (e ∙ ap (λ l. l ++ rest) (sym (take-append-drop (width token) bytes)) ∙ append_assoc (take (width token) bytes) (drop (width token) bytes) rest),
+      (e ∙ ap (λ l. l ++ rest) (sym (take-append-drop (width token) bytes))
+      ∙ append_assoc (take (width token) bytes) (drop (width token) bytes) rest),
   AreEncodings-stand file (at + width token) later (drop (width token) bytes) rest is_encoded.1
-      (sym (drop-drop (width token) at file) ∙ ap (drop (width token)) e ∙ drop-append-le (width token) bytes rest (AreEncodings-first token bytes is_encoded.0)),
+      (sym (drop-drop (width token) at file) ∙ ap (drop (width token)) e
+      ∙ drop-append-le (width token) bytes rest (AreEncodings-first token bytes is_encoded.0)),
 )
 
 -- The encodings of tokens are as long as the tokens.

@@ -118,7 +118,7 @@ one_token file at t u one other =
     let same : number t ≡ number u = sym (IsTokenAt-number file at t one) ∙ IsTokenAt-number file at u other in
     absurd (omega arith)
 
--- A token that is its number alone is where its number is read.
+-- A token that is only its number is where its number is read.
 token_is_there : (file : List ℕ) (at n : ℕ) → AreBytes file → at + 4 ≤ length file → u32_at file at ≡ n → BytesAt file at (cell n)
 token_is_there file at n bytes within e = subst (λ m. BytesAt file at (cell m)) e (BytesAt-cell file at bytes within)
 
@@ -154,7 +154,8 @@ Prop-is_at file at bytes within e =
       is_token = (u32_at-fits file (at + 8) bytes, subst (λ m. m < 2 ^ 32) (sym long) (u32_at-fits file (at + 4) bytes));
       is_at = BytesAt-join file at (cell prop_number) (cell (length value) ++ (cell (u32_at file (at + 8)) ++ value))
           (token_is_there file at prop_number bytes (omega arith) e)
-          (subst (λ m. BytesAt file (at + m) (cell (length value) ++ (cell (u32_at file (at + 8)) ++ value))) (sym (length-cell prop_number))
+          (subst (λ m. BytesAt file (at + m) (cell (length value) ++ (cell (u32_at file (at + 8)) ++ value)))
+          (sym (length-cell prop_number))
           (BytesAt-join file (at + 4) (cell (length value)) (cell (u32_at file (at + 8)) ++ value)
           (token_is_there file (at + 4) (length value) bytes (omega arith) (sym long))
           (subst (λ p. BytesAt file p (cell (u32_at file (at + 8)) ++ value)) (second_place (length value))

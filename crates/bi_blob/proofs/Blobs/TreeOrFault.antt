@@ -56,8 +56,10 @@ fault_there blocks depth_limit place so_far fault position first = record {
   before = position.tokens;
   passed = position.passed;
   first =
-      subst (λ p. IsFirstFault (TokenPasses blocks depth_limit p (stage_after blocks.strings position.tokens)) (token_fault p) (token_checks (u32_at blocks.file p)) fault) (sym position.is_place)
-      (subst (λ stage. IsFirstFault (TokenPasses blocks depth_limit place stage) (token_fault place) (token_checks (u32_at blocks.file place)) fault) (sym position.is_stage) first);
+      subst (λ p. IsFirstFault (TokenPasses blocks depth_limit p (stage_after blocks.strings position.tokens)) (token_fault p)
+      (token_checks (u32_at blocks.file p)) fault) (sym position.is_place)
+      (subst (λ stage. IsFirstFault (TokenPasses blocks depth_limit place stage) (token_fault place)
+      (token_checks (u32_at blocks.file place)) fault) (sym position.is_stage) first);
 }
 
 module _ (blocks : TreeBlocks) (depth_limit place : ℕ) where
@@ -91,8 +93,10 @@ module _ (blocks : TreeBlocks) (depth_limit place : ℕ) where
       Continues blocks depth_limit place ⊎ HasTree blocks depth_limit
   past_token NoTree position passes =
       elim (or_cases _ _ passes.1.0) [
-        | inl nop ↦ inl (continues NoTree Nop (next_nop blocks depth_limit place NoTree position (next_is BeforeRoot nop_number passes nop)))
-        | inr begin ↦ inl (continues (OpenTree (new_node (name_from blocks.file (place + 4)) place) []) (BeginNode (name_from blocks.file (place + 4)))
+        | inl nop ↦ inl (continues NoTree Nop
+            (next_nop blocks depth_limit place NoTree position (next_is BeforeRoot nop_number passes nop)))
+        | inr begin ↦ inl (continues (OpenTree (new_node (name_from blocks.file (place + 4)) place) [])
+            (BeginNode (name_from blocks.file (place + 4)))
             (next_root blocks depth_limit place position (next_is BeforeRoot begin_node_number passes begin)))
       ]
   past_token (OpenTree o outer) position passes =
@@ -100,8 +104,10 @@ module _ (blocks : TreeBlocks) (depth_limit place : ℕ) where
       elim (or_cases _ _ passes.1.0) [
         | inl other ↦ elim (or_cases _ _ other) [
           | inl another ↦ elim (or_cases _ _ another) [
-            | inl nop ↦ inl (continues (OpenTree o outer) Nop (next_nop blocks depth_limit place (OpenTree o outer) position (next_is stage nop_number passes nop)))
-            | inr begin ↦ inl (continues (OpenTree (new_node (name_from blocks.file (place + 4)) place) (o ∷ outer)) (BeginNode (name_from blocks.file (place + 4)))
+            | inl nop ↦ inl (continues (OpenTree o outer) Nop
+                (next_nop blocks depth_limit place (OpenTree o outer) position (next_is stage nop_number passes nop)))
+            | inr begin ↦ inl (continues (OpenTree (new_node (name_from blocks.file (place + 4)) place) (o ∷ outer))
+                (BeginNode (name_from blocks.file (place + 4)))
                 (next_child blocks depth_limit place o outer position (next_is stage begin_node_number passes begin)))
           ]
           | inr end ↦ inl (past_end o outer position (next_is stage end_node_number passes end))
@@ -111,7 +117,8 @@ module _ (blocks : TreeBlocks) (depth_limit place : ℕ) where
       ]
   past_token (WholeTree root) position passes =
       elim (or_cases _ _ passes.1.0) [
-        | inl nop ↦ inl (continues (WholeTree root) Nop (next_nop blocks depth_limit place (WholeTree root) position (next_is AfterRoot nop_number passes nop)))
+        | inl nop ↦ inl (continues (WholeTree root) Nop
+            (next_nop blocks depth_limit place (WholeTree root) position (next_is AfterRoot nop_number passes nop)))
         | inr end ↦ inr (ended (last_token blocks depth_limit place root position (next_is AfterRoot end_number passes end)))
       ] where
         ended : HoldsTree blocks root × (depth_of root ≤ depth_limit) → HasTree blocks depth_limit
@@ -121,9 +128,14 @@ module _ (blocks : TreeBlocks) (depth_limit place : ℕ) where
 tree_or_fault_from : (steps : ℕ) (blocks : TreeBlocks) (depth_limit place : ℕ) (so_far : TreeSoFar) → blocks.end ≤ place + steps →
     IsOpenAt blocks depth_limit place so_far → HasTree blocks depth_limit ⊎ ((fault : Fault) × IsStructureFault blocks depth_limit fault)
 tree_or_fault_from zero blocks depth_limit place so_far left position =
-    inr (token_fault place HasTokenNumber, fault_there blocks depth_limit place so_far (token_fault place HasTokenNumber) position (inl ((λ (word : place + 4 ≤ blocks.end). omega arith), refl)))
+    inr (
+      token_fault place HasTokenNumber,
+      fault_there blocks depth_limit place so_far (token_fault place HasTokenNumber) position
+          (inl ((λ (word : place + 4 ≤ blocks.end). omega arith), refl)),
+    )
 tree_or_fault_from (suc steps) blocks depth_limit place so_far left position =
-    by_checks (fault_or_none (TokenPasses blocks depth_limit place (stage_of so_far)) (token_fault place) (token_decided blocks depth_limit place (stage_of so_far)) (token_checks (u32_at blocks.file place)))
+    by_checks (fault_or_none (TokenPasses blocks depth_limit place (stage_of so_far)) (token_fault place)
+    (token_decided blocks depth_limit place (stage_of so_far)) (token_checks (u32_at blocks.file place)))
     (λ next further later there. tree_or_fault_from steps blocks depth_limit next later (omega arith) there) where
       Outcome : Type 0
       Outcome = HasTree blocks depth_limit ⊎ ((fault : Fault) × IsStructureFault blocks depth_limit fault)

@@ -42,18 +42,21 @@ module _ (blocks : TreeBlocks) (depth_limit place : ℕ) (stage : Stage) where
       HasNoFault (TokenPasses blocks depth_limit place stage) (token_checks (number token)) →
       HasNoFault (TokenPasses blocks depth_limit place stage) (token_checks (u32_at blocks.file place))
   by_number token is_at passes =
-      subst (λ n. HasNoFault (TokenPasses blocks depth_limit place stage) (token_checks n)) (sym (IsTokenAt-number blocks.file place token is_at)) passes
+      subst (λ n. HasNoFault (TokenPasses blocks depth_limit place stage) (token_checks n))
+      (sym (IsTokenAt-number blocks.file place token is_at)) passes
 
   pub nop_passes : IsTokenAt blocks.file place Nop → place + width Nop ≤ blocks.end →
       HasNoFault (TokenPasses blocks depth_limit place stage) (token_checks (u32_at blocks.file place))
   nop_passes is_at within =
-      let word : (place + 4 ≤ blocks.end) × IsTrue (is_expected stage (u32_at blocks.file place)) = number_passes Nop is_at within (nop_is_expected stage) in
+      let word : (place + 4 ≤ blocks.end)
+      × IsTrue (is_expected stage (u32_at blocks.file place)) = number_passes Nop is_at within (nop_is_expected stage) in
       by_number Nop is_at (word.0, (word.1, tt))
 
   pub end_node_passes : IsTokenAt blocks.file place EndNode → place + width EndNode ≤ blocks.end → MayFollow depth_limit stage NodeEnd →
       HasNoFault (TokenPasses blocks depth_limit place stage) (token_checks (u32_at blocks.file place))
   end_node_passes is_at within may =
-      let word : (place + 4 ≤ blocks.end) × IsTrue (is_expected stage (u32_at blocks.file place)) = number_passes EndNode is_at within (end_node_expected stage may) in
+      let word : (place + 4 ≤ blocks.end)
+      × IsTrue (is_expected stage (u32_at blocks.file place)) = number_passes EndNode is_at within (end_node_expected stage may) in
       by_number EndNode is_at (word.0, (word.1, tt))
 
   pub end_passes : IsTokenAt blocks.file place End → place + width End ≤ blocks.end → stage ≡ AfterRoot →
@@ -67,9 +70,11 @@ module _ (blocks : TreeBlocks) (depth_limit place : ℕ) (stage : Stage) where
       MayFollow depth_limit stage (NodeStart name) →
       HasNoFault (TokenPasses blocks depth_limit place stage) (token_checks (u32_at blocks.file place))
   begin_passes name is_at within may_begin =
-      let may : IsTrue (is_expected stage begin_node_number) × (length (open_nodes stage) < depth_limit) × MayBeNamed stage name × IsNew name (child_names stage) =
+      let may : IsTrue (is_expected stage begin_node_number) × (length (open_nodes stage) < depth_limit) × MayBeNamed stage name
+      × IsNew name (child_names stage) =
       start_passes depth_limit stage name may_begin in
-      let word : (place + 4 ≤ blocks.end) × IsTrue (is_expected stage (u32_at blocks.file place)) = number_passes (BeginNode name) is_at within may.0 in
+      let word : (place + 4 ≤ blocks.end)
+      × IsTrue (is_expected stage (u32_at blocks.file place)) = number_passes (BeginNode name) is_at within may.0 in
       let read : name_from blocks.file (place + 4) ≡ name =
       name_from-IsNameAt blocks.file (place + 4) name (BeginNode-name blocks.file place name is_at) in
       let long : length (token_bytes (BeginNode name)) ≡ 4 + length (name ++ 0 ∷ []) = length-token_bytes (BeginNode name) in
@@ -98,9 +103,11 @@ module _ (blocks : TreeBlocks) (depth_limit place : ℕ) (stage : Stage) where
       MayFollow depth_limit stage (NodeProperty property) →
       HasNoFault (TokenPasses blocks depth_limit place stage) (token_checks (u32_at blocks.file place))
   prop_passes offset value property is_at within named may_have =
-      let may : IsTrue (is_expected stage prop_number) × (child_names stage ≡ []) × IsPropertyName property.0 × IsNew property.0 (property_names stage) =
+      let may : IsTrue (is_expected stage prop_number) × (child_names stage ≡ []) × IsPropertyName property.0
+      × IsNew property.0 (property_names stage) =
       property_passes stage property.0 may_have in
-      let word : (place + 4 ≤ blocks.end) × IsTrue (is_expected stage (u32_at blocks.file place)) = number_passes (Prop offset value) is_at within may.0 in
+      let word : (place + 4 ≤ blocks.end)
+      × IsTrue (is_expected stage (u32_at blocks.file place)) = number_passes (Prop offset value) is_at within may.0 in
       let parts : IsPropAt blocks.file place offset value = Prop-parts blocks.file place offset value is_at in
       let is_length : u32_at blocks.file (place + 4) ≡ length value = parts.is_length in
       let read : name_from blocks.strings (u32_at blocks.file (place + 8)) ≡ property.0 =
@@ -116,7 +123,8 @@ module _ (blocks : TreeBlocks) (depth_limit place : ℕ) (stage : Stage) where
             (
               omega arith,
               (
-                subst (λ o. HasName blocks.strings o (length blocks.strings)) (sym parts.is_offset) (IsNameAt-HasName blocks.strings offset property.0 named),
+                subst (λ o. HasName blocks.strings o (length blocks.strings)) (sym parts.is_offset)
+                    (IsNameAt-HasName blocks.strings offset property.0 named),
                 (
                   subst IsPropertyName (sym read) may.2,
                   (subst (λ n. IsNew n (property_names stage)) (sym read) may.3, tt),

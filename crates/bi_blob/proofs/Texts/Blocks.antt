@@ -1,8 +1,10 @@
-use Rattle.std.proofs.Common.{◌≡◌, ℕ, ◌+◌, ◌-◌, ◌*◌, ◌%◌, ◌≤◌, List, [], ◌∷◌, ◌++◌, length, take, flat_map, refl, sym, ap, ◌∙◌, arith, append_assoc, length-append}
+use Rattle.std.proofs.Common.{◌≡◌, ℕ, ◌+◌, ◌-◌, ◌*◌, ◌%◌, ◌≤◌, List, [], ◌∷◌, ◌++◌, length, take, flat_map, refl, sym, ap, ◌∙◌, arith}
+use Rattle.std.proofs.Common.{append_assoc, length-append}
 use Rattle.std.proofs.lemmas.List.{take_at, drop_at}
 use Rattle.std.proofs.Math.Seq.{take-append-add}
 use Rattle.bi_base.specs.Cells.{slice, up4}
-use Rattle.bi_blob.specs.Blob.{Header, Reservation, pair_bytes, end_pair, reservation_block, header_length, structure_end, off_dt_struct, size_dt_struct}
+use Rattle.bi_blob.specs.Blob.{Header, Reservation, pair_bytes, end_pair, reservation_block, header_length, structure_end, off_dt_struct}
+use Rattle.bi_blob.specs.Blob.{size_dt_struct}
 use Rattle.bi_blob.specs.Layout.{blob_header, padding_to_4, length_before_padding, text_of_blocks}
 use Rattle.bi_blob.proofs.Blobs.Cells.{length-cell8}
 use Rattle.bi_blob.proofs.Blobs.Headers.{header_length-17, structure_end-17}
@@ -46,7 +48,8 @@ pub text_parts : (cpu : ℕ) (reserved structure strings rest : List ℕ) →
     ++ (padding_to_4 (length_before_padding (length reserved) (length structure) (length strings)) ++ rest))))
 unfolding text_of_blocks
 text_parts cpu reserved structure strings rest =
-    after_five (blob_header cpu (length reserved) (length structure) (length strings)) reserved structure strings (padding_to_4 (length_before_padding (length reserved) (length structure) (length strings))) rest
+    after_five (blob_header cpu (length reserved) (length structure) (length strings)) reserved structure strings
+    (padding_to_4 (length_before_padding (length reserved) (length structure) (length strings))) rest
 
 -- The memory reservation block is a whole number of pairs.
 pub length-reservations : (reservations : List Reservation) → length (flat_map pair_bytes reservations) ≡ 16 * length reservations

@@ -32,7 +32,13 @@ length-tokens : (names : List (List ℕ)) (events : List Event) →
 length-tokens names [] = refl
 length-tokens names (event ∷ later) =
     length-append (encoding (token_of names event)) (flat_map encoding (map (token_of names) later))
-    ∙ omega (arith, length-encoding (token_of names event), width-token names event, length-tokens names later, sum_by-cons event_width event later)
+    ∙ omega (
+      arith,
+      length-encoding (token_of names event),
+      width-token names event,
+      length-tokens names later,
+      sum_by-cons event_width event later,
+    )
 
 -- The structure block has the tokens of the events, and FDT_END.
 pub length-structure_block : (events : List Event) → length (structure_block events) ≡ sum_by event_width events + 4
@@ -59,5 +65,6 @@ text_of_events_has_length cpu reservations events = record {
   structure = length-structure_block events;
   strings = length-strings_of (distinct_names (used_names events));
   is_length = length-text_of_blocks cpu (reservation_block reservations) (structure_block events) (strings_block events);
-  is_whole = ap (λ n. n % 4) (length-text_of_blocks cpu (reservation_block reservations) (structure_block events) (strings_block events)) ∙ up4-whole _;
+  is_whole = ap (λ n. n % 4) (length-text_of_blocks cpu (reservation_block reservations) (structure_block events)
+      (strings_block events)) ∙ up4-whole _;
 }

@@ -18,7 +18,8 @@ pub names_end-properties : (properties : List Property) → AreProperties proper
     AllByRecursion NameEndsAtZero (map NodeProperty properties)
 names_end-properties properties are =
     each-map NameEndsAtZero NodeProperty properties
-    (each-weaker (λ property. IsPropertyName property.0) (λ property. HasNoZero property.0) (λ property is. is.no_zero) properties are.named)
+    (each-weaker (λ property. IsPropertyName property.0) (λ property. HasNoZero property.0)
+    (λ property is. is.no_zero) properties are.named)
 
 -- A node, its children and the nodes after it have such names where its parts have.
 pub names_end-node : (name : List ℕ) (properties : List Property) (children later : Nodes (List Property)) → HasNoZero name →
@@ -26,7 +27,8 @@ pub names_end-node : (name : List ℕ) (properties : List Property) (children la
     AllByRecursion NameEndsAtZero (events (node name properties children later))
 names_end-node name properties children later is_name are good_children good_later = (
   is_name,
-  each-append NameEndsAtZero (map NodeProperty properties) (events children ++ (NodeEnd ∷ events later)) (names_end-properties properties are)
+  each-append NameEndsAtZero (map NodeProperty properties) (events children ++ (NodeEnd ∷ events later))
+      (names_end-properties properties are)
       (each-append NameEndsAtZero (events children) (NodeEnd ∷ events later) good_children (tt, good_later)),
 )
 
@@ -34,7 +36,8 @@ names_end-node name properties children later is_name are good_children good_lat
 pub names_end-nodes : (nodes : Nodes (List Property)) → AreNodes AreProperties nodes → AllByRecursion NameEndsAtZero (events nodes)
 names_end-nodes none are = tt
 names_end-nodes (node name properties children later) are =
-    names_end-node name properties children later are.0.is_name.no_zero are.0.is_own (names_end-nodes children are.1) (names_end-nodes later are.2)
+    names_end-node name properties children later are.0.is_name.no_zero are.0.is_own
+    (names_end-nodes children are.1) (names_end-nodes later are.2)
 
 -- A tree has such names.
 pub names_end-tree : (root : Root (List Property)) → IsTree AreProperties root → AllByRecursion NameEndsAtZero (events_of root)

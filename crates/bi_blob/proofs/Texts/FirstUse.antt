@@ -1,4 +1,5 @@
-use Rattle.std.proofs.Common.{◌≡◌, ◌⊎◌, ℕ, Bool, true, false, cond, not, List, [], ◌∷◌, ◌++◌, Contains, filter, bytes_eq, inl, inr, refl, ap, ◌∙◌, sym, append-nil, true≢false}
+use Rattle.std.proofs.Common.{◌≡◌, ◌⊎◌, ℕ, Bool, true, false, cond, not, List, [], ◌∷◌, ◌++◌, Contains, filter, bytes_eq, inl, inr, refl}
+use Rattle.std.proofs.Common.{ap, ◌∙◌, sym, append-nil, true≢false}
 use Rattle.std.proofs.lemmas.Slice.Eq.{bytes_eq-Decides}
 use Rattle.std.proofs.lemmas.List.Concat.{flat_map-append}
 use Rattle.std.proofs.lemmas.List.Elements.{filter-append}
@@ -60,7 +61,8 @@ distinct_names-push (first ∷ others) name =
 pub distinct_names-known : (names : List (List ℕ)) (name : List ℕ) → Contains names name →
     distinct_names (names ++ name ∷ []) ≡ distinct_names names
 distinct_names-known names name has =
-    distinct_names-push names name ∙ ap (λ b. cond b (distinct_names names) (distinct_names names ++ name ∷ [])) (found_among names name has)
+    distinct_names-push names name ∙ ap
+    (λ b. cond b (distinct_names names) (distinct_names names ++ name ∷ [])) (found_among names name has)
 
 -- It is added at their end where it was not there.
 pub distinct_names-new : (names : List (List ℕ)) (name : List ℕ) → (Contains names name → ⊥) →
@@ -81,8 +83,11 @@ used_names-push events property = flat_map-append event_names events (NodeProper
 pub strings_grow_by_use : StringsGrowByUse
 strings_grow_by_use events = record {
   empty = refl;
-  other = λ event is. ap (λ names. strings_of (distinct_names names)) (flat_map-append event_names events (event ∷ []) ∙ ap (λ names. used_names events ++ (names ++ [])) is ∙ append-nil (used_names events));
-  known = λ property has. ap (λ names. strings_of (distinct_names names)) (used_names-push events property) ∙ ap strings_of (distinct_names-known (used_names events) property.0 has);
+  other = λ event is. ap (λ names. strings_of (distinct_names names))
+      (flat_map-append event_names events (event ∷ []) ∙ ap (λ names. used_names events ++ (names ++ [])) is
+      ∙ append-nil (used_names events));
+  known = λ property has. ap (λ names. strings_of (distinct_names names)) (used_names-push events property)
+      ∙ ap strings_of (distinct_names-known (used_names events) property.0 has);
   new = λ property lacks.
       ap (λ names. strings_of (distinct_names names)) (used_names-push events property)
       ∙ ap strings_of (distinct_names-new (used_names events) property.0 lacks)

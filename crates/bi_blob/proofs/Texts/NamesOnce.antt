@@ -21,7 +21,11 @@ found_at_offset (first ∷ others) name has =
         (Contains others name → (trailing : List ℕ) × (drop (offset_in others name) (strings_of others) ≡ name ++ 0 ∷ trailing)) →
         (trailing : List ℕ) × (drop (offset_in (first ∷ others) name) (strings_of (first ∷ others)) ≡ name ++ 0 ∷ trailing)
     where_first true is has is_at =
-        rw is (strings_of others, append_assoc first (0 ∷ []) (strings_of others) ∙ ap (λ l. l ++ 0 ∷ strings_of others) (same_bytes first name is))
+        rw is (
+          strings_of others,
+          append_assoc first (0 ∷ []) (strings_of others)
+              ∙ ap (λ l. l ++ 0 ∷ strings_of others) (same_bytes first name is),
+        )
     where_first false is (inl same) is_at = absurd (other_bytes first name is same)
     where_first false is (inr has) is_at =
         let there = is_at has in
@@ -43,7 +47,8 @@ distinct_names-all (first ∷ others) name has =
     where_first true is has among = rw (← same_bytes first name is) (Contains-first first _)
     where_first false is (inl same) among = absurd (other_bytes first name is same)
     where_first false is (inr has) among =
-        Contains-others first _ name (Contains-filter (λ other. not (bytes_eq first other)) (distinct_names others) name (ap not is) (among has))
+        Contains-others first _ name (Contains-filter (λ other. not (bytes_eq first other))
+        (distinct_names others) name (ap not is) (among has))
 
 -- The first ones are among the names.
 pub distinct_names-only : (names : List (List ℕ)) (name : List ℕ) → Contains (distinct_names names) name → Contains names name
@@ -55,7 +60,8 @@ distinct_names-only (first ∷ others) name has =
         (Contains (distinct_names others) name → Contains others name) → Contains (first ∷ others) name
     where_first (inl same) among = rw (← same) (Contains-first first others)
     where_first (inr has) among =
-        Contains-others first others name (among (Contains-from_filter (λ other. not (bytes_eq first other)) (distinct_names others) name has))
+        Contains-others first others name
+        (among (Contains-from_filter (λ other. not (bytes_eq first other)) (distinct_names others) name has))
 
 -- Distinct names stay so where some are left out.
 distinct-filter : (test : List ℕ → Bool) (names : List (List ℕ)) → AreDistinct names → AreDistinct (filter test names)
@@ -79,7 +85,10 @@ new-filter name (other ∷ later) = where_first (bytes_eq name other) refl (new-
 -- The first ones are distinct.
 pub distinct_names-distinct : (names : List (List ℕ)) → AreDistinct (distinct_names names)
 distinct_names-distinct [] = tt
-distinct_names-distinct (first ∷ others) = (new-filter first (distinct_names others), distinct-filter (λ other. not (bytes_eq first other)) (distinct_names others) (distinct_names-distinct others))
+distinct_names-distinct (first ∷ others) = (
+  new-filter first (distinct_names others),
+  distinct-filter (λ other. not (bytes_eq first other)) (distinct_names others) (distinct_names-distinct others),
+)
 
 -- Marks have the names that they use in their strings block, each once.
 pub has_names_once : EachNameIsThereOnce

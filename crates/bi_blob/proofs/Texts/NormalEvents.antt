@@ -45,7 +45,8 @@ IsRising-push : (ns : List (List ℕ)) (name : List ℕ) → IsRising ns → IfS
 IsRising-push ns name rising next other after =
     let last : IsBefore name other = subst (λ o. IfSome o (λ last. IsBefore last other)) (last_name-push ns name) after in
     All-push (λ n. IsBefore n other) ns name
-    (each-weaker (λ n. IsBefore n name) (λ n. IsBefore n other) (λ n before. nat_list_cmp_total.trans n name other before last) ns (rising name next))
+    (each-weaker (λ n. IsBefore n name) (λ n. IsBefore n other)
+    (λ n before. nat_list_cmp_total.trans n name other before last) ns (rising name next))
     last
 
 -- A name that is after others is new among them.
@@ -150,7 +151,8 @@ below_more name other [] before below = tt
 below_more name other (property ∷ later) before below =
     let both = both_pass (is_lt (slice_cmp nat_cmp other property.0)) (below_all (slice_cmp nat_cmp) other later) below in
     both_hold (is_lt (slice_cmp nat_cmp name property.0)) (below_all (slice_cmp nat_cmp) name later)
-    (subst (λ o. T (is_lt o)) (sym (nat_list_cmp_total.trans name other property.0 before (is_Less (slice_cmp nat_cmp other property.0) both.0))) tt)
+    (subst (λ o. T (is_lt o)) (sym (nat_list_cmp_total.trans name other property.0 before
+    (is_Less (slice_cmp nat_cmp other property.0) both.0))) tt)
     (below_more name other later before both.1)
 
 -- Properties in a chain are in byte order, after the name before the chain.
@@ -211,7 +213,8 @@ chained_properties (p ∷ ps) ns outer later chained follow = (
   chained.0,
   chained_properties ps (ns ++ p.0 ∷ []) outer later
       (subst (λ last. AreChained last ps) (sym (last_name-push ns p.0)) chained.1)
-      (subst (λ l. AllFollow IsInOrder (Inside (open_with l []) outer) later) (sym (append_assoc ns (p.0 ∷ []) (property_names_of ps))) follow),
+      (subst (λ l. AllFollow IsInOrder (Inside (open_with l []) outer) later)
+      (sym (append_assoc ns (p.0 ∷ []) (property_names_of ps))) follow),
 )
 
 -- Nodes whose events follow in order have their properties in byte order.
@@ -224,7 +227,8 @@ nodes_sorted (node name ps children siblings) ns cs outer later follow =
     let round : List OpenNode = open_with ns (cs ++ name ∷ []) ∷ outer in
     let trailing : List Event = NodeEnd ∷ (events siblings ++ later) in
     let inside : AllFollow IsInOrder (Inside (open_with [] []) round) (map NodeProperty ps ++ (events children ++ trailing)) =
-    subst (AllFollow IsInOrder (Inside (open_with [] []) round)) (append-regroup (map NodeProperty ps) (events children) (NodeEnd ∷ events siblings) later) follow.1 in
+    subst (AllFollow IsInOrder (Inside (open_with [] []) round))
+    (append-regroup (map NodeProperty ps) (events children) (NodeEnd ∷ events siblings) later) follow.1 in
     let own : AreChained None ps × AllFollow IsInOrder (Inside (open_with (property_names_of ps) []) round) (events children ++ trailing) =
     properties_chained ps [] round (events children ++ trailing) inside in
     let below : AreSorted children × AllFollow IsInOrder (Inside (open_with (property_names_of ps) (names children)) round) trailing =
@@ -250,8 +254,11 @@ sorted_nodes (node name ps children siblings) ns cs outer later sorted follow =
     let below : AllFollow IsInOrder (Inside (open_with (property_names_of ps) []) round) (events children ++ trailing) =
     sorted_nodes children (property_names_of ps) [] round trailing sorted.1 (tt, after) in
     let inside : AllFollow IsInOrder (Inside (open_with [] []) round) (map NodeProperty ps ++ (events children ++ trailing)) =
-    chained_properties ps [] round (events children ++ trailing) (sorted_chain ps sorted.0) below in
-    (tt, subst (AllFollow IsInOrder (Inside (open_with [] []) round)) (sym (append-regroup (map NodeProperty ps) (events children) (NodeEnd ∷ events siblings) later)) inside)
+    chained_properties ps [] round (events children ++ trailing) (sorted_chain ps sorted.0) below in (
+      tt,
+      subst (AllFollow IsInOrder (Inside (open_with [] []) round))
+          (sym (append-regroup (map NodeProperty ps) (events children) (NodeEnd ∷ events siblings) later)) inside,
+    )
 
 -- A tree whose events follow in order is normal.
 tree_sorted : (root : Root (List Property)) → AllFollow IsInOrder BeforeRoot (events_of root) → IsNormal root
@@ -274,7 +281,8 @@ one_normal_tree events closed =
     (record { follow = follow_in_blob BeforeRoot events tt closed.follow; closed = closed.closed }) in
     record {
       tree = tree;
-      is_normal = tree_sorted tree.root (subst (AllFollow IsInOrder BeforeRoot) (sym tree.same) (follow_in_order BeforeRoot events tt closed.follow));
+      is_normal = tree_sorted tree.root
+          (subst (AllFollow IsInOrder BeforeRoot) (sym tree.same) (follow_in_order BeforeRoot events tt closed.follow));
     }
 
 -- The events of a normal tree may follow one another, and end its root.

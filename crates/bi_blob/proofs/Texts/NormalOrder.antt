@@ -9,7 +9,7 @@ use Rattle.bi_blob.specs.TextLaws.{EachTreeHasOneOrder, NormalTextTellsContent}
 use Rattle.bi_blob.proofs.Texts.PropertyOrder.{order_tells}
 use Rattle.bi_blob.proofs.Texts.TextContent.{text_has_one_content}
 
--- A tree has one normal order, and normal texts are the same exactly if their contents are.
+-- A tree has one normal order, and normal texts are the same if and only if their contents are.
 
 -- Properties by name, put in order and taken by name again, are the same.
 pub made_again : (properties : PropertyMap) → from_entries (entries properties) ≡ properties
@@ -35,7 +35,8 @@ normal-nodes (node name properties children later) = (entries_sorted properties,
 pub same-nodes : (nodes : Nodes PropertyMap) → with_each (from_entries {R = slice_cmp nat_cmp}) (with_each entries nodes) ≡ nodes
 same-nodes none = refl
 same-nodes (node name properties children later) =
-    ap (λ own. node name own (with_each (from_entries {R = slice_cmp nat_cmp}) (with_each entries children)) (with_each (from_entries {R = slice_cmp nat_cmp}) (with_each entries later))) (made_again properties)
+    ap (λ own. node name own (with_each (from_entries {R = slice_cmp nat_cmp}) (with_each entries children))
+    (with_each (from_entries {R = slice_cmp nat_cmp}) (with_each entries later))) (made_again properties)
     ∙ ap₂ (λ inner outer. node name properties inner outer) (same-nodes children) (same-nodes later)
 
 -- Nodes that are normal are in the order of their names.
@@ -43,7 +44,8 @@ pub ordered-nodes : (nodes : Nodes (List Property)) → EachOwn (λ properties. 
     with_each entries (with_each (from_entries {R = slice_cmp nat_cmp}) nodes) ≡ nodes
 ordered-nodes none normal = refl
 ordered-nodes (node name properties children later) normal =
-    ap (λ own. node name own (with_each entries (with_each (from_entries {R = slice_cmp nat_cmp}) children)) (with_each entries (with_each (from_entries {R = slice_cmp nat_cmp}) later))) (ordered_again properties normal.0)
+    ap (λ own. node name own (with_each entries (with_each (from_entries {R = slice_cmp nat_cmp}) children))
+    (with_each entries (with_each (from_entries {R = slice_cmp nat_cmp}) later))) (ordered_again properties normal.0)
     ∙ ap₂ (λ inner outer. node name properties inner outer) (ordered-nodes children normal.1) (ordered-nodes later normal.2)
 
 -- A normal tree is the one in byte order of its properties by name.
@@ -60,19 +62,20 @@ has_one_order root = record {
   only = λ other normal same. sym (ordered-tree other normal) ∙ ap in_byte_order same;
 }
 
--- Normal texts are the same exactly where their contents are.
+-- Normal texts are the same if and only if their contents are.
 pub normal_text_tells_content : NormalTextTellsContent
-normal_text_tells_content cpu other_cpu reservations other_reservations root other_root text other_text is other_is normal other_normal short = (
-  (λ same.
-      let one = text_has_one_content cpu other_cpu reservations other_reservations root other_root is other_is
-      (subst (λ text. length text ≤ longest_text) normal.is_text short)
-      (sym normal.is_text ∙ same ∙ other_normal.is_text) in
-      record { same_cpu = one.same_cpu; same_reservations = one.same_reservations; same_root = ap tree_without_order one.same_root }),
-  (λ same.
-      normal.is_text
-      ∙ ap (λ cpu. text_of_tree cpu reservations root) same.same_cpu
-      ∙ ap (λ reservations. text_of_tree other_cpu reservations root) same.same_reservations
-      ∙ ap (λ root. text_of_tree other_cpu other_reservations root)
-      (sym (ordered-tree root normal.is_normal) ∙ ap in_byte_order same.same_root ∙ ordered-tree other_root other_normal.is_normal)
-      ∙ sym other_normal.is_text),
-)
+normal_text_tells_content cpu other_cpu reservations other_reservations root other_root text other_text is
+    other_is normal other_normal short = (
+      (λ same.
+          let one = text_has_one_content cpu other_cpu reservations other_reservations root other_root is other_is
+          (subst (λ text. length text ≤ longest_text) normal.is_text short)
+          (sym normal.is_text ∙ same ∙ other_normal.is_text) in
+          record { same_cpu = one.same_cpu; same_reservations = one.same_reservations; same_root = ap tree_without_order one.same_root }),
+      (λ same.
+          normal.is_text
+          ∙ ap (λ cpu. text_of_tree cpu reservations root) same.same_cpu
+          ∙ ap (λ reservations. text_of_tree other_cpu reservations root) same.same_reservations
+          ∙ ap (λ root. text_of_tree other_cpu other_reservations root)
+          (sym (ordered-tree root normal.is_normal) ∙ ap in_byte_order same.same_root ∙ ordered-tree other_root other_normal.is_normal)
+          ∙ sym other_normal.is_text),
+    )

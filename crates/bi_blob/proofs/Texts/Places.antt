@@ -1,7 +1,9 @@
 use Rattle.std.proofs.Common.{◌≡◌, ℕ, ◌+◌, max, List, [], ◌∷◌, ◌++◌, map, refl, sym, ap, ap₂, ◌∙◌, arith}
 use Rattle.std.proofs.lemmas.List.Sums.{sum_by-cons, sum_by-append}
-use Rattle.bi_blob.specs.Tree.{Nodes, none, node, Root, Property, as_nodes, with_each, properties_of, tree_without_places, property_of, depth, depth_of}
-use Rattle.bi_blob.specs.Events.{Event, NodeStart, NodeProperty, NodeEnd, events, events_of, FileEvent, FileNodeStart, FileNodeProperty, FileNodeEnd, file_events, file_events_of}
+use Rattle.bi_blob.specs.Tree.{Nodes, none, node, Root, Property, as_nodes, with_each, properties_of, tree_without_places, property_of}
+use Rattle.bi_blob.specs.Tree.{depth, depth_of}
+use Rattle.bi_blob.specs.Events.{Event, NodeStart, NodeProperty, NodeEnd, events, events_of, FileEvent, FileNodeStart, FileNodeProperty}
+use Rattle.bi_blob.specs.Events.{FileNodeEnd, file_events, file_events_of}
 use Rattle.bi_blob.specs.Blob.{Reservation}
 use Rattle.bi_blob.specs.Layout.{event_width, place_after_events, properties_with_places, with_places, structure_place, tree_with_places}
 
@@ -13,7 +15,7 @@ event_with_place at (NodeStart name) = FileNodeStart at name
 event_with_place at (NodeProperty property) = FileNodeProperty (record { name = property.0; value = property.1; place = at })
 event_with_place at NodeEnd = FileNodeEnd
 
--- Events with the places of their tokens, the first of which is at this offset.
+-- Events with the places of their tokens. The first token is at this offset.
 abbrev pub placed_from : ℕ → List Event → List FileEvent
 placed_from at [] = []
 placed_from at (event ∷ later) = event_with_place at event ∷ placed_from (at + event_width event) later
@@ -56,9 +58,12 @@ pub place_after_events-node : (at : ℕ) (name : List ℕ) (properties : List Pr
 place_after_events-node at name properties children =
     place_after_events-cons at (NodeStart name) (map NodeProperty properties ++ (events children ++ (NodeEnd ∷ [])))
     ∙ place_after_events-append (at + event_width (NodeStart name)) (map NodeProperty properties) (events children ++ (NodeEnd ∷ []))
-    ∙ place_after_events-append (place_after_events (at + event_width (NodeStart name)) (map NodeProperty properties)) (events children) (NodeEnd ∷ [])
-    ∙ place_after_events-cons (place_after_events (place_after_events (at + event_width (NodeStart name)) (map NodeProperty properties)) (events children)) NodeEnd []
-    ∙ place_after_events-none (place_after_events (place_after_events (at + event_width (NodeStart name)) (map NodeProperty properties)) (events children) + event_width NodeEnd)
+    ∙ place_after_events-append (place_after_events (at + event_width (NodeStart name)) (map NodeProperty properties))
+    (events children) (NodeEnd ∷ [])
+    ∙ place_after_events-cons (place_after_events
+    (place_after_events (at + event_width (NodeStart name)) (map NodeProperty properties)) (events children)) NodeEnd []
+    ∙ place_after_events-none (place_after_events (place_after_events (at + event_width (NodeStart name)) (map NodeProperty properties))
+    (events children) + event_width NodeEnd)
 
 -- The events of nodes with places are their events with places.
 pub placed-nodes : (at : ℕ) (nodes : Nodes (List Property)) → file_events (with_places at nodes) ≡ placed_from at (events nodes)
@@ -88,13 +93,15 @@ placed-tree reservations root = placed-nodes (structure_place reservations) (as_
 -- Properties with their places are the same properties.
 pub properties_of-properties : (at : ℕ) (properties : List Property) → map property_of (properties_with_places at properties) ≡ properties
 properties_of-properties at [] = refl
-properties_of-properties at (property ∷ later) = ap (λ l. property ∷ l) (properties_of-properties (at + event_width (NodeProperty property)) later)
+properties_of-properties at (property ∷ later) = ap (λ l. property ∷ l)
+    (properties_of-properties (at + event_width (NodeProperty property)) later)
 
 -- Nodes with their places are the same nodes.
 pub properties_of-nodes : (at : ℕ) (nodes : Nodes (List Property)) → with_each properties_of (with_places at nodes) ≡ nodes
 properties_of-nodes at none = refl
 properties_of-nodes at (node name properties children later) =
-    ap (λ own. node name own (with_each properties_of (with_places below children)) (with_each properties_of (with_places next later))) (properties_of-properties (at + event_width (NodeStart name)) properties)
+    ap (λ own. node name own (with_each properties_of (with_places below children)) (with_each properties_of (with_places next later)))
+    (properties_of-properties (at + event_width (NodeStart name)) properties)
     ∙ ap₂ (λ inner outer. node name properties inner outer) (properties_of-nodes below children) (properties_of-nodes next later)
   where
     below : ℕ
@@ -109,7 +116,8 @@ pub properties_of-tree : (reservations : List Reservation) (root : Root (List Pr
 properties_of-tree reservations root =
     ap₂ (λ own children. record { own = own; children = children })
     (properties_of-properties (structure_place reservations + event_width (NodeStart [])) root.own)
-    (properties_of-nodes (place_after_events (structure_place reservations + event_width (NodeStart [])) (map NodeProperty root.own)) root.children)
+    (properties_of-nodes (place_after_events (structure_place reservations + event_width (NodeStart []))
+    (map NodeProperty root.own)) root.children)
 
 -- Nodes with their places are as deep.
 pub depth-nodes : (at : ℕ) (nodes : Nodes (List Property)) → depth (with_places at nodes) ≡ depth nodes

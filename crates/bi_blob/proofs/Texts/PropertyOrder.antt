@@ -70,7 +70,8 @@ each-found P (property ∷ later) sorted found =
     where_first name value below there Less is = found name value (rw is there)
     where_first name value below there Equal is =
         let none = below_none property.0 later below in
-        let other : find (slice_cmp nat_cmp) property.0 later ≡ Some value = subst (λ name. find (slice_cmp nat_cmp) name later ≡ Some value) (order_tells name property.0 is) there in
+        let other : find (slice_cmp nat_cmp) property.0 later
+        ≡ Some value = subst (λ name. find (slice_cmp nat_cmp) name later ≡ Some value) (order_tells name property.0 is) there in
         absurd cc
     where_first name value below there Greater is = found name value (rw is there)
 
@@ -110,5 +111,6 @@ pub AreProperties-in_byte_order : (properties : List Property) → AreProperties
     AreProperties (entries (from_entries {R = slice_cmp nat_cmp} properties))
 AreProperties-in_byte_order properties are = record {
   named = each-in_byte_order (λ property. IsPropertyName property.0) properties are.named;
-  distinct = ordered_distinct (entries (from_entries {R = slice_cmp nat_cmp} properties)) (entries_sorted (from_entries {R = slice_cmp nat_cmp} properties));
+  distinct = ordered_distinct (entries (from_entries {R = slice_cmp nat_cmp} properties))
+      (entries_sorted (from_entries {R = slice_cmp nat_cmp} properties));
 }

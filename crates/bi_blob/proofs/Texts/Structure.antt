@@ -28,18 +28,27 @@ pub blocks-le : (cpu : ℕ) (reservations : List Reservation) (root : Root (List
     length_before_padding (length (reservation_block reservations)) (length (structure_block (events_of root)))
     (length (strings_block (events_of root))) ≤ length (text_of_tree cpu reservations root)
 blocks-le cpu reservations root =
-    omega (arith, length-text_of_tree cpu reservations root, up4-le (length_before_padding (length (reservation_block reservations)) (length (structure_block (events_of root))) (length (strings_block (events_of root)))))
+    omega (
+      arith,
+      length-text_of_tree cpu reservations root,
+      up4-le (length_before_padding (length (reservation_block reservations)) (length (structure_block (events_of root)))
+          (length (strings_block (events_of root)))),
+    )
 
 -- The blocks of a text that is not too long encode its tree.
 pub says_tree : TextEncodesItsTree
 says_tree cpu reservations root is short = record {
   is_encoded = is_encoded (tokens_of (events_of root) ++ End ∷ [])
       (each-append IsToken (tokens_of (events_of root)) (End ∷ [])
-      (are_tokens (distinct_names (used_names (events_of root))) (events_of root) (names_end-tree root is.is_tree) strings_fit structure_fits)
+      (are_tokens (distinct_names (used_names (events_of root))) (events_of root)
+      (names_end-tree root is.is_tree) strings_fit structure_fits)
       (tt, tt));
-  encodes = subst (EncodeEvents (strings_block (events_of root)) (structure_place reservations) (tokens_of (events_of root))) (sym (placed-tree reservations root))
-      (encodes_events (strings_block (events_of root)) (distinct_names (used_names (events_of root))) (structure_place reservations) (events_of root)
-      (named_in (distinct_names (used_names (events_of root))) (events_of root) (distinct_names-all (used_names (events_of root))) (names_end-tree root is.is_tree)));
+  encodes = subst (EncodeEvents (strings_block (events_of root)) (structure_place reservations) (tokens_of (events_of root)))
+      (sym (placed-tree reservations root))
+      (encodes_events (strings_block (events_of root)) (distinct_names (used_names (events_of root)))
+      (structure_place reservations) (events_of root)
+      (named_in (distinct_names (used_names (events_of root))) (events_of root) (distinct_names-all (used_names (events_of root)))
+      (names_end-tree root is.is_tree)));
 }
   where
     strings_fit : length (strings_block (events_of root)) < 2 ^ 32

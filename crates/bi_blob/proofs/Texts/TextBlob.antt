@@ -36,7 +36,8 @@ pub blocks_of_text : (cpu : ℕ) (reserved structure strings rest : List ℕ) �
 blocks_of_text cpu reserved structure strings rest cpu_fits fits = record {
   cells = cells;
   trailing = take (totalsize file - off_mem_rsvmap file - length reserved) (structure ++ (strings ++ rest));
-  is_reserved = slice_from_second front reserved (structure ++ (strings ++ rest)) (off_mem_rsvmap file) (totalsize file - off_mem_rsvmap file)
+  is_reserved = slice_from_second front reserved (structure ++ (strings ++ rest)) (off_mem_rsvmap file)
+      (totalsize file - off_mem_rsvmap file)
       (long ∙ sym cells.is_off_reserved)
       (omega (arith, cells.is_total, cells.is_off_reserved));
   is_structure = third_slice front reserved structure (strings ++ rest) (off_dt_struct file) (structure_end file - off_dt_struct file)
@@ -65,7 +66,8 @@ pub text_has_parts : (cpu : ℕ) (reserved structure strings rest : List ℕ) �
     HasParts (text_of_blocks cpu reserved structure strings ++ rest) cpu reserved structure strings
 text_has_parts cpu reserved structure strings rest cpu_fits fits =
     subst (λ file. HasParts file cpu reserved structure strings) (sym (text_parts cpu reserved structure strings rest))
-    (blocks_of_text cpu reserved structure strings (padding_to_4 (length_before_padding (length reserved) (length structure) (length strings)) ++ rest) cpu_fits fits)
+    (blocks_of_text cpu reserved structure strings
+    (padding_to_4 (length_before_padding (length reserved) (length structure) (length strings)) ++ rest) cpu_fits fits)
 
 -- The text of a tree has the blocks of the tree.
 pub tree_text_has_parts : (cpu : ℕ) (reservations : List Reservation) (root : Root (List Property)) (rest : List ℕ) → cpu < 2 ^ 32 →
@@ -75,7 +77,11 @@ pub tree_text_has_parts : (cpu : ℕ) (reservations : List Reservation) (root : 
 unfolding text_of_events
 tree_text_has_parts cpu reservations root rest cpu_fits short =
     text_has_parts cpu (reservation_block reservations) (structure_block (events_of root)) (strings_block (events_of root)) rest cpu_fits
-    (omega (arith, length-text_of_blocks cpu (reservation_block reservations) (structure_block (events_of root)) (strings_block (events_of root))))
+    (omega (
+      arith,
+      length-text_of_blocks cpu (reservation_block reservations) (structure_block (events_of root))
+          (strings_block (events_of root)),
+    ))
 
 -- A file with the blocks of a tree holds it, where these encode it.
 pub holds_tree : (file : List ℕ) (cpu : ℕ) (reservations : List Reservation) (root : Root (List Property)) →
@@ -87,8 +93,10 @@ holds_tree file cpu reservations root parts token_events is = record {
   trailing = [];
   is_at = parts.is_structure ∙ sym (append-nil (structure_block (events_of root)));
   is_encoded = token_events.is_encoded;
-  encodes = subst (λ strings. EncodeEvents strings (off_dt_struct file) (tokens_of (events_of root)) (file_events_of (tree_with_places reservations root))) (sym parts.is_strings)
-      (subst (λ at. EncodeEvents (strings_block (events_of root)) at (tokens_of (events_of root)) (file_events_of (tree_with_places reservations root))) (sym parts.cells.is_off_struct) token_events.encodes);
+  encodes = subst (λ strings. EncodeEvents strings (off_dt_struct file) (tokens_of (events_of root))
+      (file_events_of (tree_with_places reservations root))) (sym parts.is_strings)
+      (subst (λ at. EncodeEvents (strings_block (events_of root)) at (tokens_of (events_of root))
+      (file_events_of (tree_with_places reservations root))) (sym parts.cells.is_off_struct) token_events.encodes);
   is_tree = subst (IsTree AreProperties) (sym (properties_of-tree reservations root)) is;
 }
 
@@ -98,12 +106,14 @@ pub text_blob : (cpu : ℕ) (reservations : List Reservation) (root : Root (List
     IsBlob (text_of_tree cpu reservations root ++ rest) cpu reservations (tree_with_places reservations root)
 text_blob cpu reservations root rest is short bytes = record {
   bytes = AreBytes-append (text_of_tree cpu reservations root) rest (AreBytes-text cpu reservations root is) bytes;
-  header = text_header (text_of_tree cpu reservations root ++ rest) cpu (length (reservation_block reservations)) (length (structure_block (events_of root))) (length (strings_block (events_of root)))
+  header = text_header (text_of_tree cpu reservations root ++ rest) cpu (length (reservation_block reservations))
+      (length (structure_block (events_of root))) (length (strings_block (events_of root)))
       parts.cells (reserved-aligned reservations)
       (omega (arith, length-text_of_tree cpu reservations root, length-append (text_of_tree cpu reservations root) rest));
   is_cpu = parts.cells.is_cpu;
   reserved = record { are_reservations = is.are_reservations; trailing = parts.trailing; is_at = parts.is_reserved };
-  holds = holds_tree (text_of_tree cpu reservations root ++ rest) cpu reservations root parts (says_tree cpu reservations root is short) is.is_tree;
+  holds = holds_tree (text_of_tree cpu reservations root ++ rest) cpu reservations root parts
+      (says_tree cpu reservations root is short) is.is_tree;
 }
   where
     parts : HasParts (text_of_tree cpu reservations root ++ rest) cpu (reservation_block reservations) (structure_block (events_of root))
@@ -117,8 +127,10 @@ text_is_blob cpu reservations root rest is short bytes = record {
   same_tree = properties_of-tree reservations root;
   same_depth = depth-tree reservations root;
   only = λ other_cpu other_reservations other_root other.
-      one_blob (text_of_tree cpu reservations root ++ rest) cpu other_cpu reservations other_reservations (tree_with_places reservations root) other_root (text_blob cpu reservations root rest is short bytes) other;
-  is_total = (tree_text_has_parts cpu reservations root rest is.cpu_fits short).cells.is_total ∙ sym (length-text_of_tree cpu reservations root);
+      one_blob (text_of_tree cpu reservations root ++ rest) cpu other_cpu reservations other_reservations
+      (tree_with_places reservations root) other_root (text_blob cpu reservations root rest is short bytes) other;
+  is_total = (tree_text_has_parts cpu reservations root rest is.cpu_fits short).cells.is_total
+      ∙ sym (length-text_of_tree cpu reservations root);
 }
 
 -- The length of each text is that of the layout.

@@ -5,7 +5,9 @@ use Rattle.bi_blob.specs.Tokens.{Token, End, token_bytes, begin_node_number, end
 use Rattle.bi_blob.specs.Tree.{Root, Property}
 use Rattle.bi_blob.specs.Events.{Event, NodeStart, NodeProperty, NodeEnd, events_of}
 use Rattle.bi_blob.specs.Blob.{Reservation, pair_bytes, end_pair, reservation_block, blob_magic}
-use Rattle.bi_blob.specs.Layout.{used_names, distinct_names, strings_of, offset_in, padding_to_4, encoding, token_of, structure_block, strings_block, length_before_padding, blob_header, text_of_blocks, text_of_events, text_of_tree, AreEventBytes, IsContent}
+use Rattle.bi_blob.specs.Layout.{used_names, distinct_names, strings_of, offset_in, padding_to_4, encoding, token_of, structure_block}
+use Rattle.bi_blob.specs.Layout.{strings_block, length_before_padding, blob_header, text_of_blocks, text_of_events, text_of_tree}
+use Rattle.bi_blob.specs.Layout.{AreEventBytes, IsContent}
 use Rattle.bi_base.proofs.ByteLists.{AreBytes-none, AreBytes-append, AreBytes-zeros, AreBytes-cell, AreBytes-cell8, AreBytes-flat_map}
 use Rattle.bi_base.proofs.ListMembers.{each-append, each-filter}
 
@@ -14,7 +16,8 @@ use Rattle.bi_base.proofs.ListMembers.{each-append, each-filter}
 -- The header is.
 pub AreBytes-header : (cpu reserved structure strings : ℕ) → AreBytes (blob_header cpu reserved structure strings)
 AreBytes-header cpu reserved structure strings =
-    then blob_magic (then (up4 (length_before_padding reserved structure strings)) (then (40 + reserved) (then (40 + reserved + structure) (then 40
+    then blob_magic (then (up4 (length_before_padding reserved structure strings))
+    (then (40 + reserved) (then (40 + reserved + structure) (then 40
     (then 17 (then 16 (then cpu (then strings (AreBytes-cell structure)))))))))
   where
     then : {trailing : List ℕ} (n : ℕ) → AreBytes trailing → AreBytes (cell n ++ trailing)
@@ -26,7 +29,8 @@ AreBytes-reservation reservation = AreBytes-append _ _ (AreBytes-cell8 reservati
 
 -- The memory reservation block is.
 pub AreBytes-reserved : (reservations : List Reservation) → AreBytes (reservation_block reservations)
-AreBytes-reserved reservations = AreBytes-append (flat_map pair_bytes reservations) (pair_bytes end_pair) (AreBytes-flat_map pair_bytes reservations (each reservations)) (AreBytes-reservation end_pair)
+AreBytes-reserved reservations = AreBytes-append (flat_map pair_bytes reservations) (pair_bytes end_pair)
+    (AreBytes-flat_map pair_bytes reservations (each reservations)) (AreBytes-reservation end_pair)
   where
     each : (reservations : List Reservation) → AllByRecursion (λ reservation. AreBytes (pair_bytes reservation)) reservations
     each [] = tt
@@ -57,7 +61,8 @@ AreBytes-structure events bytes =
     each : (names : List (List ℕ)) (events : List Event) → AllByRecursion AreEventBytes events →
         AllByRecursion (λ token. AreBytes (encoding token)) (map (token_of names) events)
     each names [] bytes = tt
-    each names (event ∷ later) bytes = (AreBytes-encoding (token_of names event) (AreBytes-token_bytes names event bytes.0), each names later bytes.1)
+    each names (event ∷ later) bytes =
+        (AreBytes-encoding (token_of names event) (AreBytes-token_bytes names event bytes.0), each names later bytes.1)
 
 -- The names that events use.
 pub AreBytes-used_names : (events : List Event) → AllByRecursion AreEventBytes events → AllByRecursion AreBytes (used_names events)
@@ -80,7 +85,8 @@ AreBytes-strings_of (name ∷ later) bytes =
 
 -- The strings block is.
 pub AreBytes-strings : (events : List Event) → AllByRecursion AreEventBytes events → AreBytes (strings_block events)
-AreBytes-strings events bytes = AreBytes-strings_of (distinct_names (used_names events)) (each-distinct_names AreBytes (used_names events) (AreBytes-used_names events bytes))
+AreBytes-strings events bytes = AreBytes-strings_of (distinct_names (used_names events))
+    (each-distinct_names AreBytes (used_names events) (AreBytes-used_names events bytes))
 
 -- A text of three blocks is, where they are.
 pub AreBytes-text_of_blocks : (cpu : ℕ) (reserved structure strings : List ℕ) → AreBytes reserved → AreBytes structure → AreBytes strings →

@@ -23,7 +23,8 @@ pub holds_bytes : (blocks : TreeBlocks) (root : Root FileNode) (holds : HoldsTre
 holds_bytes blocks root holds bytes =
     each-front TokenHasBytes holds.tokens (End ∷ [])
     (tokens_bytes (holds.tokens ++ End ∷ []) holds.structure
-    (AreBytes-left holds.structure holds.trailing (subst AreBytes holds.is_at (AreBytes-slice blocks.file blocks.begin (blocks.end - blocks.begin) bytes)))
+    (AreBytes-left holds.structure holds.trailing
+    (subst AreBytes holds.is_at (AreBytes-slice blocks.file blocks.begin (blocks.end - blocks.begin) bytes)))
     holds.is_encoded)
 
 -- What a file has as a blob is content.
@@ -41,12 +42,15 @@ blob_has_content file cpu reservations root blob = record {
 -- Contents with one text are the same.
 pub text_has_one_content : TextHasOneContent
 text_has_one_content cpu other_cpu reservations other_reservations root other_root is other_is short same =
-    let one = one_blob (text_of_tree cpu reservations root ++ []) cpu other_cpu reservations other_reservations (tree_with_places reservations root) (tree_with_places other_reservations other_root)
+    let one = one_blob (text_of_tree cpu reservations root ++ []) cpu other_cpu reservations other_reservations
+    (tree_with_places reservations root) (tree_with_places other_reservations other_root)
     (text_blob cpu reservations root [] is short AreBytes-none)
     (subst (λ text. IsBlob (text ++ []) other_cpu other_reservations (tree_with_places other_reservations other_root)) (sym same)
-    (text_blob other_cpu other_reservations other_root [] other_is (subst (λ text. length text ≤ longest_text) same short) AreBytes-none)) in
+    (text_blob other_cpu other_reservations other_root [] other_is
+    (subst (λ text. length text ≤ longest_text) same short) AreBytes-none)) in
     record {
       same_cpu = one.same_cpu;
       same_reservations = one.same_reservations;
-      same_root = sym (properties_of-tree reservations root) ∙ ap tree_without_places one.same_root ∙ properties_of-tree other_reservations other_root;
+      same_root = sym (properties_of-tree reservations root) ∙ ap tree_without_places one.same_root
+          ∙ properties_of-tree other_reservations other_root;
     }

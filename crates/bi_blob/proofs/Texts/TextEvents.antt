@@ -64,15 +64,23 @@ offset_in-le (first ∷ others) name = where_first (bytes_eq first name) refl (o
 -- A value is no longer than its token.
 pub value-le : (name_offset : ℕ) (value : List ℕ) → length value ≤ length (encoding (Prop name_offset value))
 value-le name_offset value =
-    omega (arith, length-append (token_bytes (Prop name_offset value)) (padding_to_4 (length (token_bytes (Prop name_offset value)))), length-Prop name_offset value)
+    omega (
+      arith,
+      length-append (token_bytes (Prop name_offset value)) (padding_to_4 (length (token_bytes (Prop name_offset value)))),
+      length-Prop name_offset value,
+    )
 
 -- The tokens of events are tokens, where the blocks are short enough.
 pub are_tokens : (names : List (List ℕ)) (events : List Event) → AllByRecursion NameEndsAtZero events → length (strings_of names) < 2 ^ 32 →
     length (flat_map encoding (map (token_of names) events)) < 2 ^ 32 → AllByRecursion IsToken (map (token_of names) events)
 are_tokens names [] good strings_fit structure_fits = tt
 are_tokens names (event ∷ later) good strings_fit structure_fits = (
-  where_event event good.0 (omega (arith, length-append (encoding (token_of names event)) (flat_map encoding (map (token_of names) later)))),
-  are_tokens names later good.1 strings_fit (omega (arith, length-append (encoding (token_of names event)) (flat_map encoding (map (token_of names) later)))),
+  where_event event good.0 (omega (
+    arith,
+    length-append (encoding (token_of names event)) (flat_map encoding (map (token_of names) later)),
+  )),
+  are_tokens names later good.1 strings_fit
+      (omega (arith, length-append (encoding (token_of names event)) (flat_map encoding (map (token_of names) later)))),
 )
   where
     where_event : (event : Event) → NameEndsAtZero event → length (encoding (token_of names event)) < 2 ^ 32 →

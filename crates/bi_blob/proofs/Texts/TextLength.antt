@@ -21,7 +21,14 @@ pub length-text_of_blocks : (cpu : ℕ) (reserved structure strings : List ℕ) 
 unfolding text_of_blocks
 length-text_of_blocks cpu reserved structure strings =
     length-append (blob_header cpu (length reserved) (length structure) (length strings)) (reserved ++ (structure ++ (strings ++ fill)))
-    ∙ (omega (arith, length-blob_header cpu (length reserved) (length structure) (length strings), length-append reserved (structure ++ (strings ++ fill)), length-append structure (strings ++ fill), length-append strings fill, length-padding_to_4 (length_before_padding (length reserved) (length structure) (length strings))))
+    ∙ (omega (
+      arith,
+      length-blob_header cpu (length reserved) (length structure) (length strings),
+      length-append reserved (structure ++ (strings ++ fill)),
+      length-append structure (strings ++ fill),
+      length-append strings fill,
+      length-padding_to_4 (length_before_padding (length reserved) (length structure) (length strings)),
+    ))
   where
     fill : List ℕ
     fill = padding_to_4 (length_before_padding (length reserved) (length structure) (length strings))
@@ -32,7 +39,8 @@ pub length-text_of_tree : (cpu : ℕ) (reservations : List Reservation) (root : 
     ≡ up4 (length_before_padding (length (reservation_block reservations)) (length (structure_block (events_of root)))
     (length (strings_block (events_of root))))
 unfolding text_of_events
-length-text_of_tree cpu reservations root = length-text_of_blocks cpu (reservation_block reservations) (structure_block (events_of root)) (strings_block (events_of root))
+length-text_of_tree cpu reservations root = length-text_of_blocks cpu (reservation_block reservations) (structure_block (events_of root))
+    (strings_block (events_of root))
 
 -- A number is at most the multiple of four that it is padded to.
 pub up4-le : (n : ℕ) → n ≤ up4 n

@@ -15,7 +15,8 @@ length-padding_to_4 n = simp (length-replicate) (omega arith)
 
 -- A token takes its width.
 pub length-encoding : (token : Token) → length (encoding token) ≡ width token
-length-encoding token = length-append (token_bytes token) (padding_to_4 (length (token_bytes token))) ∙ length-padding_to_4 (length (token_bytes token))
+length-encoding token = length-append (token_bytes token) (padding_to_4 (length (token_bytes token)))
+    ∙ length-padding_to_4 (length (token_bytes token))
 
 -- A token with zeros as its padding is an encoding.
 pub is_padded_encoding : (token : Token) → IsToken token → IsEncoding token (encoding token)
@@ -30,8 +31,10 @@ is_padded_encoding token is = record {
 pub is_encoded : (tokens : List Token) → AllByRecursion IsToken tokens → AreEncodings tokens (flat_map encoding tokens)
 is_encoded [] each = refl
 is_encoded (token ∷ later) each = (
-  subst (IsEncoding token) (sym (take_at (encoding token) (flat_map encoding later) (width token) (length-encoding token))) (is_padded_encoding token each.0),
-  subst (AreEncodings later) (sym (drop_at (encoding token) (flat_map encoding later) (width token) (length-encoding token))) (is_encoded later each.1),
+  subst (IsEncoding token) (sym (take_at (encoding token) (flat_map encoding later) (width token) (length-encoding token)))
+      (is_padded_encoding token each.0),
+  subst (AreEncodings later) (sym
+      (drop_at (encoding token) (flat_map encoding later) (width token) (length-encoding token))) (is_encoded later each.1),
 )
 
 -- The token of an event has the event's width, wherever its name is.

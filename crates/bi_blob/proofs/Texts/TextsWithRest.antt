@@ -33,14 +33,18 @@ texts_agree cpu other_cpu reservations other_reservations root other_root rest o
 
 -- They have the same content.
 pub text_with_rest_has_one_content : TextWithRestHasOneContent
-text_with_rest_has_one_content cpu other_cpu reservations other_reservations root other_root rest other_rest is other_is short other_short same =
-    let both = texts_agree cpu other_cpu reservations other_reservations root other_root rest other_rest is.cpu_fits other_is.cpu_fits short other_short same in
+text_with_rest_has_one_content cpu other_cpu reservations other_reservations root other_root rest other_rest is
+    other_is short other_short same =
+    let both = texts_agree cpu other_cpu reservations other_reservations root other_root rest other_rest is.cpu_fits
+    other_is.cpu_fits short other_short same in
     (text_has_one_content cpu other_cpu reservations other_reservations root other_root is other_is short both.0, both.1)
 
--- Normal texts, with their rests, are the same exactly where their contents and rests are.
+-- Normal texts, with their rests, are the same if and only if their contents and rests are.
 pub normal_text_with_rest_tells_content : NormalTextWithRestTellsContent
-normal_text_with_rest_tells_content cpu other_cpu reservations other_reservations root other_root text other_text rest other_rest is other_is normal other_normal short other_short =
-    let tells = normal_text_tells_content cpu other_cpu reservations other_reservations root other_root text other_text is other_is normal other_normal short in (
+normal_text_with_rest_tells_content cpu other_cpu reservations other_reservations root other_root text other_text rest other_rest is
+    other_is normal other_normal short other_short =
+    let tells = normal_text_tells_content cpu other_cpu reservations other_reservations root other_root text other_text is other_is
+    normal other_normal short in (
       (λ same.
           let both = texts_agree cpu other_cpu reservations other_reservations root other_root rest other_rest is.cpu_fits other_is.cpu_fits
           (subst (λ text. length text ≤ longest_text) normal.is_text short)

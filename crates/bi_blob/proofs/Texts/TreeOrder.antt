@@ -44,9 +44,11 @@ AreEventBytes-in_byte_order (node name properties children later) bytes =
     let inner = each-front AreEventBytes (events children) (NodeEnd ∷ events later) below in
     let outer = each-back AreEventBytes (events children) (NodeEnd ∷ events later) below in (
       bytes.0,
-      each-append AreEventBytes (map NodeProperty (entries (from_entries {R = slice_cmp nat_cmp} properties))) (events (nodes_in_order children) ++ (NodeEnd ∷ events (nodes_in_order later)))
+      each-append AreEventBytes (map NodeProperty (entries (from_entries {R = slice_cmp nat_cmp} properties)))
+          (events (nodes_in_order children) ++ (NodeEnd ∷ events (nodes_in_order later)))
           (each-map AreEventBytes NodeProperty (entries (from_entries {R = slice_cmp nat_cmp} properties))
-          (each-in_byte_order (λ property. AreEventBytes (NodeProperty property)) properties (each-map_back AreEventBytes NodeProperty properties own)))
+          (each-in_byte_order (λ property. AreEventBytes (NodeProperty property)) properties
+          (each-map_back AreEventBytes NodeProperty properties own)))
           (each-append AreEventBytes (events (nodes_in_order children)) (NodeEnd ∷ events (nodes_in_order later))
           (AreEventBytes-in_byte_order children inner)
           (tt, AreEventBytes-in_byte_order later outer.1)),
@@ -55,7 +57,8 @@ AreEventBytes-in_byte_order (node name properties children later) bytes =
 -- They are as deep.
 pub depth-in_byte_order : (nodes : Nodes (List Property)) → depth (nodes_in_order nodes) ≡ depth nodes
 depth-in_byte_order nodes =
-    sym (depth-with_each (from_entries {R = slice_cmp nat_cmp}) nodes ∙ depth-with_each entries (with_each (from_entries {R = slice_cmp nat_cmp}) nodes))
+    sym (depth-with_each (from_entries {R = slice_cmp nat_cmp}) nodes
+    ∙ depth-with_each entries (with_each (from_entries {R = slice_cmp nat_cmp}) nodes))
 
 -- Content may be laid out in normal order.
 pub may_be_ordered : ContentMayBeOrdered

@@ -23,7 +23,7 @@ pub(super) fn digest_payloads(
     Ok(digests)
 }
 
-/// Returns the SHA-256 of these bytes.
+/// Returns the SHA-256 of the given bytes.
 fn sha256(bytes: &[u8]) -> [u8; 32]
     ensures { result ≡ digest_of Sha256 bytes.now }
 {

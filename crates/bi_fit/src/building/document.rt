@@ -1,7 +1,7 @@
 //! The document of a tree to be built.
 //!
-//! Each function that adds to a document fails if memory runs out. It is not specified what the
-//! document has then.
+//! Each function that adds to a document fails if memory runs out. What the document then has is
+//! not specified.
 
 ghost use Rattle.std.specs.Prelude.{◌≡◌, OnOk, IfOk};
 ghost use Rattle.bi_blob.specs.Events.{events};
@@ -45,8 +45,8 @@ pub(super) struct BuiltParts<'a> {
     pub(super) lists: &'a KeyLists,
 }
 
-/// Returns the document of a tree to be built in a form, however long its text is. It borrows
-/// names, payloads and digests, and copies none. It fails if memory runs out.
+/// Returns the document of a tree to be built in a form, however long its text is. The document
+/// borrows names, payloads and digests, and copies none. Fails if memory runs out.
 pub(super) fn build_doc<'a>(
     alloc: Global,
     parts: BuiltParts<'a>,

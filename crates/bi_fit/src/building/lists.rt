@@ -10,8 +10,8 @@ use crate::building::NamedImage;
 use crate::key::Key;
 use std::alloc::{AllocError, Global};
 
-/// The names of images to be built that each key of the configuration lists, each followed by a
-/// zero.
+/// The names of the images that each key of the configuration of a tree to be built lists, each
+/// followed by a zero.
 #[derive(Drop)]
 pub(super) struct KeyLists {
     pub(super) kernel: Vec<u8>,

@@ -9,7 +9,7 @@ ghost use Rattle.bi_fit.specs.BuiltNames.{built_names as built_names_of};
 use crate::property_names::{ChangedNumbers, PropertyNames};
 use std::alloc::{AllocError, Global};
 
-/// Returns the names of the properties of a tree to be built. It fails if memory runs out.
+/// Returns the names of the properties of a tree to be built. Fails if memory runs out.
 pub(super) fn built_names<'a>(alloc: Global) -> Result<PropertyNames<'a>, AllocError>
     ensures { IfOk result (λ names. names ≡ built_names_of) }
 {
@@ -48,7 +48,7 @@ pub(super) fn built_names<'a>(alloc: Global) -> Result<PropertyNames<'a>, AllocE
     Ok(PropertyNames::new(Vec::from_array(alloc, names)?, ranks))
 }
 
-/// Returns the index of a name, which is one of these.
+/// Returns the index of a name among these names. Requires: it is one of them.
 pub(super) fn index_of(names: &[&[u8]], name: &[u8]) -> usize
     requires { IsTrue (is_among name.now (bytes_of names.now)) }
     ensures { IsNumberOf (bytes_of names.now) name.now result }

@@ -7,8 +7,8 @@ use crate::building::NamedImage;
 use crate::image::{Image, Place};
 use std::alloc::{AllocError, Global};
 
-/// Returns images with the names and the payloads of these, in their order. They are in no file, so
-/// the place of each is `Absent`, and nothing reads it.
+/// Returns images with the names and the payloads of these, in their order. They are not in a file,
+/// so the place of each is `Absent`, and nothing reads it.
 pub(super) fn images_of<'a>(
     alloc: Global,
     images: &[NamedImage<'a>],

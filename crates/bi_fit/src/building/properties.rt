@@ -99,7 +99,7 @@ pub(super) fn default_properties<'a, 'b>(
     Ok(properties)
 }
 
-/// Returns the properties of the configuration, which has these lists.
+/// Returns the properties of the configuration with these lists.
 pub(super) fn configuration_properties<'a, 'b>(
     alloc: Global,
     names: &'b PropertyNames<'a>,
@@ -147,8 +147,8 @@ pub(super) fn sha256_properties<'a, 'b>(
     Ok(properties)
 }
 
-/// Adds a property, or gives the property of this name another value. The name is one of those of a
-/// tree to be built.
+/// Adds a property, or sets the value of the property with the given name. The name is one of those
+/// of a tree to be built.
 fn insert<'a>(
     properties: &mut PropertyMap<'a, '_>,
     name: &[u8],
@@ -180,7 +180,7 @@ fn insert_cell<'a>(
     }
 }
 
-/// Adds the property of a key that lists names, if it lists one at least.
+/// Adds the property of a key that lists names, if it lists at least one.
 fn insert_list<'a>(
     properties: &mut PropertyMap<'a, '_>,
     key: Key,

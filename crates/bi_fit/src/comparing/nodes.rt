@@ -11,7 +11,7 @@ use crate::comparing::properties::have_same_properties;
 use crate::comparing::role::Role;
 use bi_fdt::NodeRef;
 
-/// Returns whether two nodes of this role are the same, with all nodes below them: they have the
+/// Returns whether two nodes with this role are the same, with all nodes below them: they have the
 /// same name, the same properties by name and the same children in the same order.
 #[cycle(same)]
 pub(super) fn are_same_nodes(

@@ -12,21 +12,21 @@ ghost use Rattle.bi_fit.specs.CommonNumbers.{HaveNumbersAfter};
 use bi_fdt::{Blob, PropertyOrder, keys_at};
 use std::alloc::{AllocError, Global};
 
-/// The properties of each node of two blobs, in the order of the numbers of their names by one list
+/// The properties of each node of two blobs, in the order of the numbers of their names in one list
 /// of names.
 #[derive(Drop)]
 pub(super) struct Orders {
-    /// Those of the first blob.
+    /// The properties of the first blob.
     pub(super) own: PropertyOrder,
-    /// Those of the second one.
+    /// The properties of the second blob.
     pub(super) other: PropertyOrder,
 }
 
 impl Orders {
     ghost use Rattle.bi_fit.specs.ComparedNodes.{HaveOneOrder};
 
-    /// Returns the order of the properties of two blobs. It takes n log n comparisons of numbers
-    /// for n properties. Fails if memory runs out.
+    /// Returns the order of the properties of two blobs. Takes n log n comparisons of numbers for n
+    /// properties. Fails if memory runs out.
     pub(super) fn new<'a>(
         alloc: Global,
         own: &Blob<'a>,
@@ -37,7 +37,7 @@ impl Orders {
             → HaveOneOrder node other_node orders) }
     {
         let found = other.names_in_terms_of(alloc, own)?;
-        // The call gives the proof that these names are distinct too.
+        // The call tells the proof that these names are distinct too.
         let _ = other.names();
         let numbers = common_numbers(alloc, own.names(), &found)?;
         let keys = own.name_numbers(alloc)?;
@@ -49,9 +49,9 @@ impl Orders {
     }
 }
 
-/// Returns the numbers of other names by a list that begins with these names. `found` has the
-/// numbers of the other names among these, and None for a name that is not among these. Fails if
-/// memory runs out.
+/// Returns the numbers of other names in a list that begins with these names. `found` has the
+/// number of each of the other names among these, or None if it is not among these. Fails if memory
+/// runs out.
 fn common_numbers(
     alloc: Global,
     names: &[&[u8]],

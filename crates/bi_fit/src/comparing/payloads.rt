@@ -13,9 +13,9 @@ use std::alloc::{AllocError, Global};
 
 /// Returns whether the images of two trees have the same payloads, or none, in the same order.
 ///
-/// It takes time n log n in the number of images, and time linear in the bytes of the first file
-/// for each distance between the offsets of two payloads. So regions that many images share are
-/// compared once, if they are equally far apart in both files.
+/// Takes time n log n in the number of images, and time linear in the bytes of the first file for
+/// each distance between the offsets of two payloads. So regions that many images share are
+/// compared once, if the distance is the same for all of them.
 pub(super) fn have_same_payloads(
     alloc: Global,
     fit: &Fit<'_>,
@@ -36,9 +36,9 @@ pub(super) fn have_same_payloads(
     Ok(have_same_bytes(file, other_file, &pairs))
 }
 
-/// Returns the pairs of the payloads of these images, which are in these files. Returns None if not
-/// as many images are in both, or if two payloads differ in length, or if only one of them is
-/// there.
+/// Returns the pairs of the payloads of these images, which are in these files. Returns None if the
+/// files have different numbers of images, if two payloads differ in length, or if only one of two
+/// payloads is there.
 fn pair_payloads(
     alloc: Global,
     file: &[u8],

@@ -9,10 +9,10 @@ use crate::comparing::orders::Orders;
 use crate::comparing::role::Role;
 use bi_fdt::{NodeRef, OrderedProperties};
 
-/// Returns whether two nodes of this role have the same properties by name, without those that are
-/// not compared.
+/// Returns whether two nodes with this role have the same properties by name, without those that
+/// are not compared.
 ///
-/// It takes time linear in the number of the properties. Each value is compared once at most.
+/// Takes time linear in the number of properties. Each value is compared at most once.
 pub(super) fn have_same_properties(
     own: NodeRef<'_, '_>,
     other: NodeRef<'_, '_>,
@@ -38,8 +38,8 @@ pub(super) fn have_same_properties(
     next_value(&mut others, role).is_none()
 }
 
-/// Takes properties up to the first that is compared in a node of this role, and returns its value
-/// after its key. Returns None if and only if there is none.
+/// Takes properties up to the first one that is compared in a node with this role, and returns its
+/// value after its key. Returns None if there is no such property.
 fn next_value<'a>(
     properties: &mut OrderedProperties<'a, '_, '_>,
     role: Role,

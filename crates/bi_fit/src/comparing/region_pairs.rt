@@ -15,9 +15,9 @@ pub(super) struct RegionPair {
     pub(super) end: usize,
 }
 
-/// Returns whether the two regions of each of these pairs have the same bytes. Pairs of one
+/// Returns whether the two regions of each of these pairs have the same bytes. Pairs with the same
 /// distance that follow one another in the order of their offsets, as after a sort, are compared in
-/// time linear in the bytes of the file that they have, also if they share bytes.
+/// time linear in the bytes of the file that they cover, even if they share bytes.
 pub(super) fn have_same_bytes(file: &[u8], other: &[u8], pairs: &[RegionPair]) -> bool
     requires small { length other.now + length file.now < 2 ^ 64 }
     requires within { AllByRecursion (AreInFiles file.now other.now) pairs.now }
@@ -37,9 +37,9 @@ pub(super) fn have_same_bytes(file: &[u8], other: &[u8], pairs: &[RegionPair]) -
     true
 }
 
-/// Compares the two regions of a pair, but for bytes that are in another pair, whose regions have
-/// the same bytes. Returns a pair whose regions have the same bytes, or None if those of this pair
-/// have not.
+/// Compares the two regions of a pair, except for bytes that are in the pair `compared`. The
+/// regions of `compared` have the same bytes. Returns a pair of regions with the same bytes, or
+/// None if the regions of this pair differ.
 fn compare_pair(
     file: &[u8],
     other: &[u8],

@@ -19,7 +19,7 @@ pub(super) enum Role {
 }
 
 impl Role {
-    /// Returns the role of the children of a node that has this role and this name.
+    /// Returns the role of the children of a node with this role and the given name.
     pub(super) fn below(self, name: &[u8]) -> Role
         ensures { result ≡ role_below self name.now }
     {
@@ -30,8 +30,8 @@ impl Role {
         }
     }
 
-    /// Returns whether properties of this name are compared in a node of this role. In image nodes,
-    /// the four that hold a payload or name its region are not.
+    /// Returns whether properties with the given name are compared in a node with this role. In
+    /// image nodes, the four properties that hold a payload or name its region are not compared.
     pub(super) fn compares(self, name: &[u8]) -> bool
         ensures { result ≡ is_compared self name.now }
     {

@@ -1,7 +1,7 @@
 //! Adding the hash nodes of an image to a document.
 //!
-//! Each function that adds to a document fails if memory runs out. It is not specified what the
-//! document has then.
+//! Each function that adds to a document fails if memory runs out. What the document then has is
+//! not specified.
 
 ghost use Rattle.std.specs.Prelude.{◌≡◌, OnOk, IfOk};
 ghost use Rattle.bi_blob.specs.Tree.{EachOwn};
@@ -52,8 +52,8 @@ pub(super) fn add_children_with_digests<'a>(
 }
 
 /// Adds a child of an image node, with all nodes below it. If the image is hashed, and this is a
-/// hash node of a known algorithm, its value is the first of these digests. Returns the bytes after
-/// it.
+/// hash node with a known algorithm, its value is the first of these digests. Returns the bytes
+/// after it.
 fn add_child_with_digest<'a>(
     alloc: Global,
     doc: &mut Doc<'a>,

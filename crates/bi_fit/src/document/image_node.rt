@@ -32,7 +32,7 @@ pub(crate) struct ImageNode<'a, 'b> {
 /// The children of an image node that a document gets.
 #[derive(Clone, Copy)]
 pub(crate) enum ImageChildren<'a, 'b> {
-    /// Those of a node of a file.
+    /// The children of a node of a file.
     OfNode(NodeChildren<'a, 'b>),
     /// One hash node, `hash-1`, with these properties.
     Hash(&'b PropertyMap<'a, 'b>),
@@ -52,11 +52,10 @@ pub(crate) struct NodeChildren<'a, 'b> {
 }
 
 /// Adds an image node, with all nodes below it, as a child of the innermost open node. Its payload
-/// follows those of the area, and the node has the properties that give it. Returns the digests
-/// that are left after those of its hash nodes, which are none if the hash node is given.
+/// follows those of the area, and the node has the properties that give the payload. Returns the
+/// digests after those of its hash nodes, or no digests if the hash node is given.
 ///
-/// It fails if memory runs out. It is not specified what the document has then. The area has the
-/// payload.
+/// Fails if memory runs out. What the document then has is not specified. The area has the payload.
 pub(crate) fn add_image_node<'a>(
     alloc: Global,
     doc: &mut Doc<'a>,
@@ -86,8 +85,8 @@ pub(crate) fn add_image_node<'a>(
     Ok(left)
 }
 
-/// Adds the children of an image node, with all nodes below them. Returns the digests that are left
-/// after those of the hash nodes. It fails if memory runs out.
+/// Adds the children of an image node, with all nodes below them. Returns the digests after those
+/// of the hash nodes. Fails if memory runs out.
 fn add_image_children<'a>(
     alloc: Global,
     doc: &mut Doc<'a>,

@@ -1,7 +1,7 @@
 //! Adding the image nodes of a file to a document.
 //!
-//! Each function that adds to a document fails if memory runs out. It is not specified what the
-//! document has then.
+//! Each function that adds to a document fails if memory runs out. What the document then has is
+//! not specified.
 
 ghost use Rattle.std.specs.Prelude.{◌≡◌, OnOk};
 ghost use Rattle.std.specs.Option.{option_map};

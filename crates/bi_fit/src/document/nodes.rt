@@ -1,7 +1,7 @@
 //! Adding nodes to a document.
 //!
-//! Each function that adds to a document fails if memory runs out. It is not specified what the
-//! document has then.
+//! Each function that adds to a document fails if memory runs out. What the document then has is
+//! not specified.
 
 ghost use Rattle.std.specs.Prelude.{◌≡◌, OnOk};
 ghost use Rattle.bi_blob.specs.Tree.{EachOwn};
@@ -37,12 +37,12 @@ pub(super) fn begin_node<'a>(
     begin_with(doc, node.name(), &properties)
 }
 
-/// Begins a node of this name, as a child of the innermost open node or as the root, and adds these
-/// properties to it, in byte order of their names.
+/// Begins a node with the given name, as a child of the innermost open node or as the root, and
+/// adds the given properties to it, in byte order of their names.
 ///
-/// It may only be called if the names of the document are those of the properties, and these events
-/// may come next in the document: `Doc::may_begin` is true of the name, and the name of each
-/// property has a byte and no zero.
+/// Requires: the names of the document are those of the properties, and these events may come next
+/// in the document. That is, `Doc::may_begin` is true for the name, and the name of each property
+/// is not empty and has no zero.
 pub(crate) fn begin_with<'a>(
     doc: &mut Doc<'a>,
     name: &'a [u8],
@@ -57,8 +57,8 @@ pub(crate) fn begin_with<'a>(
     properties.add_to(doc)
 }
 
-/// Adds a node of this name with these properties and no children, as a child of the innermost open
-/// node.
+/// Adds a node with the given name, the given properties and no children, as a child of the
+/// innermost open node.
 pub(crate) fn add_leaf<'a>(
     doc: &mut Doc<'a>,
     name: &'a [u8],

@@ -30,11 +30,11 @@ use bi_lay::{Doc, Value};
 use std::alloc::{AllocError, Global};
 use std::marker::Model;
 
-/// The properties of a node, by name. Names and values are borrowed and not copied.
+/// The properties of a node, by name. Names and values are borrowed, not copied.
 #[derive(Drop)]
 pub(crate) struct PropertyMap<'a, 'b> {
     names: &'b PropertyNames<'a>,
-    // The rank of each name among the names, and the value. The ranks ascend.
+    // The rank of each name among the names, and the value, in ascending order of ranks.
     entries: Vec<(usize, Value<'a>)>,
 }
 
@@ -53,12 +53,11 @@ impl<'a, 'b> Model for PropertyMap<'a, 'b> {
 }
 
 impl<'a, 'b> PropertyMap<'a, 'b> {
-    /// Returns a map without properties, which may get properties of these names. It allocates
-    /// nothing.
+    /// Returns an empty map for properties with these names. Allocates nothing.
     pub(crate) fn new(alloc: Global, names: &'b PropertyNames<'a>) -> PropertyMap<'a, 'b>
         ensures { result ≡ among names.entry.now empty }
     {
-        // The call gives the proof that the names are in byte order.
+        // The call tells the proof that the names are in byte order.
         let _ = names.ranks();
         PropertyMap {
             names,
@@ -66,8 +65,8 @@ impl<'a, 'b> PropertyMap<'a, 'b> {
         }
     }
 
-    /// Returns the properties of a node of the blob that the order is of. Compares no names. It
-    /// fails if memory runs out.
+    /// Returns the properties of a node of the blob that the order is of. Compares no names. Fails
+    /// if memory runs out.
     pub(super) fn from_node(
         alloc: Global,
         node: NodeRef<'a, '_>,
@@ -93,10 +92,10 @@ impl<'a, 'b> PropertyMap<'a, 'b> {
         self.names
     }
 
-    /// Adds a property, or gives the property of this name another value. The name is given by its
+    /// Adds a property, or sets the value of the property with this name. The name is given by its
     /// rank. Compares the rank with those before it.
     ///
-    /// It fails if memory runs out. It is not specified which properties the map has then.
+    /// Fails if memory runs out. Which properties the map then has is not specified.
     pub(crate) fn insert(&mut self, rank: usize, value: Value<'a>) -> Result<(), AllocError>
         requires { (name : List ℕ) × IsNumberOf self.old.names name rank }
         ensures inserted { (name : List ℕ) → IsNumberOf self.old.names name rank → OnOk result
@@ -112,13 +111,13 @@ impl<'a, 'b> PropertyMap<'a, 'b> {
         Ok(())
     }
 
-    /// Gives an image node this payload in place of any other, or none: removes `data`,
+    /// Gives an image node this payload instead of any other, or none. Removes `data`,
     /// `data-offset`, `data-position` and `data-size`, and adds the properties of the payload. In
     /// the form Embedded, that is `data`, which has its bytes. In the form External, these are
     /// `data-offset`, which is `begin`, and `data-size`; the payload has fewer than 2^32 bytes.
     /// `begin` is the offset of an external payload in bytes from the end of the blob.
     ///
-    /// It fails if memory runs out. It is not specified which properties the map has then.
+    /// Fails if memory runs out. Which properties the map then has is not specified.
     pub(super) fn set_payload(
         &mut self,
         form: Form,
@@ -145,10 +144,10 @@ impl<'a, 'b> PropertyMap<'a, 'b> {
         }
     }
 
-    /// Gives a root this time of creation, if there is one: the property `timestamp` has it as its
-    /// value.
+    /// Sets the time of creation of a root, if a time is given: the value of the property
+    /// `timestamp`.
     ///
-    /// It fails if memory runs out. It is not specified which properties the map has then.
+    /// Fails if memory runs out. Which properties the map then has is not specified.
     pub(super) fn set_time(&mut self, time: Option<u32>) -> Result<(), AllocError>
         ensures set { OnOk result (self.new.by_name ≡ with_time time self.old.by_name) }
         ensures same_names { OnOk result (self.new.names ≡ self.old.names) }
@@ -160,10 +159,10 @@ impl<'a, 'b> PropertyMap<'a, 'b> {
         Ok(())
     }
 
-    /// Gives a hash node the first of these digests as its value, if there is an algorithm. Returns
-    /// the bytes after it.
+    /// Sets the value of a hash node to the first of these digests, if there is an algorithm.
+    /// Returns the bytes after that digest.
     ///
-    /// It fails if memory runs out. It is not specified which properties the map has then.
+    /// Fails if memory runs out. Which properties the map then has is not specified.
     pub(super) fn set_digest(
         &mut self,
         algo: Option<Algo>,
@@ -194,12 +193,11 @@ impl<'a, 'b> PropertyMap<'a, 'b> {
 
     /// Adds the properties to the innermost open node, in byte order of their names.
     ///
-    /// It may only be called if the names of the document are those of the map, and these events
-    /// may come next in the document: for each property in turn, `Doc::may_property` is true of its
-    /// name after those before it were added.
+    /// Requires: the names of the document are those of the map, and these events may come next in
+    /// the document. That is, for each property in turn, `Doc::may_property` is true for its name
+    /// once the properties before it are added.
     ///
-    /// It fails if memory runs out. It is not specified which of the properties the document has
-    /// then.
+    /// Fails if memory runs out. Which of the properties the document then has is not specified.
     pub(super) fn add_to(&self, doc: &mut Doc<'a>) -> Result<(), AllocError>
         requires names { doc.old.names ≡ self.now.names }
         requires may { MayAdd doc.old (map NodeProperty (entries self.now.by_name)) }
@@ -213,7 +211,7 @@ impl<'a, 'b> PropertyMap<'a, 'b> {
     }
 }
 
-/// Returns these properties, each by the rank that is its key. `count` is their number. It fails if
+/// Returns these properties, each by the rank that is its key. `count` is their number. Fails if
 /// memory runs out.
 fn entries_of<'a>(
     alloc: Global,
@@ -229,19 +227,20 @@ fn entries_of<'a>(
     Ok(entries)
 }
 
-/// Adds a property to the innermost open node. The name is given by its rank. It fails if memory
-/// runs out.
+/// Adds a property to the innermost open node. The name is given by its rank. Fails if memory runs
+/// out.
 fn add_entry<'a>(doc: &mut Doc<'a>, entry: (usize, Value<'a>)) -> Result<(), AllocError>
     requires { let name = name_numbered doc.old.names entry.0 in
         MayHaveNextProperty name (stage_of_events doc.old.events) }
     ensures { let name = name_numbered doc.old.names entry.entry.0 in
-        OnOk result (doc.new ≡ with_event doc.old (NodeProperty (name, value_bytes entry.entry.1))) }
+        OnOk result (doc.new
+        ≡ with_event doc.old (NodeProperty (name, value_bytes entry.entry.1))) }
 {
     only_memory(doc.property_numbered(entry.0, entry.1))
 }
 
-/// Returns the index of the first of these entries, whose ranks ascend, whose rank is not less than
-/// this one. Returns their number if there is none.
+/// Returns the index of the first entry with a rank that is not less than the given rank. Returns
+/// the number of entries if there is none. The entries are in ascending order of ranks.
 fn find_index(entries: &[(usize, Value<'_>)], rank: usize) -> usize
     ensures { result ≡ index_of_rank entries.now rank }
 {
@@ -253,7 +252,7 @@ fn find_index(entries: &[(usize, Value<'_>)], rank: usize) -> usize
     entries.len()
 }
 
-/// Returns whether there is an entry at this index, and it has this rank.
+/// Returns whether there is an entry at the given index, and it has the given rank.
 fn has_rank_at(entries: &[(usize, Value<'_>)], index: usize, rank: usize) -> bool
     ensures { result ≡ is_entry_ranked (slice_get entries.now index) rank }
 {

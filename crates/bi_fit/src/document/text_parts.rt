@@ -1,16 +1,16 @@
-//! What a normal text is made of besides the nodes of its file.
+//! What a normal text is made of, in addition to the nodes of its file.
 
 use crate::changes::Changes;
 use crate::form::Form;
 use crate::image::Image;
 use crate::name_order::NameOrder;
 
-/// What a normal text is made of besides the nodes of its file.
+/// What a normal text is made of, in addition to the nodes of its file.
 #[derive(Clone, Copy)]
 pub(super) struct TextParts<'a, 'b> {
     /// The order of the names of the file's properties.
     pub(super) order: &'b NameOrder<'a>,
-    /// The images, which have the payloads of the image nodes.
+    /// The images, with the payloads of the image nodes.
     pub(super) images: &'b [Image<'a>],
     /// The position of the node `images` among the children of the root, counted from 0.
     pub(super) images_position: usize,

@@ -1,7 +1,7 @@
 //! Adding the tree of the normal text to a document.
 //!
-//! Each function that adds to a document fails if memory runs out. It is not specified what the
-//! document has then.
+//! Each function that adds to a document fails if memory runs out. What the document then has is
+//! not specified.
 
 ghost use Rattle.std.specs.Prelude.{◌≡◌, bytes_eq, Some, OnOk};
 ghost use Rattle.bi_blob.specs.Tree.{EachOwn};
@@ -22,7 +22,7 @@ use bi_lay::Doc;
 use std::alloc::{AllocError, Global};
 
 /// Adds the tree with this root, with the changes of the parts. If the digests change, the hash
-/// nodes get those of the parts.
+/// nodes get the digests of the parts.
 pub(super) fn add_tree<'a>(
     alloc: Global,
     doc: &mut Doc<'a>,
@@ -72,7 +72,7 @@ fn add_root_children<'a>(
     Ok(())
 }
 
-/// Returns the count less one. Returns None exactly if it is 0 or there is none.
+/// Returns the count minus one. Returns None if it is 0 or there is none.
 fn after_one(count: Option<usize>) -> Option<usize>
     ensures { result ≡ one_fewer count }
 {

@@ -23,8 +23,8 @@ pub(super) struct CodeNames {
     pub(super) compression: &'static str,
 }
 
-/// Returns the images of a legacy image that can be converted, in the order of its parts. Its codes
-/// have these names.
+/// Returns the images of a legacy image that can be converted, in the order of its parts. `names`
+/// are the names of its codes.
 pub(super) fn images_of<'a>(
     alloc: Global,
     image: &Legacy<'a>,
@@ -102,7 +102,7 @@ fn image_name(key: Key) -> &'static [u8]
     }
 }
 
-/// Returns whether an image of this key keeps the load address and the entry point.
+/// Returns whether an image with this key keeps the load address and the entry point.
 fn has_addresses(key: Key) -> bool
     ensures { result ≡ keeps_addresses key }
 {

@@ -23,10 +23,10 @@ use bi_legacy::codes::{IH_TYPE_MULTI, arch_name, compression_name, os_name, type
 use std::alloc::Global;
 use std::collections::BTreeSet;
 
-/// Makes all checks of what is to be built but the last: that the text is within the limit. Returns
-/// the images with the names of their codes.
+/// Makes all checks of what is to be built, except the last: that the text is within the limit.
+/// Returns the images with the names of their codes.
 ///
-/// Takes time n log n in the number n of images.
+/// Takes n log n time for n images.
 pub(super) fn check<'a>(
     alloc: Global,
     head: Head<'_>,
@@ -60,8 +60,8 @@ fn check_description(description: &[u8]) -> Result<(), Fault>
     Ok(())
 }
 
-/// Makes the checks of images, of each in turn, and returns the images with the names of their
-/// codes. OutOfMemory comes only after those of the first image that look at no other.
+/// Makes the checks of each image in turn, and returns the images with the names of their codes.
+/// OutOfMemory occurs only after those checks of the first image that look at no other image.
 fn check_images<'a>(alloc: Global, images: &[ImageSpec<'a>]) -> Result<Vec<NamedImage<'a>>, Error>
     requires { length images.now < 2 ^ 32 }
     ensures passed { OnOk result (AllPass (spec_checks 0 [] images.now)) }
@@ -84,8 +84,8 @@ fn check_images<'a>(alloc: Global, images: &[ImageSpec<'a>]) -> Result<Vec<Named
 }
 
 /// Makes the checks of an image that look at no other image, and returns it with the names of its
-/// codes. Fails with BadField at its index, if its name is none of a node or its type is multi,
-/// else with NoCodeName, if one of its codes has no name.
+/// codes. Fails with BadField at its index if a node may not have its name or its type is multi, or
+/// else with NoCodeName if one of its codes has no name.
 fn check_image<'a>(image: &ImageSpec<'a>, index: u32) -> Result<NamedImage<'a>, Fault>
     ensures passed { OnOk result (AllPass (fields_and_names index image.now)) }
     ensures bytes { OnOk result (HasBytes image.now) }
@@ -103,7 +103,7 @@ fn check_image<'a>(image: &ImageSpec<'a>, index: u32) -> Result<NamedImage<'a>, 
     Ok(named)
 }
 
-/// Returns an image with the names of its codes. Returns None exactly if one of them has no name.
+/// Returns an image with the names of its codes. Returns None if one of them has no name.
 fn name_codes<'a>(image: &ImageSpec<'a>) -> Option<NamedImage<'a>>
     ensures { MatchOption result (¬ (HasNames image.now))
         (λ named. HasNames image.now × (named_model named ≡ spec_model image.now)) }

@@ -11,7 +11,8 @@ use Rattle.bi_c.proofs.CallAnswers.{not_so, is_so, byte_is_flag, clean_by_length
 use Rattle.bi_c.proofs.check.bootimg_check.Goals as goal
 
 pub returns-in_default : goal.returns-in_default
-returns-in_default c = FilledNothing WrongArgument (λ valid. not_so _ c.in_default.ensures.in_range valid.limits) refl c.fail.ensures.answer c.fail.ensures.status
+returns-in_default c = FilledNothing WrongArgument
+    (λ valid. not_so _ c.in_default.ensures.in_range valid.limits) refl c.fail.ensures.answer c.fail.ensures.status
 
 pub returns-in_default-allowed_of : goal.returns-in_default-allowed_of
 returns-in_default-allowed_of c =
@@ -25,8 +26,10 @@ returns-in-Ok c =
     let checked : IsChecked (allowed_of c.args.kinds) limits file c.as_bytes.result.now =
     subst (λ (l : List ℕ). IsChecked (allowed_of c.args.kinds) limits file l) (sym c.as_bytes.ensures.value)
     (subst (λ (a : Allowed). IsChecked a limits file (string_bytes c.in-Ok.text)) c.in-Some-allowed_of.ensures.value
-    (subst (λ (l : Limits). IsChecked c.in-Some-allowed_of.allowed l file (string_bytes c.in-Ok.text)) c.in-Some.ensures.value c.in-Ok.ensures.checked)) in
-    let is_empty = clean_by_length c.as_bytes.result.now (string_len c.in-Ok.text) c.is_empty.result c.as_bytes.ensures.len c.is_empty.ensures in
+    (subst (λ (l : Limits). IsChecked c.in-Some-allowed_of.allowed l file (string_bytes c.in-Ok.text))
+    c.in-Some.ensures.value c.in-Ok.ensures.checked)) in
+    let is_empty = clean_by_length c.as_bytes.result.now
+    (string_len c.in-Ok.text) c.is_empty.result c.as_bytes.ensures.len c.is_empty.ensures in
     buffer_is_filled _ _ c.as_bytes.result.now _ _ c.from.result _ _
     (record {
       arguments = record { limits = is_so _ c.in-Some.ensures.in_range; are_kinds = is_so _ c.in-Some-allowed_of.ensures.in_range };
@@ -38,8 +41,13 @@ returns-in-Ok c =
 pub returns-in-Err : goal.returns-in-Err
 returns-in-Err c =
     let file = c.args.file.now in
-    let valid : HasKinds c.args.limit c.args.depth c.args.kinds = record { limits = is_so _ c.in-Some.ensures.in_range; are_kinds = is_so _ c.in-Some-allowed_of.ensures.in_range } in
+    let valid : HasKinds c.args.limit c.args.depth c.args.kinds = record {
+      limits = is_so _ c.in-Some.ensures.in_range;
+      are_kinds = is_so _ c.in-Some-allowed_of.ensures.in_range;
+    } in
     FilledNothing c.failure_of.result
-    (failed_by (HasKinds c.args.limit c.args.depth c.args.kinds) (IsCheckError (bounds c.args.limit c.args.depth) file) c.in-Err.error c.failure_of.result valid c.failure_of.ensures (λ is. is) (λ is. is)
+    (failed_by (HasKinds c.args.limit c.args.depth c.args.kinds)
+    (IsCheckError (bounds c.args.limit c.args.depth) file) c.in-Err.error c.failure_of.result valid
+    c.failure_of.ensures (λ is. is) (λ is. is)
     (subst (λ (l : Limits). IsCheckError l file c.in-Err.error) c.in-Some.ensures.value c.in-Err.ensures.failed))
     refl c.fail-in-Err.ensures.answer c.fail-in-Err.ensures.status

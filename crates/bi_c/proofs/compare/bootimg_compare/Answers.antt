@@ -13,12 +13,17 @@ pub returns-in-Ok : goal.returns-in-Ok
 returns-in-Ok c =
     let in_range : IsInRange c.args.limit c.args.depth = is_so _ c.in-Some.ensures.in_range in
     buffer_is_filled _ _ c.as_bytes.result.now _ _ c.from.result _ _
-    (text_with_flag_of_call c.args.limit c.args.depth (λ limits same text. IsComparison limits c.args.one.now c.args.other.now same text) c.in-Some.limits c.in-Ok.compared.same (string_bytes c.in-Ok.compared.differences) c.as_bytes.result.now c.from.result in_range c.in-Some.ensures.value c.as_bytes.ensures.value c.from.ensures c.in-Ok.ensures.compared)
+    (text_with_flag_of_call c.args.limit c.args.depth
+    (λ limits same text. IsComparison limits c.args.one.now c.args.other.now same text) c.in-Some.limits c.in-Ok.compared.same
+    (string_bytes c.in-Ok.compared.differences) c.as_bytes.result.now c.from.result in_range c.in-Some.ensures.value
+    c.as_bytes.ensures.value c.from.ensures c.in-Ok.ensures.compared)
     c.fill.ensures.answer c.fill.ensures.filled
 
 pub returns-in-Err : goal.returns-in-Err
 returns-in-Err c =
     let in_range : IsInRange c.args.limit c.args.depth = is_so _ c.in-Some.ensures.in_range in
     FilledNothing c.failure_of_two.result
-    (failed_of_two c.args.limit c.args.depth (λ limits. IsComparisonError limits c.args.one.now c.args.other.now) c.in-Some.limits c.in-Err.error c.failure_of_two.result in_range c.in-Some.ensures.value c.failure_of_two.ensures c.in-Err.ensures.failed)
+    (failed_of_two c.args.limit c.args.depth
+    (λ limits. IsComparisonError limits c.args.one.now c.args.other.now) c.in-Some.limits c.in-Err.error c.failure_of_two.result in_range
+    c.in-Some.ensures.value c.failure_of_two.ensures c.in-Err.ensures.failed)
     refl c.fail-in-Err.ensures.answer c.fail-in-Err.ensures.status

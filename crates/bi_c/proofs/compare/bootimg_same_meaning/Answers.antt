@@ -17,12 +17,15 @@ returns-in-Ok c =
       nothing = refl;
       same = c.in-Ok.same;
       number = subst (λ (n : ℕ). c.from.result ≡ n) (byte_is_flag c.in-Ok.same) c.from.ensures;
-      compared = subst (λ (l : Limits). AreCompared l c.args.one.now c.args.other.now c.in-Ok.same) c.in-Some.ensures.value c.in-Ok.ensures.compared;
+      compared = subst (λ (l : Limits). AreCompared l c.args.one.now c.args.other.now c.in-Ok.same)
+          c.in-Some.ensures.value c.in-Ok.ensures.compared;
     }) c.succeed.ensures.answer c.succeed.ensures.status
 
 pub returns-in-Err : goal.returns-in-Err
 returns-in-Err c =
     let in_range : IsInRange c.args.limit c.args.depth = is_so _ c.in-Some.ensures.in_range in
     Failed c.failure_of_two.result
-    (failed_of_two c.args.limit c.args.depth (λ limits. IsReadingError limits c.args.one.now c.args.other.now) c.in-Some.limits c.in-Err.error c.failure_of_two.result in_range c.in-Some.ensures.value c.failure_of_two.ensures c.in-Err.ensures.failed)
+    (failed_of_two c.args.limit c.args.depth
+    (λ limits. IsReadingError limits c.args.one.now c.args.other.now) c.in-Some.limits c.in-Err.error c.failure_of_two.result in_range
+    c.in-Some.ensures.value c.failure_of_two.ensures c.in-Err.ensures.failed)
     c.fail-in-Err.ensures.answer c.fail-in-Err.ensures.status

@@ -9,7 +9,8 @@ use Rattle.bi_c.proofs.ExtractedFiles.{extract_answers}
 use Rattle.bi_c.proofs.extract.bootimg_extract_default.Goals as goal
 
 pub returns-in_default : goal.returns-in_default
-returns-in_default c = Failed WrongArgument (λ valid. not_so _ c.in_default.ensures.in_range valid.limits) c.fail.ensures.answer c.fail.ensures.status
+returns-in_default c = Failed WrongArgument
+    (λ valid. not_so _ c.in_default.ensures.in_range valid.limits) c.fail.ensures.answer c.fail.ensures.status
 
 pub returns-in_default-key_of : goal.returns-in_default-key_of
 returns-in_default-key_of c =

@@ -13,5 +13,6 @@ returns-in_default c = Failed WrongArgument (not_so _ c.in_default.ensures.in_ra
 
 pub returns : goal.returns
 returns c =
-    extract_answers (IsInRange c.args.limit c.args.depth) c.in-Some.limits (bounds c.args.limit c.args.depth) (Part c.args.index) (Part c.args.index) c.args.file.now _ _
+    extract_answers (IsInRange c.args.limit c.args.depth) c.in-Some.limits (bounds c.args.limit c.args.depth) (Part c.args.index)
+    (Part c.args.index) c.args.file.now _ _
     (is_so _ c.in-Some.ensures.in_range) c.in-Some.ensures.value refl c.extract.ensures

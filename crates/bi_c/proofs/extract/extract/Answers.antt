@@ -8,5 +8,6 @@ returns-in-Ok c = Returned c.in-Ok.region.size c.in-Ok.region.offset c.in-Ok.ens
 pub returns-in-Err : goal.returns-in-Err
 returns-in-Err c =
     Failed c.failure_of_extraction.result
-    (select_failure c.args.select c.args.limits c.args.file.now c.in-Err.error c.failure_of_extraction.result c.failure_of_extraction.ensures c.in-Err.ensures.failed)
+    (select_failure c.args.select c.args.limits c.args.file.now c.in-Err.error c.failure_of_extraction.result
+    c.failure_of_extraction.ensures c.in-Err.ensures.failed)
     c.fail.ensures.answer c.fail.ensures.status

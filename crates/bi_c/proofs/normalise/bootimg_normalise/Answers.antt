@@ -10,7 +10,8 @@ use Rattle.bi_c.proofs.NormalisedFiles.{normalised_as, not_normalised}
 use Rattle.bi_c.proofs.normalise.bootimg_normalise.Goals as goal
 
 pub returns-in_default : goal.returns-in_default
-returns-in_default c = FilledNothing WrongArgument (λ valid. not_so _ c.in_default.ensures.in_range valid.limits) refl c.fail.ensures.answer c.fail.ensures.status
+returns-in_default c = FilledNothing WrongArgument
+    (λ valid. not_so _ c.in_default.ensures.in_range valid.limits) refl c.fail.ensures.answer c.fail.ensures.status
 
 pub returns-in_default-form_of : goal.returns-in_default-form_of
 returns-in_default-form_of c =
@@ -23,20 +24,30 @@ normalise_legacy-requires c = subst (IsReadBootImage c.in-Some.limits c.args.fil
 pub returns-in-Ok-Legacy : goal.returns-in-Ok-Legacy
 returns-in-Ok-Legacy c =
     let file = c.args.file.now in
-    let valid : HasForm c.args.limit c.args.depth c.args.form = record { limits = is_so _ c.in-Some.ensures.in_range; is_form = is_so _ c.in-Some-form_of.ensures.in_range } in
+    let valid : HasForm c.args.limit c.args.depth c.args.form = record {
+      limits = is_so _ c.in-Some.ensures.in_range;
+      is_form = is_so _ c.in-Some-form_of.ensures.in_range;
+    } in
     fills_as _ _ _ _ _ _ _ _
-    (normalised_as c.args.limit c.args.depth c.args.form c.in-Some.limits c.in-Some-form_of.kind file valid c.in-Some.ensures.value c.in-Some-form_of.ensures.value)
-    (not_normalised c.args.limit c.args.depth c.args.form c.in-Some.limits c.in-Some-form_of.kind file valid c.in-Some.ensures.value c.in-Some-form_of.ensures.value)
+    (normalised_as c.args.limit c.args.depth c.args.form c.in-Some.limits c.in-Some-form_of.kind file valid c.in-Some.ensures.value
+    c.in-Some-form_of.ensures.value)
+    (not_normalised c.args.limit c.args.depth c.args.form c.in-Some.limits c.in-Some-form_of.kind file valid c.in-Some.ensures.value
+    c.in-Some-form_of.ensures.value)
     (c.normalise_legacy.ensures c.in-Some-form_of.kind)
 
 pub returns-in-Ok-Fit : goal.returns-in-Ok-Fit
 returns-in-Ok-Fit c =
     let file = c.args.file.now in
     let opened = subst (IsReadBootImage c.in-Some.limits file) c.in-Ok-Fit.field-0-is c.in-Ok-Fit.ensures.read in
-    let valid : HasForm c.args.limit c.args.depth c.args.form = record { limits = is_so _ c.in-Some.ensures.in_range; is_form = is_so _ c.in-Some-form_of.ensures.in_range } in
+    let valid : HasForm c.args.limit c.args.depth c.args.form = record {
+      limits = is_so _ c.in-Some.ensures.in_range;
+      is_form = is_so _ c.in-Some-form_of.ensures.in_range;
+    } in
     fills_as _ _ _ _ _ _ _ _
-    (normalised_as c.args.limit c.args.depth c.args.form c.in-Some.limits c.in-Some-form_of.kind file valid c.in-Some.ensures.value c.in-Some-form_of.ensures.value)
-    (not_normalised c.args.limit c.args.depth c.args.form c.in-Some.limits c.in-Some-form_of.kind file valid c.in-Some.ensures.value c.in-Some-form_of.ensures.value)
+    (normalised_as c.args.limit c.args.depth c.args.form c.in-Some.limits c.in-Some-form_of.kind file valid c.in-Some.ensures.value
+    c.in-Some-form_of.ensures.value)
+    (not_normalised c.args.limit c.args.depth c.args.form c.in-Some.limits c.in-Some-form_of.kind file valid c.in-Some.ensures.value
+    c.in-Some-form_of.ensures.value)
     (c.normalise_fit.ensures file opened)
 
 pub returns-in-Err : goal.returns-in-Err
@@ -44,9 +55,13 @@ returns-in-Err c =
     let file = c.args.file.now in
     let limits = c.in-Some.limits in
     let form = c.in-Some-form_of.kind in
-    let valid : HasForm c.args.limit c.args.depth c.args.form = record { limits = is_so _ c.in-Some.ensures.in_range; is_form = is_so _ c.in-Some-form_of.ensures.in_range } in
+    let valid : HasForm c.args.limit c.args.depth c.args.form = record {
+      limits = is_so _ c.in-Some.ensures.in_range;
+      is_form = is_so _ c.in-Some-form_of.ensures.in_range;
+    } in
     FilledNothing c.failure_of.result
-    (not_normalised c.args.limit c.args.depth c.args.form limits form file valid c.in-Some.ensures.value c.in-Some-form_of.ensures.value c.failure_of.result (record {
+    (not_normalised c.args.limit c.args.depth c.args.form limits form file valid c.in-Some.ensures.value
+    c.in-Some-form_of.ensures.value c.failure_of.result (record {
       cause = c.in-Err.error;
       is_failure = c.failure_of.ensures;
       is_error = normalise_error_of_reading limits form file c.in-Err.error c.in-Err.ensures.failed;

@@ -13,9 +13,11 @@ returns c form =
     let parsed = c.args.image.now in
     let is = legacy_normalised limits form file parsed c.requires in
     fills_as _ _ _ _ _ _ _ _
-    (λ text value just. subst (λ (n : ℕ). IsNormaliseOutput limits form n file text) (sym just.is_number) (subst (IsNormaliseOutput limits form 0 file) (sym just.is_text) is))
+    (λ text value just. subst (λ (n : ℕ). IsNormaliseOutput limits form n file text) (sym just.is_number)
+    (subst (IsNormaliseOutput limits form 0 file) (sym just.is_text) is))
     (λ failure same. record {
       cause = error.OutOfMemory;
       is_failure = same;
-      is_error = normal_form_needs_memory limits form file (legacy_text parsed.image) (legacy_normal_form limits form file parsed c.requires);
+      is_error = normal_form_needs_memory limits form file (legacy_text parsed.image)
+          (legacy_normal_form limits form file parsed c.requires);
     }) c.write_legacy.ensures

@@ -13,7 +13,8 @@ use Rattle.bi_c.proofs.regions.find.Goals as goal
 
 pub find_payload-requires : goal.find_payload-requires
 find_payload-requires c =
-    let read : IsReadFit c.args.limits c.args.file.now c.in-Fit.fit = subst (IsReadBootImage c.args.limits c.args.file.now) c.in-Fit.is c.in_ok-image.ensures.read in
+    let read : IsReadFit c.args.limits c.args.file.now c.in-Fit.fit = subst
+    (IsReadBootImage c.args.limits c.args.file.now) c.in-Fit.is c.in_ok-image.ensures.read in
     record { held = read.held; placed = are_placed c.in-Fit.fit read.held }
 
 pub returns-in-Legacy-clause-found : goal.returns-in-Legacy-clause-found
@@ -25,7 +26,8 @@ returns-in-Legacy-clause-found c =
 pub returns-in-Legacy-clause-failed : goal.returns-in-Legacy-clause-failed
 returns-in-Legacy-clause-failed c =
     let opened = subst (IsReadBootImage c.args.limits c.args.file.now) c.in-Legacy.is c.in_ok-image.ensures.read in
-    refused_of_file c.args.select c.args.limits c.args.file.now (OfLegacy c.in-Legacy.image.image) c.find_part.result opened.means c.find_part.ensures.failed
+    refused_of_file c.args.select c.args.limits c.args.file.now
+    (OfLegacy c.in-Legacy.image.image) c.find_part.result opened.means c.find_part.ensures.failed
 
 pub returns-in-Fit-clause-found : goal.returns-in-Fit-clause-found
 returns-in-Fit-clause-found c =
@@ -33,12 +35,14 @@ returns-in-Fit-clause-found c =
     let content = c.in-Fit.fit in
     let read : IsReadFit c.args.limits file content = subst (IsReadBootImage c.args.limits file) c.in-Fit.is c.in_ok-image.ensures.read in
     found_in_file c.args.select c.args.limits file (OfFit (tree_of content)) c.find_payload.result read.means
-    (subst (λ (f : List ℕ). IfOk c.find_payload.result (λ region. IsChosenAt f (choice_of c.args.select (OfFit (tree_of content))) region.size region.offset))
+    (subst (λ (f : List ℕ). IfOk c.find_payload.result
+    (λ region. IsChosenAt f (choice_of c.args.select (OfFit (tree_of content))) region.size region.offset))
     read.is_file c.find_payload.ensures.found)
     (payload_offset_in_file c.args.select c.args.limits file content c.find_payload.result read c.find_payload.ensures.offset)
 
 pub returns-in-Fit-clause-failed : goal.returns-in-Fit-clause-failed
 returns-in-Fit-clause-failed c =
-    let read : IsReadFit c.args.limits c.args.file.now c.in-Fit.fit = subst (IsReadBootImage c.args.limits c.args.file.now) c.in-Fit.is c.in_ok-image.ensures.read in
+    let read : IsReadFit c.args.limits c.args.file.now c.in-Fit.fit = subst
+    (IsReadBootImage c.args.limits c.args.file.now) c.in-Fit.is c.in_ok-image.ensures.read in
     failed_of_file c.args.select c.args.limits c.args.file.now (OfFit (tree_of c.in-Fit.fit)) c.find_payload.result read.means
     (tree_needs_memory c.args.limits c.args.file.now c.in-Fit.fit read) c.find_payload.ensures.failed

@@ -11,22 +11,29 @@ pub returns-clause-found : goal.returns-clause-found
 returns-clause-found c =
     let items = c.in_ok-listed.listed.items in
     let named = c.in_ok-named.named in
-    let found = listed_entry_read items c.deref.result.now c.args.index c.get.result named c.deref.ensures.value c.get.ensures.lookup.3 c.in_ok-named.ensures.value in
-    let same = entry_by_name (tree_of c.args.fit.now) c.args.name.now c.args.key c.args.index (map listed_image items) (listed_image named.now) c.in_ok-listed.ensures.listed found in
-    subst (λ (choice : Choice). IfOk c.find_by_name.result (λ region. IsChosenAt c.args.fit.now.blob.file choice region.size region.offset)) (sym same) c.find_by_name.ensures.found
+    let found = listed_entry_read items c.deref.result.now c.args.index c.get.result named c.deref.ensures.value c.get.ensures.lookup.3
+    c.in_ok-named.ensures.value in
+    let same = entry_by_name (tree_of c.args.fit.now) c.args.name.now c.args.key c.args.index (map listed_image items)
+    (listed_image named.now) c.in_ok-listed.ensures.listed found in
+    subst (λ (choice : Choice). IfOk c.find_by_name.result (λ region. IsChosenAt c.args.fit.now.blob.file choice region.size region.offset))
+    (sym same) c.find_by_name.ensures.found
 
 pub returns-clause-failed : goal.returns-clause-failed
 returns-clause-failed c =
     let items = c.in_ok-listed.listed.items in
     let named = c.in_ok-named.named in
-    let found = listed_entry_read items c.deref.result.now c.args.index c.get.result named c.deref.ensures.value c.get.ensures.lookup.3 c.in_ok-named.ensures.value in
-    let same = entry_by_name (tree_of c.args.fit.now) c.args.name.now c.args.key c.args.index (map listed_image items) (listed_image named.now) c.in_ok-listed.ensures.listed found in
+    let found = listed_entry_read items c.deref.result.now c.args.index c.get.result named c.deref.ensures.value c.get.ensures.lookup.3
+    c.in_ok-named.ensures.value in
+    let same = entry_by_name (tree_of c.args.fit.now) c.args.name.now c.args.key c.args.index (map listed_image items)
+    (listed_image named.now) c.in_ok-listed.ensures.listed found in
     reason_of_entry c.find_by_name.result _ _ same c.find_by_name.ensures.failed
 
 pub returns-clause-offset : goal.returns-clause-offset
 returns-clause-offset c =
     let items = c.in_ok-listed.listed.items in
     let named = c.in_ok-named.named in
-    let found = listed_entry_read items c.deref.result.now c.args.index c.get.result named c.deref.ensures.value c.get.ensures.lookup.3 c.in_ok-named.ensures.value in
-    listed_offset c.args.fit.now c.args.name.now c.args.key c.args.index (map listed_image items) (listed_image named.now) c.find_by_name.result
+    let found = listed_entry_read items c.deref.result.now c.args.index c.get.result named c.deref.ensures.value c.get.ensures.lookup.3
+    c.in_ok-named.ensures.value in
+    listed_offset c.args.fit.now c.args.name.now c.args.key c.args.index (map listed_image items)
+    (listed_image named.now) c.find_by_name.result
     c.in_ok-listed.ensures.listed found c.find_by_name.ensures.offset

@@ -10,12 +10,15 @@ returns-in_default-clause-failed c =
 
 pub returns-clause-found : goal.returns-clause-found
 returns-clause-found c =
-    rw (c.ok_or.ensures.value) (named_payload_found c.args.fit.now c.args.name.now c.in-Some.index c.payload_at.result c.requires.held c.in-Some.ensures c.payload_at.ensures.found)
+    rw (c.ok_or.ensures.value) (named_payload_found c.args.fit.now c.args.name.now c.in-Some.index c.payload_at.result c.requires.held
+    c.in-Some.ensures c.payload_at.ensures.found)
 
 pub returns-clause-failed : goal.returns-clause-failed
 returns-clause-failed c =
-    rw (c.ok_or.ensures.value) (name_without_payload c.args.fit.now c.args.name.now c.in-Some.index c.payload_at.result c.requires.held c.in-Some.ensures c.payload_at.ensures.found)
+    rw (c.ok_or.ensures.value) (name_without_payload c.args.fit.now c.args.name.now c.in-Some.index c.payload_at.result c.requires.held
+    c.in-Some.ensures c.payload_at.ensures.found)
 
 pub returns-clause-offset : goal.returns-clause-offset
 returns-clause-offset c =
-    rw (c.ok_or.ensures.value) (in_ok_or _ c.payload_at.result NoPayload (named_offset c.args.fit.now c.args.name.now c.in-Some.index c.payload_at.result c.in-Some.ensures c.payload_at.ensures.offset))
+    rw (c.ok_or.ensures.value) (in_ok_or _ c.payload_at.result NoPayload
+    (named_offset c.args.fit.now c.args.name.now c.in-Some.index c.payload_at.result c.in-Some.ensures c.payload_at.ensures.offset))

@@ -9,4 +9,6 @@ returns-in-Part-clause-found c limits file parsed =
 
 pub returns-in-Part-clause-offset : goal.returns-in-Part-clause-offset
 returns-in-Part-clause-offset c limits file parsed =
-    rw (c.ok_or.ensures.value, c.in-Part.is) (in_ok_or _ c.part_at.result NoPart (part_offset limits file c.args.image.now c.in-Part.index c.part_at.result parsed c.part_at.ensures.offset))
+    rw (c.ok_or.ensures.value, c.in-Part.is)
+    (in_ok_or _ c.part_at.result NoPart
+    (part_offset limits file c.args.image.now c.in-Part.index c.part_at.result parsed c.part_at.ensures.offset))

@@ -13,12 +13,16 @@ pub returns-in-Ok : goal.returns-in-Ok
 returns-in-Ok c =
     let in_range : IsInRange c.args.limit c.args.depth = is_so _ c.in-Some.ensures.in_range in
     buffer_is_filled _ _ c.deref.result.now _ _ 0 _ _
-    (text_of_call c.args.limit c.args.depth (λ limits text. IsConvertedFile limits c.args.file.now text) c.in-Some.limits c.in-Ok.text.items c.deref.result.now in_range c.in-Some.ensures.value c.deref.ensures.value c.in-Ok.ensures.converted)
+    (text_of_call c.args.limit c.args.depth
+    (λ limits text. IsConvertedFile limits c.args.file.now text) c.in-Some.limits c.in-Ok.text.items c.deref.result.now in_range
+    c.in-Some.ensures.value c.deref.ensures.value c.in-Ok.ensures.converted)
     c.fill.ensures.answer c.fill.ensures.filled
 
 pub returns-in-Err : goal.returns-in-Err
 returns-in-Err c =
     let in_range : IsInRange c.args.limit c.args.depth = is_so _ c.in-Some.ensures.in_range in
     FilledNothing c.failure_of.result
-    (failed_of_one c.args.limit c.args.depth (λ limits error. IsConvertError limits c.args.file.now error) c.in-Some.limits c.in-Err.error c.failure_of.result in_range c.in-Some.ensures.value c.failure_of.ensures (λ l is. is) (λ l is. is) c.in-Err.ensures.failed)
+    (failed_of_one c.args.limit c.args.depth
+    (λ limits error. IsConvertError limits c.args.file.now error) c.in-Some.limits c.in-Err.error c.failure_of.result in_range
+    c.in-Some.ensures.value c.failure_of.ensures (λ l is. is) (λ l is. is) c.in-Err.ensures.failed)
     refl c.fail-in-Err.ensures.answer c.fail-in-Err.ensures.status

@@ -12,7 +12,8 @@ use Rattle.bi_c.proofs.CallAnswers.{not_so, is_so, buffer_is_filled, failed_by}
 use Rattle.bi_c.proofs.update.bootimg_update.Goals as goal
 
 pub returns-in_default : goal.returns-in_default
-returns-in_default c = FilledNothing WrongArgument (λ valid. not_so _ c.in_default.ensures.in_range valid.limits) refl c.fail.ensures.answer c.fail.ensures.status
+returns-in_default c = FilledNothing WrongArgument
+    (λ valid. not_so _ c.in_default.ensures.in_range valid.limits) refl c.fail.ensures.answer c.fail.ensures.status
 
 pub returns-in_default-form_of : goal.returns-in_default-form_of
 returns-in_default-form_of c =
@@ -31,12 +32,14 @@ returns-in-Ok c =
     let file = c.args.file.now in
     let count = c.in-Ok.count in
     let appended = c.in-Ok.ensures.appended in
-    let same : c.deref.result.now ≡ appended.text = c.deref.ensures.value ∙ c.into_vec.ensures ∙ appended.appended ∙ ap (λ (l : List ℕ). l ++ appended.text) c.new-sink.ensures in
+    let same : c.deref.result.now ≡ appended.text = c.deref.ensures.value ∙ c.into_vec.ensures ∙ appended.appended
+    ∙ ap (λ (l : List ℕ). l ++ appended.text) c.new-sink.ensures in
     let updated : IsUpdateOutput (changes_of c.args.changes c.args.time) limits form count file c.deref.result.now =
     subst (λ (text : List ℕ). IsUpdateOutput (changes_of c.args.changes c.args.time) limits form count file text) (sym same)
     (subst (λ (changes : Changes). IsUpdateOutput changes limits form count file appended.text) c.in-Some-changes_of.ensures.value
     (subst (λ (f : Form). IsUpdateOutput c.in-Some-changes_of.wanted limits f count file appended.text) c.in-Some-form_of.ensures.value
-    (subst (λ (l : Limits). IsUpdateOutput c.in-Some-changes_of.wanted l c.in-Some-form_of.kind count file appended.text) c.in-Some.ensures.value appended.is_text))) in
+    (subst (λ (l : Limits). IsUpdateOutput c.in-Some-changes_of.wanted l c.in-Some-form_of.kind count file appended.text)
+    c.in-Some.ensures.value appended.is_text))) in
     buffer_is_filled _ _ c.deref.result.now _ _ count _ _
     (record {
       arguments = record {
@@ -60,12 +63,14 @@ returns-in-Err c =
       are_changes = is_so _ c.in-Some-changes_of.ensures.in_range;
     } in
     let is_error : IsUpdateError changes limits form file error =
-    error_in_memory _ (IsUpdated changes limits form file) (IsUpdateError changes limits form file) _ _ error (λ text failed. failed.1) (updated_needs_memory changes limits form file) c.in-Err.ensures.failed in
+    error_in_memory _ (IsUpdated changes limits form file) (IsUpdateError changes limits form file) _ _ error (λ text failed. failed.1)
+    (updated_needs_memory changes limits form file) c.in-Err.ensures.failed in
     FilledNothing c.failure_of.result
     (failed_by (HasChanges c.args.limit c.args.depth c.args.form c.args.changes)
     (IsUpdateError (changes_of c.args.changes c.args.time) (bounds c.args.limit c.args.depth) (form_of c.args.form) file)
     error c.failure_of.result valid c.failure_of.ensures (λ is. is) (λ is. is)
-    (subst (λ (other : Changes). IsUpdateError other (bounds c.args.limit c.args.depth) (form_of c.args.form) file error) c.in-Some-changes_of.ensures.value
+    (subst (λ (other : Changes). IsUpdateError other (bounds c.args.limit c.args.depth) (form_of c.args.form) file error)
+    c.in-Some-changes_of.ensures.value
     (subst (λ (f : Form). IsUpdateError changes (bounds c.args.limit c.args.depth) f file error) c.in-Some-form_of.ensures.value
     (subst (λ (l : Limits). IsUpdateError changes l form file error) c.in-Some.ensures.value is_error))))
     refl c.fail-in-Err.ensures.answer c.fail-in-Err.ensures.status

@@ -13,6 +13,7 @@ loop-index-preserved c =
       | else-end-index w ↦ w.end-is ∙ c.loop-index.invariant.2 w.if-end-index.false
     ] in (
       omega (arith, c.in_ok-push.ensures.len, c.loop-index.invariant.0),
-      ends_more c.args.bytes.now c.loop-index.ends.items c.push.new.self.items c.loop-index.index c.if-end-index.end (search rules) c.loop-index.invariant.1 end c.in_ok-push.ensures.items,
+      ends_more c.args.bytes.now c.loop-index.ends.items c.push.new.self.items c.loop-index.index c.if-end-index.end
+          (search rules) c.loop-index.invariant.1 end c.in_ok-push.ensures.items,
       λ more. end ∙ sym (later_end c.args.bytes.now at (64 * (c.loop-index.index + 1)) (omega arith) (omega arith)),
     )

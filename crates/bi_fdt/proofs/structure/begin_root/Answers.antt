@@ -22,7 +22,8 @@ returns-clause-ok c =
       outer = [];
       position = subst (λ w. IsOpenAt blocks c.args.depth_limit (c.args.place + w) (OpenTree (new_node name c.args.place) [])) (sym wide)
           (past_root blocks c.args.depth_limit c.args.place name c.requires.position c.requires.number c.in_ok-name.ensures.name passes);
-      growing = c.in_ok-growing.ensures.grown c.args.blocks.file.now (name_there c.args.blocks.file.now name (c.args.place + 4) c.in_ok-name.ensures.name);
+      growing = c.in_ok-growing.ensures.grown c.args.blocks.file.now
+          (name_there c.args.blocks.file.now name (c.args.place + 4) c.in_ok-name.ensures.name);
       strings = c.in_ok-growing.ensures.strings;
       few = omega (arith, c.in_ok-growing.ensures.count);
       within = omega arith;

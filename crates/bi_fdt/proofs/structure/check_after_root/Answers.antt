@@ -8,7 +8,8 @@ use Rattle.bi_fdt.proofs.structure.check_after_root.Goals as goal
 pub returns-in_err-number-clause-fault : goal.returns-in_err-number-clause-fault
 returns-in_err-number-clause-fault c =
     fault_passed_on _ c.in_err-number.field-0.0 _ c.from_residual.ensures.1
-    (λ depth_limit root position. no_number (blocks_of c.args.blocks) depth_limit c.loop-number.place (WholeTree root) (c.loop-number.invariant.position depth_limit root position) _
+    (λ depth_limit root position. no_number (blocks_of c.args.blocks) depth_limit c.loop-number.place (WholeTree root)
+    (c.loop-number.invariant.position depth_limit root position) _
     c.in_err-number.ensures.fault.0 c.in_err-number.ensures.fault.1)
 
 pub returns-then-number-eq-END-clause-ok : goal.returns-then-number-eq-END-clause-ok
@@ -19,7 +20,8 @@ returns-then-number-eq-END-clause-ok c = λ depth_limit root position.
 pub returns-then-number-ne-NOP-clause-fault : goal.returns-then-number-ne-NOP-clause-fault
 returns-then-number-ne-NOP-clause-fault c =
     refused_with _ _ _ c.refuse.ensures
-    (λ depth_limit root position. bad_token (blocks_of c.args.blocks) depth_limit c.loop-number.place (WholeTree root) c.in_ok-number.number (c.loop-number.invariant.position depth_limit root position)
+    (λ depth_limit root position. bad_token (blocks_of c.args.blocks) depth_limit c.loop-number.place (WholeTree root) c.in_ok-number.number
+    (c.loop-number.invariant.position depth_limit root position)
     (record { within = c.in_ok-number.ensures.within; is_number = sym c.in_ok-number.ensures.number })
     (unexpected_after c.in_ok-number.number c.if-number-ne-NOP.true c.if-number-eq-END.false))
 
@@ -27,7 +29,8 @@ pub loop-number-preserved : goal.loop-number-preserved
 loop-number-preserved c =
     let within : c.loop-number.place + 4 ≤ c.args.blocks.end = c.in_ok-number.ensures.within in
     record {
-      position = λ depth_limit root position. past_nop (blocks_of c.args.blocks) depth_limit c.loop-number.place (WholeTree root) (c.loop-number.invariant.position depth_limit root position)
+      position = λ depth_limit root position. past_nop (blocks_of c.args.blocks) depth_limit c.loop-number.place (WholeTree root)
+          (c.loop-number.invariant.position depth_limit root position)
           (record { within = within; is_number = sym c.in_ok-number.ensures.number ∙ c.if-number-ne-NOP.false }) refl;
       within = omega arith;
     }

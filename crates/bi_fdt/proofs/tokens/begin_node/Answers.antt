@@ -16,7 +16,13 @@ begin_node-requires-clause-room c =
     let deep : length (outer_nodes_of r.innermost.name r.outer) ≡ length r.outer = length-outer_nodes_of r.innermost.name r.outer in
     let depth : c.depth.result ≡ length r.outer + 1 = c.depth.ensures c.args.blocks.file.now r.innermost r.outer r.growing in
     let passes = c.in_ok-name.ensures.ok (open_node_of r.innermost) (outer_nodes_of r.innermost.name r.outer) (omega arith) in
-    omega (arith, passes.0, deep, c.requires.depth, outer_count c.args.blocks.file.now c.args.reading.now.growing r.innermost r.outer r.growing)
+    omega (
+      arith,
+      passes.0,
+      deep,
+      c.requires.depth,
+      outer_count c.args.blocks.file.now c.args.reading.now.growing r.innermost r.outer r.growing,
+    )
 
 pub returns-in_err-name-clause-failed : goal.returns-in_err-name-clause-failed
 returns-in_err-name-clause-failed c =
@@ -34,9 +40,11 @@ returns-in_err-begin_node-clause-failed c =
     let blocks = blocks_of c.args.blocks in
     let deep : length (outer_nodes_of r.innermost.name r.outer) ≡ length r.outer = length-outer_nodes_of r.innermost.name r.outer in
     let depth : c.depth.result ≡ length r.outer + 1 = c.depth.ensures c.args.blocks.file.now r.innermost r.outer r.growing in
-    refusal_passed_on _ c.in_err-begin_node.field-0.0 _ _ _ c.from_residual-in_err-begin_node.ensures.1 c.in_err-begin_node.ensures.failed c.in_err-begin_node.ensures.failed
+    refusal_passed_on _ c.in_err-begin_node.field-0.0 _ _ _ c.from_residual-in_err-begin_node.ensures.1 c.in_err-begin_node.ensures.failed
+    c.in_err-begin_node.ensures.failed
     (λ fault is _.
-    duplicate_node blocks c.args.depth_limit c.args.reading.now.place r.innermost r.outer r.position c.in_ok-name.name.now fault c.requires.number c.in_ok-name.ensures.name
+    duplicate_node blocks c.args.depth_limit c.args.reading.now.place r.innermost r.outer r.position c.in_ok-name.name.now fault
+    c.requires.number c.in_ok-name.ensures.name
     (c.in_ok-name.ensures.ok (open_node_of r.innermost) (outer_nodes_of r.innermost.name r.outer) (omega arith))
     is.is_fault (is.taken c.args.blocks.file.now r.innermost r.outer r.growing))
 
@@ -58,8 +66,10 @@ returns-clause-ok c =
       record {
         innermost = new_node name place;
         outer = r.innermost ∷ r.outer;
-        position = subst (λ w. IsOpenAt blocks c.args.depth_limit (place + w) (OpenTree (new_node name place) (r.innermost ∷ r.outer))) (sym wide)
-            (after_begin blocks c.args.depth_limit place r.innermost r.outer r.position name c.requires.number c.in_ok-name.ensures.name passes
+        position = subst (λ w. IsOpenAt blocks c.args.depth_limit (place + w)
+            (OpenTree (new_node name place) (r.innermost ∷ r.outer))) (sym wide)
+            (after_begin blocks c.args.depth_limit place r.innermost r.outer r.position name c.requires.number
+            c.in_ok-name.ensures.name passes
             (begun.is_new c.args.blocks.file.now r.innermost r.outer r.growing));
         growing = begun.grown c.args.blocks.file.now r.innermost r.outer r.growing
             (name_there c.args.blocks.file.now name (place + 4) c.in_ok-name.ensures.name);

@@ -20,7 +20,8 @@ returns-in_err-after-clause-failed g c =
     let refused = c.in_err-after.ensures.fault in
     let p = err_from_is_err_and c.from_residual-in_err-after.result c.from_residual-in_err-after.ensures.1 in
     rw (p.1, p.2)
-    (WasRefused (too_long_after c.args.form tree (payloads_of list) same c.args.limits c.file.result c.file.ensures.value c.in_err-after.field-0.0 refused.0 refused.1) refl)
+    (WasRefused (too_long_after c.args.form tree
+    (payloads_of list) same c.args.limits c.file.result c.file.ensures.value c.in_err-after.field-0.0 refused.0 refused.1) refl)
 
 pub build_doc-requires-clause-within : goal.build_doc-requires-clause-within
 build_doc-requires-clause-within g c =
@@ -37,20 +38,29 @@ returns-in_err-text-clause-failed g c =
     let refused = c.in_err-text.ensures.fault in
     let p = err_from_is_err_and c.from_residual-in_err-text.result c.from_residual-in_err-text.ensures.1 in
     rw (p.1, p.2)
-    (WasRefused (too_long_text c.args.form tree (payloads_of list) same c.args.limits c.file-2.result c.file-2.ensures.value c.in_err-text.field-0.0 refused.0 c.in_ok-document.document c.in_ok-document.ensures.document refused.1) refl)
+    (WasRefused (too_long_text c.args.form tree
+    (payloads_of list) same c.args.limits c.file-2.result c.file-2.ensures.value c.in_err-text.field-0.0 refused.0 c.in_ok-document.document
+    c.in_ok-document.ensures.document refused.1) refl)
 
 pub returns-clause-appended : goal.returns-clause-appended
 returns-clause-appended g c =
     let tree = built_tree (head_model c.args.head) (named_models c.args.images.now) in
     let list = c.deref-3.result.now in
     let same = payloads_to_place list c.args.images.now (c.deref-3.ensures.value ∙ c.in_ok-placed.ensures) in
-    let is = is_text_of_tree c.args.form tree (payloads_of list) same c.args.limits c.file-2.result c.file-2.ensures.value c.in_ok-document.document c.in_ok-document.ensures.document c.in_ok-text.text c.in_ok-text.ensures.text c.in_ok-text.ensures.short in
-    wrote_of_kind g.S.Sink.appends g.S.Sink.fails (IsTextOfTree c.args.limits c.args.form tree) c.args.sink.now c.in_ok-text.text c.emit.result c.emit.new.sink is c.emit.ensures
+    let is = is_text_of_tree c.args.form tree
+    (payloads_of list) same c.args.limits c.file-2.result c.file-2.ensures.value c.in_ok-document.document c.in_ok-document.ensures.document
+    c.in_ok-text.text c.in_ok-text.ensures.text c.in_ok-text.ensures.short in
+    wrote_of_kind g.S.Sink.appends g.S.Sink.fails
+    (IsTextOfTree c.args.limits c.args.form tree) c.args.sink.now c.in_ok-text.text c.emit.result c.emit.new.sink is c.emit.ensures
 
 pub returns-clause-failed : goal.returns-clause-failed
 returns-clause-failed g c =
     let tree = built_tree (head_model c.args.head) (named_models c.args.images.now) in
     let list = c.deref-3.result.now in
     let same = payloads_to_place list c.args.images.now (c.deref-3.ensures.value ∙ c.in_ok-placed.ensures) in
-    let is = is_text_of_tree c.args.form tree (payloads_of list) same c.args.limits c.file-2.result c.file-2.ensures.value c.in_ok-document.document c.in_ok-document.ensures.document c.in_ok-text.text c.in_ok-text.ensures.text c.in_ok-text.ensures.short in
-    wrote_none_of_kind g.S.Sink.appends g.S.Sink.fails (IsTextOfTree c.args.limits c.args.form tree) (IsFaultOrNoMemory (IsTextFault c.args.limits c.args.form tree)) c.args.sink.now c.in_ok-text.text c.emit.result c.emit.new.sink is c.emit.ensures
+    let is = is_text_of_tree c.args.form tree
+    (payloads_of list) same c.args.limits c.file-2.result c.file-2.ensures.value c.in_ok-document.document c.in_ok-document.ensures.document
+    c.in_ok-text.text c.in_ok-text.ensures.text c.in_ok-text.ensures.short in
+    wrote_none_of_kind g.S.Sink.appends g.S.Sink.fails (IsTextOfTree c.args.limits c.args.form tree)
+    (IsFaultOrNoMemory (IsTextFault c.args.limits c.args.form tree)) c.args.sink.now c.in_ok-text.text c.emit.result
+    c.emit.new.sink is c.emit.ensures

@@ -8,16 +8,25 @@ use Rattle.bi_fit.proofs.document.add_reservations.Goals as goal
 
 pub reserve-requires : goal.reserve-requires
 reserve-requires c =
-    let found : slice_get (map pair_of c.args.blob.now.reservations) c.loop-index.index ≡ Some (c.in-Some.address, c.in-Some.size) = sym c.in-Some.ensures in
-    (subst (AllByRecursion IsReservation) (reservations_from c.args.blob.now.reservations c.loop-index.index (c.in-Some.address, c.in-Some.size) found) c.loop-index.invariant.valid).0.some
+    let found : slice_get (map pair_of c.args.blob.now.reservations) c.loop-index.index ≡ Some (
+      c.in-Some.address,
+      c.in-Some.size,
+    ) = sym c.in-Some.ensures in
+    (subst (AllByRecursion IsReservation)
+    (reservations_from c.args.blob.now.reservations c.loop-index.index (c.in-Some.address, c.in-Some.size) found)
+    c.loop-index.invariant.valid).0.some
 
 pub loop-index-preserved : goal.loop-index-preserved
 loop-index-preserved c =
-    let found : slice_get (map pair_of c.args.blob.now.reservations) c.loop-index.index ≡ Some (c.in-Some.address, c.in-Some.size) = sym c.in-Some.ensures in
+    let found : slice_get (map pair_of c.args.blob.now.reservations) c.loop-index.index ≡ Some (
+      c.in-Some.address,
+      c.in-Some.size,
+    ) = sym c.in-Some.ensures in
     let later = drop (suc c.loop-index.index) c.args.blob.now.reservations in
     let all = reservations_from c.args.blob.now.reservations c.loop-index.index (c.in-Some.address, c.in-Some.size) found in
     let reserved : c.reserve.new.self ≡ with_reservation c.loop-index.doc c.in-Some.address c.in-Some.size =
-    subst (λ outcome. OnOk outcome (c.reserve.new.self ≡ with_reservation c.loop-index.doc c.in-Some.address c.in-Some.size)) c.in_ok-only_memory.ensures.value c.reserve.ensures.reserved in
+    subst (λ outcome. OnOk outcome (c.reserve.new.self ≡ with_reservation c.loop-index.doc c.in-Some.address c.in-Some.size))
+    c.in_ok-only_memory.ensures.value c.reserve.ensures.reserved in
     rw add-one (record {
       added = ap (λ document. with_reservations document later) reserved
           ∙ with_reservations-cons c.loop-index.doc c.in-Some.address c.in-Some.size later

@@ -13,5 +13,6 @@ invariant-loop-node l =
     record {
       same_file : l.digests ≡ l.initial.digests;
       so_far : map checked_hash_of l.checked.items ++ file_hashes (node_of l.image).name payload (siblings_left l.node-iterator)
-          ≡ map checked_hash_of l.initial.checked.items ++ file_hashes (node_of l.image).name payload (siblings_left l.initial.node-iterator);
+          ≡ map checked_hash_of l.initial.checked.items
+          ++ file_hashes (node_of l.image).name payload (siblings_left l.initial.node-iterator);
     }

@@ -8,7 +8,8 @@ use Rattle.bi_fit.proofs.lists.find_images.Goals as goal
 pub returns-in_default-image-clause-failed : goal.returns-in_default-image-clause-failed
 returns-in_default-image-clause-failed c =
     rw c.len.ensures
-    (next_is_missing c.args.fit.now.images c.args.value.now c.loop-name.rest.now (map listed_image c.loop-name.listed.items) (vec_len c.loop-name.listed) c.loop-name.invariant
+    (next_is_missing c.args.fit.now.images c.args.value.now c.loop-name.rest.now (map listed_image c.loop-name.listed.items)
+    (vec_len c.loop-name.listed) c.loop-name.invariant
     c.in-Some.name.now c.in-Some.later.now c.in-Some.ensures (sym c.in_default-image.ensures))
 
 pub returns-in_err-push-clause-failed : goal.returns-in_err-push-clause-failed
@@ -18,9 +19,12 @@ returns-in_err-push-clause-failed c =
 pub loop-name-preserved : goal.loop-name-preserved
 loop-name-preserved c =
     rw (c.in_ok-push.ensures.items, c.in_ok-push.ensures.len, map-append)
-    (next_is_found c.args.fit.now.images c.args.value.now c.loop-name.rest.now (map listed_image c.loop-name.listed.items) (vec_len c.loop-name.listed) c.loop-name.invariant
-    c.in-Some.name.now c.in-Some.later.now c.in-Some-image.index _ c.in-Some.ensures (sym c.in-Some-image.ensures) c.payload-payload.ensures)
+    (next_is_found c.args.fit.now.images c.args.value.now c.loop-name.rest.now (map listed_image c.loop-name.listed.items)
+    (vec_len c.loop-name.listed) c.loop-name.invariant
+    c.in-Some.name.now c.in-Some.later.now c.in-Some-image.index _ c.in-Some.ensures
+    (sym c.in-Some-image.ensures) c.payload-payload.ensures)
 
 pub returns-clause-listed : goal.returns-clause-listed
 returns-clause-listed c =
-    none_is_left c.args.fit.now.images c.args.value.now c.loop-name.rest.now (map listed_image c.loop-name.listed.items) (vec_len c.loop-name.listed) c.loop-name.invariant c.in_default.ensures
+    none_is_left c.args.fit.now.images c.args.value.now c.loop-name.rest.now (map listed_image c.loop-name.listed.items)
+    (vec_len c.loop-name.listed) c.loop-name.invariant c.in_default.ensures

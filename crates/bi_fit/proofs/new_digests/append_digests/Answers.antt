@@ -12,5 +12,6 @@ returns-clause-added c =
     sym (append-nil c.loop-node.digests.items)
     ∙ ap (λ nodes. c.loop-node.digests.items ++ file_digests payload nodes) (sym c.in-None.ensures.steps.0)
     ∙ c.loop-node.invariant.so_far
-    ∙ ap (λ nodes. c.args.digests.now.items ++ file_digests payload nodes) (ap siblings_left c.into_iter-node-iterator.ensures.into_iter_gives ∙ c.children-node-items.ensures)
+    ∙ ap (λ nodes. c.args.digests.now.items ++ file_digests payload nodes)
+    (ap siblings_left c.into_iter-node-iterator.ensures.into_iter_gives ∙ c.children-node-items.ensures)
     ∙ ap (λ l. c.args.digests.now.items ++ l) (digests_are payload (node_of c.args.image).children)

@@ -21,4 +21,5 @@ returns-clause-written g c =
     let payload = c.args.payload.now in
     let same = ap (λ l. l ++ payload) (area_zeros c.args.area.now.end c.place-begin.result c.place-begin.ensures.begin) in
     subst (λ l. Wrote appends fails c.args.sink.now l c.put-2.result c.put-2.new.self) same
-    (wrote_after appends fails g.met.S.Sink.appends_in_turn g.met.S.Sink.fails_after c.args.sink.now c.put.new.self c.put-2.new.self _ payload c.put-2.result c.in_ok-put.ensures c.put-2.ensures)
+    (wrote_after appends fails g.met.S.Sink.appends_in_turn g.met.S.Sink.fails_after c.args.sink.now c.put.new.self c.put-2.new.self _
+    payload c.put-2.result c.in_ok-put.ensures c.put-2.ensures)

@@ -13,7 +13,8 @@ put_payload-requires-clause-within g c =
     let images = c.args.images.now in
     let i = c.loop-image.image-index in
     let payload = c.in-Some.payload in
-    let same = ap (λ end. up4 end + length payload.now) c.loop-image.invariant.end ∙ sym (end_with_payload images i _ payload c.loop-image-test.true c.in-Some.is) in
+    let same = ap (λ end. up4 end + length payload.now) c.loop-image.invariant.end
+    ∙ sym (end_with_payload images i _ payload c.loop-image-test.true c.in-Some.is) in
     subst (λ end. end ≤ longest_text) (sym same) (omega (arith, end_within images (i + 1), c.requires))
 
 pub returns-in_err-put_payload : goal.returns-in_err-put_payload
@@ -24,10 +25,13 @@ returns-in_err-put_payload g c =
     let payload = c.in-Some.payload in
     let error = c.in_err-put_payload.field-0.0 in
     let put = padding_to_4 c.loop-image.area.end ++ payload.now in
-    let same = ap (λ end. area_before images i ++ (padding_to_4 end ++ payload.now)) c.loop-image.invariant.end ∙ sym (area_with_payload images i _ payload c.loop-image-test.true c.in-Some.is) in
+    let same = ap (λ end. area_before images i ++ (padding_to_4 end ++ payload.now)) c.loop-image.invariant.end
+    ∙ sym (area_with_payload images i _ payload c.loop-image-test.true c.in-Some.is) in
     let all = ap (λ l. l ++ area_from images (i + 1)) same ∙ sym (area_split images (i + 1)) in
-    let failed = g.met.S.Sink.fails_before c.args.sink.now c.put_payload.new.sink (area_before images i ++ put) (area_from images (i + 1)) error
-    (g.met.S.Sink.fails_after c.args.sink.now c.loop-image.sink c.put_payload.new.sink (area_before images i) put error c.loop-image.invariant.appended c.in_err-put_payload.ensures.written) in
+    let failed = g.met.S.Sink.fails_before c.args.sink.now c.put_payload.new.sink (area_before images i ++ put)
+    (area_from images (i + 1)) error
+    (g.met.S.Sink.fails_after c.args.sink.now c.loop-image.sink c.put_payload.new.sink
+    (area_before images i) put error c.loop-image.invariant.appended c.in_err-put_payload.ensures.written) in
     passed_on g.S.Sink.appends fails c.args.sink.now _ _ c.from_residual.result c.put_payload.new.sink c.from_residual.ensures.1
     (subst (λ l. fails c.args.sink.now l c.put_payload.new.sink error) all failed)
 
@@ -39,17 +43,24 @@ loop-image-preserved g c =
     elim c.match-image.branch [
       | in-Some+in_ok-put_payload w ↦
           let payload = w.in-Some.payload in
-          let same = ap (λ end. area_before images i ++ (padding_to_4 end ++ payload.now)) c.loop-image.invariant.end ∙ sym (area_with_payload images i _ payload c.loop-image-test.true w.in-Some.is) in
-          let both = g.met.S.Sink.appends_in_turn c.args.sink.now c.loop-image.sink w.put_payload.new.sink (area_before images i) (padding_to_4 c.loop-image.area.end ++ payload.now) c.loop-image.invariant.appended w.in_ok-put_payload.ensures.written in
+          let same = ap (λ end. area_before images i ++ (padding_to_4 end ++ payload.now)) c.loop-image.invariant.end
+          ∙ sym (area_with_payload images i _ payload c.loop-image-test.true w.in-Some.is) in
+          let both = g.met.S.Sink.appends_in_turn c.args.sink.now c.loop-image.sink w.put_payload.new.sink (area_before images i)
+          (padding_to_4 c.loop-image.area.end ++ payload.now) c.loop-image.invariant.appended w.in_ok-put_payload.ensures.written in
           record {
-            appended = subst (λ sink. appends c.args.sink.now (area_before images (i + 1)) sink) (sym w.sink-is) (subst (λ l. appends c.args.sink.now l w.put_payload.new.sink) same both);
+            appended = subst (λ sink. appends c.args.sink.now (area_before images (i + 1)) sink) (sym w.sink-is)
+                (subst (λ l. appends c.args.sink.now l w.put_payload.new.sink) same both);
             external = ap (λ (area : PayloadArea). area.form) w.area-is ∙ w.in_ok-put_payload.ensures.external;
-            end = ap (λ (area : PayloadArea). area.end) w.area-is ∙ w.in_ok-put_payload.ensures.end ∙ ap (λ end. up4 end + length payload.now) c.loop-image.invariant.end ∙ sym (end_with_payload images i _ payload c.loop-image-test.true w.in-Some.is);
+            end = ap (λ (area : PayloadArea). area.end) w.area-is ∙ w.in_ok-put_payload.ensures.end
+                ∙ ap (λ end. up4 end + length payload.now) c.loop-image.invariant.end
+                ∙ sym (end_with_payload images i _ payload c.loop-image-test.true w.in-Some.is);
           }
       | in_default w ↦ record {
-        appended = subst (λ l. appends c.args.sink.now l c.match-image.sink) (sym (area_without_payload images i _ c.loop-image-test.true w.in_default.is))
+        appended = subst (λ l. appends c.args.sink.now l c.match-image.sink)
+            (sym (area_without_payload images i _ c.loop-image-test.true w.in_default.is))
             (subst (λ sink. appends c.args.sink.now (area_before images i) sink) (sym w.sink-is) c.loop-image.invariant.appended);
         external = ap (λ (area : PayloadArea). area.form) w.area-is ∙ c.loop-image.invariant.external;
-        end = ap (λ (area : PayloadArea). area.end) w.area-is ∙ c.loop-image.invariant.end ∙ sym (end_without_payload images i _ c.loop-image-test.true w.in_default.is);
+        end = ap (λ (area : PayloadArea). area.end) w.area-is ∙ c.loop-image.invariant.end
+            ∙ sym (end_without_payload images i _ c.loop-image-test.true w.in_default.is);
       }
     ]

@@ -9,7 +9,8 @@ use Rattle.bi_fit.proofs.signatures.count_children.Goals as goal
 
 pub count-requires-clause-fits : goal.count-requires-clause-fits
 count-requires-clause-fits c =
-    let left : siblings_left c.filter.result.iter ≡ siblings (node_of c.args.parent).children = ap siblings_left c.filter.ensures.source ∙ c.children.ensures in
+    let left : siblings_left c.filter.result.iter
+    ≡ siblings (node_of c.args.parent).children = ap siblings_left c.filter.ensures.source ∙ c.children.ensures in
     let few : length (siblings (node_of c.args.parent).children) < 2 ^ 31 = c.requires in
     inl (simp left (omega arith))
 
@@ -17,6 +18,7 @@ pub returns : goal.returns
 returns c =
     count_from_yields_List _ _ c.count.ensures.ran
     (YieldsList-from_filter _ (λ child. is_signature_name child.name)
-    (YieldsList-from_first node_of siblings_left (siblings (node_of c.args.parent).children) (ap siblings_left c.filter.ensures.source ∙ c.children.ensures))
+    (YieldsList-from_first node_of siblings_left (siblings (node_of c.args.parent).children)
+    (ap siblings_left c.filter.ensures.source ∙ c.children.ensures))
     c.filter.ensures.closure
     (λ x b q k. search (rules, tests)))

@@ -5,5 +5,6 @@ use Rattle.bi_fit.proofs.signatures.count_signatures.Given as goal
 
 abbrev pub invariant-loop-parent : goal.invariant-loop-parent
 invariant-loop-parent l =
-    (l.count + length (flat_map file_signatures (siblings_left l.parent-iterator)) ≡ length (flat_map file_signatures (siblings_left l.fn.parents)))
+    (l.count + length (flat_map file_signatures (siblings_left l.parent-iterator))
+    ≡ length (flat_map file_signatures (siblings_left l.fn.parents)))
     × (length (children_of_each (siblings_left l.parent-iterator)) < 2 ^ 31)

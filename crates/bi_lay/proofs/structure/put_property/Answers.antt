@@ -14,7 +14,8 @@ returns-in_err-put_cells g c =
     let value = value_bytes c.args.property.value in
     let size = c.len-size.result in
     let cells = flat_map cell (3 ∷ c.low_cell.result ∷ c.low_cell-2.result ∷ []) in
-    let is_whole = property_bytes c.args.property.name_offset value size c.low_cell.result c.low_cell-2.result c.len-size.ensures c.low_cell.ensures c.low_cell-2.ensures in
+    let is_whole = property_bytes c.args.property.name_offset value size c.low_cell.result c.low_cell-2.result c.len-size.ensures
+    c.low_cell.ensures c.low_cell-2.ensures in
     passed_on S.appends S.fails c.args.sink.now _ _ c.from_residual.result c.put_cells.new.sink c.from_residual.ensures.1
     (first_fails S.appends S.fails laws.appends_in_turn laws.fails_after laws.fails_before cells value (padding_to_4 size) _ is_whole
     c.args.sink.now c.put_cells.new.sink c.in_err-put_cells.field-0.0 c.in_err-put_cells.ensures)
@@ -26,10 +27,13 @@ returns-in_err-put_value g c =
     let value = value_bytes c.args.property.value in
     let size = c.len-size.result in
     let cells = flat_map cell (3 ∷ c.low_cell.result ∷ c.low_cell-2.result ∷ []) in
-    let is_whole = property_bytes c.args.property.name_offset value size c.low_cell.result c.low_cell-2.result c.len-size.ensures c.low_cell.ensures c.low_cell-2.ensures in
-    passed_on S.appends S.fails c.args.sink.now _ _ c.from_residual-in_err-put_value.result c.put_value.new.sink c.from_residual-in_err-put_value.ensures.1
+    let is_whole = property_bytes c.args.property.name_offset value size c.low_cell.result c.low_cell-2.result c.len-size.ensures
+    c.low_cell.ensures c.low_cell-2.ensures in
+    passed_on S.appends S.fails c.args.sink.now _ _ c.from_residual-in_err-put_value.result c.put_value.new.sink
+    c.from_residual-in_err-put_value.ensures.1
     (second_fails S.appends S.fails laws.appends_in_turn laws.fails_after laws.fails_before cells value (padding_to_4 size) _ is_whole
-    c.args.sink.now c.put_cells.new.sink c.put_value.new.sink c.in_err-put_value.field-0.0 c.in_ok-put_cells.ensures c.in_err-put_value.ensures)
+    c.args.sink.now c.put_cells.new.sink c.put_value.new.sink c.in_err-put_value.field-0.0
+    c.in_ok-put_cells.ensures c.in_err-put_value.ensures)
 
 pub returns : goal.returns
 returns g c =
@@ -38,6 +42,8 @@ returns g c =
     let value = value_bytes c.args.property.value in
     let size = c.len-size.result in
     let cells = flat_map cell (3 ∷ c.low_cell.result ∷ c.low_cell-2.result ∷ []) in
-    let is_whole = property_bytes c.args.property.name_offset value size c.low_cell.result c.low_cell-2.result c.len-size.ensures c.low_cell.ensures c.low_cell-2.ensures in
+    let is_whole = property_bytes c.args.property.name_offset value size c.low_cell.result c.low_cell-2.result c.len-size.ensures
+    c.low_cell.ensures c.low_cell-2.ensures in
     third_writes S.appends S.fails laws.appends_in_turn laws.fails_after laws.fails_before cells value (padding_to_4 size) _ is_whole
-    c.args.sink.now c.put_cells.new.sink c.put_value.new.sink c.put_padding.new.sink c.put_padding.result c.in_ok-put_cells.ensures c.in_ok-put_value.ensures c.put_padding.ensures
+    c.args.sink.now c.put_cells.new.sink c.put_value.new.sink c.put_padding.new.sink c.put_padding.result c.in_ok-put_cells.ensures
+    c.in_ok-put_value.ensures c.put_padding.ensures

@@ -14,4 +14,6 @@ returns-in_err-put_item g c =
     let error = c.in_err-put_item.field-0.0 in
     passed_on S.appends S.fails c.args.sink.now _ _ c.from_residual.result c.put_item.new.sink c.from_residual.ensures.1
     (laws.fails_before c.args.sink.now c.put_item.new.sink (flat_map item_encoding items) (encoding End) error
-    (failed_within S.appends S.fails laws.fails_after laws.fails_before c.args.sink.now c.loop-item.sink c.put_item.new.sink item_encoding items c.loop-item.item-index (Begin (record { ref_ptr = (0, 0); now = [] })) error (omega arith) c.loop-item.invariant c.in_err-put_item.ensures))
+    (failed_within S.appends S.fails laws.fails_after laws.fails_before c.args.sink.now c.loop-item.sink c.put_item.new.sink item_encoding
+    items c.loop-item.item-index (Begin (record { ref_ptr = (0, 0); now = [] })) error
+    (omega arith) c.loop-item.invariant c.in_err-put_item.ensures))

@@ -11,7 +11,9 @@ returns-in_err-put_string g c =
     let error = c.in_err-put_string.field-0.0 in
     passed_on S.appends S.fails c.args.sink.now _ _ c.from_residual.result c.put_string.new.sink c.from_residual.ensures.1
     (subst (λ bytes. S.fails c.args.sink.now bytes c.put_string.new.sink error) (names_bytes names)
-    (failed_within S.appends S.fails laws.fails_after laws.fails_before c.args.sink.now c.loop-name.sink c.put_string.new.sink name_and_zero names c.loop-name.name-index (record { ref_ptr = (0, 0); now = [] }) error (omega arith) c.loop-name.invariant c.in_err-put_string.ensures))
+    (failed_within S.appends S.fails laws.fails_after laws.fails_before c.args.sink.now c.loop-name.sink c.put_string.new.sink name_and_zero
+    names c.loop-name.name-index (record { ref_ptr = (0, 0); now = [] }) error
+    (omega arith) c.loop-name.invariant c.in_err-put_string.ensures))
 
 pub returns : goal.returns
 returns g c =

@@ -20,9 +20,11 @@ returns-in_err-put_header g c =
     let structure = structure_of_items parts.items.now in
     let strings = strings_of (bytes_of parts.names.now) in
     let header = blob_header parts.boot_cpu sizes.reservations sizes.structure sizes.strings in
-    let is_whole = text_bytes parts.boot_cpu reserved structure strings sizes.reservations sizes.structure sizes.strings size c.requires.reservations c.requires.structure c.requires.strings refl in
+    let is_whole = text_bytes parts.boot_cpu reserved structure strings sizes.reservations sizes.structure sizes.strings size
+    c.requires.reservations c.requires.structure c.requires.strings refl in
     passed_on S.appends S.fails c.args.sink.now _ _ c.from_residual.result c.put_header.new.sink c.from_residual.ensures.1
-    (first_fails S.appends S.fails laws.appends_in_turn laws.fails_after laws.fails_before header (reserved ++ structure ++ strings) (padding_to_4 size) _ is_whole
+    (first_fails S.appends S.fails laws.appends_in_turn laws.fails_after laws.fails_before header (reserved ++ structure ++ strings)
+    (padding_to_4 size) _ is_whole
     c.args.sink.now c.put_header.new.sink c.in_err-put_header.field-0.0 c.in_err-put_header.ensures)
 
 pub returns-in_err-put_blocks : goal.returns-in_err-put_blocks
@@ -36,10 +38,14 @@ returns-in_err-put_blocks g c =
     let structure = structure_of_items parts.items.now in
     let strings = strings_of (bytes_of parts.names.now) in
     let header = blob_header parts.boot_cpu sizes.reservations sizes.structure sizes.strings in
-    let is_whole = text_bytes parts.boot_cpu reserved structure strings sizes.reservations sizes.structure sizes.strings size c.requires.reservations c.requires.structure c.requires.strings refl in
-    passed_on S.appends S.fails c.args.sink.now _ _ c.from_residual-in_err-put_blocks.result c.put_blocks.new.sink c.from_residual-in_err-put_blocks.ensures.1
-    (second_fails S.appends S.fails laws.appends_in_turn laws.fails_after laws.fails_before header (reserved ++ structure ++ strings) (padding_to_4 size) _ is_whole
-    c.args.sink.now c.put_header.new.sink c.put_blocks.new.sink c.in_err-put_blocks.field-0.0 c.in_ok-put_header.ensures c.in_err-put_blocks.ensures)
+    let is_whole = text_bytes parts.boot_cpu reserved structure strings sizes.reservations sizes.structure sizes.strings size
+    c.requires.reservations c.requires.structure c.requires.strings refl in
+    passed_on S.appends S.fails c.args.sink.now _ _ c.from_residual-in_err-put_blocks.result c.put_blocks.new.sink
+    c.from_residual-in_err-put_blocks.ensures.1
+    (second_fails S.appends S.fails laws.appends_in_turn laws.fails_after laws.fails_before header (reserved ++ structure ++ strings)
+    (padding_to_4 size) _ is_whole
+    c.args.sink.now c.put_header.new.sink c.put_blocks.new.sink c.in_err-put_blocks.field-0.0
+    c.in_ok-put_header.ensures c.in_err-put_blocks.ensures)
 
 pub returns : goal.returns
 returns g c =
@@ -52,6 +58,9 @@ returns g c =
     let structure = structure_of_items parts.items.now in
     let strings = strings_of (bytes_of parts.names.now) in
     let header = blob_header parts.boot_cpu sizes.reservations sizes.structure sizes.strings in
-    let is_whole = text_bytes parts.boot_cpu reserved structure strings sizes.reservations sizes.structure sizes.strings size c.requires.reservations c.requires.structure c.requires.strings c.before_padding.ensures in
-    third_writes S.appends S.fails laws.appends_in_turn laws.fails_after laws.fails_before header (reserved ++ structure ++ strings) (padding_to_4 size) _ is_whole
-    c.args.sink.now c.put_header.new.sink c.put_blocks.new.sink c.put_padding.new.sink c.put_padding.result c.in_ok-put_header.ensures c.in_ok-put_blocks.ensures c.put_padding.ensures
+    let is_whole = text_bytes parts.boot_cpu reserved structure strings sizes.reservations sizes.structure sizes.strings size
+    c.requires.reservations c.requires.structure c.requires.strings c.before_padding.ensures in
+    third_writes S.appends S.fails laws.appends_in_turn laws.fails_after laws.fails_before header (reserved ++ structure ++ strings)
+    (padding_to_4 size) _ is_whole
+    c.args.sink.now c.put_header.new.sink c.put_blocks.new.sink c.put_padding.new.sink c.put_padding.result c.in_ok-put_header.ensures
+    c.in_ok-put_blocks.ensures c.put_padding.ensures

@@ -26,7 +26,8 @@ returns-in_err-check_parts-clause-fault c =
     let count = count-bytes_of (has_part_table image.image_type) c.args.parts.now (c.if-not-can_have_parts.ensures.0 refl) in
     let short : length (legacy_text image) ≤ c.args.limits.file = omega (arith, length-text image name, c.in-Some.ensures) in
     let p = err_from_is_err_and c.from_residual.result c.from_residual.ensures.1 in
-    rw (p.1, p.2) (fault_in_parts image c.args.limits true _ name count short (sym c.if-has_part_table.ensures) c.in_err-check_parts.ensures.fault)
+    rw (p.1, p.2) (fault_in_parts image c.args.limits true _ name count short
+    (sym c.if-has_part_table.ensures) c.in_err-check_parts.ensures.fault)
 
 pub returns-in_ok-check_parts-clause-ok : goal.returns-in_ok-check_parts-clause-ok
 returns-in_ok-check_parts-clause-ok c =

@@ -34,5 +34,6 @@ pub returns-clause-ok : goal.returns-clause-ok
 returns-clause-ok c =
     let parts = bytes_of c.args.parts.now in
     let index = c.loop-index.index in
-    let none : drop index parts ≡ [] = drop_all index parts (omega (arith, length-map c.args.parts.now (λ (part : Bor (List ℕ)). part.now))) in
+    let none : drop index parts ≡ [] = drop_all index parts
+    (omega (arith, length-map c.args.parts.now (λ (part : Bor (List ℕ)). part.now))) in
     c.loop-index.invariant.ok (subst (λ (left : List (List ℕ)). HasNoFault EmitPartPasses (emit_part_checks index left)) (sym none) tt)

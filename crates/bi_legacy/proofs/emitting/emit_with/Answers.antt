@@ -11,7 +11,11 @@ returns-in_err-size g c =
     let first = c.in_err-size.field-0.0 in
     let p = err_from_is_err_and c.from_residual.result c.from_residual.ensures.1 in
     rw (p.1, p.2) record {
-      refused = λ fault is. (ap (λ f. Err (Refused f)) (one_emit_fault image c.args.limits first fault c.in_err-size.ensures.fault is), refl);
+      refused = λ fault is. (
+        ap (λ f. Err (Refused f))
+            (one_emit_fault image c.args.limits first fault c.in_err-size.ensures.fault is),
+        refl,
+      );
       written = λ none. absurd (no_emit_fault_no_fault image c.args.limits first none c.in_err-size.ensures.fault);
       refused_or_written = inr (first, c.in_err-size.ensures.fault);
     }

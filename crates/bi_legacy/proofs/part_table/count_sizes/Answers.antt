@@ -8,7 +8,11 @@ pub returns-then-size-eq0-clause-ends : goal.returns-then-size-eq0-clause-ends
 returns-then-size-eq0-clause-ends c =
     let body = c.args.body.now in
     let within : 4 * (c.loop-size.count + 1) ≤ length body = omega (arith, c.in-Some.ensures.within.0 refl) in (
-      λ _. (c.loop-size.count, omega (arith, length-cells body), get_or-cells body c.loop-size.count within ∙ sym c.in-Some.ensures.value ∙ c.if-size-eq0.true),
+      λ _. (
+        c.loop-size.count,
+        omega (arith, length-cells body),
+        get_or-cells body c.loop-size.count within ∙ sym c.in-Some.ensures.value ∙ c.if-size-eq0.true,
+      ),
       λ _. refl,
     )
 
@@ -22,7 +26,8 @@ loop-size-preserved c =
     let body = c.args.body.now in
     let within : 4 * (c.loop-size.count + 1) ≤ length body = omega (arith, c.in-Some.ensures.within.0 refl) in (
       within,
-      below_more _ _ c.loop-size.invariant.1 (λ zero. c.if-size-eq0.false (c.in-Some.ensures.value ∙ sym (get_or-cells body c.loop-size.count within) ∙ zero)),
+      below_more _ _ c.loop-size.invariant.1
+          (λ zero. c.if-size-eq0.false (c.in-Some.ensures.value ∙ sym (get_or-cells body c.loop-size.count within) ∙ zero)),
     )
 
 pub returns-clause-ends : goal.returns-clause-ends

@@ -27,8 +27,10 @@ returns-in_err-put g c =
     let error = c.in_err-put.field-0.0 in
     let same = header_pieces c.args.checksum c.args.summary.size c.args.summary.checksum (image_of fields []) field in
     let failed = g.met.S.Sink.fails_before c.args.sink.now _ _ field error
-    (g.met.S.Sink.fails_after c.args.sink.now c.put_cells.new.sink c.put.new.self _ _ error c.in_ok-put_cells.ensures c.in_err-put.ensures) in
-    passed_on g.S.Sink.appends fails c.args.sink.now _ _ c.from_residual-in_err-put.result c.put.new.self c.from_residual-in_err-put.ensures.1
+    (g.met.S.Sink.fails_after c.args.sink.now c.put_cells.new.sink c.put.new.self _ _ error
+    c.in_ok-put_cells.ensures c.in_err-put.ensures) in
+    passed_on g.S.Sink.appends fails c.args.sink.now _ _ c.from_residual-in_err-put.result c.put.new.self
+    c.from_residual-in_err-put.ensures.1
     (subst (λ l. fails c.args.sink.now l c.put.new.self error) same failed)
 
 pub returns : goal.returns
@@ -41,4 +43,5 @@ returns g c =
     let same = header_pieces c.args.checksum c.args.summary.size c.args.summary.checksum (image_of fields []) field in
     let first = turn c.args.sink.now c.put_cells.new.sink c.put.new.self _ _ c.in_ok-put_cells.ensures c.in_ok-put.ensures in
     subst (λ l. Wrote appends fails c.args.sink.now l c.put_name.result c.put_name.new.sink) same
-    (wrote_after appends fails turn g.met.S.Sink.fails_after c.args.sink.now c.put.new.self c.put_name.new.sink _ field c.put_name.result first c.put_name.ensures)
+    (wrote_after appends fails turn g.met.S.Sink.fails_after c.args.sink.now c.put.new.self c.put_name.new.sink _ field
+    c.put_name.result first c.put_name.ensures)

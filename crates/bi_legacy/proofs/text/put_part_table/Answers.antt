@@ -19,7 +19,8 @@ returns-in_err-put_cell g c =
     let appends = g.S.Sink.appends in
     let fails = g.S.Sink.fails in
     let error = c.in_err-put_cell.field-0.0 in
-    let first = failed_within appends fails g.met.S.Sink.fails_after g.met.S.Sink.fails_before c.args.sink.now c.loop-part.sink c.put_cell.new.sink size_of parts c.loop-part.part-index nothing error (omega arith) c.loop-part.invariant c.in_err-put_cell.ensures in
+    let first = failed_within appends fails g.met.S.Sink.fails_after g.met.S.Sink.fails_before c.args.sink.now c.loop-part.sink
+    c.put_cell.new.sink size_of parts c.loop-part.part-index nothing error (omega arith) c.loop-part.invariant c.in_err-put_cell.ensures in
     let failed = g.met.S.Sink.fails_before c.args.sink.now c.put_cell.new.sink (flat_map size_of parts) (cell 0) error first in
     passed_on appends fails c.args.sink.now _ _ c.from_residual.result c.put_cell.new.sink c.from_residual.ensures.1
     (subst (λ l. fails c.args.sink.now l c.put_cell.new.sink error) (sym (part_table-bytes_of parts)) failed)
@@ -30,6 +31,8 @@ returns g c =
     let size_of = λ (part : Bor (List ℕ)). cell (length part.now) in
     let appends = g.S.Sink.appends in
     let fails = g.S.Sink.fails in
-    let all = subst (λ l. appends c.args.sink.now (flat_map size_of l) c.loop-part.sink) (take_all c.loop-part.part-index parts (omega arith)) c.loop-part.invariant in
+    let all = subst (λ l. appends c.args.sink.now (flat_map size_of l) c.loop-part.sink)
+    (take_all c.loop-part.part-index parts (omega arith)) c.loop-part.invariant in
     subst (λ l. Wrote appends fails c.args.sink.now l c.put_cell-2.result c.put_cell-2.new.sink) (sym (part_table-bytes_of parts))
-    (wrote_after appends fails g.met.S.Sink.appends_in_turn g.met.S.Sink.fails_after c.args.sink.now c.loop-part.sink c.put_cell-2.new.sink _ (cell 0) c.put_cell-2.result all c.put_cell-2.ensures)
+    (wrote_after appends fails g.met.S.Sink.appends_in_turn g.met.S.Sink.fails_after c.args.sink.now c.loop-part.sink c.put_cell-2.new.sink
+    _ (cell 0) c.put_cell-2.result all c.put_cell-2.ensures)

@@ -9,4 +9,5 @@ returns-in_err-convert_into-clause-failed c =
     let limits = c.args.limits in
     let file = c.args.file.now in
     rw (p.1, p.2)
-    (error_in_memory _ (IsConvertedFile limits file) (IsConvertError limits file) _ _ c.in_err-convert_into.field-0.0 (λ text failed. failed.1) (λ text is. record { image = is.image; means = is.means; can = is.can }) c.in_err-convert_into.ensures.failed)
+    (error_in_memory _ (IsConvertedFile limits file) (IsConvertError limits file) _ _ c.in_err-convert_into.field-0.0
+    (λ text failed. failed.1) (λ text is. record { image = is.image; means = is.means; can = is.can }) c.in_err-convert_into.ensures.failed)

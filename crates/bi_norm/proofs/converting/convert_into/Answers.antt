@@ -27,8 +27,10 @@ pub append_built-requires : goal.append_built-requires
 append_built-requires g c =
     let fields = c.fields-fields.result in
     let head : HeadModel = record { description = fields.name.now; time = fields.time } in
-    let are : named_models c.deref.result.now ≡ converted_images c.in_ok-image.image.image = ap named_models c.deref.ensures.value ∙ c.in_ok-images.ensures in
-    conversion_can_be_built c.args.limits c.args.file.now c.in_ok-image.image.image head (named_models c.deref.result.now) c.in_ok-image.ensures.read.means (ap head_of_image c.fields-fields.ensures) are
+    let are : named_models c.deref.result.now
+    ≡ converted_images c.in_ok-image.image.image = ap named_models c.deref.ensures.value ∙ c.in_ok-images.ensures in
+    conversion_can_be_built c.args.limits c.args.file.now c.in_ok-image.image.image head
+    (named_models c.deref.result.now) c.in_ok-image.ensures.read.means (ap head_of_image c.fields-fields.ensures) are
 
 pub returns-clause-appended : goal.returns-clause-appended
 returns-clause-appended g c =
@@ -41,8 +43,10 @@ returns-clause-appended g c =
     let are : images ≡ converted_images parsed.image = ap named_models c.deref.ensures.value ∙ c.in_ok-images.ensures in
     let same = tree_is parsed.image head images (ap head_of_image c.fields-fields.ensures) are in
     let most : limits.file ≤ longest_text = omega arith in
-    result_appended_as g.S.Sink.appends (IsTextOfTree limits Embedded (built_tree head images)) (IsConvertedFile limits file) c.args.sink.now c.append_built.new.sink c.append_built.result
-    (λ text is. is_converted limits file parsed (built_tree head images) text c.in_ok-image.ensures.read c.in_ok-names.ensures.can most same is) c.append_built.ensures.appended
+    result_appended_as g.S.Sink.appends (IsTextOfTree limits Embedded (built_tree head images))
+    (IsConvertedFile limits file) c.args.sink.now c.append_built.new.sink c.append_built.result
+    (λ text is. is_converted limits file parsed
+    (built_tree head images) text c.in_ok-image.ensures.read c.in_ok-names.ensures.can most same is) c.append_built.ensures.appended
 
 pub returns-clause-failed : goal.returns-clause-failed
 returns-clause-failed g c =
@@ -58,7 +62,9 @@ returns-clause-failed g c =
     let tree = built_tree head images in
     let same = tree_is parsed.image head images (ap head_of_image c.fields-fields.ensures) are in
     let most : limits.file ≤ longest_text = omega arith in
-    result_failed_as g.S.Sink.fails (IsTextOfTree limits Embedded tree) (IsConvertedFile limits file) (IsFaultOrNoMemory (IsTextFault limits Embedded tree)) (IsConvertError limits file) c.args.sink.now c.append_built.new.sink c.append_built.result
+    result_failed_as g.S.Sink.fails (IsTextOfTree limits Embedded tree) (IsConvertedFile limits file)
+    (IsFaultOrNoMemory (IsTextFault limits Embedded tree))
+    (IsConvertError limits file) c.args.sink.now c.append_built.new.sink c.append_built.result
     (λ text is. is_converted limits file parsed tree text opened can most same is)
     (λ error is. is_convert_error limits file parsed tree error opened can same is)
     c.append_built.ensures.failed

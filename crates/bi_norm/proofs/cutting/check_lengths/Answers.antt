@@ -11,4 +11,6 @@ returns-then-end-input-clause-fault c =
     let loop = c.loop-piece_length.invariant in
     let longer : length c.args.input.now < c.loop-piece_length.start + get_or lengths i 0 = omega arith in
     rw c.refuse.ensures
-    (TooLong (take i lengths) (get_or lengths i 0) (drop (i + 1) lengths) (lengths_around lengths i c.loop-piece_length-test.true) (omega (arith, loop.within, loop.is_sum)) (omega (arith, longer, loop.is_sum)) (ap (λ n. record { cause = BadPart; offset = n }) loop.is_sum))
+    (TooLong (take i lengths) (get_or lengths i 0) (drop (i + 1) lengths) (lengths_around lengths i c.loop-piece_length-test.true)
+    (omega (arith, loop.within, loop.is_sum)) (omega (arith, longer, loop.is_sum))
+    (ap (λ n. record { cause = BadPart; offset = n }) loop.is_sum))

@@ -6,4 +6,5 @@ pub returns-in_err-build_fit_into-clause-failed : goal.returns-in_err-build_fit_
 returns-in_err-build_fit_into-clause-failed c =
     let p = err_from_is_err_and c.from_residual.result c.from_residual.ensures.1 in
     rw (p.1, p.2)
-    (memory_build_error _ c.args.limits c.args.form c.args.head c.args.images.now _ _ c.in_err-build_fit_into.field-0.0 (λ text failed. failed.1) c.in_err-build_fit_into.ensures.failed)
+    (memory_build_error _ c.args.limits c.args.form c.args.head c.args.images.now _ _ c.in_err-build_fit_into.field-0.0
+    (λ text failed. failed.1) c.in_err-build_fit_into.ensures.failed)

@@ -18,19 +18,24 @@ returns-in_err-named-clause-failed g c =
 
 pub append_built-requires : goal.append_built-requires
 append_built-requires g c =
-    let same : named_models c.deref.result.now ≡ spec_models c.args.images.now = ap named_models c.deref.ensures.value ∙ c.in_ok-named.ensures.named in
+    let same : named_models c.deref.result.now ≡ spec_models c.args.images.now = ap named_models c.deref.ensures.value
+    ∙ c.in_ok-named.ensures.named in
     subst (λ (images : List ImageSpecModel). CanBeBuilt (head_model c.args.head) images) (sym same) c.in_ok-named.ensures.can
 
 pub returns-clause-appended : goal.returns-clause-appended
 returns-clause-appended g c =
     let limits = c.args.limits in
     let form = c.args.form in
-    let same : named_models c.deref.result.now ≡ spec_models c.args.images.now = ap named_models c.deref.ensures.value ∙ c.in_ok-named.ensures.named in
+    let same : named_models c.deref.result.now ≡ spec_models c.args.images.now = ap named_models c.deref.ensures.value
+    ∙ c.in_ok-named.ensures.named in
     let tree = built_tree (head_model c.args.head) (named_models c.deref.result.now) in
-    let is : tree ≡ tree_of_images c.args.head c.args.images.now = ap (λ (images : List ImageSpecModel). built_tree (head_model c.args.head) images) same in
+    let is : tree ≡ tree_of_images c.args.head c.args.images.now = ap
+    (λ (images : List ImageSpecModel). built_tree (head_model c.args.head) images) same in
     let most : limits.file ≤ longest_text = omega arith in
-    result_appended_as g.S.Sink.appends (IsTextOfTree limits form tree) (IsBuilt limits form c.args.head c.args.images.now) c.args.sink.now c.append_built.new.sink c.append_built.result
-    (λ text made. text_is_built limits form c.args.head c.args.images.now (c.in_ok-named.ensures.passed form) c.in_ok-named.ensures.can most text
+    result_appended_as g.S.Sink.appends (IsTextOfTree limits form tree)
+    (IsBuilt limits form c.args.head c.args.images.now) c.args.sink.now c.append_built.new.sink c.append_built.result
+    (λ text made. text_is_built limits form c.args.head c.args.images.now
+    (c.in_ok-named.ensures.passed form) c.in_ok-named.ensures.can most text
     (subst (λ tree. IsTextOfTree limits form tree text) is made))
     c.append_built.ensures.appended
 
@@ -38,14 +43,19 @@ pub returns-clause-failed : goal.returns-clause-failed
 returns-clause-failed g c =
     let limits = c.args.limits in
     let form = c.args.form in
-    let same : named_models c.deref.result.now ≡ spec_models c.args.images.now = ap named_models c.deref.ensures.value ∙ c.in_ok-named.ensures.named in
+    let same : named_models c.deref.result.now ≡ spec_models c.args.images.now = ap named_models c.deref.ensures.value
+    ∙ c.in_ok-named.ensures.named in
     let tree = built_tree (head_model c.args.head) (named_models c.deref.result.now) in
-    let is : tree ≡ tree_of_images c.args.head c.args.images.now = ap (λ (images : List ImageSpecModel). built_tree (head_model c.args.head) images) same in
+    let is : tree ≡ tree_of_images c.args.head c.args.images.now = ap
+    (λ (images : List ImageSpecModel). built_tree (head_model c.args.head) images) same in
     let most : limits.file ≤ longest_text = omega arith in
     result_failed_as g.S.Sink.fails (IsTextOfTree limits form tree) (IsBuilt limits form c.args.head c.args.images.now)
-    (IsFaultOrNoMemory (IsTextFault limits form tree)) (IsBuildError limits form c.args.head c.args.images.now) c.args.sink.now c.append_built.new.sink c.append_built.result
-    (λ text made. text_is_built limits form c.args.head c.args.images.now (c.in_ok-named.ensures.passed form) c.in_ok-named.ensures.can most text
+    (IsFaultOrNoMemory (IsTextFault limits form tree))
+    (IsBuildError limits form c.args.head c.args.images.now) c.args.sink.now c.append_built.new.sink c.append_built.result
+    (λ text made. text_is_built limits form c.args.head c.args.images.now
+    (c.in_ok-named.ensures.passed form) c.in_ok-named.ensures.can most text
     (subst (λ tree. IsTextOfTree limits form tree text) is made))
-    (λ error failed. text_build_error limits form c.args.head c.args.images.now (c.in_ok-named.ensures.passed form) c.in_ok-named.ensures.can most error
+    (λ error failed. text_build_error limits form c.args.head c.args.images.now
+    (c.in_ok-named.ensures.passed form) c.in_ok-named.ensures.can most error
     (subst (λ tree. IsFaultOrNoMemory (IsTextFault limits form tree) error) is failed))
     c.append_built.ensures.failed

@@ -16,7 +16,16 @@ returns-in_err-emit-clause-failed c =
 pub returns-clause-built : goal.returns-clause-built
 returns-clause-built c =
     let image = image_of_parts c.args.fields c.args.parts.now in
-    let ranges : FitsFields image = record { time = omega arith; load = omega arith; entry = omega arith; os = omega arith; arch = omega arith; image_type = omega arith; compression = omega arith } in
+    let ranges : FitsFields image = record {
+      time = omega arith;
+      load = omega arith;
+      entry = omega arith;
+      os = omega arith;
+      arch = omega arith;
+      image_type = omega arith;
+      compression = omega arith;
+    } in
     let wrote = legacy_text_written _ _ c.args.limits image _ _ c.in_ok-emit.ensures in
     let bytes : AreBytes c.into_vec-text.result.items = subst AreBytes c.deref.ensures.value c.are_bytes.ensures in
-    is_built c.args.limits image c.into_vec-text.result.items ranges (omega arith) wrote.0 (c.into_vec-text.ensures ∙ wrote.1 ∙ ap (λ l. l ++ legacy_text image) c.new-sink.ensures) bytes
+    is_built c.args.limits image c.into_vec-text.result.items ranges (omega arith) wrote.0
+    (c.into_vec-text.ensures ∙ wrote.1 ∙ ap (λ l. l ++ legacy_text image) c.new-sink.ensures) bytes

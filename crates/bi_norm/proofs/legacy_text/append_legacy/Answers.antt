@@ -20,12 +20,16 @@ pub returns-clause-appended : goal.returns-clause-appended
 returns-clause-appended g c file opened =
     let small : c.args.time < 2 ^ 32 = omega arith in
     let parsed = c.args.image.now in
-    wrote_text g.S.Sink.appends g.S.Sink.fails c.args.sink.now (legacy_text (with_new_time c.args.time parsed.image)) c.emit_updated_image.result c.emit_updated_image.new.sink
-    (c.emit_updated_image.ensures.written (updated_has_normal_form file parsed.image c.args.limits c.args.time opened.means small).can_be_written)
+    wrote_text g.S.Sink.appends g.S.Sink.fails c.args.sink.now
+    (legacy_text (with_new_time c.args.time parsed.image)) c.emit_updated_image.result c.emit_updated_image.new.sink
+    (c.emit_updated_image.ensures.written
+    (updated_has_normal_form file parsed.image c.args.limits c.args.time opened.means small).can_be_written)
 
 pub returns-clause-failed : goal.returns-clause-failed
 returns-clause-failed g c file opened =
     let small : c.args.time < 2 ^ 32 = omega arith in
     let parsed = c.args.image.now in
-    wrote_no_text g.S.Sink.appends g.S.Sink.fails (λ error. error ≡ OutOfMemory) c.args.sink.now (legacy_text (with_new_time c.args.time parsed.image)) c.emit_updated_image.result c.emit_updated_image.new.sink
-    (c.emit_updated_image.ensures.written (updated_has_normal_form file parsed.image c.args.limits c.args.time opened.means small).can_be_written)
+    wrote_no_text g.S.Sink.appends g.S.Sink.fails (λ error. error ≡ OutOfMemory) c.args.sink.now
+    (legacy_text (with_new_time c.args.time parsed.image)) c.emit_updated_image.result c.emit_updated_image.new.sink
+    (c.emit_updated_image.ensures.written
+    (updated_has_normal_form file parsed.image c.args.limits c.args.time opened.means small).can_be_written)

@@ -6,4 +6,5 @@ use Rattle.bi_norm.proofs.legacy_text.parts_of.Given as goal
 -- The parts that were taken and those that are left are those of the image.
 abbrev pub invariant-loop-part : goal.invariant-loop-part
 invariant-loop-part l =
-    map (λ (part : Bor (List ℕ)). part.now) l.parts.items ++ map (λ (placed : PartModel). placed.bytes) l.part-iterator ≡ l.image.image.parts
+    map (λ (part : Bor (List ℕ)). part.now) l.parts.items
+    ++ map (λ (placed : PartModel). placed.bytes) l.part-iterator ≡ l.image.image.parts

@@ -9,7 +9,8 @@ use Rattle.bi_norm.proofs.normal_form.emit_fit.Goals as goal
 pub returns-in_err-text-clause-failed : goal.returns-in_err-text-clause-failed
 returns-in_err-text-clause-failed g c file opened =
     let p = err_from_is_err_and c.from_residual.result c.from_residual.ensures.1 in
-    rw (p.1, p.2) (WasRefused (text_error c.args.limits c.args.form file c.args.fit.now c.in_err-text.field-0.0 opened c.in_err-text.ensures.failed) refl)
+    rw (p.1, p.2) (WasRefused (text_error c.args.limits c.args.form file c.args.fit.now c.in_err-text.field-0.0 opened
+    c.in_err-text.ensures.failed) refl)
 
 pub returns-in_err-emit-clause-failed : goal.returns-in_err-emit-clause-failed
 returns-in_err-emit-clause-failed g c file opened =
@@ -17,7 +18,8 @@ returns-in_err-emit-clause-failed g c file opened =
     let most : c.args.limits.file ≤ longest_text = omega arith in
     let made = c.in_ok-text.ensures.text in
     let fits = subst (λ text. length text ≤ c.args.limits.file) made.is_text made.short in
-    let normal = subst (IsNormalForm c.args.limits c.args.form file) (sym made.is_text) (tree_normal_form c.args.limits c.args.form file c.args.fit.now opened fits most) in
+    let normal = subst (IsNormalForm c.args.limits c.args.form file) (sym made.is_text)
+    (tree_normal_form c.args.limits c.args.form file c.args.fit.now opened fits most) in
     rw (p.1, p.2) (SinkFailed c.in_ok-text.text c.in_err-emit.field-0.0 normal c.in_err-emit.ensures refl)
 
 pub returns-clause-appended : goal.returns-clause-appended
@@ -28,6 +30,7 @@ returns-clause-appended g c file opened =
     record {
       text = c.in_ok-text.text;
       is_text = subst (IsNormaliseOutput c.args.limits c.args.form c.signature_count.result file) (sym made.is_text)
-          (tree_normalised c.args.limits c.args.form file c.args.fit.now c.signature_count.result opened fits most c.signature_count.ensures);
+          (tree_normalised c.args.limits c.args.form file c.args.fit.now c.signature_count.result opened fits
+          most c.signature_count.ensures);
       appended = c.in_ok-emit.ensures;
     }

@@ -11,4 +11,5 @@ returns-in_err-normalise_into-clause-failed c =
     let form = c.args.form in
     let file = c.args.file.now in
     rw (p.1, p.2)
-    (error_in_memory _ (IsNormalForm limits form file) (IsNormaliseError limits form file) _ _ c.in_err-normalise_into.field-0.0 (λ text failed. failed.1) (normal_form_needs_memory limits form file) c.in_err-normalise_into.ensures.failed)
+    (error_in_memory _ (IsNormalForm limits form file) (IsNormaliseError limits form file) _ _ c.in_err-normalise_into.field-0.0
+    (λ text failed. failed.1) (normal_form_needs_memory limits form file) c.in_err-normalise_into.ensures.failed)

@@ -14,7 +14,8 @@ use Rattle.bi_fdt.proofs.blob.Blob.name_numbers.Goals as goal
 numbered : (file : List ℕ) (entries other : List Entry) (used : List (List ℕ)) (numbers : Result (Vec ℕ Global) AllocError) →
     AreTableNames file entries used → other ≡ entries → IfOk numbers (λ numbers. numbers.items ≡ map name_number_of other) →
     IfOk numbers (λ numbers. AreNumbered (names_of_table (map (item_in file) entries)) (map (item_in file) entries) numbers.items)
-numbered file entries other used (Ok numbers) are same is = numbers_of_table file entries used numbers.items are (is ∙ ap (map name_number_of) same)
+numbered file entries other used (Ok numbers) are same is = numbers_of_table file entries used numbers.items are
+    (is ∙ ap (map name_number_of) same)
 numbered file entries other used (Err e) are same is = tt
 
 pub returns : goal.returns

@@ -24,7 +24,8 @@ returns-in_err-entries-clause-failed c =
     (refused_in_tree c.args.limits c.args.file.now c.in_ok-reservation_count.reservation_count c.in_err-entries.field-0.0
     c.in_ok-reservation_count.ensures.header c.in_ok-reservation_count.ensures.reservations
     (subst (λ n. IsFaultOrNoMemory (IsStructureFault (tree_blocks c.args.file.now) n) c.in_err-entries.field-0.0) depth
-    (subst (λ b. IsFaultOrNoMemory (IsStructureFault b c.from.result) c.in_err-entries.field-0.0) c.tree_blocks-blocks.ensures.blocks c.in_err-entries.ensures.failed)))
+    (subst (λ b. IsFaultOrNoMemory (IsStructureFault b c.from.result) c.in_err-entries.field-0.0) c.tree_blocks-blocks.ensures.blocks
+    c.in_err-entries.ensures.failed)))
 
 pub invariant_of-result : goal.invariant_of-result
 invariant_of-result c =

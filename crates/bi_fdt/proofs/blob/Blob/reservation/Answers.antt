@@ -16,7 +16,8 @@ returns c =
     let place : ℕ = off_mem_rsvmap blob.file.now + 16 * c.args.index in
     let at : c.off_mem_rsvmap.result + 16 * c.args.index ≡ place = ap (λ n. n + 16 * c.args.index) c.off_mem_rsvmap.ensures in
     let address : c.two_cells_at.result ≡ u64_at blob.file.now place = c.two_cells_at.ensures ∙ ap (u64_at blob.file.now) at in
-    let size : c.two_cells_at-2.result ≡ u64_at blob.file.now (place + 8) = c.two_cells_at-2.ensures ∙ ap (λ n. u64_at blob.file.now (n + 8)) at in
+    let size : c.two_cells_at-2.result ≡ u64_at blob.file.now (place + 8) = c.two_cells_at-2.ensures
+    ∙ ap (λ n. u64_at blob.file.now (n + 8)) at in
     (λ i. Some (address i, size i))
     ∙ sym (reservation_at blob.file.now (off_mem_rsvmap blob.file.now) blob.reservation_count c.args.index (omega arith))
     ∙ ap (λ content. slice_get (map numbers content.reservations) c.args.index) c.self.view_is

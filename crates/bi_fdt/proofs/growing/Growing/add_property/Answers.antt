@@ -24,20 +24,32 @@ overflow_cast-number c =
     let grown = c.requires.grown in
     omega (
       arith,
-      number_few grown.file c.args.self.now.entries.items c.args.self.now.names.used c.insert.new.self.used c.args.name.now c.in-Some.number grown.is.named
-          c.in_ok-number.ensures.used (subst (λ number. IfSome number (IsNumberOf c.insert.new.self.used c.args.name.now)) c.in-Some.is c.in_ok-number.ensures.number),
+      number_few grown.file c.args.self.now.entries.items c.args.self.now.names.used c.insert.new.self.used c.args.name.now
+          c.in-Some.number grown.is.named
+          c.in_ok-number.ensures.used (subst
+          (λ number. IfSome number (IsNumberOf c.insert.new.self.used c.args.name.now)) c.in-Some.is c.in_ok-number.ensures.number),
       c.requires.few,
     )
 
 pub overflow_sub-property_count : goal.overflow_sub-property_count
 overflow_sub-property_count c =
     let grown = c.requires.grown in
-    omega (arith, innermost_within grown.file c.args.self.now grown.innermost grown.outer grown.is, ap length c.in_ok-push.ensures.items, length-append c.args.self.now.entries.items (entry.Property (record c.args.property { number = c.in-Some.number }) ∷ []))
+    omega (
+      arith,
+      innermost_within grown.file c.args.self.now grown.innermost grown.outer grown.is,
+      ap length c.in_ok-push.ensures.items,
+      length-append c.args.self.now.entries.items (entry.Property (record c.args.property { number = c.in-Some.number }) ∷ []),
+    )
 
 pub overflow_sub-property_count-2 : goal.overflow_sub-property_count-2
 overflow_sub-property_count-2 c =
     let grown = c.requires.grown in
-    omega (arith, innermost_within grown.file c.args.self.now grown.innermost grown.outer grown.is, ap length c.in_ok-push.ensures.items, length-append c.args.self.now.entries.items (entry.Property (record c.args.property { number = c.in-Some.number }) ∷ []))
+    omega (
+      arith,
+      innermost_within grown.file c.args.self.now grown.innermost grown.outer grown.is,
+      ap length c.in_ok-push.ensures.items,
+      length-append c.args.self.now.entries.items (entry.Property (record c.args.property { number = c.in-Some.number }) ∷ []),
+    )
 
 pub set_property_count-requires : goal.set_property_count-requires
 set_property_count-requires c =
@@ -71,7 +83,12 @@ returns-clause-added c =
       strings = c.insert.ensures.strings;
       is_new = λ file innermost outer growing childless. (c.in_ok-number.ensures.new _ (growing.properties childless)).0 some;
       grown = λ file innermost outer growing childless named.
-          growing_property file old (record { entries = with_items c.push.new.self c.set_property_count.new.entries; names = c.insert.new.self; innermost = old.innermost; outer = old.outer })
+          growing_property file old (record {
+            entries = with_items c.push.new.self c.set_property_count.new.entries;
+            names = c.insert.new.self;
+            innermost = old.innermost;
+            outer = old.outer;
+          })
           innermost outer p growing childless
           (λ n at.
           held
@@ -83,6 +100,7 @@ returns-clause-added c =
           (subst (λ name. IsNumberOf c.insert.new.self.used name c.in-Some.number) (sym named) number)
           (c.in_ok-number.ensures.marks _ (omega (arith, longer, innermost_within file old innermost outer growing))
           (bound_more (length old.entries.items) _ old.names.marks (omega (arith, longer)) growing.marks))
-          (subst (λ name. HasMarked c.insert.new.self index (map (λ (q : FileProperty). q.name) innermost.properties ++ name ∷ [])) (sym named)
+          (subst (λ name. HasMarked c.insert.new.self index
+          (map (λ (q : FileProperty). q.name) innermost.properties ++ name ∷ [])) (sym named)
           (c.in_ok-number.ensures.added some _ (growing.properties childless)));
     }

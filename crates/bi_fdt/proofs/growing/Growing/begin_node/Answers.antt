@@ -42,7 +42,8 @@ returns-then-not-branch-clause-failed c =
     let taken : IsChildTaken c.args.self.now c.args.name.now c.args.place (token_fault c.args.place IsNewNode) = record {
       is_fault = refl;
       taken = λ file innermost outer growing.
-          HoldsNames-held c.args.self.now.innermost.children c.args.name (names innermost.children) (held file c.args.self.now innermost outer growing)
+          HoldsNames-held c.args.self.now.innermost.children c.args.name (names innermost.children)
+          (held file c.args.self.now innermost outer growing)
           (not-false _ (sym c.in_ok-insert.ensures.added ∙ c.if-not-branch.true));
     } in
     search rules
@@ -58,13 +59,31 @@ returns-clause-ok c =
           HoldsNames-new old.innermost.children c.args.name (names innermost.children) (held file old innermost outer growing)
           (not-true _ (sym c.in_ok-insert.ensures.added ∙ c.if-not-branch.false));
       grown = λ file innermost outer growing named.
-          let depth : c.len-2.result + 1 ≡ length outer + 1 = omega (arith, c.len-2.ensures, outer_count file old innermost outer growing) in
-          growing_begun file old (record { entries = c.push.new.self; names = old.names; innermost = c.replace.new.dest; outer = c.push-2.new.self }) innermost outer c.args.name.now c.args.place
-          (record { place = c.args.place; name_length = length c.args.name.now; depth = c.len-2.result + 1; property_count = 0; after = 0 }) c.replace.result
-          growing c.in_ok-push.ensures.items (λ i. NodeItem (depth i) c.args.place (named i)) depth refl (ap (λ a. a.entry) c.replace.ensures.after ∙ counted)
-          (subst (λ (a : OpenNode). HoldsNames a.children []) (sym c.replace.ensures.after) (HoldsNames-none c.new.result c.new.ensures.empty))
+          let depth : c.len-2.result + 1 ≡ length outer + 1 = omega (
+            arith,
+            c.len-2.ensures,
+            outer_count file old innermost outer growing,
+          ) in
+          growing_begun file old (record {
+            entries = c.push.new.self;
+            names = old.names;
+            innermost = c.replace.new.dest;
+            outer = c.push-2.new.self;
+          }) innermost outer c.args.name.now c.args.place
+          (record {
+            place = c.args.place;
+            name_length = length c.args.name.now;
+            depth = c.len-2.result + 1;
+            property_count = 0;
+            after = 0;
+          }) c.replace.result
+          growing c.in_ok-push.ensures.items (λ i. NodeItem (depth i) c.args.place (named i)) depth refl
+          (ap (λ a. a.entry) c.replace.ensures.after ∙ counted)
+          (subst (λ (a : OpenNode). HoldsNames a.children []) (sym c.replace.ensures.after)
+          (HoldsNames-none c.new.result c.new.ensures.empty))
           c.push-2.ensures.items (ap (λ a. a.entry) c.replace.ensures.value)
           (subst (λ (a : OpenNode). HoldsNames a.children (names innermost.children ++ c.args.name.now ∷ [])) (sym c.replace.ensures.value)
-          (HoldsNames-insert old.innermost.children c.insert.new.self c.args.name (names innermost.children) (held file old innermost outer growing) c.in_ok-insert.ensures.updates))
+          (HoldsNames-insert old.innermost.children c.insert.new.self c.args.name (names innermost.children)
+          (held file old innermost outer growing) c.in_ok-insert.ensures.updates))
           refl;
     }

@@ -10,7 +10,8 @@ use Rattle.bi_fdt.proofs.growing.Growing.end_node.Goals as goal
 pub set_after-requires : goal.set_after-requires
 set_after-requires c =
     let grown = c.requires.grown in
-    let within : c.args.self.now.innermost.entry < length c.args.self.now.entries.items = innermost_within grown.file c.args.self.now grown.innermost grown.outer grown.is in
+    let within : c.args.self.now.innermost.entry < length c.args.self.now.entries.items = innermost_within grown.file c.args.self.now
+    grown.innermost grown.outer grown.is in
     let now : length c.deref_mut.result.now ≡ length c.args.self.now.entries.items = ap length c.deref_mut.ensures.value in
     omega (arith, within, now)
 

@@ -10,10 +10,12 @@ use Rattle.bi_blob.specs.Tree.{IsNew}
 use Rattle.bi_fdt.proofs.kept_names.KeptNames.find.Goals as goal
 
 -- The name at an index.
-there : (items : List (Bor (List ℕ))) (d : Bor (List ℕ)) (names : List (List ℕ)) (index : ℕ) → bytes_of items ≡ names → index < length items →
+there : (items : List (Bor (List ℕ))) (d : Bor (List ℕ)) (names : List (List ℕ)) (index : ℕ) → bytes_of items
+    ≡ names → index < length items →
     slice_get names index ≡ Some (get_or items index d).now
 there items d names index is within =
-    ap (λ l. slice_get l index) (sym is) ∙ slice_get-get_or (bytes_of items) index d.now (omega (arith, within, length-map items (λ (item : Bor (List ℕ)). item.now)))
+    ap (λ l. slice_get l index) (sym is)
+    ∙ slice_get-get_or (bytes_of items) index d.now (omega (arith, within, length-map items (λ (item : Bor (List ℕ)). item.now)))
     ∙ ap Some (get_or-map (λ (item : Bor (List ℕ)). item.now) items index d d.now within)
 
 -- A name at no index is new.
@@ -24,16 +26,26 @@ nowhere (first ∷ names) name none =
 
 pub returns-then-eq : goal.returns-then-eq
 returns-then-eq c =
-    there c.deref-other-items.result.now _ c.args.self.now c.loop-number.number (ap bytes_of c.deref-other-items.ensures.value ∙ c.self.view_is) c.loop-number-test.true
+    there c.deref-other-items.result.now _ c.args.self.now c.loop-number.number
+    (ap bytes_of c.deref-other-items.ensures.value ∙ c.self.view_is) c.loop-number-test.true
     ∙ ap Some ((bytes_eq-Decides _ _).0 (sym c.if-eq.ensures))
 
 pub loop-number-preserved : goal.loop-number-preserved
 loop-number-preserved c k within at = elim (eq-or-lt_of_le {n = k} {m = c.loop-number.number} (omega (arith, within))) [
-  | inl same ↦ absurd (false≢true (c.if-eq.ensures ∙ (bytes_eq-Decides _ _).1 (same_Some _ _ (sym (there c.deref-other-items.result.now _ c.args.self.now c.loop-number.number
-      (ap bytes_of c.deref-other-items.ensures.value ∙ c.self.view_is) c.loop-number-test.true) ∙ ap (slice_get c.args.self.now) (sym same) ∙ at))))
+  | inl same ↦ absurd (false≢true
+      (c.if-eq.ensures ∙ (bytes_eq-Decides _ _).1
+      (same_Some _ _ (sym (there c.deref-other-items.result.now _ c.args.self.now c.loop-number.number
+      (ap bytes_of c.deref-other-items.ensures.value ∙ c.self.view_is) c.loop-number-test.true)
+      ∙ ap (slice_get c.args.self.now) (sym same) ∙ at))))
   | inr below ↦ c.loop-number.invariant k below at
 ]
 
 pub returns : goal.returns
 returns c = nowhere c.args.self.now c.args.name.now (λ k within. c.loop-number.invariant k
-    (omega (arith, within, c.loop-number-test.false, ap length (ap bytes_of c.deref-other-items.ensures.value ∙ c.self.view_is), length-map c.deref-other-items.result.now (λ (item : Bor (List ℕ)). item.now))))
+    (omega (
+      arith,
+      within,
+      c.loop-number-test.false,
+      ap length (ap bytes_of c.deref-other-items.ensures.value ∙ c.self.view_is),
+      length-map c.deref-other-items.result.now (λ (item : Bor (List ℕ)). item.now),
+    )))

@@ -1,4 +1,5 @@
-use Rattle.std.proofs.Common.{◌≡◌, ◌<◌, ◌++◌, ◌∷◌, [], ℕ, List, Some, None, cond, map, length, inl, inr, refl, sym, ap, subst, ◌∙◌, slice_get, rules}
+use Rattle.std.proofs.Common.{◌≡◌, ◌<◌, ◌++◌, ◌∷◌, [], ℕ, List, Some, None, cond, map, length, inl, inr, refl, sym, ap, subst, ◌∙◌}
+use Rattle.std.proofs.Common.{slice_get, rules}
 use Rattle.std.proofs.lemmas.List.{map-append, length-map}
 use denote.Ref.{Bor}
 use Rattle.bi_fdt.specs.NameParts.{NamePart, IsPlaced, name_parts_of}
@@ -24,7 +25,8 @@ after c = map (λ part. (part.0, part.1.now)) c.push.new.self.items
 is_appended : (c : goal.After-unwrap) → after c ≡ before c ++ (c.args.tail, c.args.bytes.now) ∷ []
 is_appended c =
     let pushed : c.push.new.self.items ≡ c.self.inside.parts.items ++ (c.args.tail, c.args.bytes) ∷ [] = search rules in
-    ap (map (λ part. (part.0, part.1.now))) pushed ∙ map-append (λ part. (part.0, part.1.now)) c.self.inside.parts.items ((c.args.tail, c.args.bytes) ∷ [])
+    ap (map (λ part. (part.0, part.1.now))) pushed
+    ∙ map-append (λ part. (part.0, part.1.now)) c.self.inside.parts.items ((c.args.tail, c.args.bytes) ∷ [])
 
 was_none : (c : goal.After-unwrap) → number_in c.self.inside.numbers (c.args.tail, c.args.bytes) ≡ None
 was_none c = sym c.get.ensures ∙ c.in_default.is
@@ -46,10 +48,16 @@ invariant_of-self-2 c = record {
   maps = subst (λ n. 0 < n) (sym c.in_ok-insert.ensures.count) c.self.invariant.maps;
   found = λ part number is.
       ap (λ l. slice_get l number) (is_appended c)
-      ∙ found_more (number_in c.self.inside.numbers) (number_in c.insert.new.self) (before c) (c.args.tail, c.args.bytes) c.self.invariant.found (updated c) part
+      ∙ found_more (number_in c.self.inside.numbers) (number_in c.insert.new.self) (before c) (
+        c.args.tail,
+        c.args.bytes,
+      ) c.self.invariant.found (updated c) part
       number is;
   listed = λ part number is.
-      listed_more (number_in c.self.inside.numbers) (number_in c.insert.new.self) (before c) (c.args.tail, c.args.bytes) c.self.invariant.listed (updated c)
+      listed_more (number_in c.self.inside.numbers) (number_in c.insert.new.self) (before c) (
+        c.args.tail,
+        c.args.bytes,
+      ) c.self.invariant.listed (updated c)
       (was_none c) part number (ap (λ l. slice_get l number) (sym (is_appended c)) ∙ is);
 }
 

@@ -21,7 +21,8 @@ returns-then-number-len-clause-more c =
     let added = placed_last heads part c.in_ok-number.number c.add.new.self c.in_ok-number.ensures.added last in
     record {
       is_table = subst (AreHeads tails c.add.new.self) (sym now)
-          (subst (λ l. AreHeads tails l (names ++ name ∷ [])) (sym added.1) (AreHeads-push tails heads names part name c.requires.table is added.0));
+          (subst (λ l. AreHeads tails l (names ++ name ∷ [])) (sym added.1)
+          (AreHeads-push tails heads names part name c.requires.table is added.0));
       names = (name ∷ [], now);
       tails = ([], sym (append-nil tails));
     }
@@ -36,21 +37,25 @@ was_there c =
     let counted : c.len.result ≡ length c.reserve.new.self.items = search rules in
     let last : c.len.result ≡ length c.args.self.now.heads =
     omega (arith, heads_length c.args.self.now.tails c.args.self.now.heads names c.requires.table, ap length kept) in
-    placed_there c.args.self.now.heads _ c.in_ok-number.number c.add.new.self c.in_ok-number.ensures.added (λ same. c.if-number-len.false (same ∙ sym last))
+    placed_there c.args.self.now.heads _ c.in_ok-number.number c.add.new.self c.in_ok-number.ensures.added
+    (λ same. c.if-number-len.false (same ∙ sym last))
 
 pub returns-else-number-len-clause-added : goal.returns-else-number-len-clause-added
 returns-else-number-len-clause-added c =
     let kept : c.reserve.new.self.items ≡ c.args.self.now.names.items = search rules in
     ap (λ items. slice_get (map (λ (n : Bor (List ℕ)). n.now) items) c.in_ok-number.number) kept
-    ∙ known_name c.args.self.now.tails c.args.self.now.heads _ _ c.args.name.now c.in_ok-number.number c.requires.table (record { head = c.head_of.ensures; tail = c.requires.tail }) (was_there c).0
+    ∙ known_name c.args.self.now.tails c.args.self.now.heads _ _ c.args.name.now c.in_ok-number.number c.requires.table
+    (record { head = c.head_of.ensures; tail = c.requires.tail }) (was_there c).0
 
 pub returns-else-number-len-clause-more : goal.returns-else-number-len-clause-more
 returns-else-number-len-clause-more c =
     let kept : c.reserve.new.self.items ≡ c.args.self.now.names.items = search rules in
-    let same : map (λ (n : Bor (List ℕ)). n.now) c.reserve.new.self.items ≡ map (λ (n : Bor (List ℕ)). n.now) c.args.self.now.names.items = ap (map (λ n. n.now)) kept in
+    let same : map (λ (n : Bor (List ℕ)). n.now) c.reserve.new.self.items
+    ≡ map (λ (n : Bor (List ℕ)). n.now) c.args.self.now.names.items = ap (map (λ n. n.now)) kept in
     record {
       is_table = subst (AreHeads c.args.self.now.tails c.add.new.self) (sym same)
-          (subst (λ l. AreHeads c.args.self.now.tails l (map (λ n. n.now) c.args.self.now.names.items)) (sym (was_there c).1) c.requires.table);
+          (subst (λ l. AreHeads c.args.self.now.tails l (map (λ n. n.now) c.args.self.now.names.items))
+          (sym (was_there c).1) c.requires.table);
       names = ([], same ∙ sym (append-nil _));
       tails = ([], sym (append-nil c.args.self.now.tails));
     }

@@ -6,19 +6,25 @@ use Rattle.bi_fdt.proofs.node.NodeRef.first_child.Goals as goal
 pub overflow_add-index-2 : goal.overflow_add-index-2
 overflow_add-index-2 c =
     let r = c.args.self in
-    let within : r.index + 1 + c.entry-node.result.property_count ≤ length r.blob.now.table = properties_within r.blob.now.file r.blob.now.table r.index c.entry-node.result c.entry-node.ensures in
+    let within : r.index + 1 + c.entry-node.result.property_count ≤ length r.blob.now.table = properties_within r.blob.now.file
+    r.blob.now.table r.index c.entry-node.result c.entry-node.ensures in
     let small : length r.blob.now.table < 2 ^ 63 = r.small in
     omega arith
 
 pub returns-then-index-node-clause-child : goal.returns-then-index-node-clause-child
 returns-then-index-node-clause-child c =
     let r = c.args.self in
-    sym (ap (λ nodes. node_at nodes 0) (no_child r.blob.now.file r.blob.now.table r.index c.entry-node.result c.entry-node.ensures c.if-index-node.true))
+    sym (ap (λ nodes. node_at nodes 0)
+    (no_child r.blob.now.file r.blob.now.table r.index c.entry-node.result c.entry-node.ensures c.if-index-node.true))
 
 pub invariant_of-result : goal.invariant_of-result
 invariant_of-result c =
     let r = c.args.self in
-    record { is_node = (first_child_there r.blob.now.file r.blob.now.table r.index c.entry-node.result c.entry-node.ensures c.if-index-node.false).0; small = r.small }
+    record {
+      is_node = (first_child_there r.blob.now.file r.blob.now.table r.index c.entry-node.result c.entry-node.ensures
+          c.if-index-node.false).0;
+      small = r.small;
+    }
 
 pub returns-clause-child : goal.returns-clause-child
 returns-clause-child c =

@@ -11,14 +11,16 @@ use Rattle.bi_fdt.proofs.node.NodeRef.properties_in.Goals as goal
 pub overflow_add-end : goal.overflow_add-end
 overflow_add-end c =
     let r = c.args.self in
-    let within : r.index + 1 + c.entry.result.property_count ≤ length r.blob.now.table = properties_within r.blob.now.file r.blob.now.table r.index c.entry.result c.entry.ensures in
+    let within : r.index + 1 + c.entry.result.property_count ≤ length r.blob.now.table = properties_within r.blob.now.file r.blob.now.table
+    r.index c.entry.result c.entry.ensures in
     let small : length r.blob.now.table < 2 ^ 63 = r.small in
     omega arith
 
 pub slice_bounds-new-end : goal.slice_bounds-new-end
 slice_bounds-new-end c =
     let r = c.args.self in
-    let within : r.index + 1 + c.entry.result.property_count ≤ length r.blob.now.table = properties_within r.blob.now.file r.blob.now.table r.index c.entry.result c.entry.ensures in
+    let within : r.index + 1 + c.entry.result.property_count ≤ length r.blob.now.table = properties_within r.blob.now.file r.blob.now.table
+    r.index c.entry.result c.entry.ensures in
     let long : length c.pairs.result.now ≡ length r.blob.now.table = ap length c.pairs.ensures ∙ c.requires.1.count in
     search rules
 

@@ -11,44 +11,63 @@ use Rattle.bi_fdt.proofs.node.NodeRef.property_at.Goals as goal
 pub returns-then-index-node : goal.returns-then-index-node
 returns-then-index-node c =
     let r = c.args.self in
-    let count : c.entry-node.result.property_count ≡ length (first_sibling (drop r.index r.blob.now.table)).own.properties = property_count_is r.blob.now.file r.blob.now.table r.index c.entry-node.result c.entry-node.ensures in
-    let long : length (map property_of (first_sibling (drop r.index r.blob.now.table)).own.properties) ≡ length (first_sibling (drop r.index r.blob.now.table)).own.properties = simp length-map in
+    let count : c.entry-node.result.property_count
+    ≡ length (first_sibling (drop r.index r.blob.now.table)).own.properties = property_count_is r.blob.now.file r.blob.now.table r.index
+    c.entry-node.result c.entry-node.ensures in
+    let long : length (map property_of (first_sibling (drop r.index r.blob.now.table)).own.properties)
+    ≡ length (first_sibling (drop r.index r.blob.now.table)).own.properties = simp length-map in
     sym (get_past (map property_of (first_sibling (drop r.index r.blob.now.table)).own.properties) c.args.index (omega arith))
 
 pub overflow_add-entry-2 : goal.overflow_add-entry-2
 overflow_add-entry-2 c =
     let r = c.args.self in
-    let count : c.entry-node.result.property_count ≡ length (first_sibling (drop r.index r.blob.now.table)).own.properties = property_count_is r.blob.now.file r.blob.now.table r.index c.entry-node.result c.entry-node.ensures in
+    let count : c.entry-node.result.property_count
+    ≡ length (first_sibling (drop r.index r.blob.now.table)).own.properties = property_count_is r.blob.now.file r.blob.now.table r.index
+    c.entry-node.result c.entry-node.ensures in
     let within : r.index + 1 + c.args.index < length c.entries.result.now =
-    property_within r.blob.now.file c.entries.result.now r.blob.now.table r.index c.entry-node.result c.entries.ensures.items c.entry-node.ensures c.args.index (omega arith) in
+    property_within r.blob.now.file c.entries.result.now r.blob.now.table r.index c.entry-node.result c.entries.ensures.items
+    c.entry-node.ensures c.args.index (omega arith) in
     omega arith
 
 pub offset_bounds-entries-self : goal.offset_bounds-entries-self
 offset_bounds-entries-self c =
     let r = c.args.self in
-    let count : c.entry-node.result.property_count ≡ length (first_sibling (drop r.index r.blob.now.table)).own.properties = property_count_is r.blob.now.file r.blob.now.table r.index c.entry-node.result c.entry-node.ensures in
+    let count : c.entry-node.result.property_count
+    ≡ length (first_sibling (drop r.index r.blob.now.table)).own.properties = property_count_is r.blob.now.file r.blob.now.table r.index
+    c.entry-node.result c.entry-node.ensures in
     let within : r.index + 1 + c.args.index < length c.entries.result.now =
-    property_within r.blob.now.file c.entries.result.now r.blob.now.table r.index c.entry-node.result c.entries.ensures.items c.entry-node.ensures c.args.index (omega arith) in
+    property_within r.blob.now.file c.entries.result.now r.blob.now.table r.index c.entry-node.result c.entries.ensures.items
+    c.entry-node.ensures c.args.index (omega arith) in
     omega (arith, c.entries.type_inv)
 
 pub bounds-entries-self : goal.bounds-entries-self
 bounds-entries-self c =
     let r = c.args.self in
-    let count : c.entry-node.result.property_count ≡ length (first_sibling (drop r.index r.blob.now.table)).own.properties = property_count_is r.blob.now.file r.blob.now.table r.index c.entry-node.result c.entry-node.ensures in
-    property_within r.blob.now.file c.entries.result.now r.blob.now.table r.index c.entry-node.result c.entries.ensures.items c.entry-node.ensures c.args.index (omega arith)
+    let count : c.entry-node.result.property_count
+    ≡ length (first_sibling (drop r.index r.blob.now.table)).own.properties = property_count_is r.blob.now.file r.blob.now.table r.index
+    c.entry-node.result c.entry-node.ensures in
+    property_within r.blob.now.file c.entries.result.now r.blob.now.table r.index c.entry-node.result c.entries.ensures.items
+    c.entry-node.ensures c.args.index (omega arith)
 
 pub unreachable-requires : goal.unreachable-requires
 unreachable-requires c =
     let r = c.args.self in
-    let count : c.entry-node.result.property_count ≡ length (first_sibling (drop r.index r.blob.now.table)).own.properties = property_count_is r.blob.now.file r.blob.now.table r.index c.entry-node.result c.entry-node.ensures in
-    no_node_there r.blob.now.file c.entries.result.now r.blob.now.table r.index c.entry-node.result c.entries.ensures.items c.entry-node.ensures c.args.index (omega arith) c.in-Node.field-0 _ c.in-Node.is
+    let count : c.entry-node.result.property_count
+    ≡ length (first_sibling (drop r.index r.blob.now.table)).own.properties = property_count_is r.blob.now.file r.blob.now.table r.index
+    c.entry-node.result c.entry-node.ensures in
+    no_node_there r.blob.now.file c.entries.result.now r.blob.now.table r.index c.entry-node.result c.entries.ensures.items
+    c.entry-node.ensures c.args.index (omega arith) c.in-Node.field-0 _ c.in-Node.is
 
 pub returns : goal.returns
 returns c =
     let r = c.args.self in
-    let count : c.entry-node.result.property_count ≡ length (first_sibling (drop r.index r.blob.now.table)).own.properties = property_count_is r.blob.now.file r.blob.now.table r.index c.entry-node.result c.entry-node.ensures in
+    let count : c.entry-node.result.property_count
+    ≡ length (first_sibling (drop r.index r.blob.now.table)).own.properties = property_count_is r.blob.now.file r.blob.now.table r.index
+    c.entry-node.result c.entry-node.ensures in
     let property : FileProperty = property_in r.blob.now.file c.in-Property.property in
-    let same : file_property_of c.property_in-property.result ≡ property = c.property_in-property.ensures ∙ ap (λ file. property_in file c.in-Property.property) c.file.ensures in
+    let same : file_property_of c.property_in-property.result ≡ property = c.property_in-property.ensures
+    ∙ ap (λ file. property_in file c.in-Property.property) c.file.ensures in
     ap (λ p. Some (property_of p)) same
     ∙ sym (get_map property_of (first_sibling (drop r.index r.blob.now.table)).own.properties c.args.index property
-    (property_there r.blob.now.file c.entries.result.now r.blob.now.table r.index c.entry-node.result c.entries.ensures.items c.entry-node.ensures c.args.index (omega arith) c.in-Property.property _ c.in-Property.is))
+    (property_there r.blob.now.file c.entries.result.now r.blob.now.table r.index c.entry-node.result c.entries.ensures.items
+    c.entry-node.ensures c.args.index (omega arith) c.in-Property.property _ c.in-Property.is))

@@ -12,7 +12,8 @@ returns c =
     ∙ ap (λ prefix. get by_prefix c.index.result.now (c.args.tail, prefix, c.args.bytes)) c.name_prefix.ensures
     ∙ sym (
     number_at c.args.self.now (c.args.tail, c.args.bytes) c.bucket_at-bucket.result c.index.result.now chosen
-    (slice_get_read c.args.self.now.buckets.items (length c.args.self.now.buckets.items) c.bucket_at-bucket.result c.index.result.now refl within c.index.ensures)
+    (slice_get_read c.args.self.now.buckets.items
+    (length c.args.self.now.buckets.items) c.bucket_at-bucket.result c.index.result.now refl within c.index.ensures)
     ) where
       chosen : c.bucket_at-bucket.result ≡ bucket_of (bucket_count c.args.self.now) (part_of_slice (c.args.tail, c.args.bytes))
       chosen = search rules

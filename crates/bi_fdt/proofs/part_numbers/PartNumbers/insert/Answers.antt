@@ -9,8 +9,12 @@ use Rattle.bi_fdt.proofs.part_numbers.PartNumbers.insert.Goals as goal
 
 pub returns-clause-inserted : goal.returns-clause-inserted
 returns-clause-inserted c part =
-    ap (λ count. number_from (slice_set buckets c.bucket_at-bucket.result c.insert.new.self) (bucket_of count (part_of_slice part)) part) (length-set buckets c.bucket_at-bucket.result c.insert.new.self)
-    ∙ number_more buckets c.bucket_at-bucket.result c.index_mut.result.now c.insert.new.self (length buckets) (c.args.tail, c.args.bytes) c.args.number within
+    ap (λ count. number_from (slice_set buckets c.bucket_at-bucket.result c.insert.new.self) (bucket_of count (part_of_slice part)) part)
+    (length-set buckets c.bucket_at-bucket.result c.insert.new.self)
+    ∙ number_more buckets c.bucket_at-bucket.result c.index_mut.result.now c.insert.new.self (length buckets) (
+      c.args.tail,
+      c.args.bytes,
+    ) c.args.number within
     (slice_get_read buckets (length buckets) c.bucket_at-bucket.result c.index_mut.result.now refl within c.index_mut.ensures.value)
     chosen updated part where
       buckets : List Bucket

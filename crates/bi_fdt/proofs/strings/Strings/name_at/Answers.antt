@@ -17,24 +17,31 @@ kept_end bytes ends at index end are before within none is =
 pub returns-then-end-self-clause-some : goal.returns-then-end-self-clause-some
 returns-then-end-self-clause-some c =
     let end : c.index-end.result.now ≡ end_of c.self.inside.bytes.now c.args.at =
-    kept_end c.self.inside.bytes.now c.self.inside.ends.items c.args.at (c.args.at / 64 + 1) c.index-end.result.now c.self.invariant.0 (omega arith) (search rules) (λ has. false≢true (c.in_default.ensures.some.1 has)) c.index-end.ensures in
+    kept_end c.self.inside.bytes.now c.self.inside.ends.items c.args.at (c.args.at / 64 + 1) c.index-end.result.now c.self.invariant.0
+    (omega arith) (search rules) (λ has. false≢true (c.in_default.ensures.some.1 has)) c.index-end.ensures in
     let whole : c.index-end.result.now ≡ length c.self.inside.bytes.now = c.if-end-self.true in
-    subst (λ bytes. (false ≡ true → HasName bytes c.args.at (length bytes)) × (HasName bytes c.args.at (length bytes) → false ≡ true)) c.self.view_is
+    subst (λ bytes. (false ≡ true → HasName bytes c.args.at (length bytes))
+    × (HasName bytes c.args.at (length bytes) → false ≡ true)) c.self.view_is
     (λ some. absurd (false≢true some), λ has. absurd (omega arith))
 
 pub returns-clause-some : goal.returns-clause-some
 returns-clause-some c =
     let end : c.index-end.result.now ≡ end_of c.self.inside.bytes.now c.args.at =
-    kept_end c.self.inside.bytes.now c.self.inside.ends.items c.args.at (c.args.at / 64 + 1) c.index-end.result.now c.self.invariant.0 (omega arith) (search rules) (λ has. false≢true (c.in_default.ensures.some.1 has)) c.index-end.ensures in
-    let most : end_of c.self.inside.bytes.now c.args.at ≤ length c.self.inside.bytes.now = name_end_within c.self.inside.bytes.now c.args.at (omega arith) in
-    subst (λ bytes. (true ≡ true → HasName bytes c.args.at (length bytes)) × (HasName bytes c.args.at (length bytes) → true ≡ true)) c.self.view_is
+    kept_end c.self.inside.bytes.now c.self.inside.ends.items c.args.at (c.args.at / 64 + 1) c.index-end.result.now c.self.invariant.0
+    (omega arith) (search rules) (λ has. false≢true (c.in_default.ensures.some.1 has)) c.index-end.ensures in
+    let most : end_of c.self.inside.bytes.now c.args.at ≤ length c.self.inside.bytes.now = name_end_within
+    c.self.inside.bytes.now c.args.at (omega arith) in
+    subst (λ bytes. (true ≡ true → HasName bytes c.args.at (length bytes))
+    × (HasName bytes c.args.at (length bytes) → true ≡ true)) c.self.view_is
     (λ _. omega (arith, c.if-end-self.false), λ _. refl)
 
 pub returns-clause-value : goal.returns-clause-value
 returns-clause-value c =
     let end : c.index-end.result.now ≡ end_of c.self.inside.bytes.now c.args.at =
-    kept_end c.self.inside.bytes.now c.self.inside.ends.items c.args.at (c.args.at / 64 + 1) c.index-end.result.now c.self.invariant.0 (omega arith) (search rules) (λ has. false≢true (c.in_default.ensures.some.1 has)) c.index-end.ensures in
-    subst (λ bytes. take (c.index-end.result.now - c.args.at) (drop c.args.at c.self.inside.bytes.now) ≡ name_from bytes c.args.at) c.self.view_is
+    kept_end c.self.inside.bytes.now c.self.inside.ends.items c.args.at (c.args.at / 64 + 1) c.index-end.result.now c.self.invariant.0
+    (omega arith) (search rules) (λ has. false≢true (c.in_default.ensures.some.1 has)) c.index-end.ensures in
+    subst (λ bytes. take (c.index-end.result.now - c.args.at) (drop c.args.at c.self.inside.bytes.now)
+    ≡ name_from bytes c.args.at) c.self.view_is
     (name_before_end c.self.inside.bytes.now c.args.at c.index-end.result.now end)
 
 pub returns-clause-no_zero : goal.returns-clause-no_zero

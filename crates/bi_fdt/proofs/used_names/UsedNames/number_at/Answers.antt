@@ -16,7 +16,8 @@ invariant_of-self c = (
 
 pub returns-clause-used : goal.returns-clause-used
 returns-clause-used c =
-    subst (λ (used : UsedNames). OnOk c.add.result (names_in_table c.add.new.self ≡ with_used_name used.used c.args.name.now)) c.self.view_is
+    subst (λ (used : UsedNames). OnOk c.add.result
+    (names_in_table c.add.new.self ≡ with_used_name used.used c.args.name.now)) c.self.view_is
     (on_ok c.add.result _ _ c.add.ensures.added
     (λ number is. used_once_more (names_in_table c.self.inside.table) (names_in_table c.add.new.self) c.args.name.now number
     c.add.ensures.only c.add.ensures.more.is_table.distinct is))

@@ -25,19 +25,25 @@ add_image_node-requires c =
     let target = with_events c.args.doc.now (events (built_image_nodes c.args.form 0 head (named_models images))) in
     let later = built_image_nodes c.args.form (end_after end (Some image.payload)) head (named_models (drop (index + 1) images)) in
     let digest = digest_at images c.args.parts.digests.now index c.loop-index-test.true c.requires.prepared.digests in
-    let same = same_built_image c.loop-index.area.form c.args.form (up4 end) head image c.in_ok-image_properties.field-0 c.in_ok-hash.hash (get_or c.args.parts.digests.now index [])
+    let same = same_built_image c.loop-index.area.form c.args.form (up4 end) head image c.in_ok-image_properties.field-0 c.in_ok-hash.hash
+    (get_or c.args.parts.digests.now index [])
     c.loop-index.invariant.form c.in_ok-image_properties.ensures c.in_ok-hash.ensures digest in
     let sized : HasCellSize c.args.form (Some image.payload) =
     within_sized c.args.form end (Some image.payload) (built_payloads (named_models (drop (index + 1) images)))
-    (subst (AreWithin c.args.form end) (built_payloads_from images index no_named_image c.loop-index-test.true) c.loop-index.invariant.within) in
+    (subst (AreWithin c.args.form end)
+    (built_payloads_from images index no_named_image c.loop-index-test.true) c.loop-index.invariant.within) in
     record {
-      names = same_built_names c.loop-index.doc.names c.in_ok-image_properties.field-0 (from_entries (built_image_properties head image)) c.loop-index.invariant.names c.in_ok-image_properties.ensures;
+      names = same_built_names c.loop-index.doc.names c.in_ok-image_properties.field-0
+          (from_entries (built_image_properties head image)) c.loop-index.invariant.names c.in_ok-image_properties.ensures;
       small = c.loop-index.invariant.small;
       sized = subst (λ form. HasCellSize form (Some image.payload)) (sym c.loop-index.invariant.form) sized;
-      children = same_built_names c.loop-index.doc.names c.in_ok-hash.hash (from_entries (sha256_properties (get_or c.args.parts.digests.now index []))) c.loop-index.invariant.names c.in_ok-hash.ensures;
+      children = same_built_names c.loop-index.doc.names c.in_ok-hash.hash
+          (from_entries (sha256_properties (get_or c.args.parts.digests.now index []))) c.loop-index.invariant.names c.in_ok-hash.ensures;
       may = subst (λ nodes. MayAdd c.loop-index.doc (events nodes)) (sym same)
-          (may_add_first c.loop-index.doc target image.name (entries (placed_properties c.args.form (up4 end) head image)) (built_hash_node image.payload) later
-          (subst (IsAdding c.loop-index.doc target) (nodes_at c.args.form end head images index no_named_image c.loop-index-test.true) c.loop-index.invariant.adding));
+          (may_add_first c.loop-index.doc target image.name (entries (placed_properties c.args.form (up4 end) head image))
+          (built_hash_node image.payload) later
+          (subst (IsAdding c.loop-index.doc target)
+          (nodes_at c.args.form end head images index no_named_image c.loop-index-test.true) c.loop-index.invariant.adding));
     }
 
 pub loop-index-preserved : goal.loop-index-preserved
@@ -51,21 +57,29 @@ loop-index-preserved c =
     let rest = named_models (drop (index + 1) images) in
     let later = built_image_nodes c.args.form (end_after c.loop-index.area.end payload) head rest in
     let adding : IsAdding c.loop-index.doc target (built_image_nodes c.args.form c.loop-index.area.end head (image ∷ rest)) =
-    subst (IsAdding c.loop-index.doc target) (nodes_at c.args.form c.loop-index.area.end head images index no_named_image c.loop-index-test.true) c.loop-index.invariant.adding in
+    subst (IsAdding c.loop-index.doc target)
+    (nodes_at c.args.form c.loop-index.area.end head images index no_named_image c.loop-index-test.true) c.loop-index.invariant.adding in
     let within : AreWithin c.args.form c.loop-index.area.end (payload ∷ built_payloads rest) =
-    subst (AreWithin c.args.form c.loop-index.area.end) (built_payloads_from images index no_named_image c.loop-index-test.true) c.loop-index.invariant.within in
-    let small : next_end c.args.form c.loop-index.area.end payload ≤ longest_text = within_first c.args.form c.loop-index.area.end payload (built_payloads rest) within c.loop-index.invariant.small in
+    subst (AreWithin c.args.form c.loop-index.area.end)
+    (built_payloads_from images index no_named_image c.loop-index-test.true) c.loop-index.invariant.within in
+    let small : next_end c.args.form c.loop-index.area.end payload ≤ longest_text = within_first c.args.form c.loop-index.area.end payload
+    (built_payloads rest) within c.loop-index.invariant.small in
     let at : c.add_image_node.new.area.end ≡ next_end c.args.form c.loop-index.area.end payload =
-    let is : next_end c.loop-index.area.form c.loop-index.area.end payload ≡ next_end c.args.form c.loop-index.area.end payload = ap (λ form. next_end form c.loop-index.area.end payload) c.loop-index.invariant.form in
+    let is : next_end c.loop-index.area.form c.loop-index.area.end payload
+    ≡ next_end c.args.form c.loop-index.area.end payload = ap
+    (λ form. next_end form c.loop-index.area.end payload) c.loop-index.invariant.form in
     omega (arith, c.in_ok-add_image_node.ensures.end) in
     let digest = digest_at images c.args.parts.digests.now index c.loop-index-test.true c.requires.prepared.digests in
-    let same = same_built_image c.loop-index.area.form c.args.form (up4 c.loop-index.area.end) head image c.in_ok-image_properties.field-0 c.in_ok-hash.hash (get_or c.args.parts.digests.now index [])
+    let same = same_built_image c.loop-index.area.form c.args.form
+    (up4 c.loop-index.area.end) head image c.in_ok-image_properties.field-0 c.in_ok-hash.hash (get_or c.args.parts.digests.now index [])
     c.loop-index.invariant.form c.in_ok-image_properties.ensures c.in_ok-hash.ensures digest in
-    let added : c.add_image_node.new.doc ≡ with_events c.loop-index.doc (events (built_image_node c.args.form (up4 c.loop-index.area.end) head image)) =
+    let added : c.add_image_node.new.doc
+    ≡ with_events c.loop-index.doc (events (built_image_node c.args.form (up4 c.loop-index.area.end) head image)) =
     c.in_ok-add_image_node.ensures.added ∙ ap (λ nodes. with_events c.loop-index.doc (events nodes)) same in
     rw at (record {
       adding = subst (IsAdding c.add_image_node.new.doc target) (nodes_later c.args.form c.loop-index.area.end image.payload head rest)
-          (adding_later c.loop-index.doc target image.name (entries (placed_properties c.args.form (up4 c.loop-index.area.end) head image)) (built_hash_node image.payload) later adding c.add_image_node.new.doc added);
+          (adding_later c.loop-index.doc target image.name (entries (placed_properties c.args.form (up4 c.loop-index.area.end) head image))
+          (built_hash_node image.payload) later adding c.add_image_node.new.doc added);
       within = within_later c.args.form c.loop-index.area.end payload (built_payloads rest) within;
       small = small;
       form = c.in_ok-add_image_node.ensures.form ∙ c.loop-index.invariant.form;

@@ -15,12 +15,14 @@ use Rattle.bi_fit.proofs.building.document.build_doc.Goals.{In_ok-doc}
 -- The document has no events yet, and these names.
 started : (c : In_ok-doc) → c.in_ok-doc.doc ≡ empty_with_names 0 built_names
 started c =
-    value_passed_on c.with_names.result c.in_ok-doc.doc (λ doc. doc ≡ empty_with_names 0 (bytes_of c.in_ok-by_rank.by_rank.items)) c.in_ok-doc.ensures.value c.with_names.ensures.empty
+    value_passed_on c.with_names.result c.in_ok-doc.doc
+    (λ doc. doc ≡ empty_with_names 0 (bytes_of c.in_ok-by_rank.by_rank.items)) c.in_ok-doc.ensures.value c.with_names.ensures.empty
     ∙ ap (empty_with_names 0) (c.in_ok-by_rank.ensures ∙ c.in_ok-names.ensures)
 
 pub begin_with-requires-clause-names : goal.begin_with-requires-clause-names
 begin_with-requires-clause-names c =
-    same_built_names c.in_ok-doc.doc.names c.in_ok-properties.properties (from_entries (built_root_properties (head_model c.args.parts.head)))
+    same_built_names c.in_ok-doc.doc.names c.in_ok-properties.properties
+    (from_entries (built_root_properties (head_model c.args.parts.head)))
     (ap (λ document. document.names) (started (goal.at.begin_with-requires-clause-names c).In_ok-doc)) c.in_ok-properties.ensures
 
 pub begin_with-requires-clause-may : goal.begin_with-requires-clause-may
@@ -28,23 +30,28 @@ begin_with-requires-clause-may c =
     let head = head_model c.args.parts.head in
     let images = named_models c.args.parts.images.now in
     subst (λ properties. MayAdd c.in_ok-doc.doc (begin_events [] properties.by_name)) (sym c.in_ok-properties.ensures)
-    (may_begin_root c.args.form head images c.in_ok-doc.doc (started (goal.at.begin_with-requires-clause-may c).In_ok-doc) c.requires.prepared.can)
+    (may_begin_root c.args.form head images c.in_ok-doc.doc
+    (started (goal.at.begin_with-requires-clause-may c).In_ok-doc) c.requires.prepared.can)
 
 pub add_built_images-requires-clause-may : goal.add_built_images-requires-clause-may
 add_built_images-requires-clause-may c =
     let head = head_model c.args.parts.head in
     let images = named_models c.args.parts.images.now in
     let begun : c.begin_with.new.doc ≡ with_events c.in_ok-doc.doc (root_begin c.args.form head images) =
-    c.in_ok-begin_with.ensures.added ∙ ap (λ properties. with_events c.in_ok-doc.doc (begin_events [] properties.by_name)) c.in_ok-properties.ensures in
-    may_add_images c.args.form head images c.in_ok-doc.doc (started (goal.at.add_built_images-requires-clause-may c).In_ok-doc) c.requires.prepared.can c.begin_with.new.doc begun
+    c.in_ok-begin_with.ensures.added
+    ∙ ap (λ properties. with_events c.in_ok-doc.doc (begin_events [] properties.by_name)) c.in_ok-properties.ensures in
+    may_add_images c.args.form head images c.in_ok-doc.doc
+    (started (goal.at.add_built_images-requires-clause-may c).In_ok-doc) c.requires.prepared.can c.begin_with.new.doc begun
 
 pub add_configurations-requires-clause-may : goal.add_configurations-requires-clause-may
 add_configurations-requires-clause-may c =
     let head = head_model c.args.parts.head in
     let images = named_models c.args.parts.images.now in
     let begun : c.begin_with.new.doc ≡ with_events c.in_ok-doc.doc (root_begin c.args.form head images) =
-    c.in_ok-begin_with.ensures.added ∙ ap (λ properties. with_events c.in_ok-doc.doc (begin_events [] properties.by_name)) c.in_ok-properties.ensures in
-    may_add_configurations c.args.form head images c.in_ok-doc.doc (started (goal.at.add_configurations-requires-clause-may c).In_ok-doc) c.requires.prepared.can c.begin_with.new.doc begun
+    c.in_ok-begin_with.ensures.added
+    ∙ ap (λ properties. with_events c.in_ok-doc.doc (begin_events [] properties.by_name)) c.in_ok-properties.ensures in
+    may_add_configurations c.args.form head images c.in_ok-doc.doc
+    (started (goal.at.add_configurations-requires-clause-may c).In_ok-doc) c.requires.prepared.can c.begin_with.new.doc begun
     c.add_built_images.new.doc c.in_ok-add_built_images.ensures.added
 
 pub end-requires : goal.end-requires
@@ -52,8 +59,10 @@ end-requires c =
     let head = head_model c.args.parts.head in
     let images = named_models c.args.parts.images.now in
     let begun : c.begin_with.new.doc ≡ with_events c.in_ok-doc.doc (root_begin c.args.form head images) =
-    c.in_ok-begin_with.ensures.added ∙ ap (λ properties. with_events c.in_ok-doc.doc (begin_events [] properties.by_name)) c.in_ok-properties.ensures in
-    may_end_root c.args.form head images c.in_ok-doc.doc (started (goal.at.end-requires c).In_ok-doc) c.requires.prepared.can c.begin_with.new.doc begun
+    c.in_ok-begin_with.ensures.added
+    ∙ ap (λ properties. with_events c.in_ok-doc.doc (begin_events [] properties.by_name)) c.in_ok-properties.ensures in
+    may_end_root c.args.form head images c.in_ok-doc.doc
+    (started (goal.at.end-requires c).In_ok-doc) c.requires.prepared.can c.begin_with.new.doc begun
     c.add_built_images.new.doc c.in_ok-add_built_images.ensures.added c.add_configurations.new.doc c.in_ok-add_configurations.ensures.added
 
 pub returns-clause-document : goal.returns-clause-document
@@ -61,15 +70,21 @@ returns-clause-document c =
     let head = head_model c.args.parts.head in
     let images = named_models c.args.parts.images.now in
     let begun : c.begin_with.new.doc ≡ with_events c.in_ok-doc.doc (root_begin c.args.form head images) =
-    c.in_ok-begin_with.ensures.added ∙ ap (λ properties. with_events c.in_ok-doc.doc (begin_events [] properties.by_name)) c.in_ok-properties.ensures in
-    (is_document c.args.form head images c.in_ok-doc.doc (started (goal.at.returns-clause-document c).In_ok-doc) c.requires.prepared.can c.begin_with.new.doc begun
-    c.add_built_images.new.doc c.in_ok-add_built_images.ensures.added c.add_configurations.new.doc c.in_ok-add_configurations.ensures.added c.end.new.self c.end.ensures)
+    c.in_ok-begin_with.ensures.added
+    ∙ ap (λ properties. with_events c.in_ok-doc.doc (begin_events [] properties.by_name)) c.in_ok-properties.ensures in
+    (is_document c.args.form head images c.in_ok-doc.doc
+    (started (goal.at.returns-clause-document c).In_ok-doc) c.requires.prepared.can c.begin_with.new.doc begun
+    c.add_built_images.new.doc c.in_ok-add_built_images.ensures.added c.add_configurations.new.doc
+    c.in_ok-add_configurations.ensures.added c.end.new.self c.end.ensures)
 
 pub returns-clause-closed : goal.returns-clause-closed
 returns-clause-closed c =
     let head = head_model c.args.parts.head in
     let images = named_models c.args.parts.images.now in
     let begun : c.begin_with.new.doc ≡ with_events c.in_ok-doc.doc (root_begin c.args.form head images) =
-    c.in_ok-begin_with.ensures.added ∙ ap (λ properties. with_events c.in_ok-doc.doc (begin_events [] properties.by_name)) c.in_ok-properties.ensures in
-    is_closed c.args.form head images c.in_ok-doc.doc (started (goal.at.returns-clause-closed c).In_ok-doc) c.requires.prepared.can c.begin_with.new.doc begun
-    c.add_built_images.new.doc c.in_ok-add_built_images.ensures.added c.add_configurations.new.doc c.in_ok-add_configurations.ensures.added c.end.new.self c.end.ensures
+    c.in_ok-begin_with.ensures.added
+    ∙ ap (λ properties. with_events c.in_ok-doc.doc (begin_events [] properties.by_name)) c.in_ok-properties.ensures in
+    is_closed c.args.form head images c.in_ok-doc.doc
+    (started (goal.at.returns-clause-closed c).In_ok-doc) c.requires.prepared.can c.begin_with.new.doc begun
+    c.add_built_images.new.doc c.in_ok-add_built_images.ensures.added c.add_configurations.new.doc
+    c.in_ok-add_configurations.ensures.added c.end.new.self c.end.ensures

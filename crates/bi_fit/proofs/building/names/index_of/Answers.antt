@@ -9,7 +9,7 @@ use Rattle.bi_base.specs.Slices.{bytes_of}
 use Rattle.bi_blob.specs.Layout.{is_among}
 use Rattle.bi_fit.proofs.building.names.index_of.Goals as goal
 
--- What is read where there is no name.
+-- What is read if there is no name.
 abbrev no_name : Bor (List ℕ)
 no_name = record { ref_ptr = (0, 0); now = [] }
 
@@ -17,7 +17,8 @@ pub loop-index-preserved : goal.loop-index-preserved
 loop-index-preserved c =
     let names = c.args.names.now in
     let index = c.loop-index.index in
-    let left : drop index names ≡ get_or names index no_name ∷ drop (index + 1) names = rw add-one (drop-cons names index no_name c.loop-index-test.true) in
+    let left : drop index names ≡ get_or names index no_name
+    ∷ drop (index + 1) names = rw add-one (drop-cons names index no_name c.loop-index-test.true) in
     let is = subst (λ l. is_among c.args.name.now (bytes_of l) ≡ true) left c.loop-index.invariant in
     sym (ap (λ b. b || is_among c.args.name.now (bytes_of (drop (index + 1) names))) (sym c.eq.ensures ∙ c.if-eq.false)) ∙ is
 

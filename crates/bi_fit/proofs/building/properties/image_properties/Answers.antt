@@ -11,9 +11,12 @@ use Rattle.bi_fit.proofs.building.properties.image_properties.Goals as goal
 pub returns : goal.returns
 returns c =
     let image = named_model c.args.image.now in
-    let cells : c.insert_cell-2.new.properties ≡ among built_names (from_entries (cell_property (codes "load") image.load ++ cell_property (codes "entry") image.entry)) =
+    let cells : c.insert_cell-2.new.properties
+    ≡ among built_names (from_entries (cell_property (codes "load") image.load ++ cell_property (codes "entry") image.entry)) =
     c.in_ok-insert_cell-2.ensures
-    ∙ ap (with_cell_property (codes "load") image.load) (c.in_ok-insert_cell.ensures ∙ ap (with_cell_property (codes "entry") image.entry) (c.new-properties.ensures ∙ ap (λ names. among names empty) c.requires))
+    ∙ ap (with_cell_property (codes "load") image.load)
+    (c.in_ok-insert_cell.ensures ∙ ap (with_cell_property (codes "entry") image.entry)
+    (c.new-properties.ensures ∙ ap (λ names. among names empty) c.requires))
     ∙ addresses built_names image.load image.entry in
     let type : text_value c.type_name.result.now ≡ text_value (type_name image.key) = ap text_value c.type_name.ensures in
     let with_type = c.in_ok-insert.ensures in

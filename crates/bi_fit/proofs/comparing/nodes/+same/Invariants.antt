@@ -18,7 +18,8 @@ decreases-have_same_children l = 2 * depth (node_of l.own).children
 
 abbrev pub invariant-have_same_children-loop-next : goal.invariant-have_same_children-loop-next
 invariant-have_same_children-loop-next l = record {
-  same : (compared_nodes l.role (nodes_from (option_map node_of l.next)) ≡ compared_nodes l.role (nodes_from (option_map node_of l.other_next)))
+  same : (compared_nodes l.role (nodes_from (option_map node_of l.next))
+      ≡ compared_nodes l.role (nodes_from (option_map node_of l.other_next)))
       ↔ (compared_nodes l.role (node_of l.own).children ≡ compared_nodes l.role (node_of l.other).children);
   distinct : EachOwn HasDistinctNames (nodes_from (option_map node_of l.next));
   other_distinct : EachOwn HasDistinctNames (nodes_from (option_map node_of l.other_next));

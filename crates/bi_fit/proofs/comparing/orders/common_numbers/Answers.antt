@@ -8,7 +8,8 @@ pub returns : goal.returns
 returns c others distinct others_distinct are =
     let names = c.args.names.now in
     let found = c.args.found.now in
-    let all = all_begun found (length names) c.loop-number.number-index c.loop-number.next c.loop-number.numbers.items c.loop-number-test.false
+    let all = all_begun found (length names) c.loop-number.number-index c.loop-number.next
+    c.loop-number.numbers.items c.loop-number-test.false
     c.loop-number.invariant.begun in
     numbers_by_both (bytes_of names) others found c.loop-number.numbers.items distinct others_distinct are
     (all ∙ ap (λ n. numbers_from n found) (sym (length-map names (λ slice. slice.now))))

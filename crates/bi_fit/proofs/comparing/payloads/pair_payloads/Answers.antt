@@ -16,8 +16,11 @@ loop-image-preserved c =
     let image = image_model c.in-Some.image.now in
     let other_image = image_model c.in-Some.other.now in
     let here : IsPairing file other pairs (image ∷ images) (other_image ∷ others) all_same =
-    subst (λ (these : List ImageModel). IsPairing file other pairs these (other_image ∷ others) all_same) (ap (map image_model) c.in-Some.ensures.steps.0)
-    (subst (λ (those : List ImageModel). IsPairing file other pairs (map image_model (iter_rest c.loop-image.image-iterator.a)) those all_same) (ap (map image_model) c.in-Some.ensures.steps.1)
+    subst (λ (these : List ImageModel). IsPairing file other pairs these (other_image ∷ others) all_same)
+    (ap (map image_model) c.in-Some.ensures.steps.0)
+    (subst (λ (those : List ImageModel). IsPairing file other pairs
+    (map image_model (iter_rest c.loop-image.image-iterator.a)) those all_same) (ap (map image_model) c.in-Some.ensures.steps.1)
     c.loop-image.invariant) in
     subst (λ (more : List RegionPair). IsPairing file other more images others all_same) (sym c.in_ok-push.ensures.items)
-    (pairing_next file other pairs c.in-Some-pair_of_payloads.pair image other_image images others all_same here c.in-Some-pair_of_payloads.ensures)
+    (pairing_next file other pairs c.in-Some-pair_of_payloads.pair image other_image images others all_same here
+    c.in-Some-pair_of_payloads.ensures)

@@ -76,7 +76,8 @@ none_left values rest (Some value) false is given = ((λ is. absurd (false≢tru
 pub returns : goal.returns
 returns c =
     let same = same_values (goal.at.returns c).After-properties_in-others in
-    let none = none_left (compared_values c.args.role c.loop-key.others) _ c.next_value-2.result c.is_none.result c.is_none.ensures c.next_value-2.ensures.value in (
+    let none = none_left (compared_values c.args.role c.loop-key.others) _ c.next_value-2.result c.is_none.result c.is_none.ensures
+    c.next_value-2.ensures.value in (
       (λ is. same.0 (c.loop-key.invariant.0 (c.in_default.ensures.value ∙ sym (none.0 is)))),
       (λ equal. none.1 (sym (c.loop-key.invariant.1 (same.1 equal)) ∙ c.in_default.ensures.value)),
     )

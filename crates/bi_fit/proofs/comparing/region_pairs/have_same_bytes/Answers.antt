@@ -19,6 +19,7 @@ loop-pair-preserved c =
       (subst (AllByRecursion (AreInFiles c.args.file.now c.args.other.now)) rest invariant.2).1,
       (
         (λ all. (subst (AllByRecursion (HasSameBytes c.args.file.now c.args.other.now)) rest (invariant.3.0 all)).1),
-        (λ all. invariant.3.1 (subst (AllByRecursion (HasSameBytes c.args.file.now c.args.other.now)) (sym rest) (c.in-Some.ensures.some.0 refl, all))),
+        (λ all. invariant.3.1 (subst (AllByRecursion (HasSameBytes c.args.file.now c.args.other.now)) (sym rest)
+            (c.in-Some.ensures.some.0 refl, all))),
       ),
     )

@@ -8,7 +8,8 @@ returns c =
     let file = c.args.file.now in
     let other = c.args.other.now in
     let pair = c.args.pair in
-    let decides = bytes_eq-Decides (region file pair.begin pair.end) (region other (other_begin file other pair c.requires.within) (other_end file other pair c.requires.within)) in (
+    let decides = bytes_eq-Decides (region file pair.begin pair.end)
+    (region other (other_begin file other pair c.requires.within) (other_end file other pair c.requires.within)) in (
       (λ true. each_byte file other pair c.requires.within (decides.0 (sym c.eq.ensures ∙ true))),
       (λ same. c.eq.ensures ∙ decides.1 (same_region file other pair c.requires.within same)),
     )

@@ -17,7 +17,8 @@ begins c =
       | then-hashed w ↦ rw w.if-hashed.true (w.algo-is ∙ w.hash_algo-algo.ensures)
       | else-hashed w ↦ rw w.if-hashed.false w.algo-is
     ] in
-    child_begins c.args.hashed c.args.digests.now s c.if-hashed.algo c.name.result.now c.in_ok-properties.properties.by_name c.set_digest.new.self.by_name algo c.name.ensures (ap (λ m. m.by_name) c.in_ok-properties.ensures) c.in_ok-left.ensures.set
+    child_begins c.args.hashed c.args.digests.now s c.if-hashed.algo c.name.result.now c.in_ok-properties.properties.by_name
+    c.set_digest.new.self.by_name algo c.name.ensures (ap (λ m. m.by_name) c.in_ok-properties.ensures) c.in_ok-left.ensures.set
 
 pub from_node-requires-clause-order : goal.from_node-requires-clause-order
 from_node-requires-clause-order c = c.requires.order.is_order
@@ -39,11 +40,15 @@ add_children-requires-clause-order c =
 pub add_children-requires-clause-may : goal.add_children-requires-clause-may
 add_children-requires-clause-may c =
     let s = node_of c.args.node in
-    may_have_children c.args.doc.now (child_begin c.args.hashed c.args.digests.now s) (events (sorted_nodes s.children)) c.begin_with.new.doc
-    (c.in_ok-begin_with.ensures.added ∙ ap (with_events c.args.doc.now) (begins (goal.at.add_children-requires-clause-may c).After-name)) c.requires.may
+    may_have_children c.args.doc.now (child_begin c.args.hashed c.args.digests.now s)
+    (events (sorted_nodes s.children)) c.begin_with.new.doc
+    (c.in_ok-begin_with.ensures.added
+    ∙ ap (with_events c.args.doc.now) (begins (goal.at.add_children-requires-clause-may c).After-name)) c.requires.may
 
 pub end-requires : goal.end-requires
 end-requires c =
     let s = node_of c.args.node in
-    may_end c.args.doc.now (child_begin c.args.hashed c.args.digests.now s) (events (sorted_nodes s.children)) c.begin_with.new.doc c.add_children.new.doc
-    (c.in_ok-begin_with.ensures.added ∙ ap (with_events c.args.doc.now) (begins (goal.at.end-requires c).After-name)) c.in_ok-add_children.ensures.added c.requires.may
+    may_end c.args.doc.now (child_begin c.args.hashed c.args.digests.now s)
+    (events (sorted_nodes s.children)) c.begin_with.new.doc c.add_children.new.doc
+    (c.in_ok-begin_with.ensures.added ∙ ap (with_events c.args.doc.now) (begins (goal.at.end-requires c).After-name))
+    c.in_ok-add_children.ensures.added c.requires.may

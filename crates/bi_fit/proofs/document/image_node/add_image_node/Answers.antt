@@ -27,28 +27,36 @@ begin_with-requires-clause-names c = c.requires.names ∙ sym c.in_ok-set_payloa
 
 pub begin_with-requires-clause-may : goal.begin_with-requires-clause-may
 begin_with-requires-clause-may c =
-    let begun = begins c.args.area.now c.args.image c.place-begin.result c.set_payload.new.self.by_name c.place-begin.ensures.begin c.in_ok-set_payload.ensures.set in
+    let begun = begins c.args.area.now c.args.image c.place-begin.result c.set_payload.new.self.by_name c.place-begin.ensures.begin
+    c.in_ok-set_payload.ensures.set in
     subst (MayAdd c.args.doc.now) (sym begun)
     (may_begin c.args.doc.now (begin c.args.area.now c.args.image) (events (added_children c.args.image.children)) c.requires.may)
 
 pub add_image_children-requires-clause-addable : goal.add_image_children-requires-clause-addable
 add_image_children-requires-clause-addable c =
-    subst (λ names. AreAddable names c.args.image.children) (sym (same_names c.args.doc.now c.begin_with.new.doc _ c.in_ok-begin_with.ensures.added)) c.requires.children
+    subst (λ names. AreAddable names c.args.image.children)
+    (sym (same_names c.args.doc.now c.begin_with.new.doc _ c.in_ok-begin_with.ensures.added)) c.requires.children
 
 pub add_image_children-requires-clause-may : goal.add_image_children-requires-clause-may
 add_image_children-requires-clause-may c =
-    let begun = begins c.args.area.now c.args.image c.place-begin.result c.set_payload.new.self.by_name c.place-begin.ensures.begin c.in_ok-set_payload.ensures.set in
-    may_have_children c.args.doc.now (begin c.args.area.now c.args.image) (events (added_children c.args.image.children)) c.begin_with.new.doc
+    let begun = begins c.args.area.now c.args.image c.place-begin.result c.set_payload.new.self.by_name c.place-begin.ensures.begin
+    c.in_ok-set_payload.ensures.set in
+    may_have_children c.args.doc.now (begin c.args.area.now c.args.image)
+    (events (added_children c.args.image.children)) c.begin_with.new.doc
     (c.in_ok-begin_with.ensures.added ∙ ap (with_events c.args.doc.now) begun) c.requires.may
 
 pub end-requires : goal.end-requires
 end-requires c =
-    let begun = begins c.args.area.now c.args.image c.place-begin.result c.set_payload.new.self.by_name c.place-begin.ensures.begin c.in_ok-set_payload.ensures.set in
-    may_end c.args.doc.now (begin c.args.area.now c.args.image) (events (added_children c.args.image.children)) c.begin_with.new.doc c.add_image_children.new.doc
+    let begun = begins c.args.area.now c.args.image c.place-begin.result c.set_payload.new.self.by_name c.place-begin.ensures.begin
+    c.in_ok-set_payload.ensures.set in
+    may_end c.args.doc.now (begin c.args.area.now c.args.image)
+    (events (added_children c.args.image.children)) c.begin_with.new.doc c.add_image_children.new.doc
     (c.in_ok-begin_with.ensures.added ∙ ap (with_events c.args.doc.now) begun) c.in_ok-left.ensures.added c.requires.may
 
 pub returns-clause-added : goal.returns-clause-added
 returns-clause-added c =
-    let begun = begins c.args.area.now c.args.image c.place-begin.result c.set_payload.new.self.by_name c.place-begin.ensures.begin c.in_ok-set_payload.ensures.set in
-    c.end.ensures ∙ whole_added c.args.doc.now (begin c.args.area.now c.args.image) (events (added_children c.args.image.children)) c.begin_with.new.doc c.add_image_children.new.doc
+    let begun = begins c.args.area.now c.args.image c.place-begin.result c.set_payload.new.self.by_name c.place-begin.ensures.begin
+    c.in_ok-set_payload.ensures.set in
+    c.end.ensures ∙ whole_added c.args.doc.now (begin c.args.area.now c.args.image)
+    (events (added_children c.args.image.children)) c.begin_with.new.doc c.add_image_children.new.doc
     (c.in_ok-begin_with.ensures.added ∙ ap (with_events c.args.doc.now) begun) c.in_ok-left.ensures.added

@@ -13,12 +13,16 @@ use Rattle.bi_fit.proofs.document.image_nodes.add_image_nodes.Given as goal
 
 abbrev pub invariant-loop-image : goal.invariant-loop-image
 invariant-loop-image l = record {
-  adding : IsAdding l.doc (with_events l.fn.doc (events (sorted_images l.parts.changes.hashes l.parts.form 0 (payloads_of l.parts.images.now) l.parts.digests.now (node_of l.node).children)))
-      (sorted_images l.parts.changes.hashes l.parts.form l.area.end (payloads_of (drop l.image-index l.parts.images.now)) l.left (nodes_from (option_map node_of l.next)));
+  adding : IsAdding l.doc (with_events l.fn.doc
+      (events (sorted_images l.parts.changes.hashes l.parts.form 0
+      (payloads_of l.parts.images.now) l.parts.digests.now (node_of l.node).children)))
+      (sorted_images l.parts.changes.hashes l.parts.form l.area.end (payloads_of (drop l.image-index l.parts.images.now)) l.left
+      (nodes_from (option_map node_of l.next)));
   order : HasNextOrder l.doc.names l.parts.order.now l.next;
   distinct : EachOwn HasDistinctNames (nodes_from (option_map node_of l.next));
   same_count : l.image-index + length (siblings (nodes_from (option_map node_of l.next))) ≡ length l.parts.images.now;
-  has_digests : HaveImageDigests l.parts.changes.hashes (payloads_of (drop l.image-index l.parts.images.now)) l.left (nodes_by_name (nodes_from (option_map node_of l.next)));
+  has_digests : HaveImageDigests l.parts.changes.hashes (payloads_of (drop l.image-index l.parts.images.now)) l.left
+      (nodes_by_name (nodes_from (option_map node_of l.next)));
   within : AreWithin l.parts.form l.area.end (payloads_of (drop l.image-index l.parts.images.now));
   small : l.area.end ≤ longest_text;
   form : l.area.form ≡ l.parts.form;

@@ -7,7 +7,9 @@ use Rattle.bi_fit.proofs.document.image_nodes.add_images.Goals as goal
 pub begin_node-requires-clause-may : goal.begin_node-requires-clause-may
 begin_node-requires-clause-may c =
     let s = node_of c.args.node in
-    may_begin c.args.doc.now (begin_events s.name (properties_by_name s.own)) (events (sorted_images c.args.parts.changes.hashes c.args.parts.form 0 (payloads_of c.args.parts.images.now) c.args.parts.digests.now s.children)) c.requires.may
+    may_begin c.args.doc.now (begin_events s.name (properties_by_name s.own))
+    (events (sorted_images c.args.parts.changes.hashes c.args.parts.form 0
+    (payloads_of c.args.parts.images.now) c.args.parts.digests.now s.children)) c.requires.may
 
 pub add_image_nodes-requires-clause-order : goal.add_image_nodes-requires-clause-order
 add_image_nodes-requires-clause-order c =
@@ -16,11 +18,15 @@ add_image_nodes-requires-clause-order c =
 pub add_image_nodes-requires-clause-may : goal.add_image_nodes-requires-clause-may
 add_image_nodes-requires-clause-may c =
     let s = node_of c.args.node in
-    may_have_children c.args.doc.now (begin_events s.name (properties_by_name s.own)) (events (sorted_images c.args.parts.changes.hashes c.args.parts.form 0 (payloads_of c.args.parts.images.now) c.args.parts.digests.now s.children))
+    may_have_children c.args.doc.now (begin_events s.name (properties_by_name s.own))
+    (events (sorted_images c.args.parts.changes.hashes c.args.parts.form 0
+    (payloads_of c.args.parts.images.now) c.args.parts.digests.now s.children))
     c.begin_node.new.doc c.in_ok-begin_node.ensures.added c.requires.may
 
 pub end-requires : goal.end-requires
 end-requires c =
     let s = node_of c.args.node in
-    may_end c.args.doc.now (begin_events s.name (properties_by_name s.own)) (events (sorted_images c.args.parts.changes.hashes c.args.parts.form 0 (payloads_of c.args.parts.images.now) c.args.parts.digests.now s.children))
+    may_end c.args.doc.now (begin_events s.name (properties_by_name s.own))
+    (events (sorted_images c.args.parts.changes.hashes c.args.parts.form 0
+    (payloads_of c.args.parts.images.now) c.args.parts.digests.now s.children))
     c.begin_node.new.doc c.add_image_nodes.new.doc c.in_ok-begin_node.ensures.added c.in_ok-add_image_nodes.ensures.added c.requires.may

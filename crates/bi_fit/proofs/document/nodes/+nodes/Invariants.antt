@@ -18,7 +18,8 @@ decreases-add_node l = 2 * depth (node_of l.node).children + 1
 
 abbrev pub invariant-add_children-loop-next : goal.invariant-add_children-loop-next
 invariant-add_children-loop-next l = record {
-  adding : IsAdding l.doc (with_events l.fn.doc (events (sorted_nodes (node_of l.node).children))) (sorted_nodes (nodes_from (option_map node_of l.next)));
+  adding : IsAdding l.doc (with_events l.fn.doc (events (sorted_nodes (node_of l.node).children)))
+      (sorted_nodes (nodes_from (option_map node_of l.next)));
   order : HasNextOrder l.doc.names l.order l.next;
   distinct : EachOwn HasDistinctNames (nodes_from (option_map node_of l.next));
   shallow : depth (nodes_from (option_map node_of l.next)) ≤ depth (node_of l.node).children;

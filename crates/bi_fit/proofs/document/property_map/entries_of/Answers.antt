@@ -14,5 +14,8 @@ loop-rank-preserved c =
       done ++ keyed ∷ [],
       c.loop-rank.invariant.1 ∙ ap (λ l. done ++ l) c.in-Some.ensures.steps ∙ sym (append_assoc done (keyed ∷ []) c.next.new.self),
       subst (AllZip IsEntryOf (done ++ keyed ∷ [])) (sym c.in_ok-push.ensures.items)
-          (all_zipped_more IsEntryOf done c.loop-rank.entries.items keyed (c.in-Some.rank, Slice c.in-Some.property.value) c.loop-rank.invariant.2 (refl, refl)),
+          (all_zipped_more IsEntryOf done c.loop-rank.entries.items keyed (
+            c.in-Some.rank,
+            Slice c.in-Some.property.value,
+          ) c.loop-rank.invariant.2 (refl, refl)),
     )

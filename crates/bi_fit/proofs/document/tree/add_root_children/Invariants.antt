@@ -12,11 +12,15 @@ use Rattle.bi_fit.proofs.document.tree.add_root_children.Given as goal
 
 abbrev pub invariant-loop-next : goal.invariant-loop-next
 invariant-loop-next l = record {
-  adding : IsAdding l.doc (with_events l.fn.doc (events (sorted_root_children l.parts.changes.hashes l.parts.form (payloads_of l.parts.images.now) l.parts.digests.now (node_of l.root).children)))
-      (sorted_root_children l.parts.changes.hashes l.parts.form (payloads_of l.parts.images.now) l.parts.digests.now (nodes_from (option_map node_of l.next)));
+  adding : IsAdding l.doc (with_events l.fn.doc
+      (events (sorted_root_children l.parts.changes.hashes l.parts.form
+      (payloads_of l.parts.images.now) l.parts.digests.now (node_of l.root).children)))
+      (sorted_root_children l.parts.changes.hashes l.parts.form (payloads_of l.parts.images.now) l.parts.digests.now
+      (nodes_from (option_map node_of l.next)));
   order : HasNextOrder l.doc.names l.parts.order.now l.next;
   distinct : EachOwn HasDistinctNames (nodes_from (option_map node_of l.next));
-  images : HaveImageNodes (AreImageNodes l.parts.changes.hashes l.parts.images.now l.parts.digests.now) (nodes_from (option_map node_of l.next));
+  images : HaveImageNodes (AreImageNodes l.parts.changes.hashes l.parts.images.now l.parts.digests.now)
+      (nodes_from (option_map node_of l.next));
   position : HaveImagesAfter l.before_images (nodes_from (option_map node_of l.next));
 }
 

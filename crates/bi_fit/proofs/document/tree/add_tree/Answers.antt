@@ -12,7 +12,8 @@ begins : (c : After-name) → begin_events c.name.result.now c.set_time.new.self
     ≡ begin_events (node_of c.args.root).name (with_time c.args.parts.changes.time (properties_by_name (node_of c.args.root).own))
 begins c =
     let s = node_of c.args.root in
-    begin_events-same c.name.result.now s.name c.set_time.new.self.by_name (with_time c.args.parts.changes.time (properties_by_name s.own)) c.name.ensures
+    begin_events-same c.name.result.now s.name c.set_time.new.self.by_name
+    (with_time c.args.parts.changes.time (properties_by_name s.own)) c.name.ensures
     (c.in_ok-set_time.ensures.set ∙ ap (with_time c.args.parts.changes.time) (ap (λ m. m.by_name) c.in_ok-properties.ensures))
 
 pub from_node-requires-clause-order : goal.from_node-requires-clause-order
@@ -27,7 +28,8 @@ begin_with-requires-clause-may c =
     let s = node_of c.args.root in
     subst (MayAdd c.args.doc.now) (sym (begins (goal.at.begin_with-requires-clause-may c).After-name))
     (may_begin c.args.doc.now (begin_events s.name (with_time c.args.parts.changes.time (properties_by_name s.own)))
-    (events (sorted_root_children c.args.parts.changes.hashes c.args.parts.form (payloads_of c.args.parts.images.now) c.args.parts.digests.now s.children)) c.requires.may)
+    (events (sorted_root_children c.args.parts.changes.hashes c.args.parts.form
+    (payloads_of c.args.parts.images.now) c.args.parts.digests.now s.children)) c.requires.may)
 
 pub add_root_children-requires-clause-order : goal.add_root_children-requires-clause-order
 add_root_children-requires-clause-order c =
@@ -37,12 +39,16 @@ pub add_root_children-requires-clause-may : goal.add_root_children-requires-clau
 add_root_children-requires-clause-may c =
     let s = node_of c.args.root in
     may_have_children c.args.doc.now (begin_events s.name (with_time c.args.parts.changes.time (properties_by_name s.own)))
-    (events (sorted_root_children c.args.parts.changes.hashes c.args.parts.form (payloads_of c.args.parts.images.now) c.args.parts.digests.now s.children)) c.begin_with.new.doc
-    (c.in_ok-begin_with.ensures.added ∙ ap (with_events c.args.doc.now) (begins (goal.at.add_root_children-requires-clause-may c).After-name)) c.requires.may
+    (events (sorted_root_children c.args.parts.changes.hashes c.args.parts.form
+    (payloads_of c.args.parts.images.now) c.args.parts.digests.now s.children)) c.begin_with.new.doc
+    (c.in_ok-begin_with.ensures.added
+    ∙ ap (with_events c.args.doc.now) (begins (goal.at.add_root_children-requires-clause-may c).After-name)) c.requires.may
 
 pub end-requires : goal.end-requires
 end-requires c =
     let s = node_of c.args.root in
     may_end c.args.doc.now (begin_events s.name (with_time c.args.parts.changes.time (properties_by_name s.own)))
-    (events (sorted_root_children c.args.parts.changes.hashes c.args.parts.form (payloads_of c.args.parts.images.now) c.args.parts.digests.now s.children)) c.begin_with.new.doc c.add_root_children.new.doc
-    (c.in_ok-begin_with.ensures.added ∙ ap (with_events c.args.doc.now) (begins (goal.at.end-requires c).After-name)) c.in_ok-add_root_children.ensures.added c.requires.may
+    (events (sorted_root_children c.args.parts.changes.hashes c.args.parts.form
+    (payloads_of c.args.parts.images.now) c.args.parts.digests.now s.children)) c.begin_with.new.doc c.add_root_children.new.doc
+    (c.in_ok-begin_with.ensures.added ∙ ap (with_events c.args.doc.now) (begins (goal.at.end-requires c).After-name))
+    c.in_ok-add_root_children.ensures.added c.requires.may

@@ -18,7 +18,8 @@ returns-clause-digests c =
       | inr images ↦ inr (ap (map image_model) (nil_from_length (iter_rest c.loop-node.node-iterator.b) images.1.0))
     ] in
     sym (after_last_image (siblings_left c.loop-node.node-iterator.a) (map image_model (iter_rest c.loop-node.node-iterator.b)) _ ended)
-    ∙ c.loop-node.invariant.so_far ∙ sym (new_digests_are c.args.self.now c.args.changes (not-false c.args.changes.hashes c.if-not-changes.false))
+    ∙ c.loop-node.invariant.so_far ∙ sym
+    (new_digests_are c.args.self.now c.args.changes (not-false c.args.changes.hashes c.if-not-changes.false))
 
 pub loop-node-preserved : goal.loop-node-preserved
 loop-node-preserved c =
@@ -33,7 +34,10 @@ loop-node-preserved c =
     let first = digests_of_image (image_model c.in-Some.image.now).payload (nodes_by_name (node_of c.in-Some.node).children) in
     record {
       placed = subst (λ file. AreAtTheirPlaces file rest) (sym c.in_ok-append_digests.ensures.same) placed.1;
-      so_far = ap (λ l. l ++ file_new_digests (siblings_left c.next.new.self.a) rest) (c.in_ok-append_digests.ensures.added ∙ ap (λ payload. c.loop-node.digests.items ++ digests_of_image payload (nodes_by_name (node_of c.in-Some.node).children)) (c.region.ensures c.loop-node.region_digests placed.0).bytes)
+      so_far = ap (λ l. l ++ file_new_digests (siblings_left c.next.new.self.a) rest)
+          (c.in_ok-append_digests.ensures.added
+          ∙ ap (λ payload. c.loop-node.digests.items ++ digests_of_image payload (nodes_by_name (node_of c.in-Some.node).children))
+          (c.region.ensures c.loop-node.region_digests placed.0).bytes)
           ∙ append_assoc (c.loop-node.digests.items) first (file_new_digests (siblings_left c.next.new.self.a) rest)
           ∙ ap (λ l. c.loop-node.digests.items ++ l) (sym left) ∙ c.loop-node.invariant.so_far;
     }

@@ -17,8 +17,15 @@ returns-in_err-after-clause-failed c =
 pub returns-in_err-document-clause-failed : goal.returns-in_err-document-clause-failed
 returns-in_err-document-clause-failed c =
     let tree = with_changes c.args.changes (tree_of c.args.self.now) in
-    document_error_passed_on c.from_residual-in_err-document.result c.in_err-document.field-0.0 c.args.limits c.args.form tree c.from_residual-in_err-document.ensures.1 c.in_err-document.ensures.failed
-    (omega (arith, ap (λ images. length_after_blob c.args.form (map (λ image. image.payload) images)) c.images-images.ensures, c.in_ok-after.ensures.length, c.in_ok-after.ensures.within, c.file-limit.ensures.value))
+    document_error_passed_on c.from_residual-in_err-document.result c.in_err-document.field-0.0 c.args.limits c.args.form tree
+    c.from_residual-in_err-document.ensures.1 c.in_err-document.ensures.failed
+    (omega (
+      arith,
+      ap (λ images. length_after_blob c.args.form (map (λ image. image.payload) images)) c.images-images.ensures,
+      c.in_ok-after.ensures.length,
+      c.in_ok-after.ensures.within,
+      c.file-limit.ensures.value,
+    ))
 
 pub returns-clause-text : goal.returns-clause-text
 returns-clause-text c =

@@ -30,10 +30,15 @@ loop-node-preserved c =
     let left : file_verdicts (siblings_left c.loop-node.node-iterator.a) (map image_model (iter_rest c.loop-node.node-iterator.b))
     ≡ file_verdicts (node_of c.in-Some.node ∷ siblings_left c.next.new.self.a) (image ∷ rest) =
     ap₂ file_verdicts steps.0 (ap (map image_model) steps.1) in
-    let first = file_hashes (node_of c.in-Some.node).name (image_model c.in-Some.image.now).payload (siblings (node_of c.in-Some.node).children) in
+    let first = file_hashes (node_of c.in-Some.node).name (image_model c.in-Some.image.now).payload
+    (siblings (node_of c.in-Some.node).children) in
     record {
       placed = subst (λ file. AreAtTheirPlaces file rest) (sym c.in_ok-check_image.ensures.same) placed.1;
-      so_far = ap (λ l. l ++ file_verdicts (siblings_left c.next.new.self.a) rest) (c.in_ok-check_image.ensures.ok ∙ ap (λ payload. map checked_hash_of c.loop-node.checked.items ++ file_hashes (node_of c.in-Some.node).name payload (siblings (node_of c.in-Some.node).children)) (c.region.ensures c.loop-node.digests placed.0).bytes)
+      so_far = ap (λ l. l ++ file_verdicts (siblings_left c.next.new.self.a) rest)
+          (c.in_ok-check_image.ensures.ok
+          ∙ ap (λ payload. map checked_hash_of c.loop-node.checked.items
+          ++ file_hashes (node_of c.in-Some.node).name payload (siblings (node_of c.in-Some.node).children))
+          (c.region.ensures c.loop-node.digests placed.0).bytes)
           ∙ append_assoc (map checked_hash_of c.loop-node.checked.items) first (file_verdicts (siblings_left c.next.new.self.a) rest)
           ∙ ap (λ l. map checked_hash_of c.loop-node.checked.items ++ l) (sym left) ∙ c.loop-node.invariant.so_far;
     }

@@ -19,17 +19,20 @@ use Rattle.bi_fit.proofs.name_order.NameOrder.new.Goals.{In_ok-ranked, In_ok-key
 pub rank_names-requires : goal.rank_names-requires
 rank_names-requires c =
     let base = names_of_table c.args.blob.now.table in
-    subst AreDistinct (sym (ap bytes_of c.deref.ensures.value ∙ c.in_ok-numbers.ensures.names)) (changed_distinct base c.names.ensures.distinct)
+    subst AreDistinct (sym (ap bytes_of c.deref.ensures.value ∙ c.in_ok-numbers.ensures.names))
+    (changed_distinct base c.names.ensures.distinct)
 
 -- The names are those of the file and those that a text changes, and these are their ranks.
-ranked : (c : In_ok-ranked) → AreRanksOf (with_changed_names (names_of_table c.args.blob.now.table)) (bytes_of c.in_ok-ranked.ranked.names.items) c.in_ok-ranked.ranked.ranks.items
+ranked : (c : In_ok-ranked) → AreRanksOf (with_changed_names (names_of_table c.args.blob.now.table))
+    (bytes_of c.in_ok-ranked.ranked.names.items) c.in_ok-ranked.ranked.ranks.items
 ranked c =
     subst (λ names. AreRanksOf names (bytes_of c.in_ok-ranked.ranked.names.items) c.in_ok-ranked.ranked.ranks.items)
     (ap bytes_of c.deref.ensures.value ∙ c.in_ok-numbers.ensures.names) c.in_ok-ranked.ensures
 
 -- Each key is the rank of the name of its property.
 numbered : (c : In_ok-keys) →
-    AreRanksOf (with_changed_names (names_of_table c.args.blob.now.table)) (bytes_of c.in_ok-ranked.ranked.names.items) c.in_ok-ranked.ranked.ranks.items →
+    AreRanksOf (with_changed_names (names_of_table c.args.blob.now.table))
+    (bytes_of c.in_ok-ranked.ranked.names.items) c.in_ok-ranked.ranked.ranks.items →
     AreNumbered (bytes_of c.in_ok-ranked.ranked.names.items) c.args.blob.now.table c.in_ok-keys.keys.items
 numbered c are =
     let table = c.args.blob.now.table in
@@ -38,7 +41,8 @@ numbered c are =
     let sorted = bytes_of c.in_ok-ranked.ranked.names.items in
     c.in_ok-keys.ensures.numbers all sorted table
     (subst (AllZip (IsNumberOf sorted) all) (sym c.deref-2.ensures.value) are.ranked)
-    (subst (AreNumbered all table) (sym c.deref-3.ensures.value) (numbered_more base all (changed_begin base) table c.in_ok-name_numbers.field-0.items c.in_ok-name_numbers.ensures))
+    (subst (AreNumbered all table) (sym c.deref-3.ensures.value)
+    (numbered_more base all (changed_begin base) table c.in_ok-name_numbers.field-0.items c.in_ok-name_numbers.ensures))
 
 pub new-requires : goal.new-requires
 new-requires c =
@@ -54,8 +58,10 @@ returns-clause-order c =
       sorted = subst (IsStrictlySortedBy (slice_cmp nat_cmp)) (sym c.new-2.ensures) (ranked at.In_ok-ranked).in_order;
       in_order = record {
         keys = c.in_ok-keys.keys.items;
-        numbered = subst (λ names. AreNumbered names table c.in_ok-keys.keys.items) (sym c.new-2.ensures) (numbered at.In_ok-keys (ranked at.In_ok-ranked));
-        ordered = subst (λ keys. IsPropertyOrder table keys c.in_ok-properties.properties) c.deref-4.ensures.value c.in_ok-properties.ensures;
+        numbered = subst (λ names. AreNumbered names table c.in_ok-keys.keys.items) (sym c.new-2.ensures)
+            (numbered at.In_ok-keys (ranked at.In_ok-ranked));
+        ordered = subst (λ keys. IsPropertyOrder table keys c.in_ok-properties.properties)
+            c.deref-4.ensures.value c.in_ok-properties.ensures;
       };
     }
 

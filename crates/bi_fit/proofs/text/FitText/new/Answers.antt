@@ -16,7 +16,12 @@ pub invariant_of-result : goal.invariant_of-result
 invariant_of-result c =
     let payloads = payloads_of c.args.images.now in
     let whole = length-whole_text c.args.form c.in-Some.blob payloads in
-    let is_size : c.size.result + c.args.after ≡ length (whole_text c.args.form c.in-Some.blob payloads) = omega (arith, whole, c.size.ensures.size, c.requires.after) in
+    let is_size : c.size.result + c.args.after ≡ length (whole_text c.args.form c.in-Some.blob payloads) = omega (
+      arith,
+      whole,
+      c.size.ensures.size,
+      c.requires.after,
+    ) in
     record {
       within = are_within c.args.form payloads (omega (arith, c.requires.after, c.requires.within, c.requires.small));
       is_size = is_size;
@@ -27,5 +32,10 @@ pub returns-clause-short : goal.returns-clause-short
 returns-clause-short c =
     let payloads = payloads_of c.args.images.now in
     let whole = length-whole_text c.args.form c.in-Some.blob payloads in
-    let short : length (whole_text c.args.form c.in-Some.blob payloads) ≤ c.args.limit = omega (arith, whole, c.size.ensures.size, c.requires.after) in
+    let short : length (whole_text c.args.form c.in-Some.blob payloads) ≤ c.args.limit = omega (
+      arith,
+      whole,
+      c.size.ensures.size,
+      c.requires.after,
+    ) in
     short

@@ -23,7 +23,11 @@ invariant_of-self-2 c =
           (c.digest.ensures.digest
           ∙ ap (λ n. digest_of c.args.algo (take n from_begin) ++ replicate (64 - c.digest.result) 0) long
           ∙ ap (λ n. digest_of c.args.algo (take c.args.region.length from_begin) ++ replicate (64 - n) 0) c.digest.ensures.size)
-          (subst (λ index. Updates by_digest_key c.self.inside.digests c.insert.new.self (c.args.region.begin, c.args.region.length, index) (Some c.digest.new.out)) c.index.ensures
+          (subst (λ index. Updates by_digest_key c.self.inside.digests c.insert.new.self (
+            c.args.region.begin,
+            c.args.region.length,
+            index,
+          ) (Some c.digest.new.out)) c.index.ensures
           c.in_ok-insert.ensures.updates)
           c.self.invariant.each;
     }

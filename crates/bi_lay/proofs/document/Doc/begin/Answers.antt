@@ -7,7 +7,8 @@ use Rattle.bi_lay.proofs.document.Doc.begin.Goals as goal
 pub invariant_of-self-2 : goal.invariant_of-self-2
 invariant_of-self-2 c =
     let ok = ap is_ok c.unwrap.ensures in
-    let items = c.push.ensures.items ∙ ap (λ b. cond b (c.reserve.new.self.items ++ Begin c.args.name ∷ []) c.reserve.new.self.items) ok ∙ ap (λ l. l ++ Begin c.args.name ∷ []) c.in_ok-reserve.ensures.items in
+    let items = c.push.ensures.items ∙ ap (λ b. cond b (c.reserve.new.self.items ++ Begin c.args.name ∷ []) c.reserve.new.self.items) ok
+    ∙ ap (λ l. l ++ Begin c.args.name ∷ []) c.in_ok-reserve.ensures.items in
     let len = c.push.ensures.len ∙ ap (λ b. cond b (vec_len c.reserve.new.self + 1) (vec_len c.reserve.new.self)) ok in
     kept-begun c.self.inside _ c.args.name c.self.invariant
     (subst (λ content. MayBegin most_open_nodes c.args.name.now (stage_of_events content.events)) (sym c.self.view_is) c.requires)

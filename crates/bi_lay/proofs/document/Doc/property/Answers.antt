@@ -9,7 +9,8 @@ pub invariant_of-self-2 : goal.invariant_of-self-2
 invariant_of-self-2 c =
     let item : Item = Property (record { name = c.args.name; name_offset = c.in_ok-name_offset.name_offset; value = c.args.value }) in
     let ok = ap is_ok c.unwrap.ensures in
-    let items = c.push.ensures.items ∙ ap (λ b. cond b (c.reserve.new.self.items ++ item ∷ []) c.reserve.new.self.items) ok ∙ ap (λ l. l ++ item ∷ []) c.in_ok-reserve.ensures.items in
+    let items = c.push.ensures.items ∙ ap (λ b. cond b (c.reserve.new.self.items ++ item ∷ []) c.reserve.new.self.items) ok
+    ∙ ap (λ l. l ++ item ∷ []) c.in_ok-reserve.ensures.items in
     let len = c.push.ensures.len ∙ ap (λ b. cond b (vec_len c.reserve.new.self + 1) (vec_len c.reserve.new.self)) ok in
     kept-added c.self.inside _ _ c.self.invariant
     (subst (λ content. MayHaveNextProperty c.args.name.now (stage_of_events content.events)) (sym c.self.view_is) c.requires)

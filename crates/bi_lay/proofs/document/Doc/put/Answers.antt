@@ -15,5 +15,8 @@ pub returns : goal.returns
 returns g c =
     let is_length = length-of_sizes c.args.self.now c.args.sizes c.requires in
     let fits = c.args.sizes.fits in
-    let is_text = same_text c.self.inside c.deref.result.now c.deref-2.result.now _ c.self.invariant c.deref.ensures.value c.deref-2.ensures.value c.block_names.ensures (omega (arith, is_length, fits, ap (λ content. length (text_of content)) c.self.view_is)) in
-    subst (λ text. Wrote g.S.Sink.appends g.S.Sink.fails c.args.sink.now text c.put_text.result c.put_text.new.sink) (is_text ∙ ap text_of c.self.view_is) c.put_text.ensures
+    let is_text = same_text c.self.inside c.deref.result.now c.deref-2.result.now _ c.self.invariant c.deref.ensures.value
+    c.deref-2.ensures.value c.block_names.ensures
+    (omega (arith, is_length, fits, ap (λ content. length (text_of content)) c.self.view_is)) in
+    subst (λ text. Wrote g.S.Sink.appends g.S.Sink.fails c.args.sink.now text c.put_text.result c.put_text.new.sink)
+    (is_text ∙ ap text_of c.self.view_is) c.put_text.ensures

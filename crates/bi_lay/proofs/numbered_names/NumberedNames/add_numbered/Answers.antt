@@ -15,20 +15,27 @@ within by_number slices offsets number less is count = omega (arith, ap length i
 
 pub returns-in-Some-clause-offset : goal.returns-in-Some-clause-offset
 returns-in-Some-clause-offset c =
-    subst (λ names. c.in-Some.offset ≡ saturated_usize (offset_in names.in_block (name_numbered names.by_number c.args.number))) c.self.view_is
-    (known-read (numbered_names c.self.inside) c.self.inside.offsets.items c.args.number c.index.result.now c.in-Some.offset c.self.invariant.known (within c.args.self.now.by_number c.self.inside.by_number.items c.self.inside.offsets.items c.args.number c.requires (ap (λ names. names.by_number) c.self.view_is) c.self.invariant.count) c.index.ensures c.in-Some.is).0
+    subst (λ names. c.in-Some.offset
+    ≡ saturated_usize (offset_in names.in_block (name_numbered names.by_number c.args.number))) c.self.view_is
+    (known-read (numbered_names c.self.inside) c.self.inside.offsets.items c.args.number c.index.result.now c.in-Some.offset
+    c.self.invariant.known (within c.args.self.now.by_number c.self.inside.by_number.items c.self.inside.offsets.items c.args.number
+    c.requires (ap (λ names. names.by_number) c.self.view_is) c.self.invariant.count) c.index.ensures c.in-Some.is).0
 
 pub returns-in-Some-clause-names : goal.returns-in-Some-clause-names
 returns-in-Some-clause-names c =
     subst (λ names. names ≡ with_use names (name_numbered names.by_number c.args.number)) c.self.view_is
-    (known-read (numbered_names c.self.inside) c.self.inside.offsets.items c.args.number c.index.result.now c.in-Some.offset c.self.invariant.known (within c.args.self.now.by_number c.self.inside.by_number.items c.self.inside.offsets.items c.args.number c.requires (ap (λ names. names.by_number) c.self.view_is) c.self.invariant.count) c.index.ensures c.in-Some.is).1
+    (known-read (numbered_names c.self.inside) c.self.inside.offsets.items c.args.number c.index.result.now c.in-Some.offset
+    c.self.invariant.known (within c.args.self.now.by_number c.self.inside.by_number.items c.self.inside.offsets.items c.args.number
+    c.requires (ap (λ names. names.by_number) c.self.view_is) c.self.invariant.count) c.index.ensures c.in-Some.is).1
 
 pub invariant_of-self-2 : goal.invariant_of-self-2
 invariant_of-self-2 c = record {
   count = length-set c.self.inside.offsets.items c.args.number _ ∙ c.self.invariant.count;
   known =
       let is_name = c.name-name.ensures ∙ ap (λ names. name_numbered names.by_number c.args.number) (sym c.self.view_is) in
-      known-stored (numbered_names c.self.inside) c.self.inside.offsets.items c.args.number c.in_ok-offset.offset c.add.new.self (within c.args.self.now.by_number c.self.inside.by_number.items c.self.inside.offsets.items c.args.number c.requires (ap (λ names. names.by_number) c.self.view_is) c.self.invariant.count) c.self.invariant.known
+      known-stored (numbered_names c.self.inside) c.self.inside.offsets.items c.args.number c.in_ok-offset.offset c.add.new.self
+      (within c.args.self.now.by_number c.self.inside.by_number.items c.self.inside.offsets.items c.args.number c.requires
+      (ap (λ names. names.by_number) c.self.view_is) c.self.invariant.count) c.self.invariant.known
       (c.in_ok-offset.ensures.names ∙ ap (with_name c.self.inside.in_block) is_name)
       (c.in_ok-offset.ensures.offset ∙ ap (λ name. saturated_usize (offset_in c.add.new.self name)) is_name);
 }

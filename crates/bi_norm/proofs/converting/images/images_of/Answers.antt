@@ -27,19 +27,25 @@ loop-part-preserved c =
     let left = c.next.new.self in
     let step : c.loop-part.part-iterator ≡ placed ∷ left = search rules in
     let way = subst (IsPartWay image keys images) step c.loop-part.invariant in
-    let same : keys ≡ keys_of_type image.image_type = c.keys_of_type-keys.ensures ∙ ap (λ (image : LegacyImage). keys_of_type image.image_type) c.fields-fields.ensures in
-    let few : length image.parts ≤ length keys = subst (λ (all : List Key). length image.parts ≤ length all) (sym same) c.requires.can.1.1.1.1.1.0 in
+    let same : keys ≡ keys_of_type image.image_type = c.keys_of_type-keys.ensures
+    ∙ ap (λ (image : LegacyImage). keys_of_type image.image_type) c.fields-fields.ensures in
+    let few : length image.parts ≤ length keys = subst (λ (all : List Key). length image.parts ≤ length all)
+    (sym same) c.requires.can.1.1.1.1.1.0 in
     let key = get_or keys c.len.result Kernel in
     let place : c.len.result ≡ length images = search rules in
     let after : IsPartWay image keys (images ++ c.if-is_empty.next ∷ []) left = elim c.if-is_empty.branch [
       | then-is_empty w ↦
           let none : length images ≡ 0 = search rules in
-          let is = subst (λ (image : LegacyImage). named_model w.first_image-next.result ≡ first_image image key placed.bytes) c.fields-fields.ensures w.first_image-next.ensures.image ∙ ap (λ n. first_image image (get_or keys n Kernel) placed.bytes) place in
+          let is = subst (λ (image : LegacyImage). named_model w.first_image-next.result ≡ first_image image key placed.bytes)
+          c.fields-fields.ensures w.first_image-next.ensures.image
+          ∙ ap (λ n. first_image image (get_or keys n Kernel) placed.bytes) place in
           subst (λ (next : NamedImage). IsPartWay image keys (images ++ (next ∷ [])) left) (sym w.next-is)
           (after_first image keys images placed left w.first_image-next.result Kernel way few none is w.first_image-next.ensures.payload)
       | else-is_empty w ↦
-          let some : 0 < length images = subst (λ n. 0 < n) c.loop-part.images.ok.0 (not_empty c.loop-part.images.len w.if-is_empty.ensures) in
-          let is = w.later_image-next.ensures.image image c.requires.names ∙ ap (λ n. later_image image (get_or keys n Kernel) placed.bytes) place in
+          let some : 0 < length images = subst (λ n. 0 < n) c.loop-part.images.ok.0
+          (not_empty c.loop-part.images.len w.if-is_empty.ensures) in
+          let is = w.later_image-next.ensures.image image c.requires.names
+          ∙ ap (λ n. later_image image (get_or keys n Kernel) placed.bytes) place in
           subst (λ (next : NamedImage). IsPartWay image keys (images ++ (next ∷ [])) left) (sym w.next-is)
           (after_later image keys images placed left w.later_image-next.result Kernel way few some is w.later_image-next.ensures.payload)
     ] in

@@ -8,7 +8,8 @@ pub returns-in_err-named-clause-failed : goal.returns-in_err-named-clause-failed
 returns-in_err-named-clause-failed c form =
     let p = err_from_is_err_and c.from_residual-in_err-named.result c.from_residual-in_err-named.ensures.1 in
     let few : length c.args.images.now ≤ c.args.limits.file = omega (arith, c.if-images-file.false, c.file.ensures.value) in
-    rw (p.1, p.2) (image_error c.args.limits form c.args.head c.args.images.now c.in_err-named.field-0.0 few c.in_ok-check_description.ensures.ok.no_zero c.in_err-named.ensures.failed)
+    rw (p.1, p.2) (image_error c.args.limits form c.args.head c.args.images.now c.in_err-named.field-0.0 few
+    c.in_ok-check_description.ensures.ok.no_zero c.in_err-named.ensures.failed)
 
 pub returns-clause-passed : goal.returns-clause-passed
 returns-clause-passed c form =

@@ -14,4 +14,5 @@ returns-in_err-read-in-Err-clause-failed c =
 
 pub returns-else-is_no_tree-clause-failed : goal.returns-else-is_no_tree-clause-failed
 returns-else-is_no_tree-clause-failed c =
-    tree_error c.args.limits c.args.file.now c.in-Err.error (λ same. let e : false ≡ true = c.if-is_no_tree.ensures.1 same in cc) c.in-Err.ensures.failed
+    tree_error c.args.limits c.args.file.now c.in-Err.error
+    (λ same. let e : false ≡ true = c.if-is_no_tree.ensures.1 same in cc) c.in-Err.ensures.failed

@@ -29,7 +29,8 @@ add_entry-requires c =
     let target = with_events c.args.doc.now (map NodeProperty (entries c.args.self.now.by_name)) in
     let entry = get_or items c.loop-entry.entry-index no_map_entry in
     let later = drop (c.loop-entry.entry-index + 1) items in
-    let left : drop c.loop-entry.entry-index items ≡ entry ∷ later = rw add-one (drop-cons items c.loop-entry.entry-index no_map_entry c.loop-entry-test.true) in
+    let left : drop c.loop-entry.entry-index items ≡ entry
+    ∷ later = rw add-one (drop-cons items c.loop-entry.entry-index no_map_entry c.loop-entry-test.true) in
     may_add_entry c.loop-entry.doc target entry later (subst (IsAddingEntries c.loop-entry.doc target) left c.loop-entry.invariant)
 
 pub loop-entry-preserved : goal.loop-entry-preserved
@@ -38,5 +39,7 @@ loop-entry-preserved c =
     let target = with_events c.args.doc.now (map NodeProperty (entries c.args.self.now.by_name)) in
     let entry = get_or items c.loop-entry.entry-index no_map_entry in
     let later = drop (c.loop-entry.entry-index + 1) items in
-    let left : drop c.loop-entry.entry-index items ≡ entry ∷ later = rw add-one (drop-cons items c.loop-entry.entry-index no_map_entry c.loop-entry-test.true) in
-    adding_more c.loop-entry.doc target entry later (subst (IsAddingEntries c.loop-entry.doc target) left c.loop-entry.invariant) c.add_entry.new.doc c.in_ok-add_entry.ensures
+    let left : drop c.loop-entry.entry-index items ≡ entry
+    ∷ later = rw add-one (drop-cons items c.loop-entry.entry-index no_map_entry c.loop-entry-test.true) in
+    adding_more c.loop-entry.doc target entry later
+    (subst (IsAddingEntries c.loop-entry.doc target) left c.loop-entry.invariant) c.add_entry.new.doc c.in_ok-add_entry.ensures

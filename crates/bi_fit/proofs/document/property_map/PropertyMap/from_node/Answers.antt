@@ -23,5 +23,7 @@ returns c =
     let by : AreByNumber names (node_of c.args.node).own.properties c.properties_in-properties.result =
     c.properties_in-properties.ensures.by_number names c.requires.order.in_order c.requires.distinct in
     ap (among names)
-    (entries_by_name names c.requires.order.sorted c.properties_in-properties.result c.in_ok-entries.entries.items c.in_ok-entries.ensures by.numbered by.ascending
-    (properties_of (node_of c.args.node).own) (c.properties_in-properties.ensures.by_name names c.requires.order.in_order c.requires.distinct c.requires.order.sorted))
+    (entries_by_name names c.requires.order.sorted c.properties_in-properties.result c.in_ok-entries.entries.items
+    c.in_ok-entries.ensures by.numbered by.ascending
+    (properties_of (node_of c.args.node).own)
+    (c.properties_in-properties.ensures.by_name names c.requires.order.in_order c.requires.distinct c.requires.order.sorted))

@@ -15,7 +15,8 @@ use Rattle.bi_fit.proofs.document.property_map.PropertyMap.insert.Goals as goal
 use Rattle.bi_fit.proofs.document.property_map.PropertyMap.insert.Goals.{After-index_mut, In_ok-insert}
 
 -- The rank is that of one of the names.
-within : (fields : Fields) (model : PropertyMapModel) (rank : ℕ) → fields.names.now ≡ model.names → (name : List ℕ) × IsNumberOf model.names name rank →
+within : (fields : Fields) (model : PropertyMapModel) (rank : ℕ) → fields.names.now ≡ model.names → (name : List ℕ)
+    × IsNumberOf model.names name rank →
     rank < length fields.names.now
 within fields model rank same there =
     slice_get_within fields.names.now rank there.0 (subst (λ names. IsNumberOf names there.0 rank) (sym same) there.1)
@@ -35,13 +36,17 @@ consistent : (fields : Fields) → IsConsistentMap fields → (rank : ℕ) → r
     (items : List (ℕ × Value)) → items ≡ put nat_cmp rank value fields.entries.items →
     AreRanksWithin fields.names.now items × T (is_sorted nat_cmp items)
 consistent fields are rank inside value items is = (
-  subst (AreRanksWithin fields.names.now) (sym is) (within-put fields.names.now are.in_order rank inside value fields.entries.items are.within),
+  subst (AreRanksWithin fields.names.now) (sym is)
+      (within-put fields.names.now are.in_order rank inside value fields.entries.items are.within),
   subst (λ l. T (is_sorted nat_cmp l)) (sym is) (is_sorted-put nat_cmp nat_cmp_total rank value fields.entries.items are.ascending),
 )
 
 -- Where the rank was found, its entry gets the value.
 replaced : (c : After-index_mut) →
-    set c.self.inside.entries.items c.find_index-index.result (c.args.rank, c.args.value) ≡ put nat_cmp c.args.rank c.args.value c.self.inside.entries.items
+    set c.self.inside.entries.items c.find_index-index.result (
+      c.args.rank,
+      c.args.value,
+    ) ≡ put nat_cmp c.args.rank c.args.value c.self.inside.entries.items
 replaced c =
     let entries = c.self.inside.entries.items in
     let here = found entries c.deref.result.now c.deref-2.result.now c.args.rank c.find_index-index.result c.has_rank_at.result
@@ -52,7 +57,8 @@ replaced c =
 pub invariant_of-self : goal.invariant_of-self
 invariant_of-self c =
     let inside = within c.self.inside c.args.self.now c.args.rank (ap (λ m. m.names) c.self.view_is) c.requires in
-    let are = consistent c.self.inside c.self.invariant c.args.rank inside c.args.value _ (replaced (goal.at.invariant_of-self c).After-index_mut) in
+    let are = consistent c.self.inside c.self.invariant c.args.rank inside c.args.value _
+    (replaced (goal.at.invariant_of-self c).After-index_mut) in
     record { in_order = c.self.invariant.in_order; within = are.0; ascending = are.1 }
 
 pub returns-then-has_rank_at : goal.returns-then-has_rank_at
@@ -70,7 +76,11 @@ returns-then-has_rank_at c =
 
 pub insert-requires : goal.insert-requires
 insert-requires c =
-    rw (c.find_index-index.ensures, c.deref.ensures.value, c.self.inside.entries.ok.0) (index_within c.args.rank c.args.value c.self.inside.entries.items)
+    rw (
+      c.find_index-index.ensures,
+      c.deref.ensures.value,
+      c.self.inside.entries.ok.0,
+    ) (index_within c.args.rank c.args.value c.self.inside.entries.items)
 
 -- Where it was not found, it gets an entry in its place.
 added : (c : In_ok-insert) → c.insert.new.self.items ≡ put nat_cmp c.args.rank c.args.value c.self.inside.entries.items
@@ -85,7 +95,8 @@ added c =
 pub invariant_of-self-2 : goal.invariant_of-self-2
 invariant_of-self-2 c =
     let inside = within c.self.inside c.args.self.now c.args.rank (ap (λ m. m.names) c.self.view_is) c.requires in
-    let are = consistent c.self.inside c.self.invariant c.args.rank inside c.args.value _ (added (goal.at.invariant_of-self-2 c).In_ok-insert) in
+    let are = consistent c.self.inside c.self.invariant c.args.rank inside c.args.value _
+    (added (goal.at.invariant_of-self-2 c).In_ok-insert) in
     record { in_order = c.self.invariant.in_order; within = are.0; ascending = are.1 }
 
 pub returns : goal.returns

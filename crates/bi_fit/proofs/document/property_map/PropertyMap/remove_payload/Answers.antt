@@ -20,8 +20,10 @@ invariant_of-self c =
     let kept = filter_same _ keeps _ (λ x b f' t. search rules) _ _ c.retain.ensures.filtered in
     record {
       in_order = c.self.invariant.in_order;
-      within = subst (AreRanksWithin names) (sym kept) (each-filter (λ entry. entry.0 < length names) keeps entries c.self.invariant.within);
-      ascending = subst (λ l. T (is_sorted nat_cmp l)) (sym kept) (is_sorted-where_key nat_cmp (λ rank. not (is_payload_rank c.ranks-ranks.result rank)) entries c.self.invariant.ascending);
+      within = subst (AreRanksWithin names) (sym kept)
+          (each-filter (λ entry. entry.0 < length names) keeps entries c.self.invariant.within);
+      ascending = subst (λ l. T (is_sorted nat_cmp l)) (sym kept)
+          (is_sorted-where_key nat_cmp (λ rank. not (is_payload_rank c.ranks-ranks.result rank)) entries c.self.invariant.ascending);
     }
 
 pub returns : goal.returns
@@ -31,5 +33,6 @@ returns c =
     let keeps = keeps_value names c.self.invariant.in_order c.ranks-ranks.result c.ranks-ranks.ensures in
     let kept = filter_same _ keeps _ (λ x b f' t. search rules) _ _ c.retain.ensures.filtered in
     ap (λ l. among names (from_sorted {R = slice_cmp nat_cmp} (named_values names l))) kept
-    ∙ (ap (among names) (by_name-filter names c.self.invariant.in_order c.ranks-ranks.result c.ranks-ranks.ensures entries c.self.invariant.within c.self.invariant.ascending)
+    ∙ (ap (among names) (by_name-filter names c.self.invariant.in_order c.ranks-ranks.result c.ranks-ranks.ensures entries
+    c.self.invariant.within c.self.invariant.ascending)
     ∙ ap (λ m. among m.names (without_payload m.by_name)) c.self.view_is)

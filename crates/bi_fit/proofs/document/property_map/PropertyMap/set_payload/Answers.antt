@@ -13,20 +13,23 @@ pub returns-in-Embedded-clause-set : goal.returns-in-Embedded-clause-set
 returns-in-Embedded-clause-set c =
     let ranks = c.ranks-ranks.result in
     let shown : insert (without_payload c.args.self.now.by_name) data_name c.in-Some.payload.now
-    ≡ with_payload c.args.form c.args.begin (option_map (λ (payload : Bor (List ℕ)). payload.now) c.args.payload) (without_payload c.args.self.now.by_name) =
+    ≡ with_payload c.args.form c.args.begin (option_map (λ (payload : Bor (List ℕ)). payload.now) c.args.payload)
+    (without_payload c.args.self.now.by_name) =
     rw (c.in-Embedded.is, c.in-Some.is) refl in
     on_ok_weaker c.insert.result (λ is.
     ap (λ m. m.by_name) is
     ∙ ap (λ m. insert m.by_name data_name c.in-Some.payload.now) c.remove_payload.ensures
     ∙ shown)
-    (c.insert.ensures.inserted data_name (subst (λ m. IsNumberOf m.names data_name ranks.payload) c.self.view_is c.ranks-ranks.ensures.numbers.payload))
+    (c.insert.ensures.inserted data_name
+    (subst (λ m. IsNumberOf m.names data_name ranks.payload) c.self.view_is c.ranks-ranks.ensures.numbers.payload))
 
 pub returns-in_ok-insert-in-External-clause-set : goal.returns-in_ok-insert-in-External-clause-set
 returns-in_ok-insert-in-External-clause-set c =
     let ranks = c.ranks-ranks.result in
     let size = cell (length c.in-Some.payload.now) in
     let shown : insert (insert (without_payload c.args.self.now.by_name) data_offset_name (cell c.args.begin)) data_size_name size
-    ≡ with_payload c.args.form c.args.begin (option_map (λ (payload : Bor (List ℕ)). payload.now) c.args.payload) (without_payload c.args.self.now.by_name) =
+    ≡ with_payload c.args.form c.args.begin (option_map (λ (payload : Bor (List ℕ)). payload.now) c.args.payload)
+    (without_payload c.args.self.now.by_name) =
     rw (c.in-External.is, c.in-Some.is) refl in
     let first = c.in_ok-insert-in-External.ensures.inserted data_offset_name
     (subst (λ m. IsNumberOf m.names data_offset_name ranks.offset) c.self.view_is c.ranks-ranks.ensures.numbers.offset) in
@@ -35,5 +38,6 @@ returns-in_ok-insert-in-External-clause-set c =
     ∙ ap (λ m. insert m.by_name data_size_name size) first
     ∙ ap (λ m. insert (insert m.by_name data_offset_name (cell c.args.begin)) data_size_name size) c.remove_payload.ensures
     ∙ shown)
-    (c.insert-in-External-2.ensures.inserted data_size_name (subst (λ names. IsNumberOf names data_size_name ranks.size) (sym c.in_ok-insert-in-External.ensures.same_names)
+    (c.insert-in-External-2.ensures.inserted data_size_name
+    (subst (λ names. IsNumberOf names data_size_name ranks.size) (sym c.in_ok-insert-in-External.ensures.same_names)
     (subst (λ m. IsNumberOf m.names data_size_name ranks.size) c.self.view_is c.ranks-ranks.ensures.numbers.size)))
