@@ -18,7 +18,11 @@ invariant_of-self-2 c = record {
   each =
       one_more_digest c.self.inside.file.now c.self.inside.digests c.insert.new.self c.args.region c.args.algo c.compute-digest.result
       (c.compute-digest.ensures ∙ ap (λ file. padded_digest c.args.algo (bytes_of_region file c.args.region)) (sym c.self.view_is))
-      (subst (λ index. Updates by_digest_key c.self.inside.digests c.insert.new.self (c.args.region.begin, c.args.region.length, index) (Some c.compute-digest.result)) c.index.ensures
+      (subst (λ index. Updates by_digest_key c.self.inside.digests c.insert.new.self (
+        c.args.region.begin,
+        c.args.region.length,
+        index,
+      ) (Some c.compute-digest.result)) c.index.ensures
       c.in_ok-insert.ensures.updates)
       c.self.invariant.each;
 }
