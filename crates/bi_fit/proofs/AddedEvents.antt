@@ -23,14 +23,14 @@ pub with_events-append : (document : Doc) (events later : List Event) →
 with_events-append document events later = ap (λ l. record document { events = l }) (append_assoc document.events events later)
 
 -- The names that may be given by number stay the same,
-pub same_names : (document more : Doc) (events : List Event) → more ≡ with_events document events → more.names ≡ document.names
-same_names document more events is = ap (λ document. document.names) is
+pub document_keeps_names : (document more : Doc) (events : List Event) → more ≡ with_events document events → more.names ≡ document.names
+document_keeps_names document more events is = ap (λ document. document.names) is
 
 -- so that an order by these stays one by these.
 pub still_ordered : (order : NameOrder) (node : NodeRef) (document more : Doc) (events : List Event) → more ≡ with_events document events →
     HasOrder document.names order node → HasOrder more.names order node
 still_ordered order node document more events is has = subst (λ names. HasOrder names order node)
-    (sym (same_names document more events is)) has
+    (sym (document_keeps_names document more events is)) has
 
 -- The order is of the next node, if there is one.
 abbrev pub HasNextOrder : List (List ℕ) → NameOrder → Option NodeRef → Type 0

@@ -8,7 +8,7 @@ use Rattle.bi_fit.specs.ImageTree.{without_payload}
 use Rattle.bi_fit.specs.Text.{with_payload}
 use Rattle.bi_fit.specs.NormalNodes.{MayAdd, with_events, begin_events}
 use Rattle.bi_fit.specs.AddedImages.{AreAddable, added_payload, added_children, added_properties}
-use Rattle.bi_fit.proofs.AddedEvents.{same_names, may_begin, may_have_children, may_end, whole_added}
+use Rattle.bi_fit.proofs.AddedEvents.{document_keeps_names, may_begin, may_have_children, may_end, whole_added}
 use Rattle.bi_fit.proofs.document.image_node.add_image_node.Goals as goal
 
 -- The events with which the node begins.
@@ -35,7 +35,7 @@ begin_with-requires-clause-may c =
 pub add_image_children-requires-clause-addable : goal.add_image_children-requires-clause-addable
 add_image_children-requires-clause-addable c =
     subst (λ names. AreAddable names c.args.image.children)
-    (sym (same_names c.args.doc.now c.begin_with.new.doc _ c.in_ok-begin_with.ensures.added)) c.requires.children
+    (sym (document_keeps_names c.args.doc.now c.begin_with.new.doc _ c.in_ok-begin_with.ensures.added)) c.requires.children
 
 pub add_image_children-requires-clause-may : goal.add_image_children-requires-clause-may
 add_image_children-requires-clause-may c =
