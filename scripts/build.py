@@ -244,7 +244,7 @@ def build(wanted, jobs):
     else:
         steps = Build(crates, jobs)
         if steps.waiting:
-            say(f"proving and building {wanted}: once, in about half an hour")
+            say(f"proving and building {wanted}: once, in 20 to 40 minutes")
         try:
             steps.run()
         finally:
