@@ -1,8 +1,8 @@
-use Rattle.std.proofs.Common.{◌≡◌, ℕ, ◌<◌, ◌==◌, Bool, true, false, cond, List, [], ◌∷◌, ◌++◌, map, flat_map, filter, codes, bytes_eq, length, refl, sym, subst}
+use Rattle.std.proofs.Common.{◌≡◌, ℕ, ◌==◌, Bool, true, false, cond, List, [], ◌∷◌, ◌++◌, map, flat_map, filter, codes, bytes_eq, length}
+use Rattle.std.proofs.Common.{refl, sym, subst}
 use Rattle.std.proofs.Common.{Option, Some, None, not, drop, ◌-◌}
-use Rattle.std.specs.Prelude.{⊤, IfSome, IsAscii, option_and_then, if◌then◌else◌}
+use Rattle.std.specs.Prelude.{⊤, IfSome, IsAscii, option_and_then}
 use Rattle.std.specs.List.{AllByRecursion, list_all, list_any}
-use Rattle.std.specs.Option.{option_map}
 use Rattle.std.specs.FinMap.{get}
 use Rattle.bi_base.specs.Cells.{AreBytes}
 use Rattle.bi_base.specs.Limits.{Limits}
@@ -11,7 +11,7 @@ use Rattle.bi_base.proofs.ListMembers.{each-append}
 use Rattle.bi_blob.specs.Lookups.{Sibling, siblings}
 use Rattle.bi_blob.specs.Tree.{Nodes, none, node, PropertyMap, AreNodes, names}
 use Rattle.bi_fit.specs.declared.key.Key.{Key}
-use Rattle.bi_fit.specs.ImageTree.{ImageTree, ArePropertiesByName, HaveByteNames, IsImageTree, children_of, image_nodes, nodes_or_none}
+use Rattle.bi_fit.specs.ImageTree.{ImageTree, ArePropertiesByName, HaveByteNames, IsImageTree, children_of, nodes_or_none}
 use Rattle.bi_fit.specs.Judgement.{Image, CheckedHash, ListResult, NoConfig, NoKey, BadList, Missing, ListedImages, checked_hash}
 use Rattle.bi_fit.specs.Judgement.{configuration_nodes, default_of, hash_nodes, images_of, images_with, listed_of, verdicts_of}
 use Rattle.bi_fit.specs.Names.{algo_name, value_name, all_keys, images_name, is_hash_name}
@@ -22,17 +22,18 @@ use Rattle.bi_hash.specs.declared.verdicts.Verdict.TheVariants.{Good, Bad, Unkno
 use Rattle.bi_norm.specs.Meaning.{Meaning, OfLegacy, OfFit, Means}
 use Rattle.bi_commands.specs.declared.check.Allowed.{Allowed}
 use Rattle.bi_commands.specs.CheckedFiles.{IsChecked}
-use Rattle.bi_commands.specs.Checking.{Concern, BadHash, UnhashedImage, WeakHash, BadKey, MissingImage, BadDefault, TrailingBytes, allows, kind_of}
-use Rattle.bi_commands.specs.Checking.{AreConcerns, OfLegacyImage, OfImageTree, content_end, concern_line, concern_lines, configuration_concerns, default_concerns}
-use Rattle.bi_commands.specs.Checking.{hash_concerns, hashed_concerns, hashes_of_image, image_concerns, is_good, is_strong, kind_word}
+use Rattle.bi_commands.specs.Checking.{Concern, BadHash, UnhashedImage, WeakHash, BadKey, MissingImage, BadDefault, TrailingBytes, allows}
+use Rattle.bi_commands.specs.Checking.{kind_of}
+use Rattle.bi_commands.specs.Checking.{AreConcerns, OfLegacyImage, OfImageTree, content_end, concern_line, concern_lines}
+use Rattle.bi_commands.specs.Checking.{configuration_concerns, default_concerns}
+use Rattle.bi_commands.specs.Checking.{hash_concerns, hashes_of_image, image_concerns, is_good, is_strong}
 use Rattle.bi_commands.specs.Checking.{list_concerns, names_one_of, payload_concerns, tree_concerns, trailing_concerns}
-use Rattle.bi_commands.specs.Descriptions.{Words}
-use Rattle.bi_commands.specs.Reports.{IsReport, GoodChecksum, HashVerdict, Summary, ReportLine, counts_of, hash_report, legacy_report, report_line}
-use Rattle.bi_commands.specs.Reports.{report_lines, report_of, shown_or_none, value_word, verdict_word}
+use Rattle.bi_commands.specs.Reports.{IsReport, HashVerdict, Summary, ReportLine, counts_of, report_line}
+use Rattle.bi_commands.specs.Reports.{report_of, shown_or_none, value_word, verdict_word}
 use Rattle.bi_commands.specs.Shown.{shown_text}
 use Rattle.bi_commands.specs.ValueTexts.{hexadecimal_digits}
 use Rattle.bi_commands.proofs.AsciiListings.{configurations_are_nodes, default_bytes, key_word, node_names_bytes, before_nul_bytes}
-use Rattle.bi_commands.proofs.AsciiTexts.{HasAscii, AreAsciiWords, ascii_line, both, by_test, bytes_digits, decimal_shown, each_text, is_ascii}
+use Rattle.bi_commands.proofs.AsciiTexts.{HasAscii, AreAsciiWords, ascii_line, both, by_test, bytes_digits, decimal_shown, is_ascii}
 use Rattle.bi_commands.proofs.AsciiTexts.{name_shown}
 
 -- Proves that reports and lines of concerns are ASCII: the names and values that they show are bytes.
@@ -88,8 +89,10 @@ images_bytes : (nodes : Nodes PropertyMap) (payloads : List (Option (List ℕ)))
 images_bytes none payloads are bytes = tt
 images_bytes (node name own children later) [] are bytes = tt
 images_bytes (node name own children later) (payload ∷ payloads) are bytes =
-    let entry : Sibling PropertyMap = record { name = name; own = own; children = children; later = later } in
-    ((bytes.0, hashes_bytes (record { entry = entry; payload = payload }) bytes.0 children are.1 bytes.1), images_bytes later payloads are.2 bytes.2)
+    let entry : Sibling PropertyMap = record { name = name; own = own; children = children; later = later } in (
+      (bytes.0, hashes_bytes (record { entry = entry; payload = payload }) bytes.0 children are.1 bytes.1),
+      images_bytes later payloads are.2 bytes.2,
+    )
 
 -- The images of a tree.
 tree_images : (tree : ImageTree) → IsImageTree tree → AllByRecursion IsByteImage (images_of tree)
@@ -99,7 +102,8 @@ tree_images tree is = by (children_of images_name tree.root.children) refl
         AllByRecursion IsByteImage (images_with (siblings (nodes_or_none o)) tree.payloads)
     by None found = tt
     by (Some inner) found =
-        images_bytes inner tree.payloads (AreNodes-children_of ArePropertiesByName images_name tree.root.children inner found is.is_tree.children)
+        images_bytes inner tree.payloads
+        (AreNodes-children_of ArePropertiesByName images_name tree.root.children inner found is.is_tree.children)
         (bytes-children_of images_name tree.root.children inner found is.name_bytes)
 
 -- ---- reports
@@ -126,34 +130,43 @@ value_shown (Some value) bytes = by (bytes_eq value [])
 hash_shown : (hash : CheckedHash) → IsByteHash hash → HasAscii (report_line (HashVerdict hash))
 hash_shown hash bytes =
     ascii_line
-    (shown_text hash.image ∷ shown_text hash.node_name ∷ shown_or_none hash.algo ∷ verdict_word hash.verdict ∷ value_word hash.value ∷ [])
-    (name_shown hash.image bytes.0, (name_shown hash.node_name bytes.1, (maybe_shown hash.algo bytes.2, (verdict_shown hash.verdict, (value_shown hash.value bytes.3, tt)))))
+    (shown_text hash.image ∷ shown_text hash.node_name ∷ shown_or_none hash.algo ∷ verdict_word hash.verdict ∷ value_word hash.value ∷ []) (
+      name_shown hash.image bytes.0,
+      (
+        name_shown hash.node_name bytes.1,
+        (maybe_shown hash.algo bytes.2, (verdict_shown hash.verdict, (value_shown hash.value bytes.3, tt))),
+      ),
+    )
 
 hash_lines_shown : (hashes : List CheckedHash) (last : List ReportLine) → AllByRecursion IsByteHash hashes →
     HasAscii (flat_map report_line last) → HasAscii (flat_map report_line (map HashVerdict hashes ++ last))
 hash_lines_shown [] last bytes rest = rest
 hash_lines_shown (hash ∷ later) last bytes rest =
-    both (report_line (HashVerdict hash)) (flat_map report_line (map HashVerdict later ++ last)) (hash_shown hash bytes.0) (hash_lines_shown later last bytes.1 rest)
+    both (report_line (HashVerdict hash)) (flat_map report_line (map HashVerdict later ++ last)) (hash_shown hash bytes.0)
+    (hash_lines_shown later last bytes.1 rest)
 
 all_hashes : (images : List Image) → AllByRecursion IsByteImage images →
     AllByRecursion IsByteHash (flat_map (λ (image : Image). map (checked_hash image) (hash_nodes image)) images)
 all_hashes [] bytes = tt
 all_hashes (image ∷ later) bytes =
-    each-append IsByteHash (hashes_of_image image) (flat_map (λ (image : Image). map (checked_hash image) (hash_nodes image)) later) bytes.0.1 (all_hashes later bytes.1)
+    each-append IsByteHash (hashes_of_image image)
+    (flat_map (λ (image : Image). map (checked_hash image) (hash_nodes image)) later) bytes.0.1 (all_hashes later bytes.1)
 
 -- A report is ASCII.
 pub report_is_ascii : (limits : Limits) (file text : List ℕ) → IsReport limits file text → IsAscii text
 report_is_ascii limits file text report = by report.meaning report.means report.is
   where
     by : (meaning : Meaning) → Means limits file meaning → text ≡ report_of meaning → IsAscii text
-    by (OfLegacy image) means is = subst IsAscii (sym is) (is_ascii (report_of (OfLegacy image)) (by_test (report_of (OfLegacy image)) refl))
+    by (OfLegacy image) means is = subst IsAscii (sym is)
+        (is_ascii (report_of (OfLegacy image)) (by_test (report_of (OfLegacy image)) refl))
     by (OfFit tree) means is =
         let hashes = verdicts_of tree in
         let counts = counts_of hashes in
         let last : HasAscii (flat_map report_line (Summary counts ∷ [])) =
         both (report_line (Summary counts)) []
         (ascii_line
-        (codes "summary" ∷ codes "good" ∷ _ ∷ codes "bad" ∷ _ ∷ codes "unknown-algorithm" ∷ _ ∷ codes "no-payload" ∷ _ ∷ codes "malformed" ∷ _ ∷ []) (
+        (codes "summary" ∷ codes "good" ∷ _ ∷ codes "bad" ∷ _ ∷ codes "unknown-algorithm" ∷ _ ∷ codes "no-payload" ∷ _
+        ∷ codes "malformed" ∷ _ ∷ []) (
           by_test (codes "summary") refl,
           (
             by_test (codes "good") refl,
@@ -183,7 +196,8 @@ report_is_ascii limits file text report = by report.meaning report.means report.
         )) tt in
         subst IsAscii (sym is)
         (is_ascii (report_of (OfFit tree))
-        (hash_lines_shown hashes (Summary counts ∷ []) (all_hashes (images_of tree) (tree_images tree (file_means_image_tree file tree means.is_file))) last))
+        (hash_lines_shown hashes (Summary counts ∷ [])
+        (all_hashes (images_of tree) (tree_images tree (file_means_image_tree file tree means.is_file))) last))
 
 -- ---- concerns
 
@@ -204,15 +218,24 @@ algorithms_shown (hash ∷ later) bytes = (maybe_shown hash.algo bytes.0.2, algo
 
 concern_shown : (concern : Concern) → IsByteConcern concern → HasAscii (concern_line concern)
 concern_shown (BadHash hash) bytes =
-    ascii_line (codes "bad-hash" ∷ shown_text hash.image ∷ shown_text hash.node_name ∷ shown_or_none hash.algo ∷ verdict_word hash.verdict ∷ [])
-    (by_test (codes "bad-hash") refl, (name_shown hash.image bytes.0, (name_shown hash.node_name bytes.1, (maybe_shown hash.algo bytes.2, (verdict_shown hash.verdict, tt)))))
+    ascii_line (codes "bad-hash" ∷ shown_text hash.image ∷ shown_text hash.node_name ∷ shown_or_none hash.algo
+    ∷ verdict_word hash.verdict ∷ []) (
+      by_test (codes "bad-hash") refl,
+      (
+        name_shown hash.image bytes.0,
+        (name_shown hash.node_name bytes.1, (maybe_shown hash.algo bytes.2, (verdict_shown hash.verdict, tt))),
+      ),
+    )
 concern_shown (UnhashedImage image) bytes =
     ascii_line (codes "unhashed" ∷ shown_text image ∷ []) (by_test (codes "unhashed") refl, (name_shown image bytes, tt))
 concern_shown (WeakHash image good) bytes =
     ascii_line (codes "weak-hash" ∷ shown_text image ∷ map (λ (hash : CheckedHash). shown_or_none hash.algo) good)
     (by_test (codes "weak-hash") refl, (name_shown image bytes.0, algorithms_shown good bytes.1))
 concern_shown (BadKey configuration key) bytes =
-    ascii_line (codes "bad-list" ∷ shown_text configuration ∷ _ ∷ []) (by_test (codes "bad-list") refl, (name_shown configuration bytes, (key_word key, tt)))
+    ascii_line (codes "bad-list" ∷ shown_text configuration ∷ _ ∷ []) (
+      by_test (codes "bad-list") refl,
+      (name_shown configuration bytes, (key_word key, tt)),
+    )
 concern_shown (MissingImage configuration key index) bytes =
     ascii_line (codes "missing" ∷ shown_text configuration ∷ _ ∷ _ ∷ [])
     (by_test (codes "missing") refl, (name_shown configuration bytes, (key_word key, (decimal_shown index, tt))))
@@ -239,7 +262,8 @@ if_not false concern bytes = (bytes, tt)
 hash_bytes : (hashes : List CheckedHash) → AllByRecursion IsByteHash hashes → AllByRecursion IsByteConcern (flat_map hash_concerns hashes)
 hash_bytes [] bytes = tt
 hash_bytes (hash ∷ later) bytes =
-    each-append IsByteConcern (hash_concerns hash) (flat_map hash_concerns later) (if_not (is_good hash) (BadHash hash) bytes.0) (hash_bytes later bytes.1)
+    each-append IsByteConcern (hash_concerns hash) (flat_map hash_concerns later)
+    (if_not (is_good hash) (BadHash hash) bytes.0) (hash_bytes later bytes.1)
 
 good_bytes : (hashes : List CheckedHash) → AllByRecursion IsByteHash hashes → AllByRecursion IsByteHash (filter is_good hashes)
 good_bytes [] bytes = tt
@@ -265,8 +289,10 @@ images_shown : (images : List Image) → AllByRecursion IsByteImage images → A
 images_shown [] bytes = tt
 images_shown (image ∷ later) bytes =
     each-append IsByteConcern (image_concerns image) (flat_map image_concerns later)
-    (each-append IsByteConcern (flat_map hash_concerns (hashes_of_image image)) (payload_concerns image.entry.name image.payload (hashes_of_image image))
-    (hash_bytes (hashes_of_image image) bytes.0.1) (payload_bytes image.entry.name image.payload (hashes_of_image image) bytes.0.0 bytes.0.1))
+    (each-append IsByteConcern (flat_map hash_concerns (hashes_of_image image))
+    (payload_concerns image.entry.name image.payload (hashes_of_image image))
+    (hash_bytes (hashes_of_image image) bytes.0.1)
+    (payload_bytes image.entry.name image.payload (hashes_of_image image) bytes.0.0 bytes.0.1))
     (images_shown later bytes.1)
 
 -- Those about configurations.
@@ -314,11 +340,14 @@ trailing_shown bytes = if_not (list_all (λ byte. byte == 0) bytes) (TrailingByt
 -- The lines of the concerns about a file are ASCII.
 pub checked_is_ascii : (allowed : Allowed) (limits : Limits) (file text : List ℕ) → IsChecked allowed limits file text → IsAscii text
 checked_is_ascii allowed limits file text checked =
-    subst IsAscii (sym checked.is_text) (is_ascii (concern_lines allowed checked.concerns) (lines_shown allowed checked.concerns (by checked.are_concerns)))
+    subst IsAscii (sym checked.is_text)
+    (is_ascii (concern_lines allowed checked.concerns) (lines_shown allowed checked.concerns (by checked.are_concerns)))
   where
     by : {concerns : List Concern} → AreConcerns limits file concerns → AllByRecursion IsByteConcern concerns
-    by (OfLegacyImage parsed is are) = subst (AllByRecursion IsByteConcern) (sym are) (trailing_shown (drop (length file - parsed.unused) file))
+    by (OfLegacyImage parsed is are) = subst (AllByRecursion IsByteConcern) (sym are)
+        (trailing_shown (drop (length file - parsed.unused) file))
     by (OfImageTree tree means are) =
         let rest : List ℕ = drop (content_end file means.is_file.images tree.payloads) file in
         subst (AllByRecursion IsByteConcern) (sym are)
-        (each-append IsByteConcern (tree_concerns tree) (trailing_concerns rest) (tree_shown tree (file_means_image_tree file tree means.is_file)) (trailing_shown rest))
+        (each-append IsByteConcern (tree_concerns tree) (trailing_concerns rest)
+        (tree_shown tree (file_means_image_tree file tree means.is_file)) (trailing_shown rest))

@@ -1,20 +1,17 @@
-use Rattle.std.proofs.Common.{◌≡◌, ◌<◌, ◌↔◌, ℕ, ◌-◌, max, Bool, IsTrue, Result, Ok, Err, IfOk, IfErr, OnOk, List, [], ◌∷◌, ◌++◌, Option, Some, None, length, drop, map}
-use Rattle.std.proofs.Common.{refl, sym, ap, ap₂, subst, ◌∙◌, append_assoc, arith, inl, inr}
+use Rattle.std.proofs.Common.{◌≡◌, ◌↔◌, ℕ, ◌-◌, max, Bool, IsTrue, Result, Ok, Err, IfOk, IfErr, OnOk, List, [], ◌∷◌, ◌++◌, Option, Some}
+use Rattle.std.proofs.Common.{None, length, drop, map}
+use Rattle.std.proofs.Common.{refl, sym, ap, ap₂, subst, ◌∙◌, append_assoc, inl, inr}
 use Rattle.std.specs.List.{AllZip}
 use Rattle.bi_base.specs.Commands.{Appended, AppendFailed, WasRefused, SinkFailed}
 use Rattle.bi_base.specs.declared.fault.Error.{Error}
 use Rattle.bi_base.specs.declared.fault.Error.TheVariants.{Refused, OutOfMemory, ReadFailed, WriteFailed}
-use Rattle.bi_base.specs.declared.fault.Fault.{Fault}
 use Rattle.bi_base.specs.Limits.{Limits}
-use Rattle.bi_base.specs.Reading.{too_large}
 use Rattle.bi_base.specs.Sinks.{FailsWithin, Wrote}
 use Rattle.bi_base.specs.VecSinks.{Grows, IsOutOfMemory}
 use Rattle.bi_blob.specs.Blob.{totalsize}
 use Rattle.bi_blob.specs.Lookups.{siblings}
 use Rattle.bi_blob.specs.Tree.{Nodes, none, node, FileNode}
-use Rattle.bi_fit.specs.NormalNodes.{payloads_of}
-use Rattle.bi_fit.specs.declared.image.Image.{Image as ImageRead}
-use Rattle.bi_fit.specs.Content.{FitModel, ImageModel, image_model, tree_of, place_of, IsReadImage}
+use Rattle.bi_fit.specs.Content.{FitModel, ImageModel, tree_of, place_of, IsReadImage}
 use Rattle.bi_fit.specs.ImageTree.{image_nodes, nodes_or_none}
 use Rattle.bi_fit.specs.HashNodes.{file_images}
 use Rattle.bi_fit.specs.Payloads.{PayloadSource, NoSource, Data, DataOffset, DataPosition, source_of, IsPayload}
@@ -27,8 +24,9 @@ use Rattle.bi_commands.specs.declared.check.Allowed.{Allowed}
 use Rattle.bi_commands.specs.CheckedFiles.{IsChecked, IsCheckError, IsCheckOutput}
 use Rattle.bi_commands.specs.Checking.{Concern, OfLegacyImage, OfImageTree, concern_lines, content_end, payload_end, tree_concerns}
 use Rattle.bi_commands.specs.Checking.{trailing_concerns}
-use Rattle.bi_commands.specs.PayloadBounds.{IsOverPayloadBound, payloads_length}
-use Rattle.bi_commands.specs.ReadChecking.{IsReadCheckError, IsReadCheckText, configurations_concerns, end_at, end_of_read_payloads, images_concerns}
+use Rattle.bi_commands.specs.PayloadBounds.{IsOverPayloadBound}
+use Rattle.bi_commands.specs.ReadChecking.{IsReadCheckError, IsReadCheckText, configurations_concerns, end_at, end_of_read_payloads}
+use Rattle.bi_commands.specs.ReadChecking.{images_concerns}
 use Rattle.bi_commands.specs.HashedImages.{images_of_blob}
 use Rattle.bi_commands.specs.ReadChecking.{read_concerns, read_default_concerns}
 use Rattle.bi_commands.proofs.ConcernLines.{lines_append}
@@ -59,7 +57,8 @@ end_of_content file total none [] same is = same
 end_of_content file total none (image ∷ images) same is = absurd is
 end_of_content file total (node name own children later) [] same is = absurd is
 end_of_content file total (node name own children later) (image ∷ images) same is =
-    ap₂ max (ap (λ place. end_at place image.payload) is.0.place ∙ placed_end file (source_of own) image.payload is.0.payload) (end_of_content file total later images same is.1)
+    ap₂ max (ap (λ place. end_at place image.payload) is.0.place ∙ placed_end file (source_of own) image.payload is.0.payload)
+    (end_of_content file total later images same is.1)
 
 -- The image nodes of a file that was read.
 abbrev nodes_found : (limits : Limits) (file : List ℕ) (content : FitModel) (is : IsReadFit limits file content) →
@@ -80,7 +79,8 @@ concerns_of_file limits file content is =
     end_of_content file content.blob.total_size nodes content.images (is.held.total_size ∙ ap totalsize is.is_file) read
     ∙ ap (λ (found : Nodes FileNode). content_end file found tree.payloads) (nodes_found limits file content is) in
     let left : List Concern = configurations_concerns content ++ read_default_concerns content in
-    ap₂ (λ (a b : List Concern). a ++ (configurations_concerns content ++ (read_default_concerns content ++ b))) (concerns_of_images content) (ap (λ n. trailing_concerns (drop n file)) end)
+    ap₂ (λ (a b : List Concern). a ++ (configurations_concerns content ++ (read_default_concerns content ++ b)))
+    (concerns_of_images content) (ap (λ n. trailing_concerns (drop n file)) end)
     ∙ simp append_assoc refl
 
 -- A legacy image that was read is checked by the concern about the bytes after it,
@@ -149,7 +149,11 @@ pub fit_appended : {S : Type 0} (appends : S → List ℕ → S → Type 0) (all
     IfOk result (λ clean. Appended appends (IsCheckOutput allowed limits clean file) old new)
 fit_appended appends allowed limits file content old new (Ok clean) is wrote tested within = record {
   text = concern_lines allowed (read_concerns file content);
-  is_text = record { checked = tree_checked allowed limits file _ content is (record { within = within; is_text = refl }); is_empty = tested };
+  is_text = record {
+    checked = tree_checked allowed limits file _ content is
+        (record { within = within; is_text = refl });
+    is_empty = tested;
+  };
   appended = wrote;
 }
 fit_appended appends allowed limits file content old new (Err error) is wrote tested within = tt

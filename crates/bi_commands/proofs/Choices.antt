@@ -58,7 +58,10 @@ found_by_name name (entry ∷ entries) (image ∷ later) same =
         → choice_of_image (image_named name (images_with (entry ∷ entries) (map (λ (image : ImageModel). image.payload) (image ∷ later)))) ≡
         choice_at (image ∷ later) (index_of name (image ∷ later))
     by true is same rest = rw (same, is) refl
-    by false is same rest = rw (same, is) (rest ∙ sym (ap (choice_at (image ∷ later)) (index_from-next 0 name later) ∙ choice_at-next image later (index_of name later)))
+    by false is same rest = rw (
+      same,
+      is,
+    ) (rest ∙ sym (ap (choice_at (image ∷ later)) (index_from-next 0 name later) ∙ choice_at-next image later (index_of name later)))
 
 -- The nodes of an image tree, by those of a file.
 abbrev pub meant : Nodes FileNode → Nodes PropertyMap
@@ -78,7 +81,8 @@ names_meant (node name own children later) = by (bytes_eq name images_name) refl
         (children_of images_name (with_children_of images_name without_payloads (meant (node name own children later))))) ≡
         names (nodes_or_none (children_of images_name (node name own children later)))
     by true is rest =
-        rw (is, is) (names-without_payloads (meant children) ∙ names-with_each from_entries (with_each properties_of children) ∙ names-with_each properties_of children)
+        rw (is, is) (names-without_payloads (meant children) ∙ names-with_each from_entries (with_each properties_of children)
+        ∙ names-with_each properties_of children)
     by false is rest = rw (is, is) rest
 
 -- Images that were read from nodes have their names.

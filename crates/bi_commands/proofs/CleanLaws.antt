@@ -1,4 +1,4 @@
--- Lemmas on clean images: checking an image writes nothing exactly if it is clean.
+-- Lemmas on clean images: checking an image writes nothing if and only if it is clean.
 pub mod NoLines
 pub mod CleanImages
 pub mod CleanConfigurations

@@ -44,23 +44,27 @@ are_compared limits one other image other_image same opened other_opened is = re
 pub memory_error : (limits : Limits) (one other : List ℕ) (image : BootImage) (error : CompareError) → IsReadBootImage limits one image →
     error ≡ OutOfMemory → IsReadingError limits one other error
 memory_error limits one other image error opened is =
-    subst (IsReadingError limits one other) (sym is) (needs_memory limits one (meaning_of image) (opened_means limits one image opened).means)
+    subst (IsReadingError limits one other) (sym is)
+    (needs_memory limits one (meaning_of image) (opened_means limits one image opened).means)
 
 -- The result of comparing two files that do not mean the same.
 false_compared : (limits : Limits) (one other : List ℕ) (image other_image : BootImage) (same : Bool) → IsReadBootImage limits one image →
     IsReadBootImage limits other other_image → IsTrue same ↔ (meaning_of image ≡ meaning_of other_image)
     → same ≡ false → IsTrue false ↔ (meaning_of image ≡ meaning_of other_image)
-false_compared limits one other image other_image same opened other_opened is is_false = subst (λ b. IsTrue b ↔ (meaning_of image ≡ meaning_of other_image)) is_false is
+false_compared limits one other image other_image same opened other_opened is is_false = subst
+    (λ b. IsTrue b ↔ (meaning_of image ≡ meaning_of other_image)) is_false is
 
 -- The error of describing one of two files that differ.
 pub describing_error : (limits : Limits) (one other : List ℕ) (image other_image : BootImage) (same : Bool) (error : CompareError) →
     IsReadBootImage limits one image → IsReadBootImage limits other other_image → IsTrue same ↔ (meaning_of image ≡ meaning_of other_image)
     → same ≡ false → (error ≡ OutOfMemory) ⊎ IsDescribingError limits (meaning_of image) (meaning_of other_image) error →
     IsComparisonError limits one other error
-describing_error limits one other image other_image same error opened other_opened is is_false (inl memory) = inl (memory_error limits one other image error opened memory)
+describing_error limits one other image other_image same error opened other_opened is is_false (inl memory) = inl
+    (memory_error limits one other image error opened memory)
 describing_error limits one other image other_image same error opened other_opened is is_false (inr describing) =
     inr (record {
-      compared = are_compared limits one other image other_image false opened other_opened (false_compared limits one other image other_image same opened other_opened is is_false);
+      compared = are_compared limits one other image other_image false opened other_opened
+          (false_compared limits one other image other_image same opened other_opened is is_false);
       is_error = describing;
     })
 
@@ -92,16 +96,19 @@ comparison_is_not_empty : (one other : Meaning) → comparison one other ≢ []
 comparison_is_not_empty (OfLegacy one) (OfFit other) = λ empty. cc
 comparison_is_not_empty (OfFit one) (OfLegacy other) = λ empty. cc
 comparison_is_not_empty (OfLegacy one) (OfLegacy other) =
-    not_empty (differences (description_texts (OfLegacy one)) (description_texts (OfLegacy other))) _ (reason_is_not_empty (bytes_eq (description (OfLegacy one)) (description (OfLegacy other))))
+    not_empty (differences (description_texts (OfLegacy one)) (description_texts (OfLegacy other))) _
+    (reason_is_not_empty (bytes_eq (description (OfLegacy one)) (description (OfLegacy other))))
 comparison_is_not_empty (OfFit one) (OfFit other) =
-    not_empty (differences (description_texts (OfFit one)) (description_texts (OfFit other))) _ (reason_is_not_empty (bytes_eq (description (OfFit one)) (description (OfFit other))))
+    not_empty (differences (description_texts (OfFit one)) (description_texts (OfFit other))) _
+    (reason_is_not_empty (bytes_eq (description (OfFit one)) (description (OfFit other))))
 
 -- Two files that mean the same have no differences.
 pub compared_same : (limits : Limits) (one other : List ℕ) (image other_image : BootImage) (same : Bool) (text : List ℕ) →
     IsReadBootImage limits one image → IsReadBootImage limits other other_image → IsTrue same ↔ (meaning_of image ≡ meaning_of other_image)
     → same ≡ true → text ≡ [] → IsComparison limits one other true text
 compared_same limits one other image other_image same text opened other_opened is is_true is_empty = record {
-  compared = are_compared limits one other image other_image true opened other_opened (subst (λ b. IsTrue b ↔ (meaning_of image ≡ meaning_of other_image)) is_true is);
+  compared = are_compared limits one other image other_image true opened other_opened
+      (subst (λ b. IsTrue b ↔ (meaning_of image ≡ meaning_of other_image)) is_true is);
   differences = AreTheSame is_empty;
   empty = ((λ empty. refl), (λ is_same. is_empty));
 }
@@ -112,7 +119,11 @@ pub compared_different : (limits : Limits) (one other : List ℕ) (image other_i
     → same ≡ false → CanBeDescribed limits (meaning_of image) → CanBeDescribed limits (meaning_of other_image) →
     text ≡ comparison (meaning_of image) (meaning_of other_image) → IsComparison limits one other false text
 compared_different limits one other image other_image same text opened other_opened is is_false described other_described is_text = record {
-  compared = are_compared limits one other image other_image false opened other_opened (false_compared limits one other image other_image same opened other_opened is is_false);
+  compared = are_compared limits one other image other_image false opened other_opened
+      (false_compared limits one other image other_image same opened other_opened is is_false);
   differences = AreDifferent described other_described is_text;
-  empty = ((λ empty. absurd (comparison_is_not_empty (meaning_of image) (meaning_of other_image) (sym is_text ∙ empty))), (λ is_same. absurd (false_is_not_true is_same)));
+  empty = (
+    (λ empty. absurd (comparison_is_not_empty (meaning_of image) (meaning_of other_image) (sym is_text ∙ empty))),
+    (λ is_same. absurd (false_is_not_true is_same)),
+  );
 }

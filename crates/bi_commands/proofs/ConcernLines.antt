@@ -1,4 +1,4 @@
-use Rattle.std.proofs.Common.{◌≡◌, ℕ, Bool, true, false, not, List, [], ◌∷◌, ◌++◌, flat_map, filter, refl, ap, ◌∙◌}
+use Rattle.std.proofs.Common.{◌≡◌, Bool, true, false, not, List, [], ◌∷◌, ◌++◌, flat_map, filter, refl, ap, ◌∙◌}
 use Rattle.std.proofs.lemmas.List.{append-nil}
 use Rattle.std.proofs.lemmas.List.Elements.{filter-append}
 use Rattle.std.proofs.lemmas.Grind.{flat_map-append}
@@ -28,4 +28,5 @@ lines_append allowed one later =
 pub lines_flat_map : {X : Type 0} (allowed : Allowed) (f : X → List Concern) (xs : List X) →
     concern_lines allowed (flat_map f xs) ≡ flat_map (λ x. concern_lines allowed (f x)) xs
 lines_flat_map allowed f [] = refl
-lines_flat_map allowed f (x ∷ xs) = lines_append allowed (f x) (flat_map f xs) ∙ ap (λ l. concern_lines allowed (f x) ++ l) (lines_flat_map allowed f xs)
+lines_flat_map allowed f (x ∷ xs) = lines_append allowed (f x) (flat_map f xs)
+    ∙ ap (λ l. concern_lines allowed (f x) ++ l) (lines_flat_map allowed f xs)

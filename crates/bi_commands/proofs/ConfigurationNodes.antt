@@ -46,4 +46,5 @@ pub lines_of_children : (content : FitModel) (parent : Option (Sibling FileNode)
 lines_of_children content parent held is =
     ap (flat_map (configuration_lines (tree_of content))) (names_are content)
     ∙ lines_of_nodes content held (siblings (file_configurations content.blob)) (each_is_found content held)
-    ∙ ap (λ found. flat_map (configuration_node_lines content.images) (siblings (nodes_or_none (option_map (λ found. found.children) found)))) (sym is)
+    ∙ ap (λ found. flat_map (configuration_node_lines content.images)
+    (siblings (nodes_or_none (option_map (λ found. found.children) found)))) (sym is)

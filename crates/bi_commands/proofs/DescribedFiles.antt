@@ -67,6 +67,7 @@ pub describe_failed_of_file : {S : Type 0} (fails : S → List ℕ → S → Err
     → IsReadBootImage limits file image →
     AppendFailed fails (IsDescriptionOf limits (meaning_of image)) (IsImageError limits (meaning_of image)) old new error
     → AppendFailed fails (IsDescription limits file) (IsDescribeError limits file) old new error
-describe_failed_of_file fails limits file image old new error opened (WasRefused is kept) = WasRefused (error_of_file limits file image error opened is) kept
+describe_failed_of_file fails limits file image old new error opened (WasRefused is kept) = WasRefused
+    (error_of_file limits file image error opened is) kept
 describe_failed_of_file fails limits file image old new error opened (SinkFailed text cause is stops wrapped) =
     SinkFailed text cause (description_of_file limits file image text opened is) stops wrapped

@@ -29,7 +29,8 @@ steps_of names = flat_map step_of names
 -- They are the path of a node other than the root.
 pub steps_are_path : (names : List (Bor (List ℕ))) → 0 < length names → steps_of names ≡ path (bytes_of_names names)
 steps_are_path [] some = absurd (omega arith)
-steps_are_path (first ∷ names) some = sym (flat_map-map (λ other. 47 ∷ shown_text other) (λ (name : Bor (List ℕ)). name.now) (first ∷ names))
+steps_are_path (first ∷ names) some = sym
+    (flat_map-map (λ other. 47 ∷ shown_text other) (λ (name : Bor (List ℕ)). name.now) (first ∷ names))
 
 -- The same for words as the code has them.
 pub words_joined : (first : Field) (later : List Field) →
@@ -50,7 +51,8 @@ pub words_split : (words : List Field) → 1 ≤ length words → join_with_byte
 words_split [] some = absurd (omega arith)
 words_split (first ∷ later) some =
     words_joined first later
-    ∙ ap (λ words. field_text first ++ flat_map (λ word. 32 ∷ field_text word) words) (sym (take_all (length (first ∷ later) - 1) later (omega arith)))
+    ∙ ap (λ words. field_text first ++ flat_map (λ word. 32 ∷ field_text word) words)
+    (sym (take_all (length (first ∷ later) - 1) later (omega arith)))
 
 -- The text of lines in three parts: the first,
 pub first_of_three : (first second third : List Words) →

@@ -50,7 +50,8 @@ appended_first start first later target after left is =
 pub plain-first : (s : Sibling FileNode) →
     plain_entries (node s.name s.own s.children s.later) ≡ plain_entries (alone s) ++ plain_entries s.later
 plain-first s =
-    entries-first s.name (plain_node (properties_by_name s.own)) (with_each plain_node (nodes_by_name s.children)) (with_each plain_node (nodes_by_name s.later))
+    entries-first s.name (plain_node (properties_by_name s.own)) (with_each plain_node (nodes_by_name s.children))
+    (with_each plain_node (nodes_by_name s.later))
 
 -- A node is appended by some entries that begin it, those of its children, and its end.
 pub node_appended : (start begin children begun : List EntryModel) (filled ended : List Entry) → begun ≡ start ++ begin →

@@ -36,7 +36,8 @@ most_after count most total entry later within is = omega (arith, within, is, op
 pub text_from : (names : List (List ℕ)) (entry : EntryModel) (later : List EntryModel)
     → flat_map line (entry_lines names (entry ∷ later))
     ≡ flat_map line (lines_of_entry (open_after names entry) entry) ++ flat_map line (entry_lines (open_after names entry) later)
-text_from names entry later = flat_map-append line (lines_of_entry (open_after names entry) entry) (entry_lines (open_after names entry) later)
+text_from names entry later = flat_map-append line (lines_of_entry (open_after names entry) entry)
+    (entry_lines (open_after names entry) later)
 
 -- What was written before an entry, the lines of the entry, and those after it are all.
 pub text_after : (done all : List ℕ) (names : List (List ℕ)) (entry : EntryModel) (later : List EntryModel) →
@@ -44,7 +45,8 @@ pub text_after : (done all : List ℕ) (names : List (List ℕ)) (entry : EntryM
     → (done ++ flat_map line (lines_of_entry (open_after names entry) entry)) ++ flat_map line (entry_lines (open_after names entry) later)
     ≡ all
 text_after done all names entry later is =
-    append_assoc done (flat_map line (lines_of_entry (open_after names entry) entry)) (flat_map line (entry_lines (open_after names entry) later))
+    append_assoc done (flat_map line (lines_of_entry (open_after names entry) entry))
+    (flat_map line (entry_lines (open_after names entry) later))
     ∙ ap (λ bytes. done ++ bytes) (sym (text_from names entry later)) ∙ is
 
 -- One entry opens one node at most.
@@ -59,7 +61,8 @@ pub names_closed : (names : List (Bor (List ℕ))) (count : ℕ) → count ≤ l
     bytes_of_names (take (count - 1) names) ≡ take (length (bytes_of_names (take count names)) - 1) (bytes_of_names (take count names))
 names_closed names count within =
     let kept : List (Bor (List ℕ)) = take count names in
-    let counted : length (bytes_of_names kept) ≡ count = length-map kept (λ (name : Bor (List ℕ)). name.now) ∙ length-take-le count names within in
+    let counted : length (bytes_of_names kept) ≡ count = length-map kept (λ (name : Bor (List ℕ)). name.now)
+    ∙ length-take-le count names within in
     sym (ap (λ n. take (n - 1) (bytes_of_names kept)) counted
     ∙ take-map (λ (name : Bor (List ℕ)). name.now) (count - 1) kept
     ∙ ap bytes_of_names (take-take (count - 1) count names (omega arith)))

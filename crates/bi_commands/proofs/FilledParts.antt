@@ -1,4 +1,5 @@
-use Rattle.std.proofs.Common.{◌≡◌, ◌↔◌, ◌+◌, ◌<◌, ◌≤◌, ℕ, List, [], ◌∷◌, ◌++◌, Bor, length, map, take, drop, get_or, refl, sym, ap, subst, ◌∙◌}
+use Rattle.std.proofs.Common.{◌≡◌, ◌↔◌, ◌+◌, ◌<◌, ◌≤◌, ℕ, List, [], ◌∷◌, ◌++◌, Bor, length, map, take, drop, get_or, refl, sym, ap, subst}
+use Rattle.std.proofs.Common.{◌∙◌}
 use Rattle.std.proofs.Common.{arith, add-one, append-nil}
 use Rattle.std.specs.List.{AllByRecursion, AllZip, concat, sum, sum_by, slice_range}
 use Rattle.std.proofs.Math.Seq.{drop-cons}
@@ -56,7 +57,8 @@ pub part_too_long : (input : List ℕ) (parts : List Part) (i : ℕ) (d : Part) 
 part_too_long input parts i d within fits longer =
     let around : parts ≡ take i parts ++ (get_or parts i d ∷ drop (i + 1) parts) =
     sym (take-append-drop i parts) ∙ ap (λ l. take i parts ++ l) (rw add-one (drop-cons parts i d within)) in
-    subst (λ all. IsCutFault input (lengths_of all) (record { cause = BadPart; offset = sum_by input_length_of (take i parts) })) (sym around)
+    subst (λ all. IsCutFault input (lengths_of all)
+    (record { cause = BadPart; offset = sum_by input_length_of (take i parts) })) (sym around)
     (first_too_long input (take i parts) (get_or parts i d) (drop (i + 1) parts) fits longer)
 
 pub too_short : (input : List ℕ) (parts : List Part) → sum_by input_length_of parts < length input

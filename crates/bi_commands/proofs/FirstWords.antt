@@ -64,7 +64,11 @@ are_counted left more (byte ∷ later) is =
     one_more (byte == 32) (nat_le left 1) byte more (words_of_line later) (counted_words left later) (counted_words (left - 1) later)
     (eqb-true byte 32)
     (λ few. let most = leb-true left 1 few in omega (arith, most, is))
-    (λ many. let least = leb-false left 1 many in (more - 1, omega (arith, least, is), are_counted (left - 1) (more - 1) later (omega (arith, least, is))))
+    (λ many. let least = leb-false left 1 many in (
+      more - 1,
+      omega (arith, least, is),
+      are_counted (left - 1) (more - 1) later (omega (arith, least, is)),
+    ))
     (has_words later) (are_counted left more later is)
 
 pub first_words_are_counted : (count : ℕ) (line : List ℕ) → first_words (max count 1) line ≡ counted_words count line

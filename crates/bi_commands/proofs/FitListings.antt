@@ -56,7 +56,8 @@ listing_of_file limits file content is =
     ap (λ root. nodes_or_none (image_nodes root)) (sym is.same_root) ∙ ap nodes_or_none is.means.is_file.has_images in
     let images : AllZip (IsReadImage file) (siblings is.means.is_file.images) content.images =
     subst (λ (nodes : Nodes FileNode). AllZip (IsReadImage file) (siblings nodes) content.images) found
-    (subst (λ (f : List ℕ). AllZip (IsReadImage f) (siblings (nodes_or_none (image_nodes (root_of content.blob)))) content.images) is.is_file is.held.images) in
+    (subst (λ (f : List ℕ). AllZip (IsReadImage f)
+    (siblings (nodes_or_none (image_nodes (root_of content.blob)))) content.images) is.is_file is.held.images) in
     ap₂ (λ (size : ℕ) (lines : List ℕ). line (codes "kind" ∷ codes "fit" ∷ [])
     ++ (line (codes "boot-cpu" ∷ decimal content.blob.cpu ∷ [])
     ++ (line (codes "total-size" ∷ decimal size ∷ [])

@@ -35,7 +35,8 @@ pub sum_of_cut : (input lengths : List ℕ) (pieces : List (List ℕ)) → IsCut
 sum_of_cut input lengths pieces cut = ap sum (sym cut.have_lengths) ∙ length_concat pieces ∙ ap length cut.are_whole
 
 -- An input within the limits, payloads with their contents, and the images with these.
-pub record HasPayloads (limits : Limits) (given : List ImageSpec) (parts : List Part) (input : List ℕ) (contents : List (List ℕ)) (images : List ImageSpec) : Type 0 where
+pub record HasPayloads (limits : Limits) (given : List ImageSpec) (parts : List Part) (input : List ℕ) (contents : List (List ℕ))
+    (images : List ImageSpec) : Type 0 where
   pub short : length input ≤ limits.file
   pub filled : IsFilled parts input contents
   pub have : HavePayloads given contents images
@@ -44,8 +45,10 @@ pub record HasPayloads (limits : Limits) (given : List ImageSpec) (parts : List 
 build_error : (limits : Limits) (form : Form) (head : Head) (given : List ImageSpec) (parts : List Part) (input : List ℕ)
     (contents : List (List ℕ)) (images : List ImageSpec) (error : Error) → HasPayloads limits given parts input contents images →
     IsBuildError limits form head images error → IsFitOutputError limits form head given parts input error
-build_error limits form head given parts input contents images (Refused fault) completed is = NotBuilt completed.short contents completed.filled images completed.have is
-build_error limits form head given parts input contents images OutOfMemory completed is = sum_of_cut input (lengths_of parts) (pieces_among parts contents) completed.filled.cut
+build_error limits form head given parts input contents images
+    (Refused fault) completed is = NotBuilt completed.short contents completed.filled images completed.have is
+build_error limits form head given parts input contents images OutOfMemory completed is = sum_of_cut input (lengths_of parts)
+    (pieces_among parts contents) completed.filled.cut
 build_error limits form head given parts input contents images ReadFailed completed is = is
 build_error limits form head given parts input contents images WriteFailed completed is = is
 
@@ -78,6 +81,7 @@ pub not_appended : {S : Type 0} (fails : S → List ℕ → S → Error → Type
     (error : Error) → HasPayloads limits given parts input contents images →
     AppendFailed fails (IsBuilt limits form head images) (IsBuildError limits form head images) old new error →
     AppendFailed fails (IsFitOutput limits form head given parts input) (IsFitOutputError limits form head given parts input) old new error
-not_appended fails limits form head given parts input contents images old new error completed (WasRefused is same) = WasRefused (build_error limits form head given parts input contents images error completed is) same
+not_appended fails limits form head given parts input contents images old new error completed (WasRefused is same) = WasRefused
+    (build_error limits form head given parts input contents images error completed is) same
 not_appended fails limits form head given parts input contents images old new error completed (SinkFailed text cause is failed same) =
     SinkFailed text cause (is_output limits form head given parts input contents images text completed is) failed same

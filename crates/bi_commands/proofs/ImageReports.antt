@@ -106,7 +106,8 @@ lines_of_report content counts counted =
     flat_map-append report_line (map HashVerdict hashes) (Summary (counts_of hashes) ∷ [])
     ∙ ap₂ (λ (a b : List ℕ). a ++ b)
     (flat_map-map report_line HashVerdict hashes ∙ sym (lines_of_images content))
-    (append-nil (report_line (Summary (counts_of hashes))) ∙ ap (λ (numbers : Counts). report_line (Summary (counts_model numbers))) (sym counted))
+    (append-nil (report_line (Summary (counts_of hashes)))
+    ∙ ap (λ (numbers : Counts). report_line (Summary (counts_model numbers))) (sym counted))
 
 -- An error is one of reading the file,
 pub not_verified : {S : Type 0} (fails : S → List ℕ → S → Error → Type 0) (limits : Limits) (file : List ℕ) (content : FitModel)

@@ -50,7 +50,8 @@ is_output limits fields parts input contents building none =
         no_fault = none;
         is_text = refl;
         accepted = record {
-          is_file = legacy_text_means image (no_emit_fault_image image limits building.ranges building.name_bytes building.are_bytes building.small none);
+          is_file = legacy_text_means image
+              (no_emit_fault_image image limits building.ranges building.name_bytes building.are_bytes building.small none);
           short = none.1.1.0;
         };
       };
@@ -76,12 +77,14 @@ pub not_emitted : {S : Type 0} (appends : S → List ℕ → S → Type 0) (fail
     Building limits fields parts input contents → WroteImage appends fails limits (image_of fields contents) old (Err error) new →
     AppendFailed fails (IsLegacyOutput limits fields parts input) (IsLegacyOutputError limits fields parts input) old new error
 not_emitted appends fails limits fields parts input contents old new error building wrote = elim wrote.refused_or_written [
-  | inl none ↦ SinkFailed (legacy_text (image_of fields contents)) error (is_output limits fields parts input contents building none) (wrote.written none) refl
+  | inl none ↦ SinkFailed (legacy_text (image_of fields contents)) error
+      (is_output limits fields parts input contents building none) (wrote.written none) refl
   | inr some ↦
       let refused = wrote.refused some.0 some.1 in
       let e = refused.0 in
       let same : error ≡ Refused some.0 = cc in
-      WasRefused (subst (IsLegacyOutputError limits fields parts input) (sym same) (NotBuilt building.short contents building.are_parts some.1)) refused.1
+      WasRefused (subst (IsLegacyOutputError limits fields parts input) (sym same)
+      (NotBuilt building.short contents building.are_parts some.1)) refused.1
 ]
 
 -- An error of getting the contents of the parts is one of building.

@@ -32,7 +32,10 @@ texts lines = map (λ line. line.now) lines
 
 same_bytes : (xs ys : List ℕ) → bytes_eq xs ys ≡ bytes_eq ys xs
 same_bytes xs ys =
-    same_from_decides (bytes_eq xs ys) (bytes_eq ys xs) (bytes_eq-Decides xs ys) (λ t. sym ((bytes_eq-Decides ys xs).0 t), λ e. (bytes_eq-Decides ys xs).1 (sym e))
+    same_from_decides (bytes_eq xs ys) (bytes_eq ys xs) (bytes_eq-Decides xs ys) (
+      λ t. sym ((bytes_eq-Decides ys xs).0 t),
+      λ e. (bytes_eq-Decides ys xs).1 (sym e),
+    )
 
 or_of_cond : (b c : Bool) → cond b true c ≡ (c || b)
 or_of_cond true true = refl
@@ -49,7 +52,8 @@ pub set_has-insert : (line : LineRef) (old new : BTreeSet LineRef) → UpdatesSe
     set_has new found ≡ (set_has old found || bytes_eq line.now found)
 set_has-insert line old new updates found =
     let key : LineRef = record { ref_ptr = (0, 0); now = found } in
-    updates.0 key ∙ ap (λ b. cond b true (set_has old found)) (is_eq-slice_cmp line.now found) ∙ or_of_cond (bytes_eq line.now found) (set_has old found)
+    updates.0 key ∙ ap (λ b. cond b true (set_has old found)) (is_eq-slice_cmp line.now found)
+    ∙ or_of_cond (bytes_eq line.now found) (set_has old found)
 
 -- A set of the first lines, after the next one is inserted.
 pub set_more : (lines : List LineRef) (index : ℕ) (default : LineRef) (old new : BTreeSet LineRef) → index < length lines →
@@ -91,7 +95,8 @@ new_for false x y = refl
 pub kept_at : (key : List ℕ) (line : List ℕ) (has : Bool) (old : BTreeMap LineRef LineRef) → has ≡ true
     → line_at old key ≡ (if bytes_eq (key_of_line line) key && not has then Some line else line_at old key)
 kept_at key line has old is_in =
-    subst (λ b. line_at old key ≡ (if bytes_eq (key_of_line line) key && not b then Some line else line_at old key)) (sym is_in) (kept_for (bytes_eq (key_of_line line) key) (Some line) (line_at old key))
+    subst (λ b. line_at old key ≡ (if bytes_eq (key_of_line line) key && not b then Some line else line_at old key)) (sym is_in)
+    (kept_for (bytes_eq (key_of_line line) key) (Some line) (line_at old key))
 
 -- A map after a line that is not in the set is inserted.
 pub inserted_at : (place line : LineRef) (has : Bool) (old new : BTreeMap LineRef LineRef) → has ≡ false →
@@ -115,7 +120,8 @@ pub first_line_inserted : (others : BTreeSet LineRef) (lines : List LineRef) (in
 first_line_inserted others lines index next default old new is_next within updates has key =
     let here = get_or lines index default in
     updates key
-    ∙ ap (λ found. if bytes_eq (key_of_line here.now) key && not (set_has others here.now) then Some here.now else found) (has key ∙ ap (λ n. new_line others (texts (drop n lines)) key) is_next)
+    ∙ ap (λ found. if bytes_eq (key_of_line here.now) key && not (set_has others here.now) then Some here.now else found)
+    (has key ∙ ap (λ n. new_line others (texts (drop n lines)) key) is_next)
     ∙ ap (λ l. new_line others (texts l) key) (sym (drop_more lines index default within))
 
 -- A set after nothing is inserted for a line without a counterpart.
@@ -176,17 +182,20 @@ find_same test other (line ∷ lines) same =
 any_same : (test other : List ℕ → Bool) (lines : List (List ℕ)) → ((line : List ℕ) → test line ≡ other line) →
     list_any test lines ≡ list_any other lines
 any_same test other [] same = refl
-any_same test other (line ∷ lines) same = ap (λ b. b || list_any test lines) (same line) ∙ ap (λ b. other line || b) (any_same test other lines same)
+any_same test other (line ∷ lines) same = ap (λ b. b || list_any test lines) (same line)
+    ∙ ap (λ b. other line || b) (any_same test other lines same)
 
 flat_map_same : (write other : List ℕ → List ℕ) (lines : List (List ℕ)) → ((line : List ℕ) → write line ≡ other line) →
     flat_map write lines ≡ flat_map other lines
 flat_map_same write other [] same = refl
-flat_map_same write other (line ∷ lines) same = ap (λ l. l ++ flat_map write lines) (same line) ∙ ap (λ l. other line ++ l) (flat_map_same write other lines same)
+flat_map_same write other (line ∷ lines) same = ap (λ l. l ++ flat_map write lines) (same line)
+    ∙ ap (λ l. other line ++ l) (flat_map_same write other lines same)
 
 new_line_is : (one other : List (List ℕ)) (set : BTreeSet LineRef) (key : List ℕ) → IsSetOf one set →
     new_line set other key ≡ find (λ found. bytes_eq (key_of_line found) key && not (has_line one found)) other
 new_line_is one other set key has =
-    find_same (λ found. bytes_eq (key_of_line found) key && not (set_has set found)) (λ found. bytes_eq (key_of_line found) key && not (has_line one found)) other
+    find_same (λ found. bytes_eq (key_of_line found) key && not (set_has set found))
+    (λ found. bytes_eq (key_of_line found) key && not (has_line one found)) other
     (λ found. ap (λ b. bytes_eq (key_of_line found) key && not b) (has found))
 
 counterpart_is : (one other : List (List ℕ)) (set other_set : BTreeSet LineRef) (by_key : BTreeMap LineRef LineRef) → IsSetOf one set →
@@ -207,7 +216,8 @@ first_is : (one other : List (List ℕ)) (set other_set : BTreeSet LineRef) (by_
     → (line : List ℕ) → removed_lines other_set by_key line ≡ lines_for_first one other line
 first_is one other set other_set by_key has other_has new_lines line =
     removed_are (set_has other_set line) line (line_at by_key (key_of_line line))
-    ∙ ap (λ o. if set_has other_set line then [] else signed_line 45 line ++ added_line o) (counterpart_is one other set other_set by_key has other_has new_lines line)
+    ∙ ap (λ o. if set_has other_set line then [] else signed_line 45 line ++ added_line o)
+    (counterpart_is one other set other_set by_key has other_has new_lines line)
     ∙ ap (λ b. if b then [] else signed_line 45 line ++ added_line (counterpart one other line)) (other_has line)
 
 -- The two passes together write the differences.
@@ -218,7 +228,8 @@ pub differences_are : (one other : List LineRef) (set other_set written : BTreeS
     end ≡ middle ++ flat_map (λ line. added_lines set written line.now) other
     → end ≡ differences (texts one) (texts other)
 differences_are one other set other_set written by_key start middle end has other_has new_lines are_written is_start is_middle is_end =
-    is_end ∙ ap (λ l. l ++ flat_map (λ line. added_lines set written line.now) other) (is_middle ∙ ap (λ l. l ++ flat_map (λ line. removed_lines other_set by_key line.now) one) is_start)
+    is_end ∙ ap (λ l. l ++ flat_map (λ line. added_lines set written line.now) other)
+    (is_middle ∙ ap (λ l. l ++ flat_map (λ line. removed_lines other_set by_key line.now) one) is_start)
     ∙ ap (λ l. l ++ flat_map (λ line. added_lines set written line.now) other) first
     ∙ ap (λ l. flat_map (lines_for_first (texts one) (texts other)) (texts one) ++ l) second
   where
@@ -226,16 +237,19 @@ differences_are one other set other_set written by_key start middle end has othe
         flat_map (lines_for_first (texts one) (texts other)) (texts one)
     first =
         sym (flat_map-map (removed_lines other_set by_key) (λ line. line.now) one)
-        ∙ flat_map_same (removed_lines other_set by_key) (lines_for_first (texts one) (texts other)) (texts one) (first_is (texts one) (texts other) set other_set by_key has other_has new_lines)
+        ∙ flat_map_same (removed_lines other_set by_key) (lines_for_first (texts one) (texts other)) (texts one)
+        (first_is (texts one) (texts other) set other_set by_key has other_has new_lines)
 
     written_is : (line : List ℕ) → set_has written line ≡ is_counterpart (texts one) (texts other) line
     written_is line =
         are_written line ∙ any_of_texts (λ first. is_found (counterpart_in other_set by_key first) line) one
-        ∙ any_same (λ first. is_found (counterpart_in other_set by_key first) line) (λ first. is_found (counterpart (texts one) (texts other) first) line) (texts one)
+        ∙ any_same (λ first. is_found (counterpart_in other_set by_key first) line)
+        (λ first. is_found (counterpart (texts one) (texts other) first) line) (texts one)
         (λ first. ap (λ o. is_found o line) (counterpart_is (texts one) (texts other) set other_set by_key has other_has new_lines first))
 
     second : flat_map (λ line. added_lines set written line.now) other ≡ flat_map (lines_for_second (texts one) (texts other)) (texts other)
     second =
         sym (flat_map-map (added_lines set written) (λ line. line.now) other)
         ∙ flat_map_same (added_lines set written) (lines_for_second (texts one) (texts other)) (texts other)
-        (λ line. ap (λ b. if b || set_has written line then [] else signed_line 43 line) (has line) ∙ ap (λ b. if has_line (texts one) line || b then [] else signed_line 43 line) (written_is line))
+        (λ line. ap (λ b. if b || set_has written line then [] else signed_line 43 line) (has line)
+        ∙ ap (λ b. if has_line (texts one) line || b then [] else signed_line 43 line) (written_is line))

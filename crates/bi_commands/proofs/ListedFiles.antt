@@ -49,12 +49,14 @@ legacy_pieces parsed fields unused is counted =
     (line (codes "name" ∷ shown_text image.name ∷ [])) (line (codes "time" ∷ decimal image.time ∷ []))
     (line (codes "load" ∷ hexadecimal image.load ∷ [])) (line (codes "entry" ∷ hexadecimal image.entry ∷ []))
     (line (codes "os" ∷ code_word os_names image.os ∷ [])) (line (codes "arch" ∷ code_word arch_names image.arch ∷ []))
-    (line (codes "type" ∷ code_word type_names image.image_type ∷ [])) (line (codes "compression" ∷ code_word compression_names image.compression ∷ []))
+    (line (codes "type" ∷ code_word type_names image.image_type ∷ []))
+    (line (codes "compression" ∷ code_word compression_names image.compression ∷ []))
     (parts_lines image ++ line (codes "unused" ∷ decimal parsed.unused ∷ []))
     ∙ ap (λ (image : LegacyImage). flat_map line ((codes "kind" ∷ codes "legacy" ∷ []) ∷ field_words image)
     ++ (flat_map line (code_words image) ++ (parts_lines parsed.image ++ line (codes "unused" ∷ decimal parsed.unused ∷ [])))) (sym is)
     ∙ ap (λ number. flat_map line ((codes "kind" ∷ codes "legacy" ∷ []) ∷ field_words (image_of fields []))
-    ++ (flat_map line (code_words (image_of fields [])) ++ (parts_lines parsed.image ++ line (codes "unused" ∷ decimal number ∷ [])))) (sym counted)
+    ++ (flat_map line (code_words (image_of fields []))
+    ++ (parts_lines parsed.image ++ line (codes "unused" ∷ decimal number ∷ [])))) (sym counted)
 
 -- The listing of a flattened image tree with this blob and these images.
 pub fit_pieces : (content : FitModel) (blob : Blob) (images : List ImageModel) → blob ≡ content.blob → images ≡ content.images →

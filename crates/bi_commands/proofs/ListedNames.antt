@@ -1,4 +1,5 @@
-use Rattle.std.proofs.Common.{◌≡◌, true, ℕ, ◌+◌, List, [], ◌∷◌, ◌++◌, Option, Some, None, option_and_then, slice_get, map, codes, refl, sym, ap}
+use Rattle.std.proofs.Common.{◌≡◌, true, ℕ, ◌+◌, List, [], ◌∷◌, ◌++◌, Option, Some, None, option_and_then, slice_get, map, codes, refl, sym}
+use Rattle.std.proofs.Common.{ap}
 use Rattle.std.proofs.Common.{◌∙◌, append_assoc}
 use Rattle.std.specs.List.{ends_with, join_with_byte, flat_map}
 use Rattle.std.specs.Prelude.{nat_eq}
@@ -22,7 +23,8 @@ use Rattle.bi_commands.proofs.FitLines.{joined_after}
 pub missing_is : (images : List ImageModel) (index missing : ℕ) (names : List (List ℕ)) → first_missing images index names ≡ Some missing →
     file_list images index names ≡ Missing missing
 missing_is images index missing [] is = absurd cc
-missing_is images index missing (name ∷ later) is = by_image (index_of name images) refl is (λ is. missing_is images (index + 1) missing later is)
+missing_is images index missing (name ∷ later) is = by_image (index_of name images) refl is
+    (λ is. missing_is images (index + 1) missing later is)
   where
     by_image : (found : Option ℕ) → index_of name images ≡ found →
         missing_from index found (first_missing images (index + 1) later) ≡ Some missing →
@@ -39,7 +41,8 @@ missing_is images index missing (name ∷ later) is = by_image (index_of name im
 -- Images of these names are listed.
 abbrev AreListed : List ImageModel → ℕ → List (List ℕ) → Type 0
 AreListed images index names =
-    (listed : List ListedImage) × (file_list images index names ≡ ListedImages listed) × (map (λ (image : ListedImage). image.name) listed ≡ names)
+    (listed : List ListedImage) × (file_list images index names ≡ ListedImages listed)
+    × (map (λ (image : ListedImage). image.name) listed ≡ names)
 
 -- They are, if no name is missing.
 names_found : (images : List ImageModel) (index : ℕ) (names : List (List ℕ)) → first_missing images index names ≡ None →

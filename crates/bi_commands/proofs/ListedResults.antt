@@ -3,9 +3,9 @@ use Rattle.std.specs.List.{AllByRecursion}
 use Rattle.bi_blob.specs.Tree.{FileNode, names}
 use Rattle.bi_blob.specs.Lookups.{Sibling, siblings}
 use Rattle.bi_fit.specs.declared.key.Key.{Key}
-use Rattle.bi_fit.specs.Content.{FitModel, ImageModel, IsHeld, tree_of}
+use Rattle.bi_fit.specs.Content.{FitModel, IsHeld, tree_of}
 use Rattle.bi_fit.specs.HashNodes.{IsConfiguration, file_configurations, file_listed}
-use Rattle.bi_fit.specs.Judgement.{configuration_nodes, listed_of}
+use Rattle.bi_fit.specs.Judgement.{configuration_nodes}
 use Rattle.bi_fit.specs.Names.{all_keys}
 use Rattle.bi_fit.proofs.FileConfigurations.{each_is_found, names_are}
 use Rattle.bi_fit.proofs.FileLists.{listed_is}
@@ -27,7 +27,8 @@ lines_of_node : (allowed : Allowed) (content : FitModel) → IsHeld content → 
 lines_of_node allowed content held entry is =
     let concerns : Key → List Concern = λ key. list_concerns entry.name key (file_listed content.images entry key) in
     ap (concern_lines allowed)
-    (same_concerns _ concerns (λ (key : Key). ap (list_concerns entry.name key) (listed_is content held entry.name entry key is.is_found)) all_keys)
+    (same_concerns _ concerns (λ (key : Key). ap (list_concerns entry.name key)
+    (listed_is content held entry.name entry key is.is_found)) all_keys)
     ∙ lines_flat_map allowed concerns all_keys
 
 -- About several.
@@ -37,7 +38,8 @@ lines_of_nodes : (allowed : Allowed) (content : FitModel) → IsHeld content →
     ≡ flat_map (configuration_concern_lines allowed content.images) entries
 lines_of_nodes allowed content held [] are = refl
 lines_of_nodes allowed content held (entry ∷ later) are =
-    ap₂ (λ (first rest : List ℕ). first ++ rest) (lines_of_node allowed content held entry are.0) (lines_of_nodes allowed content held later are.1)
+    ap₂ (λ (first rest : List ℕ). first ++ rest) (lines_of_node allowed content held entry are.0)
+    (lines_of_nodes allowed content held later are.1)
 
 -- About all.
 pub lines_of_configurations : (allowed : Allowed) (content : FitModel) → IsHeld content →

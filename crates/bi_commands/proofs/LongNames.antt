@@ -1,4 +1,4 @@
-use Rattle.std.proofs.Common.{◌≡◌, ◌+◌, ◌<◌, ◌≤◌, ℕ, Bool, true, false, inr, List, [], ◌∷◌, ◌++◌, Option, Some, codes, length, map}
+use Rattle.std.proofs.Common.{◌≡◌, ◌+◌, ◌≤◌, ℕ, Bool, true, false, inr, List, [], ◌∷◌, ◌++◌, Option, Some, codes, length, map}
 use Rattle.std.proofs.Common.{bytes_eq, flat_map, refl, sym, ap, subst, ◌∙◌, arith, length-append}
 use Rattle.std.specs.Prelude.{if◌then◌else◌}
 use Rattle.std.specs.FinMap.{entries}
@@ -128,7 +128,8 @@ nodes_long above (node name own children later) =
     let own_ones : List Words = own_lines (path inner) own in
     let below : List Words = node_lines inner children in
     let after : List Words = node_lines above later in
-    let lines = ap length (flat_map-append line own_ones (below ++ after)) ∙ length-append (flat_map line own_ones) (flat_map line (below ++ after)) in
+    let lines = ap length (flat_map-append line own_ones (below ++ after))
+    ∙ length-append (flat_map line own_ones) (flat_map line (below ++ after)) in
     let more = ap length (flat_map-append line below after) ∙ length-append (flat_map line below) (flat_map line after) in
     let names = long_bytes_of_node name own.properties (properties_by_node children) (properties_by_node later) in
     let one = own_long (path inner) own in
@@ -182,8 +183,10 @@ properties_shown IsOwn (node name own children later) images payloads are has ap
         properties_by_node (described_nodes (node name own children later) payloads) ≡ node name own children later
     where_images true is has rest =
         let found : children ≡ images = same_in_some children images (rw is at has) in
-        let new : IsNew images_name (names later) = subst (λ name. IsNew name (names later)) ((bytes_eq-Decides name images_name).0 is) are.0.is_new in
-        let below : AllZip IsApart (each_own children) payloads = subst (λ nodes. AllZip IsApart (each_own nodes) payloads) (sym found) apart in
+        let new : IsNew images_name (names later) = subst (λ name. IsNew name (names later))
+        ((bytes_eq-Decides name images_name).0 is) are.0.is_new in
+        let below : AllZip IsApart (each_own children) payloads = subst
+        (λ nodes. AllZip IsApart (each_own nodes) payloads) (sym found) apart in
         rw is (same_node name own _ _ _ _ (image_properties_shown children payloads below) (other_properties later payloads new))
     where_images false is has rest =
         rw is (same_node name own _ _ _ _ (plain_properties children) (rest (rw is at has)))
@@ -195,7 +198,8 @@ tree_long tree is =
     let nodes : Nodes DescribedNode = described_nodes tree.root.children tree.payloads in
     let own : List Words = own_lines (path []) (plain_node tree.root.own) in
     let below : List Words = node_lines [] nodes in
-    let shown = properties_shown ArePropertiesByName tree.root.children is.images tree.payloads is.is_tree.children is.has_images is.apart in
+    let shown = properties_shown ArePropertiesByName tree.root.children is.images tree.payloads
+    is.is_tree.children is.has_images is.apart in
     let same = ap (λ nodes. long_bytes (names_of_nodes nodes)) shown in
     let lines = ap length (flat_map-append line own below) ∙ length-append (flat_map line own) (flat_map line below) in
     let names = long_bytes_of_node [] tree.root.own tree.root.children none in
@@ -213,7 +217,8 @@ long_names_described tree is =
     let later : List Words = reservations ++ tree_lines tree in
     let first = length-append (line kind) (line cpu ++ flat_map line later) in
     let second = length-append (line cpu) (flat_map line later) in
-    let both = ap length (flat_map-append line reservations (tree_lines tree)) ∙ length-append (flat_map line reservations) (flat_map line (tree_lines tree)) in
+    let both = ap length (flat_map-append line reservations (tree_lines tree))
+    ∙ length-append (flat_map line reservations) (flat_map line (tree_lines tree)) in
     let long = tree_long tree is in
     omega (arith, first, second, both, long)
 

@@ -58,7 +58,10 @@ pub joined_is_printable : (words : Words) → ArePrintableWords words → NoneBe
 joined_is_printable [] are = tt
 joined_is_printable (word ∷ []) are = are.0
 joined_is_printable (word ∷ next ∷ later) are =
-    each-append (λ byte. 32 ≤ byte) word (32 ∷ join_with_byte 32 (next ∷ later)) are.0 (omega arith, joined_is_printable (next ∷ later) are.1)
+    each-append (λ byte. 32 ≤ byte) word (32 ∷ join_with_byte 32 (next ∷ later)) are.0 (
+      omega arith,
+      joined_is_printable (next ∷ later) are.1,
+    )
 
 glyph : (upper : Bool) (d : ℕ) (b : Bool) →
     cond b (48 + d) (cond upper (55 + d) (87 + d)) ≡ cond b (48 + d) (cond upper (55 + d) (87 + d)) →
@@ -100,7 +103,14 @@ address_64 n = (omega arith, (omega arith, bytes_digits (cell8 n)))
 
 plain_byte : (byte : ℕ) (b : Bool) → is_plain byte ≡ b → NoneBelow (cond b (byte ∷ []) (37 ∷ digits_of_byte true byte))
 plain_byte byte false is = (omega arith, hex_digits true byte)
-plain_byte byte true is = (omega (arith, leb-true 0x21 byte (and_parts (nat_le 0x21 byte) (nat_le byte 0x7e) (and_parts (nat_le 0x21 byte && nat_le byte 0x7e) (not (byte == 37)) is).0).0), tt)
+plain_byte byte true is = (
+  omega (
+    arith,
+    leb-true 0x21 byte (and_parts (nat_le 0x21 byte) (nat_le byte 0x7e)
+        (and_parts (nat_le 0x21 byte && nat_le byte 0x7e) (not (byte == 37)) is).0).0,
+  ),
+  tt,
+)
 
 -- A name as it is printed.
 name_shown : (name : List ℕ) → NoneBelow (shown_text name)
@@ -132,8 +142,11 @@ escaped_bytes (byte ∷ later) are =
     (escaped byte (leb-true 0x20 byte (and_parts (nat_le 0x20 byte) (nat_le byte 0x7e) both.0).0)) (escaped_bytes later both.1)
 
 in_quotes : (text : List ℕ) → is_quotable text ≡ true → NoneBelow (quoted_text text)
-in_quotes text is =
-    (omega arith, each-append (λ byte. 32 ≤ byte) (flat_map escaped_byte text) (34 ∷ []) (escaped_bytes text (and_parts (not (bytes_eq text [])) (list_all is_printable text) is).1) (omega arith, tt))
+in_quotes text is = (
+  omega arith,
+  each-append (λ byte. 32 ≤ byte) (flat_map escaped_byte text) (34 ∷ [])
+      (escaped_bytes text (and_parts (not (bytes_eq text [])) (list_all is_printable text) is).1) (omega arith, tt),
+)
 
 all_in_quotes : (texts : List (List ℕ)) → list_all is_quotable texts ≡ true → ArePrintableWords (map quoted_text texts)
 all_in_quotes [] are = tt
@@ -177,7 +190,34 @@ parts_shown index [] = tt
 parts_shown index (part ∷ later) = ((known (codes "part") refl, (number index, digest_shown part)), parts_shown (index + 1) later)
 
 legacy_shown : (image : LegacyImage) → ArePrintableLines (legacy_lines image)
-legacy_shown image = ((known (codes "kind") refl, (known (codes "legacy") refl, tt)), ((known (codes "name") refl, (name_shown image.name, tt)), ((known (codes "time") refl, (number image.time, tt)), ((known (codes "load") refl, (address image.load, tt)), ((known (codes "entry") refl, (address image.entry, tt)), ((known (codes "os") refl, (code_shown os_names (named os_names refl) image.os, tt)), ((known (codes "arch") refl, (code_shown arch_names (named arch_names refl) image.arch, tt)), ((known (codes "type") refl, (code_shown type_names (named type_names refl) image.image_type, tt)), ((known (codes "compression") refl, (code_shown compression_names (named compression_names refl) image.compression, tt)), parts_shown 0 (map digest_of_payload image.parts))))))))))
+legacy_shown image = (
+  (known (codes "kind") refl, (known (codes "legacy") refl, tt)),
+  (
+    (known (codes "name") refl, (name_shown image.name, tt)),
+    (
+      (known (codes "time") refl, (number image.time, tt)),
+      (
+        (known (codes "load") refl, (address image.load, tt)),
+        (
+          (known (codes "entry") refl, (address image.entry, tt)),
+          (
+            (known (codes "os") refl, (code_shown os_names (named os_names refl) image.os, tt)),
+            (
+              (known (codes "arch") refl, (code_shown arch_names (named arch_names refl) image.arch, tt)),
+              (
+                (known (codes "type") refl, (code_shown type_names (named type_names refl) image.image_type, tt)),
+                (
+                  (known (codes "compression") refl, (code_shown compression_names (named compression_names refl) image.compression, tt)),
+                  parts_shown 0 (map digest_of_payload image.parts),
+                ),
+              ),
+            ),
+          ),
+        ),
+      ),
+    ),
+  ),
+)
 
 -- The lines of a flattened image tree.
 payload_shown : (text : List ℕ) → NoneBelow text → (payload : NodePayload) → ArePrintableLines (payload_words text payload)
@@ -191,27 +231,38 @@ property_shown text is property = (known (codes "property") refl, (is, (name_sho
 own_shown : (text : List ℕ) → NoneBelow text → (own : DescribedNode) → ArePrintableLines (own_lines text own)
 own_shown text is own = (
   (known (codes "node") refl, (is, tt)),
-  each-append ArePrintableWords (payload_words text own.payload) (map (property_words text) (entries own.properties)) (payload_shown text is own.payload)
+  each-append ArePrintableWords (payload_words text own.payload) (map (property_words text) (entries own.properties))
+      (payload_shown text is own.payload)
       (of-map ArePrintableWords (property_words text) (property_shown text is) (entries own.properties)),
 )
 
 nodes_shown : (above : List (List ℕ)) (nodes : Nodes DescribedNode) → ArePrintableLines (node_lines above nodes)
 nodes_shown above none = tt
 nodes_shown above (node name own children later) =
-    each-append ArePrintableWords (own_lines (path (above ++ name ∷ [])) own) (node_lines (above ++ name ∷ []) children ++ node_lines above later)
+    each-append ArePrintableWords (own_lines (path (above ++ name ∷ [])) own)
+    (node_lines (above ++ name ∷ []) children ++ node_lines above later)
     (own_shown (path (above ++ name ∷ [])) (path_shown (above ++ name ∷ [])) own)
-    (each-append ArePrintableWords (node_lines (above ++ name ∷ []) children) (node_lines above later) (nodes_shown (above ++ name ∷ []) children) (nodes_shown above later))
+    (each-append ArePrintableWords (node_lines (above ++ name ∷ []) children) (node_lines above later)
+    (nodes_shown (above ++ name ∷ []) children) (nodes_shown above later))
 
 reservation_shown : (reservation : Reservation) → ArePrintableWords (reservation_words reservation)
 reservation_shown reservation = (known (codes "reservation") refl, (address_64 reservation.address, (address_64 reservation.size, tt)))
 
 tree_shown : (tree : ImageTree) → ArePrintableLines (tree_lines tree)
 tree_shown tree =
-    each-append ArePrintableWords (own_lines (path []) (plain_node tree.root.own)) (node_lines [] (described_nodes tree.root.children tree.payloads))
+    each-append ArePrintableWords (own_lines (path []) (plain_node tree.root.own))
+    (node_lines [] (described_nodes tree.root.children tree.payloads))
     (own_shown (path []) (path_shown []) (plain_node tree.root.own)) (nodes_shown [] (described_nodes tree.root.children tree.payloads))
 
 fit_shown : (tree : ImageTree) → ArePrintableLines (fit_lines tree)
-fit_shown tree = ((known (codes "kind") refl, (known (codes "fit") refl, tt)), ((known (codes "boot-cpu") refl, (number tree.cpu, tt)), each-append ArePrintableWords (map reservation_words tree.reservations) (tree_lines tree) (of-map ArePrintableWords reservation_words reservation_shown tree.reservations) (tree_shown tree)))
+fit_shown tree = (
+  (known (codes "kind") refl, (known (codes "fit") refl, tt)),
+  (
+    (known (codes "boot-cpu") refl, (number tree.cpu, tt)),
+    each-append ArePrintableWords (map reservation_words tree.reservations) (tree_lines tree)
+        (of-map ArePrintableWords reservation_words reservation_shown tree.reservations) (tree_shown tree),
+  ),
+)
 
 -- The lines of any description, word by word.
 pub lines_shown : (meaning : Meaning) → ArePrintableLines (description_lines meaning)

@@ -95,8 +95,10 @@ quotes_more byte later is false other =
     let rest = has_first_name later in
     rw other
     (ap (λ names. after_quote (with_byte byte names)) rest.are
-    ∙ ap (λ bytes. bytes ++ flat_map (λ word. 32 ∷ word) (map quoted_text rest.others)) (append_assoc (escaped_byte byte) (flat_map escaped_byte rest.first) (34 ∷ []))
-    ∙ append_assoc (escaped_byte byte) (flat_map escaped_byte rest.first ++ 34 ∷ []) (flat_map (λ word. 32 ∷ word) (map quoted_text rest.others))
+    ∙ ap (λ bytes. bytes ++ flat_map (λ word. 32 ∷ word) (map quoted_text rest.others))
+    (append_assoc (escaped_byte byte) (flat_map escaped_byte rest.first) (34 ∷ []))
+    ∙ append_assoc (escaped_byte byte) (flat_map escaped_byte rest.first ++ 34 ∷ [])
+    (flat_map (λ word. 32 ∷ word) (map quoted_text rest.others))
     ∙ ap (λ bytes. escaped_byte byte ++ bytes) (sym (ap after_quote rest.are) ∙ is)
     ∙ sym (append_assoc (escaped_byte byte) (flat_map quoted_byte later) (34 ∷ [])))
 
@@ -120,7 +122,8 @@ texts_tested [] true ends = absurd cc
 texts_tested (byte ∷ later) true ends =
     let value : List ℕ = byte ∷ later in
     let is = before_last value (omega arith) ends in
-    ap (end_texts false) is ∙ sym (texts_decide (take (length value - 1) value)).1 ∙ ap (λ v. list_all is_quotable (listed_names v)) (sym is)
+    ap (end_texts false) is ∙ sym (texts_decide (take (length value - 1) value)).1
+    ∙ ap (λ v. list_all is_quotable (listed_names v)) (sym is)
     ∙ sym (ap (λ b. b && list_all is_quotable (listed_names value)) ends)
 
 -- Texts end with a zero.
@@ -145,7 +148,8 @@ pub words_of_bytes : (value : List ℕ) → 1 ≤ length value → are_quotable_
     join_with_byte 32 (value_words value) ≡ 48 ∷ 120 ∷ hexadecimal_digits value
 words_of_bytes [] some texts = absurd (omega arith)
 words_of_bytes (byte ∷ later) some texts =
-    ap (λ b. join_with_byte 32 (cond b (map quoted_text (listed_names (byte ∷ later))) ((48 ∷ 120 ∷ hexadecimal_digits (byte ∷ later)) ∷ []))) texts
+    ap (λ b. join_with_byte 32 (cond b (map quoted_text (listed_names (byte ∷ later)))
+    ((48 ∷ 120 ∷ hexadecimal_digits (byte ∷ later)) ∷ []))) texts
 
 -- The words of a value that is not empty: a first one and others.
 pub record SomeWords (value : List ℕ) : Type 0 where

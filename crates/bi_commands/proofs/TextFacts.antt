@@ -1,4 +1,4 @@
-use Rattle.std.proofs.Common.{◌≡◌, ℕ, List, [], ◌∷◌, ◌++◌, codes, flat_map, Option, None, Some, refl, ap, ◌∙◌}
+use Rattle.std.proofs.Common.{◌≡◌, ℕ, List, [], ◌∷◌, codes, flat_map, Option, None, Some, refl, ap, ◌∙◌}
 use Rattle.std.specs.Fmt.{digits}
 use Rattle.bi_base.specs.Cells.{cell, cell8, u32_at}
 use Rattle.bi_base.specs.Crc.{crc32, crc_after, low_bits}
@@ -12,7 +12,8 @@ use Rattle.bi_hash.specs.declared.verdicts.Verdict.TheVariants.{Good, Bad, Unkno
 use Rattle.bi_fit.specs.Judgement.{CheckedHash, verdicts_of}
 use Rattle.bi_fit.specs.Names.{key_name, default_name, algo_name, value_name}
 use Rattle.bi_fit.specs.declared.key.Key.TheVariants.{Kernel, Fdt, Ramdisk, Firmware, Loadables, Script}
-use Rattle.bi_fit.specs.KnownJudgements.{configuration_lists, other_lists, default_list, hashed_tree, good_crc, short_crc, other_crc, no_value}
+use Rattle.bi_fit.specs.KnownJudgements.{configuration_lists, other_lists, default_list, hashed_tree, good_crc, short_crc, other_crc}
+use Rattle.bi_fit.specs.KnownJudgements.{no_value}
 use Rattle.bi_fit.proofs.JudgementFacts.{lists_are_read, find-properties}
 use Rattle.bi_commands.specs.Extracting.{choice_of_listed}
 use Rattle.bi_commands.specs.Reports.{hash_report, report_line}
@@ -71,7 +72,13 @@ abbrev crc32_of_abc : List ℕ
 crc32_of_abc = 0x35 ∷ 0x24 ∷ 0x41 ∷ 0xc2 ∷ []
 
 abbrev known_hash : (image node_name algo : List ℕ) → Option (List ℕ) → Verdict → CheckedHash
-known_hash image node_name algo value verdict = record { image = image; node_name = node_name; algo = Some algo; value = value; verdict = verdict }
+known_hash image node_name algo value verdict = record {
+  image = image;
+  node_name = node_name;
+  algo = Some algo;
+  value = value;
+  verdict = verdict;
+}
 
 abbrev known_hashes : List CheckedHash
 known_hashes =
@@ -85,7 +92,16 @@ known_hashes =
 hashes_are_known : verdicts_of hashed_tree ≡ known_hashes
 unfolding text_before_nul verdict_of find_algorithm digest_of cell crc32 crc_after low_bits
 hashes_are_known =
-    rw (find-properties good_crc algo_name, find-properties good_crc value_name, find-properties short_crc algo_name, find-properties short_crc value_name, find-properties other_crc algo_name, find-properties other_crc value_name, find-properties no_value algo_name, find-properties no_value value_name)
+    rw (
+      find-properties good_crc algo_name,
+      find-properties good_crc value_name,
+      find-properties short_crc algo_name,
+      find-properties short_crc value_name,
+      find-properties other_crc algo_name,
+      find-properties other_crc value_name,
+      find-properties no_value algo_name,
+      find-properties no_value value_name,
+    )
     refl
 
 -- The report on hash nodes.
@@ -119,15 +135,67 @@ each_source_is_listed = refl
 pub configuration_lines_are_known : ConfigurationLinesAreKnown
 unfolding digits text_before_nul
 configuration_lines_are_known =
-    rw (find-properties configuration_lists (key_name Kernel), find-properties configuration_lists (key_name Fdt), find-properties configuration_lists (key_name Ramdisk), find-properties configuration_lists (key_name Firmware), find-properties configuration_lists (key_name Loadables), find-properties configuration_lists (key_name Script), find-properties other_lists (key_name Kernel), find-properties other_lists (key_name Fdt), find-properties other_lists (key_name Ramdisk), find-properties other_lists (key_name Firmware), find-properties other_lists (key_name Loadables), find-properties other_lists (key_name Script), find-properties default_list default_name)
+    rw (
+      find-properties configuration_lists (key_name Kernel),
+      find-properties configuration_lists (key_name Fdt),
+      find-properties configuration_lists (key_name Ramdisk),
+      find-properties configuration_lists (key_name Firmware),
+      find-properties configuration_lists (key_name Loadables),
+      find-properties configuration_lists (key_name Script),
+      find-properties other_lists (key_name Kernel),
+      find-properties other_lists (key_name Fdt),
+      find-properties other_lists (key_name Ramdisk),
+      find-properties other_lists (key_name Firmware),
+      find-properties other_lists (key_name Loadables),
+      find-properties other_lists (key_name Script),
+      find-properties default_list default_name,
+    )
     refl
 
 pub concerns_are_known : ConcernsAreKnown
-unfolding digits text_before_nul verdict_of find_algorithm digest_of text_of_events text_of_blocks cell cell8 u32_at crc32 crc_after low_bits
+unfolding digits text_before_nul verdict_of find_algorithm digest_of text_of_events text_of_blocks cell cell8
+    u32_at crc32 crc_after low_bits
 concerns_are_known = record {
-  hashes = rw (find-properties good_crc algo_name, find-properties good_crc value_name, find-properties short_crc algo_name, find-properties short_crc value_name, find-properties other_crc algo_name, find-properties other_crc value_name, find-properties no_value algo_name, find-properties no_value value_name) refl;
-  configurations = rw (find-properties configuration_lists (key_name Kernel), find-properties configuration_lists (key_name Fdt), find-properties configuration_lists (key_name Ramdisk), find-properties configuration_lists (key_name Firmware), find-properties configuration_lists (key_name Loadables), find-properties configuration_lists (key_name Script), find-properties other_lists (key_name Kernel), find-properties other_lists (key_name Fdt), find-properties other_lists (key_name Ramdisk), find-properties other_lists (key_name Firmware), find-properties other_lists (key_name Loadables), find-properties other_lists (key_name Script), find-properties default_list default_name) refl;
-  lists_allowed = rw (find-properties configuration_lists (key_name Kernel), find-properties configuration_lists (key_name Fdt), find-properties configuration_lists (key_name Ramdisk), find-properties configuration_lists (key_name Firmware), find-properties configuration_lists (key_name Loadables), find-properties configuration_lists (key_name Script), find-properties other_lists (key_name Kernel), find-properties other_lists (key_name Fdt), find-properties other_lists (key_name Ramdisk), find-properties other_lists (key_name Firmware), find-properties other_lists (key_name Loadables), find-properties other_lists (key_name Script), find-properties default_list default_name) refl;
+  hashes = rw (
+    find-properties good_crc algo_name,
+    find-properties good_crc value_name,
+    find-properties short_crc algo_name,
+    find-properties short_crc value_name,
+    find-properties other_crc algo_name,
+    find-properties other_crc value_name,
+    find-properties no_value algo_name,
+    find-properties no_value value_name,
+  ) refl;
+  configurations = rw (
+    find-properties configuration_lists (key_name Kernel),
+    find-properties configuration_lists (key_name Fdt),
+    find-properties configuration_lists (key_name Ramdisk),
+    find-properties configuration_lists (key_name Firmware),
+    find-properties configuration_lists (key_name Loadables),
+    find-properties configuration_lists (key_name Script),
+    find-properties other_lists (key_name Kernel),
+    find-properties other_lists (key_name Fdt),
+    find-properties other_lists (key_name Ramdisk),
+    find-properties other_lists (key_name Firmware),
+    find-properties other_lists (key_name Loadables),
+    find-properties other_lists (key_name Script),
+    find-properties default_list default_name,
+  ) refl;
+  lists_allowed = rw (
+    find-properties configuration_lists (key_name Kernel),
+    find-properties configuration_lists (key_name Fdt),
+    find-properties configuration_lists (key_name Ramdisk),
+    find-properties configuration_lists (key_name Firmware),
+    find-properties configuration_lists (key_name Loadables),
+    find-properties configuration_lists (key_name Script),
+    find-properties other_lists (key_name Kernel),
+    find-properties other_lists (key_name Fdt),
+    find-properties other_lists (key_name Ramdisk),
+    find-properties other_lists (key_name Firmware),
+    find-properties other_lists (key_name Loadables),
+    find-properties other_lists (key_name Script),
+    find-properties default_list default_name,
+  ) refl;
   last_payload_ends = refl;
   zeros = refl;
   end = refl;

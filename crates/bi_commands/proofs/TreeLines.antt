@@ -31,15 +31,18 @@ pub reservation_lines_from : (reservations : List Reservation) (index : ℕ) (fo
     → flat_map line (map reservation_words (drop index reservations))
     ≡ line (reservation_words (reservation_of (Some numbers))) ++ flat_map line (map reservation_words (drop (index + 1) reservations))
 reservation_lines_from reservations index found numbers within is some =
-    let same : Some numbers ≡ Some (numbers_of (get_or reservations index end_pair)) = sym some ∙ reservation_found reservations index found within is in
+    let same : Some numbers ≡ Some (numbers_of (get_or reservations index end_pair)) = sym some
+    ∙ reservation_found reservations index found within is in
     ap (λ left. flat_map line (map reservation_words left)) (drop_more reservations index end_pair within)
-    ∙ ap (λ o. line (reservation_words (reservation_of o)) ++ flat_map line (map reservation_words (drop (index + 1) reservations))) (sym same)
+    ∙ ap (λ o. line (reservation_words (reservation_of o))
+    ++ flat_map line (map reservation_words (drop (index + 1) reservations))) (sym same)
 
 -- The lines of properties and of the entries after them.
 property_lines : (names : List (List ℕ)) (properties : List Property) (later : List EntryModel)
     → entry_lines names (map PropertyEntry properties ++ later) ≡ map (property_words (path names)) properties ++ entry_lines names later
 property_lines names [] later = refl
-property_lines names (property ∷ properties) later = ap (λ lines. property_words (path names) property ∷ lines) (property_lines names properties later)
+property_lines names (property ∷ properties) later = ap (λ lines. property_words (path names) property ∷ lines)
+    (property_lines names properties later)
 
 -- The lines of a payload and of the entries after it.
 payload_lines : (names : List (List ℕ)) (payload : NodePayload) (later : List EntryModel)
@@ -56,7 +59,8 @@ own_entry_lines names own later =
     ap (entry_lines names) (append_assoc (payload_entries own.payload) properties later)
     ∙ payload_lines names own.payload (properties ++ later)
     ∙ ap (λ lines. payload_words (path names) own.payload ++ lines) (property_lines names (entries own.properties) later)
-    ∙ sym (append_assoc (payload_words (path names) own.payload) (map (property_words (path names)) (entries own.properties)) (entry_lines names later))
+    ∙ sym (append_assoc (payload_words (path names) own.payload)
+    (map (property_words (path names)) (entries own.properties)) (entry_lines names later))
 
 -- After the end of a node, the nodes above it are open.
 closed : (above : List (List ℕ)) (name : List ℕ) → take (length (above ++ name ∷ []) - 1) (above ++ name ∷ []) ≡ above
@@ -84,7 +88,8 @@ lines_of_nodes above (node name own children later) rest =
     ∙ own_entry_lines inner own (node_entries children ++ after_end)
     ∙ ap (λ lines. own_ones ++ lines)
     (lines_of_nodes inner children after_end
-    ∙ ap (λ lines. below ++ lines) (ap (λ names. entry_lines names (node_entries later ++ rest)) (closed above name) ∙ lines_of_nodes above later rest))
+    ∙ ap (λ lines. below ++ lines) (ap (λ names. entry_lines names (node_entries later ++ rest)) (closed above name)
+    ∙ lines_of_nodes above later rest))
     ∙ sym (append_assoc own_ones (below ++ after) left ∙ ap (λ lines. own_ones ++ lines) (append_assoc below after left)))
 
 -- The lines of a tree are those of its entries.
@@ -94,7 +99,8 @@ lines_of_tree tree =
     let own : List Words = map (property_words (path [])) (entries tree.root.own) in
     ap (λ lines. (codes "node" ∷ codes "/" ∷ []) ∷ lines)
     (property_lines [] (entries tree.root.own) (node_entries nodes)
-    ∙ ap (λ lines. own ++ lines) (ap (entry_lines []) (sym (append-nil (node_entries nodes))) ∙ lines_of_nodes [] nodes [] ∙ append-nil (node_lines [] nodes)))
+    ∙ ap (λ lines. own ++ lines) (ap (entry_lines []) (sym (append-nil (node_entries nodes))) ∙ lines_of_nodes [] nodes []
+    ∙ append-nil (node_lines [] nodes)))
 
 -- The text that is written for a flattened image tree.
 pub fit_description : (content : FitModel) (blob : Blob) (made : List Entry) → blob ≡ content.blob →
@@ -103,13 +109,16 @@ pub fit_description : (content : FitModel) (blob : Blob) (made : List Entry) →
 fit_description content blob made is entries_are =
     ap (λ (other : Blob). flat_map line (read_lines other (map as_entry made))) is
     ∙ ap (λ others. flat_map line (read_lines content.blob others)) entries_are
-    ∙ ap (λ lines. flat_map line (head_lines content.blob.cpu ++ (map reservation_words content.blob.reservations ++ lines))) (lines_of_tree (tree_of content))
+    ∙ ap (λ lines. flat_map line (head_lines content.blob.cpu ++ (map reservation_words content.blob.reservations ++ lines)))
+    (lines_of_tree (tree_of content))
 
 -- Payloads that are no longer than the limit are not over the payload bound.
 pub within_bound : (limits : Limits) (content : FitModel) (images : List Image) (limit : ℕ) → limit ≡ limits.file →
     map image_model images ≡ content.images → payloads_length (payloads_of images) ≤ limit →
     ¬ (IsOverPayloadBound limits (OfFit (tree_of content)))
 within_bound limits content images limit is same within over =
-    let lengths : payloads_length (payloads_of images) ≡ payloads_length (tree_of content).payloads = ap (λ (images : List ImageModel). payloads_length (map (λ (image : ImageModel). image.payload) images)) same in
+    let lengths : payloads_length (payloads_of images)
+    ≡ payloads_length (tree_of content).payloads = ap
+    (λ (images : List ImageModel). payloads_length (map (λ (image : ImageModel). image.payload) images)) same in
     let longer : limits.file < payloads_length (tree_of content).payloads = over in
     omega (arith, is, within, lengths, longer)

@@ -11,7 +11,8 @@ use Rattle.bi_base.specs.Cells.{AreBytes}
 use Rattle.bi_commands.specs.Shown.{digits_of_byte, is_plain, shown_byte, shown_text}
 use Rattle.bi_commands.specs.Unshown.{IsNameShownAs, IsNoShownBytes, IsShownOfNoBytes}
 use Rattle.bi_commands.proofs.ReadableDescriptions.Cuts.{IsReadBack, nothing_before, first_same, later_same}
-use Rattle.bi_commands.proofs.ReadableDescriptions.ShownNames.{low_glyph, high_glyph, plain_no_percent, read_shown_byte, same_shown, some_shown_byte}
+use Rattle.bi_commands.proofs.ReadableDescriptions.ShownNames.{low_glyph, high_glyph, plain_no_percent, read_shown_byte, same_shown}
+use Rattle.bi_commands.proofs.ReadableDescriptions.ShownNames.{some_shown_byte}
 use Rattle.bi_commands.proofs.ReadableDescriptions.ShownNames.{ways, ShownName, Nothing, Dash, Others}
 
 -- Names are read back from how they are printed.
@@ -49,13 +50,15 @@ no_more_bytes text name rest begins some none other are same =
   where
     where_more : (more : List ℕ) × (other ≡ name ++ more) × (rest ≡ flat_map shown_byte more) → ⊥
     where_more ([], is, goes_on) = some goes_on
-    where_more (byte ∷ later, is, goes_on) = none byte (flat_map shown_byte later) (byte_after name later byte (subst AreBytes is are)) goes_on
+    where_more (byte ∷ later, is, goes_on) = none byte (flat_map shown_byte later)
+        (byte_after name later byte (subst AreBytes is are)) goes_on
 
 -- One more byte of a name, from the text that follows the others.
 pub one_more_byte : (text name rest later : List ℕ) (byte : ℕ) → flat_map shown_byte name ++ rest ≡ text → rest ≡ shown_byte byte ++ later →
     flat_map shown_byte (name ++ byte ∷ []) ++ later ≡ text
 one_more_byte text name rest later byte begins is =
-    ap (λ bytes. bytes ++ later) (flat_map-append shown_byte name (byte ∷ []) ∙ ap (λ bytes. flat_map shown_byte name ++ bytes) (append-nil (shown_byte byte)))
+    ap (λ bytes. bytes ++ later) (flat_map-append shown_byte name (byte ∷ [])
+    ∙ ap (λ bytes. flat_map shown_byte name ++ bytes) (append-nil (shown_byte byte)))
     ∙ append_assoc (flat_map shown_byte name) (shown_byte byte) later ∙ ap (λ bytes. flat_map shown_byte name ++ bytes) (sym is) ∙ begins
 
 -- A text that is not empty, as its first byte and what follows it.

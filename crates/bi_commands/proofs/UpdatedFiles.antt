@@ -55,7 +55,8 @@ module _ (changes : Changes) (limits : Limits) (form : Form) (file : List ℕ) (
     means = record { means = opened.means; only = only_legacy limits file parsed opened };
     within = λ over. over.is_over;
     is_text = ap (λ time. legacy_text (with_new_time time parsed.image)) is_time;
-    text_means = subst (λ other. LegacyMeans limits (legacy_text (with_new_time time parsed.image)) (with_new_time other parsed.image)) is_time
+    text_means = subst (λ other. LegacyMeans limits (legacy_text (with_new_time time parsed.image))
+        (with_new_time other parsed.image)) is_time
         (updated_has_normal_form file parsed.image limits time opened.means small).text_means_image;
     judgement = tt;
   }
@@ -93,7 +94,8 @@ module _ (changes : Changes) (limits : Limits) (form : Form) (file : List ℕ) (
         within = within;
         is_text = refl;
         text_means = (updated_is_accepted limits form changes tree (is_image_tree file tree opened.means.is_file)
-            (subst (λ n. n ≤ limits.depth) (sym (depth-image_tree file tree opened.means.is_file)) opened.means.within.shallow) fits most).means;
+            (subst (λ n. n ≤ limits.depth) (sym (depth-image_tree file tree opened.means.is_file))
+            opened.means.within.shallow) fits most).means;
         judgement = updated_judgement changes tree;
       }
 
@@ -116,7 +118,8 @@ module _ (changes : Changes) (limits : Limits) (form : Form) (file : List ℕ) (
   -- The digests were not made.
   pub digests_not_made : (error : Error) → IsDigestsError changes limits (tree_of content) error →
       IsUpdateError changes limits form file error
-  digests_not_made (Refused fault) is = inr (record { meaning = OfFit (tree_of content); means = opened.means; is_too_long = inl is.0 }, is.1)
+  digests_not_made (Refused fault) is = inr
+      (record { meaning = OfFit (tree_of content); means = opened.means; is_too_long = inl is.0 }, is.1)
   digests_not_made OutOfMemory is = needs_memory limits file (OfFit (tree_of content)) opened.means
   digests_not_made ReadFailed is = is
   digests_not_made WriteFailed is = is

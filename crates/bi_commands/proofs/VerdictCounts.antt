@@ -136,7 +136,8 @@ pub one_image_counted : (entry : Sibling FileNode) (left later : List (Sibling F
     plus_hashes counts (file_verdicts left images) ≡ all → plus_hashes next (file_verdicts later others) ≡ all
 one_image_counted entry left later image images others payload counts next all is are same more so_far =
     let hashes : List CheckedHash = file_hashes entry.name image.payload (siblings entry.children) in
-    ap (λ (c : Counts). plus_hashes c (file_verdicts later others)) (more ∙ ap (λ p. plus_hashes counts (file_hashes entry.name p (siblings entry.children))) same)
+    ap (λ (c : Counts). plus_hashes c (file_verdicts later others))
+    (more ∙ ap (λ p. plus_hashes counts (file_hashes entry.name p (siblings entry.children))) same)
     ∙ sym (counted_before counts hashes (file_verdicts later others))
     ∙ ap (plus_hashes counts) (sym (ap₂ file_verdicts is are))
     ∙ so_far

@@ -112,7 +112,7 @@ pub data IsClean (allowed : Allowed) (limits : Limits) (file : List ℕ) : Type 
       → HasZerosAfter file means.is_file.images tree.payloads)
       → IsClean allowed limits file
 
--- The law that checking a file writes nothing exactly if the file is clean.
+-- The law that checking a file writes nothing if and only if the file is clean.
 abbrev pub EmptyIsClean : Type 0
 EmptyIsClean =
     (allowed : Allowed) (limits : Limits) (file text : List ℕ) → IsChecked allowed limits file text

@@ -49,7 +49,7 @@ pub data IsTextOfDifferences (limits : Limits) (one other : Meaning) (text : Lis
         → text ≡ comparison one other → IsTextOfDifferences limits one other text false
 
 -- The text is what differs between two files, and `same` is whether they mean the same. The text is
--- empty exactly if they do.
+-- empty if and only if they do.
 pub record IsComparison (limits : Limits) (one other : List ℕ) (same : Bool) (text : List ℕ)
     : Type 0
   where

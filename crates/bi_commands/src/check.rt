@@ -93,8 +93,8 @@ impl Allowed {
     }
 }
 
-/// Returns a line for each concern about a boot image that is not allowed. The text is empty
-/// exactly if the image is clean, except for what is allowed.
+/// Returns a line for each concern about a boot image that is not allowed. The text is empty if and
+/// only if the image is clean, except for what is allowed.
 ///
 /// Of a flattened image tree, for each image: the hash nodes whose verdict is not Good, and then,
 /// if the image has a payload, that no verdict is Good, or that no Good one is of a strong

@@ -40,7 +40,7 @@ pub enum CompareError {
 pub struct Comparison {
     /// Whether both mean the same.
     pub same: bool,
-    /// The differences of their descriptions. Empty exactly if both mean the same.
+    /// The differences of their descriptions. Empty if and only if both mean the same.
     pub differences: String,
 }
 
@@ -65,7 +65,7 @@ pub fn have_same_meaning(
 }
 
 /// Returns what differs between what two boot images mean: the differences of their descriptions,
-/// which are empty exactly if both mean the same. No limit applies to them.
+/// which are empty if and only if both mean the same. No limit applies to them.
 ///
 /// Errors, the first that applies: One with the fault of the first file; Other with that of the
 /// second one; if the meanings differ, One and then Other with TooLarge at the limit, if a meaning

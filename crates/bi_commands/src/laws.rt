@@ -12,7 +12,7 @@ pub fn same_description_is_similar()
     ensures { SameDescriptionIsSimilar }
 {}
 
-/// Checking a boot image writes nothing exactly if the image is clean: if everything in it is
+/// Checking a boot image writes nothing if and only if the image is clean: if everything in it is
 /// protected, but for what is allowed.
 pub fn empty_is_clean()
     ensures { EmptyIsClean }

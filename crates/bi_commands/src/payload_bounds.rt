@@ -11,7 +11,7 @@ use bi_fit::Image;
 
 /// Checks that the payloads of images together are no longer than a limit.
 ///
-/// Error: TooLarge at the limit, exactly if they are longer.
+/// Error: TooLarge at the limit, if they are longer.
 pub(crate) fn check_payloads(images: &[Image], limit: u32) -> Result<(), Fault>
     ensures ok { OnOk result (payloads_length (payloads_of images.now) ≤ limit) }
     ensures fault { IfErr result (λ fault. (fault ≡ too_large limit)

@@ -12,9 +12,9 @@ use crate::shown::is_plain;
 use bi_base::{Error, are_bytes};
 use std::alloc::{AllocError, Global};
 
-/// Returns the name that `shown_name` prints as this text. There is at most one. Returns None
-/// exactly if no name is printed so: for example for the empty text, for `%41`, since `A` is
-/// printed unchanged, and for `%2d`, since its digit is in lower case.
+/// Returns the name that `shown_name` prints as this text. There is at most one. Returns None if no
+/// name is printed so: for example for the empty text, for `%41`, since `A` is printed unchanged,
+/// and for `%2d`, since its digit is in lower case.
 ///
 /// Fails only with OutOfMemory.
 pub fn name_shown_as(alloc: Global, text: &[u8]) -> Result<Option<Vec<u8>>, Error>
@@ -39,8 +39,8 @@ pub fn name_shown_as(alloc: Global, text: &[u8]) -> Result<Option<Vec<u8>>, Erro
     Ok(Some(name))
 }
 
-/// Returns the bytes that an escaped name encodes. Returns None exactly if the text encodes no
-/// bytes. Fails if memory runs out.
+/// Returns the bytes that an escaped name encodes. Returns None if the text encodes no bytes. Fails
+/// if memory runs out.
 fn bytes_shown_as(alloc: Global, text: &[u8]) -> Result<Option<Vec<u8>>, AllocError>
     ensures some { IfOk result (λ found. IfSome found (λ name.
         flat_map shown_byte name.items ≡ text.now)) }
@@ -56,7 +56,7 @@ fn bytes_shown_as(alloc: Global, text: &[u8]) -> Result<Option<Vec<u8>>, AllocEr
 }
 
 /// Returns the byte that the beginning of an escaped name encodes, and the rest of the text.
-/// Returns None exactly if the text begins with no such byte.
+/// Returns None if the text begins with no such byte.
 fn first_byte(text: &[u8]) -> Option<(u8, &[u8])>
     ensures some { IfSome result (λ first. text.now ≡ shown_byte first.0 ++ first.1.now) }
     ensures shorter { IfSome result (λ first. length first.1.now < length text.now) }
@@ -77,8 +77,8 @@ fn first_byte(text: &[u8]) -> Option<(u8, &[u8])>
 }
 
 /// Returns the byte of the two hexadecimal digits in upper case that the text after a percent sign
-/// begins with, and the rest of the text. Returns None exactly if there are no such digits, or if
-/// the byte is printed unchanged.
+/// begins with, and the rest of the text. Returns None if there are no such digits, or if the byte
+/// is printed unchanged.
 fn escaped_byte(text: &[u8]) -> Option<(u8, &[u8])>
     ensures some { IfSome result (λ first. text.now ≡ digits_of_byte true first.0 ++ first.1.now) }
     ensures escaped { IfSome result (λ first. is_plain_byte first.0 ≡ false) }

@@ -15,15 +15,16 @@ use Rattle.bi_commands.proofs.ConcernLines.{lines_allowed}
 use Rattle.bi_commands.proofs.CleanLaws.NoLines.{HaveNoLine, all_have_none, each_has_none, any_is_found, one_is_allowed, passed_has_none}
 use Rattle.bi_commands.proofs.CleanLaws.NoLines.{passes_any, test_is_passed}
 
--- The concerns about configurations have no line exactly if, for each concern that is not allowed, no list is bad, no image is missing and
--- the default is there.
+-- The concerns about configurations have no line if and only if, for each concern that is not allowed, no list is bad, no image is missing
+-- and the default is there.
 
 -- Lists without a line.
 no_bad_list : (allowed : Allowed) (configuration : List ℕ) (key : Key) (listed : ListResult) →
     HaveNoLine allowed (list_concerns configuration key listed) → IsFalse allowed.bad_list → listed ≢ BadList
 no_bad_list allowed configuration key NoConfig none refused is = absurd cc
 no_bad_list allowed configuration key NoKey none refused is = absurd cc
-no_bad_list allowed configuration key BadList none refused is = true≢false (sym (one_is_allowed allowed (BadKey configuration key) none) ∙ refused)
+no_bad_list allowed configuration key BadList none refused is = true≢false
+    (sym (one_is_allowed allowed (BadKey configuration key) none) ∙ refused)
 no_bad_list allowed configuration key (Missing index) none refused is = absurd cc
 no_bad_list allowed configuration key (ListedImages images) none refused is = absurd cc
 
@@ -32,7 +33,8 @@ no_missing_image : (allowed : Allowed) (configuration : List ℕ) (key : Key) (l
 no_missing_image allowed configuration key NoConfig none refused index is = absurd cc
 no_missing_image allowed configuration key NoKey none refused index is = absurd cc
 no_missing_image allowed configuration key BadList none refused index is = absurd cc
-no_missing_image allowed configuration key (Missing other) none refused index is = true≢false (sym (one_is_allowed allowed (MissingImage configuration key other) none) ∙ refused)
+no_missing_image allowed configuration key (Missing other) none refused index is = true≢false
+    (sym (one_is_allowed allowed (MissingImage configuration key other) none) ∙ refused)
 no_missing_image allowed configuration key (ListedImages images) none refused index is = absurd cc
 
 list_has_none : (allowed : Allowed) (configuration : List ℕ) (key : Key) (listed : ListResult) →
@@ -78,10 +80,14 @@ configuration_has_none : (allowed : Allowed) (tree : ImageTree) (configuration :
     (IsFalse allowed.bad_list → HasNoBadList tree configuration) →
     (IsFalse allowed.missing → HasNoMissingImage tree configuration) → HaveNoLine allowed (configuration_concerns tree configuration)
 configuration_has_none allowed tree configuration good there =
-    all_have_none allowed (λ key. list_concerns configuration key (listed_of tree configuration key)) all_keys (of Kernel, (of Fdt, (of Ramdisk, (of Firmware, (of Loadables, (of Script, tt))))))
+    all_have_none allowed (λ key. list_concerns configuration key (listed_of tree configuration key)) all_keys (
+      of Kernel,
+      (of Fdt, (of Ramdisk, (of Firmware, (of Loadables, (of Script, tt))))),
+    )
   where
     of : (key : Key) → HaveNoLine allowed (list_concerns configuration key (listed_of tree configuration key))
-    of key = list_has_none allowed configuration key (listed_of tree configuration key) (λ refused. good refused key) (λ refused. there refused key)
+    of key = list_has_none allowed configuration key (listed_of tree configuration key) (λ refused. good refused key)
+        (λ refused. there refused key)
 
 -- All configurations.
 pub record AreCleanConfigurations (allowed : Allowed) (tree : ImageTree) (configurations : List (List ℕ)) : Type 0 where
@@ -105,7 +111,8 @@ pub clean_configurations_have_none : (allowed : Allowed) (tree : ImageTree) (con
 clean_configurations_have_none allowed tree [] are = tt
 clean_configurations_have_none allowed tree (configuration ∷ later) are = (
   configuration_has_none allowed tree configuration (λ refused. (are.bad_list refused).0) (λ refused. (are.missing refused).0),
-  clean_configurations_have_none allowed tree later (record { bad_list = λ refused. (are.bad_list refused).1; missing = λ refused. (are.missing refused).1 }),
+  clean_configurations_have_none allowed tree later
+      (record { bad_list = λ refused. (are.bad_list refused).1; missing = λ refused. (are.missing refused).1 }),
 )
 
 -- A default that is the name of one of these configurations.
@@ -119,12 +126,17 @@ names_one : (default : Option (List ℕ)) (configurations : List (List ℕ)) →
 names_one None configurations is = absurd cc
 names_one (Some name) configurations is =
     let one = any_is_found (bytes_eq name) configurations is in
-    record { name = name; is_default = refl; is_there = subst (Contains configurations) (sym ((bytes_eq-Decides name one.0).0 one.2)) one.1 }
+    record {
+      name = name;
+      is_default = refl;
+      is_there = subst (Contains configurations) (sym ((bytes_eq-Decides name one.0).0 one.2)) one.1;
+    }
 
 test_of_one : (default : Option (List ℕ)) (configurations : List (List ℕ)) → NamesOne default configurations →
     names_one_of default configurations ≡ true
 test_of_one default configurations one =
-    ap (λ d. names_one_of d configurations) one.is_default ∙ passes_any (bytes_eq one.name) configurations one.name one.is_there ((bytes_eq-Decides one.name one.name).1 refl)
+    ap (λ d. names_one_of d configurations) one.is_default
+    ∙ passes_any (bytes_eq one.name) configurations one.name one.is_there ((bytes_eq-Decides one.name one.name).1 refl)
 
 pub default_is_there : (allowed : Allowed) (default : Option (List ℕ)) (configurations : List (List ℕ)) →
     HaveNoLine allowed (default_concerns default configurations) → IsFalse allowed.bad_default →
@@ -138,4 +150,5 @@ pub default_has_none : (allowed : Allowed) (default : Option (List ℕ)) (config
     HaveNoLine allowed (default_concerns default configurations)
 default_has_none allowed default [] named = refl
 default_has_none allowed default (first ∷ later) named =
-    passed_has_none allowed (names_one_of default (first ∷ later)) (BadDefault default) (λ refused. test_of_one default (first ∷ later) (named refused (λ e. absurd cc)))
+    passed_has_none allowed (names_one_of default (first ∷ later)) (BadDefault default)
+    (λ refused. test_of_one default (first ∷ later) (named refused (λ e. absurd cc)))

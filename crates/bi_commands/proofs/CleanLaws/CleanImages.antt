@@ -16,21 +16,25 @@ use Rattle.bi_commands.proofs.CleanLaws.NoLines.{HaveNoLine, all_have_none, both
 use Rattle.bi_commands.proofs.CleanLaws.NoLines.{parts_have_none, passed_has_none, passes_any, test_is_passed}
 use Rattle.bi_commands.proofs.ImageReports.{good_passes}
 
--- The concerns about images have no line exactly if, for each concern that is not allowed, the hashes are Good, and the images are hashed
--- and not weak.
+-- The concerns about images have no line if and only if, for each concern that is not allowed, the hashes are Good, and the images are
+-- hashed and not weak.
 
 -- Hash nodes without a line have Good verdicts, if others are not allowed.
 hashes_are_good : (allowed : Allowed) (hashes : List CheckedHash) →
     AllByRecursion (λ hash. HaveNoLine allowed (hash_concerns hash)) hashes → IsFalse allowed.bad_hash → AreGood hashes
 hashes_are_good allowed [] each refused = tt
-hashes_are_good allowed (hash ∷ later) each refused =
-    (good_passes hash.verdict (test_is_passed allowed (is_good hash) (BadHash hash) each.0 refused), hashes_are_good allowed later each.1 refused)
+hashes_are_good allowed (hash ∷ later) each refused = (
+  good_passes hash.verdict (test_is_passed allowed (is_good hash) (BadHash hash) each.0 refused),
+  hashes_are_good allowed later each.1 refused,
+)
 
 good_have_none : (allowed : Allowed) (hashes : List CheckedHash) → (IsFalse allowed.bad_hash → AreGood hashes) →
     AllByRecursion (λ hash. HaveNoLine allowed (hash_concerns hash)) hashes
 good_have_none allowed [] good = tt
-good_have_none allowed (hash ∷ later) good =
-    (passed_has_none allowed (is_good hash) (BadHash hash) (λ refused. ap (is_verdict Good) (good refused).0), good_have_none allowed later (λ refused. (good refused).1))
+good_have_none allowed (hash ∷ later) good = (
+  passed_has_none allowed (is_good hash) (BadHash hash) (λ refused. ap (is_verdict Good) (good refused).0),
+  good_have_none allowed later (λ refused. (good refused).1),
+)
 
 -- A Good verdict, and the test for one.
 good_of_test : (image : Image) → list_any is_good (hashes_of_image image) ≡ true → HasGoodHash image
@@ -60,7 +64,14 @@ strong_of_test image is =
     let one = any_is_found is_strong (hashes_of_image image) is in
     let both = and_parts (is_good one.0) (is_strong_algorithm one.0.algo) one.2 in
     let name = strong_name one.0.algo both.1 in
-    record { hash = one.0; is_there = one.1; is_good = good_passes one.0.verdict both.0; algorithm = name.0; has_algorithm = name.1; is_strong = name.2 }
+    record {
+      hash = one.0;
+      is_there = one.1;
+      is_good = good_passes one.0.verdict both.0;
+      algorithm = name.0;
+      has_algorithm = name.1;
+      is_strong = name.2;
+    }
 
 test_of_strong : (image : Image) → HasStrongHash image → list_any is_strong (hashes_of_image image) ≡ true
 test_of_strong image has =
@@ -92,12 +103,19 @@ module _ (allowed : Allowed) (image : Image) where
     by : (good strong : Bool) → list_any is_good hashes ≡ good → list_any is_strong hashes ≡ strong →
         (IsFalse allowed.unhashed → IsHashed image) × (IsFalse allowed.weak_hash → IsNotWeak image)
     by false strong no_good is_strong =
-        let fine = one_is_allowed allowed (UnhashedImage name) (sym (ap (concern_lines allowed) (unhashed_only name hashes no_good)) ∙ none) in
-        (λ refused some. absurd (true≢false (sym fine ∙ refused)), λ refused some good. absurd (true≢false (sym (test_of_good image good) ∙ no_good)))
+        let fine = one_is_allowed allowed (UnhashedImage name)
+        (sym (ap (concern_lines allowed) (unhashed_only name hashes no_good)) ∙ none) in (
+          λ refused some. absurd (true≢false (sym fine ∙ refused)),
+          λ refused some good. absurd (true≢false (sym (test_of_good image good) ∙ no_good)),
+        )
     by true false some_good no_strong =
-        let fine = one_is_allowed allowed (WeakHash name (filter is_good hashes)) (sym (ap (concern_lines allowed) (weak_only name hashes some_good no_strong)) ∙ none) in
+        let fine = one_is_allowed allowed (WeakHash name (filter is_good hashes))
+        (sym (ap (concern_lines allowed) (weak_only name hashes some_good no_strong)) ∙ none) in
         (λ refused some. good_of_test image some_good, λ refused some good. absurd (true≢false (sym fine ∙ refused)))
-    by true true some_good some_strong = (λ refused some. good_of_test image some_good, λ refused some good. strong_of_test image some_strong)
+    by true true some_good some_strong = (
+      λ refused some. good_of_test image some_good,
+      λ refused some good. strong_of_test image some_strong,
+    )
 
   hashed_has_none : (payload : Option (List ℕ)) → image.payload ≡ payload → (IsFalse allowed.unhashed → IsHashed image) →
       (IsFalse allowed.weak_hash → IsNotWeak image) →
@@ -109,7 +127,8 @@ module _ (allowed : Allowed) (image : Image) where
 
     unhashed_one : list_any is_good hashes ≡ false → (b : Bool) → allowed.unhashed ≡ b →
         HaveNoLine allowed (payload_concerns name (Some payload) hashes)
-    unhashed_one no_good true fine = ap (concern_lines allowed) (unhashed_only name hashes no_good) ∙ lines_allowed allowed (UnhashedImage name) fine
+    unhashed_one no_good true fine = ap (concern_lines allowed) (unhashed_only name hashes no_good)
+        ∙ lines_allowed allowed (UnhashedImage name) fine
     unhashed_one no_good false refused = absurd (true≢false (sym (test_of_good image (hashed refused there)) ∙ no_good))
 
     weak_one : list_any is_good hashes ≡ true → list_any is_strong hashes ≡ false → (b : Bool) → allowed.weak_hash ≡ b →
@@ -129,12 +148,17 @@ module _ (allowed : Allowed) (image : Image) where
   image_is_clean none =
       let both = parts_have_none allowed (flat_map hash_concerns hashes) (payload_concerns name image.payload hashes) none in
       let payload = payload_is_hashed image.payload refl both.1 in
-      record { good = hashes_are_good allowed hashes (each_has_none allowed hash_concerns hashes both.0); hashed = payload.0; not_weak = payload.1 }
+      record {
+        good = hashes_are_good allowed hashes (each_has_none allowed hash_concerns hashes both.0);
+        hashed = payload.0;
+        not_weak = payload.1;
+      }
 
   pub clean_image_has_none : IsCleanImage allowed image → HaveNoLine allowed (image_concerns image)
   clean_image_has_none is =
       both_have_none allowed (flat_map hash_concerns hashes) (payload_concerns name image.payload hashes)
-      (all_have_none allowed hash_concerns hashes (good_have_none allowed hashes is.good)) (hashed_has_none image.payload refl is.hashed is.not_weak)
+      (all_have_none allowed hash_concerns hashes (good_have_none allowed hashes is.good))
+      (hashed_has_none image.payload refl is.hashed is.not_weak)
 
 -- Good verdicts of two lists.
 good_parts : (one later : List CheckedHash) → AreGood (one ++ later) → AreGood one × AreGood later

@@ -1,4 +1,5 @@
-use Rattle.std.proofs.Common.{◌≡◌, ℕ, zero, suc, ◌+◌, ◌≤◌, List, [], ◌∷◌, Option, Some, None, length, drop, slice_get, refl, sym, subst, ◌∙◌, arith}
+use Rattle.std.proofs.Common.{◌≡◌, ℕ, zero, suc, ◌+◌, ◌≤◌, List, [], ◌∷◌, Option, Some, None, length, drop, slice_get, refl, sym, subst}
+use Rattle.std.proofs.Common.{◌∙◌, arith}
 use Rattle.std.specs.Prelude.{unwrap_or, IfSome}
 use Rattle.std.specs.List.{AllZip}
 use Rattle.bi_blob.specs.Tree.{Nodes, none, node, FileNode}
@@ -8,11 +9,12 @@ use Rattle.bi_fit.proofs.Meanings.{same_in_some}
 use Rattle.bi_commands.specs.Checking.{content_end, payload_end}
 use Rattle.bi_commands.specs.CleanFiles.{AreZeros, EndsBy, HasZerosAfter, IsAfterContent}
 
--- The end of the content of an image tree: an index is after the content exactly if it is not before this end.
+-- The end of the content of an image tree: an index is after the content if and only if it is not before this end.
 
 -- Each payload of these image nodes is in the file at its place.
 abbrev pub AreAtPlaces : List ℕ → Nodes FileNode → List (Option (List ℕ)) → Type 0
-AreAtPlaces file nodes payloads = AllZip (λ own payload. IsAtPlace file (payload_place file (source_of own)) payload) (each_own nodes) payloads
+AreAtPlaces file nodes payloads = AllZip
+    (λ own payload. IsAtPlace file (payload_place file (source_of own)) payload) (each_own nodes) payloads
 
 -- One payload.
 ends_by : (file : List ℕ) (index : ℕ) (own : FileNode) (payload : Option (List ℕ)) →
@@ -39,7 +41,10 @@ after_content file none (payload ∷ payloads) at index after = absurd at
 after_content file (node name own children later) [] at index after = absurd at
 after_content file (node name own children later) (payload ∷ payloads) at index after =
     let rest = after_content file later payloads at.1 index (omega (arith, after)) in
-    record { after_blob = rest.after_blob; after_payloads = (ends_by file index own payload at.0 (omega (arith, after)), rest.after_payloads) }
+    record {
+      after_blob = rest.after_blob;
+      after_payloads = (ends_by file index own payload at.0 (omega (arith, after)), rest.after_payloads);
+    }
 
 pub not_before_end : (file : List ℕ) (nodes : Nodes FileNode) (payloads : List (Option (List ℕ))) → (index : ℕ) →
     IsAfterContent file nodes payloads index → content_end file nodes payloads ≤ index
@@ -48,10 +53,11 @@ not_before_end file none (payload ∷ payloads) index after = after.after_blob
 not_before_end file (node name own children later) [] index after = after.after_blob
 not_before_end file (node name own children later) (payload ∷ payloads) index after =
     let here : payload_end file (source_of own) payload ≤ index = end_is_before file index own payload after.after_payloads.0 in
-    let rest : content_end file later payloads ≤ index = not_before_end file later payloads index (record { after_blob = after.after_blob; after_payloads = after.after_payloads.1 }) in
+    let rest : content_end file later payloads ≤ index = not_before_end file later payloads index
+    (record { after_blob = after.after_blob; after_payloads = after.after_payloads.1 }) in
     omega (arith, here, rest)
 
--- The bytes from an index on are zero exactly if each byte at or after the index is.
+-- The bytes from an index on are zero if and only if each byte at or after the index is.
 each_is_zero : (end : ℕ) (file : List ℕ) → AreZeros (drop end file) → (index byte : ℕ) → end ≤ index → slice_get file index ≡ Some byte →
     byte ≡ 0
 each_is_zero end [] are index byte after at = absurd cc
@@ -69,7 +75,7 @@ all_are_zeros zero (first ∷ later) each =
 all_are_zeros (suc end) (first ∷ later) each =
     all_are_zeros end later (λ index byte after at. each (suc index) byte (omega (arith, after)) at)
 
--- So the bytes from the end of the content on are zero exactly if each byte after the content is.
+-- So the bytes from the end of the content on are zero if and only if each byte after the content is.
 pub zeros_after : (file : List ℕ) (nodes : Nodes FileNode) (payloads : List (Option (List ℕ))) →
     AreZeros (drop (content_end file nodes payloads) file) → HasZerosAfter file nodes payloads
 zeros_after file nodes payloads are index byte after at =
@@ -78,4 +84,5 @@ zeros_after file nodes payloads are index byte after at =
 pub zeros_from_end : (file : List ℕ) (nodes : Nodes FileNode) (payloads : List (Option (List ℕ))) → AreAtPlaces file nodes payloads →
     HasZerosAfter file nodes payloads → AreZeros (drop (content_end file nodes payloads) file)
 zeros_from_end file nodes payloads places zeros =
-    all_are_zeros (content_end file nodes payloads) file (λ index byte after at. zeros index byte (after_content file nodes payloads places index after) at)
+    all_are_zeros (content_end file nodes payloads) file
+    (λ index byte after at. zeros index byte (after_content file nodes payloads places index after) at)

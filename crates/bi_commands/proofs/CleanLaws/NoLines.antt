@@ -7,8 +7,8 @@ use Rattle.bi_commands.specs.declared.check.Allowed.{Allowed}
 use Rattle.bi_commands.specs.Checking.{Concern, allows, concern_lines, kind_of}
 use Rattle.bi_commands.proofs.ConcernLines.{lines_allowed, lines_append, lines_one}
 
--- Concerns have no line exactly if each of them has none, and a concern that comes from a test has none exactly if it is allowed or the
--- test passes.
+-- Concerns have no line if and only if each of them has none, and a concern that comes from a test has none if and only if it is allowed or
+-- the test passes.
 
 -- None of these concerns has a line.
 abbrev pub HaveNoLine : Allowed → List Concern → Type 0
@@ -27,7 +27,8 @@ line_is_not_empty (x ∷ xs) e = absurd cc
 -- The concerns of two lists.
 pub parts_have_none : (allowed : Allowed) (one later : List Concern) → HaveNoLine allowed (one ++ later) →
     HaveNoLine allowed one × HaveNoLine allowed later
-parts_have_none allowed one later none = both_empty (concern_lines allowed one) (concern_lines allowed later) (sym (lines_append allowed one later) ∙ none)
+parts_have_none allowed one later none = both_empty (concern_lines allowed one) (concern_lines allowed later)
+    (sym (lines_append allowed one later) ∙ none)
 
 pub both_have_none : (allowed : Allowed) (one later : List Concern) → HaveNoLine allowed one → HaveNoLine allowed later →
     HaveNoLine allowed (one ++ later)
@@ -37,7 +38,10 @@ both_have_none allowed one later first rest = lines_append allowed one later ∙
 pub each_has_none : {X : Type 0} (allowed : Allowed) (f : X → List Concern) (xs : List X) → HaveNoLine allowed (flat_map f xs) →
     AllByRecursion (λ x. HaveNoLine allowed (f x)) xs
 each_has_none allowed f [] none = tt
-each_has_none allowed f (x ∷ xs) none = let both = parts_have_none allowed (f x) (flat_map f xs) none in (both.0, each_has_none allowed f xs both.1)
+each_has_none allowed f (x ∷ xs) none = let both = parts_have_none allowed (f x) (flat_map f xs) none in (
+  both.0,
+  each_has_none allowed f xs both.1,
+)
 
 pub all_have_none : {X : Type 0} (allowed : Allowed) (f : X → List Concern) (xs : List X) →
     AllByRecursion (λ x. HaveNoLine allowed (f x)) xs → HaveNoLine allowed (flat_map f xs)
@@ -51,7 +55,7 @@ one_is_allowed allowed concern none = by (allows allowed (kind_of concern)) refl
   by true is = is
   by false is = absurd (line_is_not_empty _ (sym (lines_one allowed concern is) ∙ none))
 
--- So one that comes from a test has none exactly if the test is passed where it is not allowed.
+-- So one that comes from a test has none if and only if the test is passed where it is not allowed.
 pub test_is_passed : (allowed : Allowed) (test : Bool) (concern : Concern) → HaveNoLine allowed (if test then [] else concern ∷ []) →
     IsFalse (allows allowed (kind_of concern)) → test ≡ true
 test_is_passed allowed true concern none refused = refl
@@ -84,7 +88,8 @@ second_passes false b is = is
 -- An element that passes a test is found.
 pub passes_any : {X : Type 0} (test : X → Bool) (xs : List X) (x : X) → Contains xs x → test x ≡ true → list_any test xs ≡ true
 passes_any test [] x has passes = absurd (Contains-none x has)
-passes_any test (first ∷ others) x has passes = by (Contains-cases first others x has) (λ among. passes_any test others x among passes) where
-  by : (first ≡ x) ⊎ Contains others x → (Contains others x → list_any test others ≡ true) → list_any test (first ∷ others) ≡ true
-  by (inl same) rest = ap (λ b. b || list_any test others) (ap test same ∙ passes)
-  by (inr among) rest = second_passes (test first) (list_any test others) (rest among)
+passes_any test (first ∷ others) x has passes = by (Contains-cases first others x has)
+    (λ among. passes_any test others x among passes) where
+      by : (first ≡ x) ⊎ Contains others x → (Contains others x → list_any test others ≡ true) → list_any test (first ∷ others) ≡ true
+      by (inl same) rest = ap (λ b. b || list_any test others) (ap test same ∙ passes)
+      by (inr among) rest = second_passes (test first) (list_any test others) (rest among)

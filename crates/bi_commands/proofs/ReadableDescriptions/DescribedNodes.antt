@@ -1,4 +1,5 @@
-use Rattle.std.proofs.Common.{◌≡◌, ◌≢◌, ℕ, ◌<◌, ◌^◌, Bool, true, false, cond, List, [], ◌∷◌, map, length, Option, Some, None, refl, sym, ap, ap₂, subst, ◌∙◌, bytes_eq, true≢false}
+use Rattle.std.proofs.Common.{◌≡◌, ◌≢◌, ℕ, ◌<◌, ◌^◌, Bool, true, false, cond, List, [], ◌∷◌, map, length, Option, Some, None, refl, sym, ap}
+use Rattle.std.proofs.Common.{ap₂, subst, ◌∙◌, bytes_eq, true≢false}
 use Rattle.std.specs.Prelude.{IfSome}
 use Rattle.std.specs.Option.{option_map}
 use Rattle.std.specs.List.{AllByRecursion, AllZip}
@@ -8,7 +9,8 @@ use Rattle.bi_blob.specs.Tree.{Nodes, none, node, names, PropertyMap, AreNodes, 
 use Rattle.bi_fit.specs.ImageTree.{children_of, each_own, IsApart}
 use Rattle.bi_fit.specs.Names.{images_name}
 use Rattle.bi_fit.proofs.Meanings.{same_in_some}
-use Rattle.bi_commands.specs.Descriptions.{PayloadDigest, digest_of_payload, OfImage, DescribedNode, plain_node, described_images, described_children, described_nodes}
+use Rattle.bi_commands.specs.Descriptions.{PayloadDigest, digest_of_payload, OfImage, DescribedNode, plain_node, described_images}
+use Rattle.bi_commands.specs.Descriptions.{described_children, described_nodes}
 use Rattle.bi_commands.proofs.ReadableDescriptions.NodeLines.{AreReadable}
 
 -- Nodes and the digests of payloads are read back from the nodes of a description.

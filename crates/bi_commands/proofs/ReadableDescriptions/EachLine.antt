@@ -22,7 +22,8 @@ use Rattle.bi_commands.proofs.ReadableDescriptions.ShownNames.{is_blank, shown_n
 use Rattle.bi_commands.proofs.ReadableDescriptions.QuotedValues.{ValueWords, Empty, Texts, Bytes, forms}
 use Rattle.bi_commands.proofs.ReadableDescriptions.WordLines.{IsBare, Quoted, AreReadableWords, IsLine, Line}
 use Rattle.bi_commands.proofs.ReadableDescriptions.Paths.{path_no_blank}
-use Rattle.bi_commands.proofs.ReadableDescriptions.Numbers.{above, above_bare, above_later, decimal_above, digits_of_bytes_above, prefixed_above}
+use Rattle.bi_commands.proofs.ReadableDescriptions.Numbers.{above, above_bare, above_later, decimal_above, digits_of_bytes_above}
+use Rattle.bi_commands.proofs.ReadableDescriptions.Numbers.{prefixed_above}
 use Rattle.bi_commands.proofs.ReadableDescriptions.CodeWords.{code_bare}
 
 -- The words of each line of a description can be read back from its text.
@@ -90,7 +91,8 @@ each_code image = (
 each_part : (index : ℕ) (parts : List PayloadDigest) → AllByRecursion IsLine (part_words index parts)
 each_part index [] = tt
 each_part index (part ∷ later) = (
-  digest_line (codes "part") (decimal index) part (has_no_end is_blank (codes "part") refl) (above_bare (decimal index) (decimal_above index)),
+  digest_line (codes "part") (decimal index) part (has_no_end is_blank (codes "part") refl)
+      (above_bare (decimal index) (decimal_above index)),
   each_part (index + 1) later,
 )
 

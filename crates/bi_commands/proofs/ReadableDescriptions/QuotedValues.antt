@@ -116,7 +116,8 @@ forms value = where_tests (bytes_eq value []) (are_quotable_texts value) refl re
     where_tests false false empty texts = Bytes
         (cond-false (bytes_eq value []) []
         (cond (are_quotable_texts value) (map quoted_text (listed_names value)) ((codes "0x" ++ hexadecimal_digits value) ∷ [])) empty
-        ∙ cond-false (are_quotable_texts value) (map quoted_text (listed_names value)) ((codes "0x" ++ hexadecimal_digits value) ∷ []) texts)
+        ∙ cond-false (are_quotable_texts value) (map quoted_text (listed_names value))
+        ((codes "0x" ++ hexadecimal_digits value) ∷ []) texts)
 
 -- Texts in quotes are not the word for bytes.
 not_bytes : (texts : List (List ℕ)) (digits : List ℕ) → map quoted_text texts ≡ (codes "0x" ++ digits) ∷ [] → ⊥

@@ -8,7 +8,8 @@ use Rattle.bi_fit.specs.File.{IsFitFile}
 use Rattle.bi_fit.specs.ImageTree.{ImageTree, ArePropertiesByName, IsImageTree}
 use Rattle.bi_fit.proofs.TextLaws.{file_means_image_tree}
 use Rattle.bi_commands.specs.DescriptionLaws.{AreSimilarTrees}
-use Rattle.bi_commands.specs.Descriptions.{Words, DescribedNode, plain_node, path, node_lines, described_nodes, reservation_words, tree_lines, fit_lines}
+use Rattle.bi_commands.specs.Descriptions.{Words, DescribedNode, plain_node, path, node_lines, described_nodes, reservation_words}
+use Rattle.bi_commands.specs.Descriptions.{tree_lines, fit_lines}
 use Rattle.bi_commands.specs.FitListing.{hexadecimal_64}
 use Rattle.bi_commands.proofs.ReadableDescriptions.Cuts.{first_same, later_same}
 use Rattle.bi_commands.proofs.ReadableDescriptions.OwnLines.{BeginsOther, not_there, words_apart, own_agrees}

@@ -15,5 +15,6 @@ returns-in_err-_clean-clause-failed c =
 pub unreachable-requires : goal.unreachable-requires
 unreachable-requires c =
     true≢false (sym (subst IsOk c.in-Err.is (c.from_utf8.ensures.succeeds
-    (appended_utf8 (IsCheckOutput c.args.allowed c.args.limits c.in_ok-_clean._clean c.args.file.now) _ _ _ (λ text is. checked_is_ascii c.args.allowed c.args.limits c.args.file.now text is.checked)
+    (appended_utf8 (IsCheckOutput c.args.allowed c.args.limits c.in_ok-_clean._clean c.args.file.now) _ _ _
+    (λ text is. checked_is_ascii c.args.allowed c.args.limits c.args.file.now text is.checked)
     c.in_ok-_clean.ensures.appended c.new-sink.ensures c.into_vec.ensures))))

@@ -17,8 +17,10 @@ returns-in_err-put_reservation g c =
     let left = flat_map line (map reservation_words (drop (index + 1) reservations)) in
     let (done, written, is) = c.loop-index.invariant in
     let from = reservation_lines_from reservations index c.reservation.result _ within c.reservation.ensures c.in-Some.is in
-    next_fails S.appends S.fails laws.fails_after laws.fails_before c.args.sink.now c.loop-index.sink c.put_reservation.new.sink done _ left _ _ c.from_residual.result
-    (sym (append_assoc done _ left ∙ ap (λ lines. done ++ lines) (sym from) ∙ is)) c.from_residual.ensures.1 written c.in_err-put_reservation.ensures
+    next_fails S.appends S.fails laws.fails_after laws.fails_before c.args.sink.now c.loop-index.sink c.put_reservation.new.sink done _
+    left _ _ c.from_residual.result
+    (sym (append_assoc done _ left ∙ ap (λ lines. done ++ lines) (sym from) ∙ is)) c.from_residual.ensures.1 written
+    c.in_err-put_reservation.ensures
 
 pub loop-index-preserved : goal.loop-index-preserved
 loop-index-preserved g c =

@@ -7,4 +7,5 @@ use Rattle.bi_commands.proofs.common_lines.put_reservations.Given as goal
 abbrev pub invariant-loop-index : goal.invariant-loop-index
 invariant-loop-index g l =
     (done : List ℕ) × g.S.Sink.appends l.initial.sink done l.sink
-    × (done ++ flat_map line (map reservation_words (drop l.index l.blob.reservations)) ≡ flat_map line (map reservation_words l.blob.reservations))
+    × (done ++ flat_map line (map reservation_words (drop l.index l.blob.reservations))
+    ≡ flat_map line (map reservation_words l.blob.reservations))

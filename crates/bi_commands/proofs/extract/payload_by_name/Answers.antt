@@ -8,8 +8,10 @@ returns-in_default-clause-failed c =
 
 pub returns-clause-chosen : goal.returns-clause-chosen
 returns-clause-chosen c =
-    rw (c.ok_or.ensures.value) (payload_chosen c.args.fit.now c.args.name.now c.in-Some.index c.payload.result c.requires.held c.in-Some.ensures c.payload.ensures)
+    rw (c.ok_or.ensures.value) (payload_chosen c.args.fit.now c.args.name.now c.in-Some.index c.payload.result c.requires.held
+    c.in-Some.ensures c.payload.ensures)
 
 pub returns-clause-failed : goal.returns-clause-failed
 returns-clause-failed c =
-    rw (c.ok_or.ensures.value) (payload_missing c.args.fit.now c.args.name.now c.in-Some.index c.payload.result c.requires.held c.in-Some.ensures c.payload.ensures)
+    rw (c.ok_or.ensures.value) (payload_missing c.args.fit.now c.args.name.now c.in-Some.index c.payload.result c.requires.held
+    c.in-Some.ensures c.payload.ensures)

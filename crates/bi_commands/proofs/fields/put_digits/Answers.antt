@@ -17,7 +17,8 @@ loop-piece-preserved g c =
       size = steps.0 ∙ c.loop-piece.invariant.size;
       done = (
         bytes ++ piece,
-        one_more_appended g.S.Sink.appends g.met.S.Sink.appends_in_turn c.args.sink.now c.loop-piece.sink c.put_digits_of_piece.new.sink (hexadecimal_digits bytes) (hexadecimal_digits piece) _
+        one_more_appended g.S.Sink.appends g.met.S.Sink.appends_in_turn c.args.sink.now c.loop-piece.sink c.put_digits_of_piece.new.sink
+            (hexadecimal_digits bytes) (hexadecimal_digits piece) _
             (flat_map-append (digits_of_byte false) bytes piece) written c.in_ok-put_digits_of_piece.ensures,
         append_assoc bytes piece (chunks_rest c.next.new.self) ∙ ap (λ (later : List ℕ). bytes ++ later) (sym steps.1.0) ∙ parts,
       );

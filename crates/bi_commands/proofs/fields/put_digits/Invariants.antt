@@ -9,5 +9,6 @@ invariant-loop-piece g l = record {
   can_next : (goal.iterator-loop-piece g).can_next l.piece-iterator;
   is_finite : (goal.iterator-loop-piece g).is_finite l.piece-iterator;
   size : chunks_size l.piece-iterator ≡ 512;
-  done : (bytes : List ℕ) × g.S.Sink.appends l.initial.sink (hexadecimal_digits bytes) l.sink × (bytes ++ chunks_rest l.piece-iterator ≡ l.fn.bytes);
+  done : (bytes : List ℕ) × g.S.Sink.appends l.initial.sink (hexadecimal_digits bytes) l.sink
+      × (bytes ++ chunks_rest l.piece-iterator ≡ l.fn.bytes);
 }

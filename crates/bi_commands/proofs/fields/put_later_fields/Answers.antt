@@ -9,4 +9,6 @@ returns-in_err-put_later_field g c =
     let S = g.S.Sink in
     let laws = g.met.S.Sink in
     passed_on S.appends S.fails c.args.sink.now _ _ c.from_residual.result c.put_later_field.new.sink c.from_residual.ensures.1
-    (failed_within S.appends S.fails laws.fails_after laws.fails_before c.args.sink.now c.loop-word.sink c.put_later_field.new.sink (λ word. 32 ∷ field_text word) c.args.words.now c.loop-word.word-index (Text (record { ref_ptr = (0, 0); now = [] })) _ (omega arith) c.loop-word.invariant c.in_err-put_later_field.ensures)
+    (failed_within S.appends S.fails laws.fails_after laws.fails_before c.args.sink.now c.loop-word.sink c.put_later_field.new.sink
+    (λ word. 32 ∷ field_text word) c.args.words.now c.loop-word.word-index (Text (record { ref_ptr = (0, 0); now = [] })) _
+    (omega arith) c.loop-word.invariant c.in_err-put_later_field.ensures)

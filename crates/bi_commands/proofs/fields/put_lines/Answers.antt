@@ -13,5 +13,7 @@ returns-in_err-put_line g c =
     let error = c.in_err-put_line.field-0.0 in
     passed_on S.appends S.fails c.args.sink.now _ _ c.from_residual.result c.put_line.new.sink c.from_residual.ensures.1
     (subst (λ bytes. S.fails c.args.sink.now bytes c.put_line.new.sink error) (sym (flat_map-map line words_of lines))
-    (failed_within S.appends S.fails laws.fails_after laws.fails_before c.args.sink.now c.loop-words.sink c.put_line.new.sink (λ words. line (words_of words)) lines c.loop-words.words-index [] error (omega arith)
-    (subst (λ bytes. S.appends c.args.sink.now bytes c.loop-words.sink) (flat_map-map line words_of (take c.loop-words.words-index lines)) c.loop-words.invariant) c.in_err-put_line.ensures))
+    (failed_within S.appends S.fails laws.fails_after laws.fails_before c.args.sink.now c.loop-words.sink c.put_line.new.sink
+    (λ words. line (words_of words)) lines c.loop-words.words-index [] error (omega arith)
+    (subst (λ bytes. S.appends c.args.sink.now bytes c.loop-words.sink)
+    (flat_map-map line words_of (take c.loop-words.words-index lines)) c.loop-words.invariant) c.in_err-put_line.ensures))

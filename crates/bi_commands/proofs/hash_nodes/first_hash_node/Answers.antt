@@ -6,7 +6,8 @@ use Rattle.bi_commands.proofs.hash_nodes.first_hash_node.Goals as goal
 
 pub loop-next-smaller : goal.loop-next-smaller
 loop-next-smaller c =
-    let here = ap length (from_next c.loop-next.next c.next_sibling-next.result c.in-Some.node c.in-Some.is c.next_sibling-next.ensures.sibling) in
+    let here = ap length (from_next c.loop-next.next c.next_sibling-next.result c.in-Some.node c.in-Some.is
+    c.next_sibling-next.ensures.sibling) in
     omega (arith, here)
 
 pub loop-next-preserved : goal.loop-next-preserved

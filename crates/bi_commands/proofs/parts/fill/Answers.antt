@@ -50,7 +50,8 @@ loop-part-preserved c =
       filled =
           subst (λ all. IsFilled all (take end input) (bytes_of c.push.new.self.items)) (sym (take_more parts i d within))
           (subst (IsFilled (take i parts ++ part ∷ []) (take end input)) (sym (items ∙ ap (λ one. before ++ one ∷ []) content)) next);
-      bytes = subst (AllByRecursion AreBytes) (sym items) (bytes_next before c.content-content.result.now loop.bytes c.content-content.ensures.bytes);
+      bytes = subst (AllByRecursion AreBytes) (sym items)
+          (bytes_next before c.content-content.result.now loop.bytes c.content-content.ensures.bytes);
     }
 
 pub returns-clause-one_each : goal.returns-clause-one_each

@@ -12,4 +12,5 @@ returns-in_err-update_into-clause-failed c =
     let form = c.args.form in
     let file = c.args.file.now in
     rw (p.1, p.2)
-    (error_in_memory _ (IsUpdated changes limits form file) (IsUpdateError changes limits form file) _ _ c.in_err-update_into.field-0.0 (λ text failed. failed.1) (updated_needs_memory changes limits form file) c.in_err-update_into.ensures.failed)
+    (error_in_memory _ (IsUpdated changes limits form file) (IsUpdateError changes limits form file) _ _ c.in_err-update_into.field-0.0
+    (λ text failed. failed.1) (updated_needs_memory changes limits form file) c.in_err-update_into.ensures.failed)

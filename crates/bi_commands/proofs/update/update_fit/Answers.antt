@@ -10,13 +10,15 @@ pub returns-in_err-digests-clause-failed : goal.returns-in_err-digests-clause-fa
 returns-in_err-digests-clause-failed g c file opened =
     let p = err_from_is_err_and c.from_residual.result c.from_residual.ensures.1 in
     let most : c.args.limits.file ≤ longest_text = omega arith in
-    rw (p.1, p.2) (WasRefused (digests_not_made c.args.changes c.args.limits c.args.form file c.args.fit.now opened most _ c.in_err-digests.ensures.failed) refl)
+    rw (p.1, p.2) (WasRefused (digests_not_made c.args.changes c.args.limits c.args.form file c.args.fit.now opened most _
+    c.in_err-digests.ensures.failed) refl)
 
 pub returns-in_err-text-clause-failed : goal.returns-in_err-text-clause-failed
 returns-in_err-text-clause-failed g c file opened =
     let p = err_from_is_err_and c.from_residual-in_err-text.result c.from_residual-in_err-text.ensures.1 in
     let most : c.args.limits.file ≤ longest_text = omega arith in
-    rw (p.1, p.2) (WasRefused (text_not_made c.args.changes c.args.limits c.args.form file c.args.fit.now opened most _ c.in_err-text.ensures.failed) refl)
+    rw (p.1, p.2) (WasRefused (text_not_made c.args.changes c.args.limits c.args.form file c.args.fit.now opened most _
+    c.in_err-text.ensures.failed) refl)
 
 pub returns-in_err-emit-clause-failed : goal.returns-in_err-emit-clause-failed
 returns-in_err-emit-clause-failed g c file opened =
@@ -25,7 +27,8 @@ returns-in_err-emit-clause-failed g c file opened =
     let made = c.in_ok-text.ensures.text in
     let fits = subst (λ text. length text ≤ c.args.limits.file) made.is_text made.short in
     let updated = subst (IsUpdated c.args.changes c.args.limits c.args.form file) (sym made.is_text)
-    (tree_is_updated c.args.changes c.args.limits c.args.form file c.args.fit.now opened most c.in_ok-digests.ensures.digests.within fits) in
+    (tree_is_updated c.args.changes c.args.limits c.args.form file c.args.fit.now opened most
+    c.in_ok-digests.ensures.digests.within fits) in
     rw (p.1, p.2) (SinkFailed c.in_ok-text.text c.in_err-emit.field-0.0 updated c.in_err-emit.ensures refl)
 
 pub returns-clause-appended : goal.returns-clause-appended
@@ -36,6 +39,7 @@ returns-clause-appended g c file opened =
     record {
       text = c.in_ok-text.text;
       is_text = subst (IsUpdateOutput c.args.changes c.args.limits c.args.form c.signature_count.result file) (sym made.is_text)
-          (tree_updated c.args.changes c.args.limits c.args.form file c.args.fit.now opened most c.signature_count.result c.in_ok-digests.ensures.digests.within fits c.signature_count.ensures);
+          (tree_updated c.args.changes c.args.limits c.args.form file c.args.fit.now opened most c.signature_count.result
+          c.in_ok-digests.ensures.digests.within fits c.signature_count.ensures);
       appended = c.in_ok-emit.ensures;
     }

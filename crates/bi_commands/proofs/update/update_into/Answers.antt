@@ -8,12 +8,15 @@ use Rattle.bi_commands.proofs.update.update_into.Goals as goal
 pub returns-in_err-image-clause-failed : goal.returns-in_err-image-clause-failed
 returns-in_err-image-clause-failed g c =
     let p = err_from_is_err_and c.from_residual.result c.from_residual.ensures.1 in
-    rw (p.1, p.2) (WasRefused (error_of_reading_updated c.args.changes c.args.limits c.args.form c.args.file.now c.in_err-image.field-0.0 c.in_err-image.ensures.failed) refl)
+    rw (p.1, p.2) (WasRefused (error_of_reading_updated c.args.changes c.args.limits c.args.form c.args.file.now c.in_err-image.field-0.0
+    c.in_err-image.ensures.failed) refl)
 
 pub returns-in-Fit-clause-appended : goal.returns-in-Fit-clause-appended
 returns-in-Fit-clause-appended g c =
-    c.update_fit.ensures.appended c.args.file.now (subst (IsReadBootImage c.args.limits c.args.file.now) c.in-Fit.is c.in_ok-image.ensures.read)
+    c.update_fit.ensures.appended c.args.file.now
+    (subst (IsReadBootImage c.args.limits c.args.file.now) c.in-Fit.is c.in_ok-image.ensures.read)
 
 pub returns-in-Fit-clause-failed : goal.returns-in-Fit-clause-failed
 returns-in-Fit-clause-failed g c =
-    c.update_fit.ensures.failed c.args.file.now (subst (IsReadBootImage c.args.limits c.args.file.now) c.in-Fit.is c.in_ok-image.ensures.read)
+    c.update_fit.ensures.failed c.args.file.now
+    (subst (IsReadBootImage c.args.limits c.args.file.now) c.in-Fit.is c.in_ok-image.ensures.read)

@@ -9,13 +9,17 @@ returns-in_err-append_legacy-clause-failed g c form file opened =
     let parsed = c.args.image.now in
     let own : c.fields.result.time ≡ parsed.image.time = search in
     let made : c.unwrap_or-time.result ≡ unwrap_or c.args.changes.time c.fields.result.time = search in
-    let is_time : c.unwrap_or-time.result ≡ unwrap_or c.args.changes.time parsed.image.time = made ∙ ap (unwrap_or c.args.changes.time) own in
-    rw (p.1, p.2) (legacy_not_updated c.args.changes c.args.limits form file parsed opened c.unwrap_or-time.result is_time (omega arith) _ _ _ (c.in_err-append_legacy.ensures.failed file opened))
+    let is_time : c.unwrap_or-time.result ≡ unwrap_or c.args.changes.time parsed.image.time = made
+    ∙ ap (unwrap_or c.args.changes.time) own in
+    rw (p.1, p.2) (legacy_not_updated c.args.changes c.args.limits form file parsed opened c.unwrap_or-time.result is_time
+    (omega arith) _ _ _ (c.in_err-append_legacy.ensures.failed file opened))
 
 pub returns-clause-appended : goal.returns-clause-appended
 returns-clause-appended g c form file opened =
     let parsed = c.args.image.now in
     let own : c.fields.result.time ≡ parsed.image.time = search in
     let made : c.unwrap_or-time.result ≡ unwrap_or c.args.changes.time c.fields.result.time = search in
-    let is_time : c.unwrap_or-time.result ≡ unwrap_or c.args.changes.time parsed.image.time = made ∙ ap (unwrap_or c.args.changes.time) own in
-    legacy_updated c.args.changes c.args.limits form file parsed opened c.unwrap_or-time.result is_time (omega arith) _ _ (c.in_ok-append_legacy.ensures.appended file opened)
+    let is_time : c.unwrap_or-time.result ≡ unwrap_or c.args.changes.time parsed.image.time = made
+    ∙ ap (unwrap_or c.args.changes.time) own in
+    legacy_updated c.args.changes c.args.limits form file parsed opened c.unwrap_or-time.result is_time (omega arith) _ _
+    (c.in_ok-append_legacy.ensures.appended file opened)

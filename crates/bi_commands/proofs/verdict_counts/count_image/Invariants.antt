@@ -15,7 +15,8 @@ invariant-loop-next l =
     let left = siblings_from (option_map node_of l.next) in
     record {
       same_file : l.digests ≡ l.initial.digests;
-      counted : plus_hashes l.counts (file_hashes name payload left) ≡ plus_hashes l.initial.counts (file_hashes name payload (siblings (node_of l.image).children));
+      counted : plus_hashes l.counts (file_hashes name payload left)
+          ≡ plus_hashes l.initial.counts (file_hashes name payload (siblings (node_of l.image).children));
       few : total l.counts + length left ≤ total l.initial.counts + length (siblings (node_of l.image).children);
     }
 

@@ -15,5 +15,6 @@ returns-in_err-all_good-clause-failed c =
 pub unreachable-requires : goal.unreachable-requires
 unreachable-requires c =
     true≢false (sym (subst IsOk c.in-Err.is (c.from_utf8.ensures.succeeds
-    (appended_utf8 (IsVerifyOutput c.args.limits c.in_ok-all_good.all_good c.args.file.now) _ _ _ (λ text is. report_is_ascii c.args.limits c.args.file.now text is.report)
+    (appended_utf8 (IsVerifyOutput c.args.limits c.in_ok-all_good.all_good c.args.file.now) _ _ _
+    (λ text is. report_is_ascii c.args.limits c.args.file.now text is.report)
     c.in_ok-all_good.ensures.appended c.new-sink.ensures c.into_vec.ensures))))

@@ -10,13 +10,15 @@ use Rattle.bi_commands.proofs.build_fit.FitBuilderCommand.run.Goals as goal
 pub returns-in_err-contents-clause-failed : goal.returns-in_err-contents-clause-failed
 returns-in_err-contents-clause-failed g c =
     let p = err_from_is_err_and c.from_residual.result c.from_residual.ensures.1 in
-    rw (p.1, p.2) (WasRefused (cut_error c.args.limits c.args.self.now.form c.args.self.now.head c.args.self.now.images.now c.args.self.now.payloads.now c.args.input.now c.in_err-contents.field-0.0 c.requires.short c.in_err-contents.ensures.failed) refl)
+    rw (p.1, p.2) (WasRefused (cut_error c.args.limits c.args.self.now.form c.args.self.now.head c.args.self.now.images.now
+    c.args.self.now.payloads.now c.args.input.now c.in_err-contents.field-0.0 c.requires.short c.in_err-contents.ensures.failed) refl)
 
 pub returns-in_err-complete-clause-failed : goal.returns-in_err-complete-clause-failed
 returns-in_err-complete-clause-failed g c =
     let p = err_from_is_err_and c.from_residual-in_err-complete.result c.from_residual-in_err-complete.ensures.1 in
     rw (p.1, p.2)
-    (WasRefused (sum_of_cut c.args.input.now (lengths_of c.args.self.now.payloads.now) (pieces_among c.args.self.now.payloads.now (bytes_of c.in_ok-contents.contents.items)) c.in_ok-contents.ensures.filled.cut) refl)
+    (WasRefused (sum_of_cut c.args.input.now (lengths_of c.args.self.now.payloads.now)
+    (pieces_among c.args.self.now.payloads.now (bytes_of c.in_ok-contents.contents.items)) c.in_ok-contents.ensures.filled.cut) refl)
 
 pub returns-in_err-build_fit_into-clause-failed : goal.returns-in_err-build_fit_into-clause-failed
 returns-in_err-build_fit_into-clause-failed g c =
@@ -25,8 +27,12 @@ returns-in_err-build_fit_into-clause-failed g c =
     let given = c.args.self.now.images.now in
     let have : HavePayloads given contents images =
     subst (HavePayloads given contents) (sym c.deref-2.ensures.value)
-    (subst (λ bytes. HavePayloads given bytes c.in_ok-complete.complete.items) (ap bytes_of c.deref.ensures.value) c.in_ok-complete.ensures) in
-    let completed : HasPayloads c.args.limits given c.args.self.now.payloads.now c.args.input.now contents images = record { short = c.requires.short; filled = c.in_ok-contents.ensures.filled; have = have } in
+    (subst (λ bytes. HavePayloads given bytes c.in_ok-complete.complete.items)
+    (ap bytes_of c.deref.ensures.value) c.in_ok-complete.ensures) in
+    let completed : HasPayloads c.args.limits given c.args.self.now.payloads.now c.args.input.now contents images = record
+    { short = c.requires.short; filled = c.in_ok-contents.ensures.filled; have = have } in
     let p = err_from_is_err_and c.from_residual-in_err-build_fit_into.result c.from_residual-in_err-build_fit_into.ensures.1 in
     rw (p.1, p.2)
-    (not_appended g.S.Sink.fails c.args.limits c.args.self.now.form c.args.self.now.head given c.args.self.now.payloads.now c.args.input.now contents images c.args.sink.now c.build_fit_into.new.sink c.in_err-build_fit_into.field-0.0 completed c.in_err-build_fit_into.ensures.failed)
+    (not_appended g.S.Sink.fails c.args.limits c.args.self.now.form c.args.self.now.head given c.args.self.now.payloads.now c.args.input.now
+    contents images c.args.sink.now c.build_fit_into.new.sink c.in_err-build_fit_into.field-0.0 completed
+    c.in_err-build_fit_into.ensures.failed)

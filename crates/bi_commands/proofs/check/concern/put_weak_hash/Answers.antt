@@ -12,7 +12,8 @@ pub returns-in_err-put_fields : goal.returns-in_err-put_fields
 returns-in_err-put_fields g c =
     let begin : List ℕ = join_with_byte 32 (codes "weak-hash" ∷ shown_text c.args.image.now ∷ []) in
     let text : List ℕ = flat_map good_algorithm (hashes_left c.args.hashes) in
-    first_of_all_fails g.S.Sink.appends g.S.Sink.fails g.met.S.Sink.fails_before c.args.sink.now c.put_fields.new.sink begin (text ++ 10 ∷ []) _ _ c.from_residual.result
+    first_of_all_fails g.S.Sink.appends g.S.Sink.fails g.met.S.Sink.fails_before c.args.sink.now c.put_fields.new.sink begin
+    (text ++ 10 ∷ []) _ _ c.from_residual.result
     (weak_pieces c.args.image.now (hashes_left c.args.hashes)) c.from_residual.ensures.1 c.in_err-put_fields.ensures
 
 pub returns-in_err-put_algorithms : goal.returns-in_err-put_algorithms
@@ -21,7 +22,8 @@ returns-in_err-put_algorithms g c =
     let laws = g.met.S.Sink in
     let begin : List ℕ = join_with_byte 32 (codes "weak-hash" ∷ shown_text c.args.image.now ∷ []) in
     let text : List ℕ = flat_map good_algorithm (hashes_left c.args.hashes) in
-    next_fails S.appends S.fails laws.fails_after laws.fails_before c.args.sink.now c.put_fields.new.sink c.put_algorithms.new.sink begin text (10 ∷ []) _ _ c.from_residual-in_err-put_algorithms.result
+    next_fails S.appends S.fails laws.fails_after laws.fails_before c.args.sink.now c.put_fields.new.sink c.put_algorithms.new.sink begin
+    text (10 ∷ []) _ _ c.from_residual-in_err-put_algorithms.result
     (one_more_piece begin text (10 ∷ []) _ (weak_pieces c.args.image.now (hashes_left c.args.hashes)))
     c.from_residual-in_err-put_algorithms.ensures.1 c.in_ok-put_fields.ensures c.in_err-put_algorithms.ensures
 
@@ -31,6 +33,8 @@ returns g c =
     let laws = g.met.S.Sink in
     let begin : List ℕ = join_with_byte 32 (codes "weak-hash" ∷ shown_text c.args.image.now ∷ []) in
     let text : List ℕ = flat_map good_algorithm (hashes_left c.args.hashes) in
-    last_writes S.appends S.fails laws.appends_in_turn laws.fails_after c.args.sink.now c.put_algorithms.new.sink c.put.new.self (begin ++ text) (10 ∷ []) _ c.put.result
+    last_writes S.appends S.fails laws.appends_in_turn laws.fails_after c.args.sink.now c.put_algorithms.new.sink c.put.new.self
+    (begin ++ text) (10 ∷ []) _ c.put.result
     (one_more_piece begin text (10 ∷ []) _ (weak_pieces c.args.image.now (hashes_left c.args.hashes)))
-    (laws.appends_in_turn c.args.sink.now c.put_fields.new.sink c.put_algorithms.new.sink begin text c.in_ok-put_fields.ensures c.in_ok-put_algorithms.ensures) c.put.ensures
+    (laws.appends_in_turn c.args.sink.now c.put_fields.new.sink c.put_algorithms.new.sink begin text c.in_ok-put_fields.ensures
+    c.in_ok-put_algorithms.ensures) c.put.ensures

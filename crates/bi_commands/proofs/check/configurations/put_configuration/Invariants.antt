@@ -10,4 +10,5 @@ use Rattle.bi_commands.proofs.check.configurations.put_configuration.Given as go
 abbrev pub invariant-loop-key : goal.invariant-loop-key
 invariant-loop-key g l =
     g.S.Sink.appends l.initial.sink
-    (flat_map (λ (key : Key). concern_lines l.allowed (list_concerns (node_of l.node).name key (file_listed l.fit.images (node_of l.node) key))) (take l.key-index all_keys)) l.sink
+    (flat_map (λ (key : Key). concern_lines l.allowed
+    (list_concerns (node_of l.node).name key (file_listed l.fit.images (node_of l.node) key))) (take l.key-index all_keys)) l.sink

@@ -7,4 +7,5 @@ use Rattle.bi_commands.proofs.check.configurations.put_configurations.Given as g
 -- The lines so far and those of the configurations that are left are all.
 abbrev pub invariant-loop-node : goal.invariant-loop-node
 invariant-loop-node g l =
-    AreLeft g.S.Sink.appends l.initial.sink l.sink (configuration_concern_lines l.allowed l.fit.images) (children_left l.node-iterator) (concern_lines l.allowed (configurations_concerns l.fn.fit))
+    AreLeft g.S.Sink.appends l.initial.sink l.sink (configuration_concern_lines l.allowed l.fit.images) (children_left l.node-iterator)
+    (concern_lines l.allowed (configurations_concerns l.fn.fit))

@@ -13,7 +13,8 @@ returns-in_err-put_images g c =
     let content = c.args.fit.now in
     let allowed = c.args.allowed in
     let rest = drop (end_of_read_payloads content.blob.total_size content.images) c.args.file.now in
-    first_of_all_fails g.S.Sink.appends g.S.Sink.fails g.met.S.Sink.fails_before c.args.sink.now c.put_images.new.sink (concern_lines allowed (images_concerns (images_of_blob content))) _ _ _ c.from_residual.result
+    first_of_all_fails g.S.Sink.appends g.S.Sink.fails g.met.S.Sink.fails_before c.args.sink.now c.put_images.new.sink
+    (concern_lines allowed (images_concerns (images_of_blob content))) _ _ _ c.from_residual.result
     (read_pieces allowed c.args.file.now content rest refl) c.from_residual.ensures.1 c.in_err-put_images.ensures
 
 pub returns-in_err-put_configurations : goal.returns-in_err-put_configurations
@@ -25,8 +26,10 @@ returns-in_err-put_configurations g c =
     let one : List ℕ = concern_lines allowed (images_concerns (images_of_blob content)) in
     let two : List ℕ = concern_lines allowed (configurations_concerns content) in
     let later : List ℕ = concern_lines allowed (read_default_concerns content) ++ concern_lines allowed (trailing_concerns rest) in
-    next_fails g.S.Sink.appends g.S.Sink.fails laws.fails_after laws.fails_before c.args.sink.now c.put_images.new.sink c.put_configurations.new.sink one two later _ _ c.from_residual-in_err-put_configurations.result
-    (one_more_piece one two later _ (read_pieces allowed c.args.file.now content rest refl)) c.from_residual-in_err-put_configurations.ensures.1 c.in_ok-put_images.ensures c.in_err-put_configurations.ensures
+    next_fails g.S.Sink.appends g.S.Sink.fails laws.fails_after laws.fails_before c.args.sink.now c.put_images.new.sink
+    c.put_configurations.new.sink one two later _ _ c.from_residual-in_err-put_configurations.result
+    (one_more_piece one two later _ (read_pieces allowed c.args.file.now content rest refl))
+    c.from_residual-in_err-put_configurations.ensures.1 c.in_ok-put_images.ensures c.in_err-put_configurations.ensures
 
 pub returns-in_err-put_default : goal.returns-in_err-put_default
 returns-in_err-put_default g c =
@@ -39,9 +42,13 @@ returns-in_err-put_default g c =
     let two : List ℕ = concern_lines allowed (configurations_concerns content) in
     let three : List ℕ = concern_lines allowed (read_default_concerns content) in
     let four : List ℕ = concern_lines allowed (trailing_concerns rest) in
-    next_fails S.appends S.fails laws.fails_after laws.fails_before c.args.sink.now c.put_configurations.new.sink c.put_default.new.sink (one ++ two) three four _ _ c.from_residual-in_err-put_default.result
-    (one_more_piece (one ++ two) three four _ (one_more_piece one two (three ++ four) _ (read_pieces allowed c.args.file.now content rest refl))) c.from_residual-in_err-put_default.ensures.1
-    (laws.appends_in_turn c.args.sink.now c.put_images.new.sink c.put_configurations.new.sink one two c.in_ok-put_images.ensures c.in_ok-put_configurations.ensures) c.in_err-put_default.ensures
+    next_fails S.appends S.fails laws.fails_after laws.fails_before c.args.sink.now c.put_configurations.new.sink c.put_default.new.sink
+    (one ++ two) three four _ _ c.from_residual-in_err-put_default.result
+    (one_more_piece (one ++ two) three four _
+    (one_more_piece one two (three ++ four) _ (read_pieces allowed c.args.file.now content rest refl)))
+    c.from_residual-in_err-put_default.ensures.1
+    (laws.appends_in_turn c.args.sink.now c.put_images.new.sink c.put_configurations.new.sink one two c.in_ok-put_images.ensures
+    c.in_ok-put_configurations.ensures) c.in_err-put_default.ensures
 
 pub returns : goal.returns
 returns g c =
@@ -54,8 +61,11 @@ returns g c =
     let two : List ℕ = concern_lines allowed (configurations_concerns content) in
     let three : List ℕ = concern_lines allowed (read_default_concerns content) in
     let four : List ℕ = concern_lines allowed (trailing_concerns rest) in
-    last_writes S.appends S.fails laws.appends_in_turn laws.fails_after c.args.sink.now c.put_default.new.sink c.put_trailing.new.sink ((one ++ two) ++ three) four _ c.put_trailing.result
-    (one_more_piece (one ++ two) three four _ (one_more_piece one two (three ++ four) _ (read_pieces allowed c.args.file.now content rest c.trailing_bytes.ensures)))
+    last_writes S.appends S.fails laws.appends_in_turn laws.fails_after c.args.sink.now c.put_default.new.sink c.put_trailing.new.sink
+    ((one ++ two) ++ three) four _ c.put_trailing.result
+    (one_more_piece (one ++ two) three four _
+    (one_more_piece one two (three ++ four) _ (read_pieces allowed c.args.file.now content rest c.trailing_bytes.ensures)))
     (laws.appends_in_turn c.args.sink.now c.put_configurations.new.sink c.put_default.new.sink (one ++ two) three
-    (laws.appends_in_turn c.args.sink.now c.put_images.new.sink c.put_configurations.new.sink one two c.in_ok-put_images.ensures c.in_ok-put_configurations.ensures) c.in_ok-put_default.ensures)
+    (laws.appends_in_turn c.args.sink.now c.put_images.new.sink c.put_configurations.new.sink one two c.in_ok-put_images.ensures
+    c.in_ok-put_configurations.ensures) c.in_ok-put_default.ensures)
     c.put_trailing.ensures

@@ -7,4 +7,5 @@ use Rattle.bi_commands.proofs.check.images.put_hashes.Given as goal
 -- The lines so far and those of the hash nodes that are left are all.
 abbrev pub invariant-loop-hash : goal.invariant-loop-hash
 invariant-loop-hash g l =
-    AreLeft g.S.Sink.appends l.initial.sink l.sink (λ hash. concern_lines l.allowed (hash_concerns hash)) (hashes_left l.hash-iterator) (flat_map (λ hash. concern_lines l.allowed (hash_concerns hash)) (hashes_left l.fn.hashes))
+    AreLeft g.S.Sink.appends l.initial.sink l.sink (λ hash. concern_lines l.allowed (hash_concerns hash)) (hashes_left l.hash-iterator)
+    (flat_map (λ hash. concern_lines l.allowed (hash_concerns hash)) (hashes_left l.fn.hashes))

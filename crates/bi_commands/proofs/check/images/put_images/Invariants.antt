@@ -7,4 +7,5 @@ use Rattle.bi_commands.proofs.check.images.put_images.Given as goal
 -- The lines so far and those of the images that are left are all.
 abbrev pub invariant-loop-image : goal.invariant-loop-image
 invariant-loop-image g l =
-    AreLeft g.S.Sink.appends l.initial.sink l.sink (image_concern_lines l.allowed) l.image-iterator (concern_lines l.allowed (images_concerns (images_of_blob l.fn.fit)))
+    AreLeft g.S.Sink.appends l.initial.sink l.sink (image_concern_lines l.allowed) l.image-iterator
+    (concern_lines l.allowed (images_concerns (images_of_blob l.fn.fit)))

@@ -6,4 +6,5 @@ use Rattle.bi_commands.proofs.compare.differences.counterparts_of.Given as goal
 
 abbrev pub invariant-loop-line : goal.invariant-loop-line
 invariant-loop-line l =
-    (found : List ℕ) → set_has l.set found ≡ list_any (λ line. is_found (counterpart_in l.others l.counterparts line.now) found) (take l.line-index l.lines)
+    (found : List ℕ) → set_has l.set found
+    ≡ list_any (λ line. is_found (counterpart_in l.others l.counterparts line.now) found) (take l.line-index l.lines)

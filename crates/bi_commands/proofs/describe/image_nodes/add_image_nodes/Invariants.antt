@@ -15,6 +15,7 @@ abbrev pub invariant-loop-payload : goal.invariant-loop-payload
 invariant-loop-payload l = record {
   order : HasOrderOfNext l.order l.next;
   distinct : EachOwn HasDistinctNames (nodes_from (option_map node_of l.next));
-  left : map as_entry l.entries.items ++ images_entries (nodes_from (option_map node_of l.next)) (bytes_of_payloads (drop l.payload-index l.payloads))
+  left : map as_entry l.entries.items
+      ++ images_entries (nodes_from (option_map node_of l.next)) (bytes_of_payloads (drop l.payload-index l.payloads))
       ≡ map as_entry l.fn.entries.items ++ images_entries (node_of l.node).children (bytes_of_payloads l.payloads);
 }

@@ -12,4 +12,5 @@ returns c =
     ∙ ap (λ left. map digest_made c.loop-part.digests.items ++ map digest left) (sym c.in-None.ensures.steps.0)
     ∙ c.loop-part.invariant
     ∙ digests_of_bytes (placed_parts c.args.image.now.image)
-    ∙ ap (map digest_of_payload) (ap (map (λ (part : PartModel). part.bytes)) (sym c.parts-part-items.ensures.parts) ∙ c.parts-part-items.ensures.bytes)
+    ∙ ap (map digest_of_payload) (ap (map (λ (part : PartModel). part.bytes)) (sym c.parts-part-items.ensures.parts)
+    ∙ c.parts-part-items.ensures.bytes)

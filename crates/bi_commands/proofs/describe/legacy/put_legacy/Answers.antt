@@ -15,7 +15,8 @@ returns-in_err-put_kind_and_fields g c =
     let fields : List Words = (codes "kind" ∷ codes "legacy" ∷ []) ∷ field_words image in
     let codes_ : List Words = code_words image in
     let parts : List Words = part_words 0 (map digest_made c.args.parts.now) in
-    first_of_all_fails S.appends S.fails laws.fails_before c.args.sink.now c.put_kind_and_fields.new.sink (flat_map line fields) (flat_map line (codes_ ++ parts)) _ _ c.from_residual.result
+    first_of_all_fails S.appends S.fails laws.fails_before c.args.sink.now c.put_kind_and_fields.new.sink (flat_map line fields)
+    (flat_map line (codes_ ++ parts)) _ _ c.from_residual.result
     (first_of_three fields codes_ parts) c.from_residual.ensures.1 c.in_err-put_kind_and_fields.ensures
 
 pub returns-in_err-put_codes : goal.returns-in_err-put_codes
@@ -26,8 +27,10 @@ returns-in_err-put_codes g c =
     let fields : List Words = (codes "kind" ∷ codes "legacy" ∷ []) ∷ field_words image in
     let codes_ : List Words = code_words image in
     let parts : List Words = part_words 0 (map digest_made c.args.parts.now) in
-    next_fails S.appends S.fails laws.fails_after laws.fails_before c.args.sink.now c.put_kind_and_fields.new.sink c.put_codes.new.sink (flat_map line fields) (flat_map line codes_) (flat_map line parts) _ _ c.from_residual-in_err-put_codes.result
-    (three_texts fields codes_ parts) c.from_residual-in_err-put_codes.ensures.1 c.in_ok-put_kind_and_fields.ensures c.in_err-put_codes.ensures
+    next_fails S.appends S.fails laws.fails_after laws.fails_before c.args.sink.now c.put_kind_and_fields.new.sink c.put_codes.new.sink
+    (flat_map line fields) (flat_map line codes_) (flat_map line parts) _ _ c.from_residual-in_err-put_codes.result
+    (three_texts fields codes_ parts) c.from_residual-in_err-put_codes.ensures.1
+    c.in_ok-put_kind_and_fields.ensures c.in_err-put_codes.ensures
 
 pub returns : goal.returns
 returns g c =
@@ -37,7 +40,9 @@ returns g c =
     let fields : List Words = (codes "kind" ∷ codes "legacy" ∷ []) ∷ field_words image in
     let codes_ : List Words = code_words image in
     let parts : List Words = part_words 0 (map digest_made c.args.parts.now) in
-    last_writes S.appends S.fails laws.appends_in_turn laws.fails_after c.args.sink.now c.put_codes.new.sink c.put_parts.new.sink (flat_map line fields ++ flat_map line codes_) (flat_map line parts) _ c.put_parts.result
+    last_writes S.appends S.fails laws.appends_in_turn laws.fails_after c.args.sink.now c.put_codes.new.sink c.put_parts.new.sink
+    (flat_map line fields ++ flat_map line codes_) (flat_map line parts) _ c.put_parts.result
     (three_texts fields codes_ parts)
-    (laws.appends_in_turn c.args.sink.now c.put_kind_and_fields.new.sink c.put_codes.new.sink (flat_map line fields) (flat_map line codes_) c.in_ok-put_kind_and_fields.ensures c.in_ok-put_codes.ensures)
+    (laws.appends_in_turn c.args.sink.now c.put_kind_and_fields.new.sink c.put_codes.new.sink (flat_map line fields)
+    (flat_map line codes_) c.in_ok-put_kind_and_fields.ensures c.in_ok-put_codes.ensures)
     c.put_parts.ensures

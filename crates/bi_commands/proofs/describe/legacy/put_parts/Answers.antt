@@ -21,8 +21,10 @@ returns-in_err-put_part g c =
     let words : List (List ℕ) = codes "part" ∷ decimal index ∷ digest_words (digest_made (get_or parts index no_digest)) in
     let left = part_words (index + 1) (map digest_made (drop (index + 1) parts)) in
     let (done, written, is) = c.loop-index.invariant in
-    let all = append_assoc done (line words) (flat_map line left) ∙ ap (λ lines. done ++ flat_map line lines) (sym (parts_from parts index no_digest c.loop-index-test.true)) ∙ is in
-    next_fails S.appends S.fails laws.fails_after laws.fails_before c.args.sink.now c.loop-index.sink c.put_part.new.sink done (line words) (flat_map line left) _ _ c.from_residual.result
+    let all = append_assoc done (line words) (flat_map line left)
+    ∙ ap (λ lines. done ++ flat_map line lines) (sym (parts_from parts index no_digest c.loop-index-test.true)) ∙ is in
+    next_fails S.appends S.fails laws.fails_after laws.fails_before c.args.sink.now c.loop-index.sink c.put_part.new.sink done (line words)
+    (flat_map line left) _ _ c.from_residual.result
     (sym all) c.from_residual.ensures.1 written c.in_err-put_part.ensures
 
 pub loop-index-preserved : goal.loop-index-preserved
@@ -32,5 +34,10 @@ loop-index-preserved g c =
     let words : List (List ℕ) = codes "part" ∷ decimal index ∷ digest_words (digest_made (get_or parts index no_digest)) in
     let left = part_words (index + 1) (map digest_made (drop (index + 1) parts)) in
     let (done, written, is) = c.loop-index.invariant in
-    let all = append_assoc done (line words) (flat_map line left) ∙ ap (λ lines. done ++ flat_map line lines) (sym (parts_from parts index no_digest c.loop-index-test.true)) ∙ is in
-    (done ++ line words, g.met.S.Sink.appends_in_turn c.args.sink.now c.loop-index.sink c.put_part.new.sink done (line words) written c.in_ok-put_part.ensures, all)
+    let all = append_assoc done (line words) (flat_map line left)
+    ∙ ap (λ lines. done ++ flat_map line lines) (sym (parts_from parts index no_digest c.loop-index-test.true)) ∙ is in (
+      done ++ line words,
+      g.met.S.Sink.appends_in_turn c.args.sink.now c.loop-index.sink c.put_part.new.sink done
+          (line words) written c.in_ok-put_part.ensures,
+      all,
+    )

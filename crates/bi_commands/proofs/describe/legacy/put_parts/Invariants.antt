@@ -8,4 +8,5 @@ use Rattle.bi_commands.proofs.describe.legacy.put_parts.Given as goal
 abbrev pub invariant-loop-index : goal.invariant-loop-index
 invariant-loop-index g l =
     (done : List ℕ) × g.S.Sink.appends l.initial.sink done l.sink
-    × (done ++ flat_map line (part_words l.index (map digest_made (drop l.index l.parts))) ≡ flat_map line (part_words 0 (map digest_made l.parts)))
+    × (done ++ flat_map line (part_words l.index (map digest_made (drop l.index l.parts)))
+    ≡ flat_map line (part_words 0 (map digest_made l.parts)))

@@ -12,7 +12,8 @@ loop-entry-preserved c =
     let left = map as_entry (drop (i + 1) entries) in
     let invariant = c.loop-entry.invariant in
     let more = most_after c.loop-entry.open c.loop-entry.most (tree.most_open 0 (map as_entry entries)) entry left invariant.within
-    (subst (λ left. max c.loop-entry.most (tree.most_open c.loop-entry.open left) ≡ tree.most_open 0 (map as_entry entries)) (entries_from entries i c.loop-entry-test.true) invariant.most) in
+    (subst (λ left. max c.loop-entry.most (tree.most_open c.loop-entry.open left) ≡ tree.most_open 0 (map as_entry entries))
+    (entries_from entries i c.loop-entry-test.true) invariant.most) in
     record {
       most = ap (λ most. max most (tree.most_open c.count_after-open.result left)) c.greater-most.ensures
           ∙ ap (λ count. max (max c.loop-entry.most count) (tree.most_open count left)) c.count_after-open.ensures ∙ more;

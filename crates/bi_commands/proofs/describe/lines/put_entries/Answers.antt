@@ -8,7 +8,11 @@ use Rattle.bi_commands.proofs.describe.lines.put_entries.Goals as goal
 
 pub open_after-open-requires-clause-fits : goal.open_after-open-requires-clause-fits
 open_after-open-requires-clause-fits g c =
-    omega (arith, c.loop-entry.invariant.room, open_at_first c.loop-entry.open (map as_entry (drop c.loop-entry.entry-index c.args.entries.now)))
+    omega (
+      arith,
+      c.loop-entry.invariant.room,
+      open_at_first c.loop-entry.open (map as_entry (drop c.loop-entry.entry-index c.args.entries.now)),
+    )
 
 pub open_after-open-requires-clause-room : goal.open_after-open-requires-clause-room
 open_after-open-requires-clause-room g c =
@@ -16,7 +20,8 @@ open_after-open-requires-clause-room g c =
     let i = c.loop-entry.entry-index in
     let entry = as_entry (get_or entries i no_entry) in
     let left = map as_entry (drop (i + 1) entries) in
-    let room = subst (λ left. most_open c.loop-entry.open left ≤ length c.loop-entry.names) (entries_from entries i c.loop-entry-test.true) c.loop-entry.invariant.room in
+    let room = subst (λ left. most_open c.loop-entry.open left ≤ length c.loop-entry.names)
+    (entries_from entries i c.loop-entry-test.true) c.loop-entry.invariant.room in
     omega (arith, room, open_at_first (count_after c.loop-entry.open entry) left)
 
 pub loop-entry-preserved : goal.loop-entry-preserved
@@ -26,7 +31,8 @@ loop-entry-preserved g c =
     let entry = as_entry (get_or entries i no_entry) in
     let left = map as_entry (drop (i + 1) entries) in
     let names = bytes_of_names (take c.loop-entry.open c.loop-entry.names) in
-    let room = subst (λ left. most_open c.loop-entry.open left ≤ length c.loop-entry.names) (entries_from entries i c.loop-entry-test.true) c.loop-entry.invariant.room in
+    let room = subst (λ left. most_open c.loop-entry.open left ≤ length c.loop-entry.names)
+    (entries_from entries i c.loop-entry-test.true) c.loop-entry.invariant.room in
     let (done, written, is) = c.loop-entry.invariant.written in
     let text = flat_map line (lines_of_entry (open_after names entry) entry) in
     record {
@@ -35,9 +41,11 @@ loop-entry-preserved g c =
       written = (
         done ++ text,
         g.met.S.Sink.appends_in_turn c.args.sink.now c.loop-entry.sink c.put_entry.new.sink done text written
-            (subst (λ names. g.S.Sink.appends c.loop-entry.sink (flat_map line (lines_of_entry names entry)) c.put_entry.new.sink) c.open_after-open.ensures.names c.in_ok-put_entry.ensures),
+            (subst (λ names. g.S.Sink.appends c.loop-entry.sink (flat_map line (lines_of_entry names entry)) c.put_entry.new.sink)
+            c.open_after-open.ensures.names c.in_ok-put_entry.ensures),
         ap (λ names. (done ++ text) ++ flat_map line (entry_lines names left)) c.open_after-open.ensures.names
-            ∙ text_after done _ names entry left (ap (λ left. done ++ flat_map line (entry_lines names left)) (sym (entries_from entries i c.loop-entry-test.true)) ∙ is),
+            ∙ text_after done _ names entry left
+            (ap (λ left. done ++ flat_map line (entry_lines names left)) (sym (entries_from entries i c.loop-entry-test.true)) ∙ is),
       );
     }
 
@@ -52,8 +60,11 @@ returns-in_err-put_entry-clause-wrote g c =
     let names = bytes_of_names (take c.loop-entry.open c.loop-entry.names) in
     let error = c.in_err-put_entry.field-0.0 in
     let (done, written, is) = c.loop-entry.invariant.written in
-    next_fails S.appends S.fails laws.fails_after laws.fails_before c.args.sink.now c.loop-entry.sink c.put_entry.new.sink done (flat_map line (lines_of_entry (open_after names entry) entry))
+    next_fails S.appends S.fails laws.fails_after laws.fails_before c.args.sink.now c.loop-entry.sink c.put_entry.new.sink done
+    (flat_map line (lines_of_entry (open_after names entry) entry))
     (flat_map line (entry_lines (open_after names entry) left)) _ error c.from_residual.result
-    (sym (text_after done _ names entry left (ap (λ left. done ++ flat_map line (entry_lines names left)) (sym (entries_from entries i c.loop-entry-test.true)) ∙ is)))
+    (sym (text_after done _ names entry left
+    (ap (λ left. done ++ flat_map line (entry_lines names left)) (sym (entries_from entries i c.loop-entry-test.true)) ∙ is)))
     c.from_residual.ensures.1 written
-    (subst (λ names. S.fails c.loop-entry.sink (flat_map line (lines_of_entry names entry)) c.put_entry.new.sink error) c.open_after-open.ensures.names c.in_err-put_entry.ensures)
+    (subst (λ names. S.fails c.loop-entry.sink (flat_map line (lines_of_entry names entry)) c.put_entry.new.sink error)
+    c.open_after-open.ensures.names c.in_err-put_entry.ensures)

@@ -8,5 +8,7 @@ use Rattle.bi_commands.proofs.describe.lines.put_property.Goals as goal
 
 pub returns-in-len1-up : goal.returns-in-len1-up
 returns-in-len1-up g c =
-    subst (λ bytes. Wrote g.S.Sink.appends g.S.Sink.fails c.args.sink.now (codes "property " ++ (bytes ++ 10 ∷ [])) c.put_line-in-len1-up.result c.put_line-in-len1-up.new.sink)
-    (joined_words (path (bytes_of_names c.args.names.now)) (shown_text c.args.name.now) c.args.value.now c.in-len1-up.len_at_least) c.put_line-in-len1-up.ensures
+    subst (λ bytes. Wrote g.S.Sink.appends g.S.Sink.fails c.args.sink.now
+    (codes "property " ++ (bytes ++ 10 ∷ [])) c.put_line-in-len1-up.result c.put_line-in-len1-up.new.sink)
+    (joined_words (path (bytes_of_names c.args.names.now))
+    (shown_text c.args.name.now) c.args.value.now c.in-len1-up.len_at_least) c.put_line-in-len1-up.ensures

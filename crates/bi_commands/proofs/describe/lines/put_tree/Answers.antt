@@ -6,12 +6,14 @@ use Rattle.bi_commands.proofs.describe.lines.put_tree.Goals as goal
 
 pub returns-in_err-put_node-clause-wrote : goal.returns-in_err-put_node-clause-wrote
 returns-in_err-put_node-clause-wrote g c =
-    first_of_all_fails g.S.Sink.appends g.S.Sink.fails g.met.S.Sink.fails_before c.args.sink.now c.put_node.new.sink (line (codes "node" ∷ codes "/" ∷ [])) (flat_map line (entry_lines [] (map as_entry c.args.entries.now))) _ _ c.from_residual.result
+    first_of_all_fails g.S.Sink.appends g.S.Sink.fails g.met.S.Sink.fails_before c.args.sink.now c.put_node.new.sink
+    (line (codes "node" ∷ codes "/" ∷ [])) (flat_map line (entry_lines [] (map as_entry c.args.entries.now))) _ _ c.from_residual.result
     refl c.from_residual.ensures.1 c.in_err-put_node.ensures
 
 pub returns-clause-wrote : goal.returns-clause-wrote
 returns-clause-wrote g c =
     let S = g.S.Sink in
     let laws = g.met.S.Sink in
-    last_writes S.appends S.fails laws.appends_in_turn laws.fails_after c.args.sink.now c.put_node.new.sink c.put_entries.new.sink (line (codes "node" ∷ codes "/" ∷ [])) (flat_map line (entry_lines [] (map as_entry c.args.entries.now))) _ c.put_entries.result
+    last_writes S.appends S.fails laws.appends_in_turn laws.fails_after c.args.sink.now c.put_node.new.sink c.put_entries.new.sink
+    (line (codes "node" ∷ codes "/" ∷ [])) (flat_map line (entry_lines [] (map as_entry c.args.entries.now))) _ c.put_entries.result
     refl c.in_ok-put_node.ensures c.put_entries.ensures.wrote

@@ -15,7 +15,8 @@ use Rattle.bi_commands.proofs.describe.nodes.+nodes.Goals as goal
 pub add_children-loop-next-init : goal.add_children-loop-next-init
 add_children-loop-next-init t c =
     let s = node_of c.args.node in
-    let all : nodes_from (option_map node_of c.first_child-next.result) ≡ s.children = ap nodes_from c.first_child-next.ensures.child ∙ nodes_from_first s.children in
+    let all : nodes_from (option_map node_of c.first_child-next.result) ≡ s.children = ap nodes_from c.first_child-next.ensures.child
+    ∙ nodes_from_first s.children in
     rw all (record {
       order = next_in_order c.args.node c.first_child-next.result c.first_child-next.ensures.same_table c.requires.order;
       distinct = c.requires.distinct;
@@ -26,10 +27,12 @@ add_children-loop-next-init t c =
 pub add_children-add_node-requires : goal.add_children-add_node-requires
 add_children-add_node-requires t c =
     let s = node_of c.in-Some.child in
-    let here : nodes_from (option_map node_of c.loop-next.next) ≡ nodes_from (Some s) = ap (λ next. nodes_from (option_map node_of next)) c.in-Some.is in
+    let here : nodes_from (option_map node_of c.loop-next.next)
+    ≡ nodes_from (Some s) = ap (λ next. nodes_from (option_map node_of next)) c.in-Some.is in
     let shallow : max (depth s.children + 1) (depth s.later) ≤ depth (node_of c.args.node).children =
     subst (λ nodes. depth nodes ≤ depth (node_of c.args.node).children) here c.loop-next.invariant.shallow in
-    let distinct : EachOwn HasDistinctNames (nodes_from (Some s)) = subst (EachOwn HasDistinctNames) here c.loop-next.invariant.distinct in (
+    let distinct : EachOwn HasDistinctNames (nodes_from (Some s)) = subst
+    (EachOwn HasDistinctNames) here c.loop-next.invariant.distinct in (
       omega arith,
       (
         subst (HasOrderOfNext c.args.order.now) c.in-Some.is c.loop-next.invariant.order,
@@ -50,19 +53,23 @@ pub add_children-loop-next-preserved : goal.add_children-loop-next-preserved
 add_children-loop-next-preserved t c =
     let s = node_of c.in-Some.child in
     let target = map as_entry c.args.entries.now.items ++ plain_entries (node_of c.args.node).children in
-    let here : nodes_from (option_map node_of c.loop-next.next) ≡ nodes_from (Some s) = ap (λ next. nodes_from (option_map node_of next)) c.in-Some.is in
-    let rest : nodes_from (option_map node_of c.next_sibling-next.result) ≡ s.later = ap nodes_from c.next_sibling-next.ensures.sibling ∙ nodes_from_first s.later in
+    let here : nodes_from (option_map node_of c.loop-next.next)
+    ≡ nodes_from (Some s) = ap (λ next. nodes_from (option_map node_of next)) c.in-Some.is in
+    let rest : nodes_from (option_map node_of c.next_sibling-next.result)
+    ≡ s.later = ap nodes_from c.next_sibling-next.ensures.sibling ∙ nodes_from_first s.later in
     let left : map as_entry c.loop-next.entries.items ++ (plain_entries (alone s) ++ plain_entries s.later) ≡ target =
     ap (λ l. map as_entry c.loop-next.entries.items ++ l) (sym (plain-first s))
     ∙ subst (λ nodes. map as_entry c.loop-next.entries.items ++ plain_entries nodes ≡ target) here c.loop-next.invariant.left in
     let shallow : max (depth s.children + 1) (depth s.later) ≤ depth (node_of c.args.node).children =
     subst (λ nodes. depth nodes ≤ depth (node_of c.args.node).children) here c.loop-next.invariant.shallow in
     let distinct : EachOwn HasDistinctNames (nodes_from (Some s)) = subst (EachOwn HasDistinctNames) here c.loop-next.invariant.distinct in
-    let order : IsNameOrder (table_of_node c.in-Some.child) c.args.order.now = subst (HasOrderOfNext c.args.order.now) c.in-Some.is c.loop-next.invariant.order in
+    let order : IsNameOrder (table_of_node c.in-Some.child) c.args.order.now = subst
+    (HasOrderOfNext c.args.order.now) c.in-Some.is c.loop-next.invariant.order in
     rw rest (record {
       order = next_in_order c.in-Some.child c.next_sibling-next.result c.next_sibling-next.ensures.same_table order;
       distinct = distinct.2;
-      left = appended_first (map as_entry c.loop-next.entries.items) (plain_entries (alone s)) (plain_entries s.later) target (map as_entry c.add_node.new.entries.items) left c.in_ok-add_node.ensures;
+      left = appended_first (map as_entry c.loop-next.entries.items) (plain_entries (alone s)) (plain_entries s.later) target
+          (map as_entry c.add_node.new.entries.items) left c.in_ok-add_node.ensures;
       shallow = omega arith;
     })
 

@@ -16,4 +16,5 @@ returns c =
     let children = siblings_from (option_map node_of c.first_child.result) in
     ap (λ name. file_hashes name (option_map (bytes_of_region file) c.region.result) children) c.name.ensures
     ∙ ap (λ payload. file_hashes entry.name payload children) region.bytes
-    ∙ ap (file_hashes entry.name (image_model c.args.image.now).payload) (from_first c.first_child.result entry.children c.first_child.ensures.child)
+    ∙ ap (file_hashes entry.name (image_model c.args.image.now).payload)
+    (from_first c.first_child.result entry.children c.first_child.ensures.child)

@@ -16,16 +16,21 @@ pub returns-in-Some : goal.returns-in-Some
 returns-in-Some g c =
     let content = c.args.fit.now in
     let found = c.child.ensures.child
-    ∙ ap (λ (parent : Sibling FileNode). node_named parent.children configurations_name) (c.root.ensures.root ∙ ap (λ (blob : Blob). root_node (root_of blob)) c.blob.ensures) in
+    ∙ ap (λ (parent : Sibling FileNode). node_named parent.children configurations_name)
+    (c.root.ensures.root ∙ ap (λ (blob : Blob). root_node (root_of blob)) c.blob.ensures) in
     let lines = lines_of_children content (option_map node_of c.child.result) c.requires.held found
-    ∙ ap (λ (parent : Option NodeRef). flat_map (configuration_node_lines content.images) (siblings (nodes_or_none (option_map (λ (entry : Sibling FileNode). entry.children) (option_map node_of parent))))) c.in-Some.is in
-    subst (λ bytes. Wrote g.S.Sink.appends g.S.Sink.fails c.args.sink.now bytes c.put_children.result c.put_children.new.sink) (sym lines) c.put_children.ensures
+    ∙ ap (λ (parent : Option NodeRef). flat_map (configuration_node_lines content.images)
+    (siblings (nodes_or_none (option_map (λ (entry : Sibling FileNode). entry.children) (option_map node_of parent))))) c.in-Some.is in
+    subst (λ bytes. Wrote g.S.Sink.appends g.S.Sink.fails c.args.sink.now bytes c.put_children.result c.put_children.new.sink)
+    (sym lines) c.put_children.ensures
 
 pub returns-in-None : goal.returns-in-None
 returns-in-None g c =
     let content = c.args.fit.now in
     let found = c.child.ensures.child
-    ∙ ap (λ (parent : Sibling FileNode). node_named parent.children configurations_name) (c.root.ensures.root ∙ ap (λ (blob : Blob). root_node (root_of blob)) c.blob.ensures) in
+    ∙ ap (λ (parent : Sibling FileNode). node_named parent.children configurations_name)
+    (c.root.ensures.root ∙ ap (λ (blob : Blob). root_node (root_of blob)) c.blob.ensures) in
     let lines = lines_of_children content (option_map node_of c.child.result) c.requires.held found
-    ∙ ap (λ (parent : Option NodeRef). flat_map (configuration_node_lines content.images) (siblings (nodes_or_none (option_map (λ (entry : Sibling FileNode). entry.children) (option_map node_of parent))))) c.in-None.is in
+    ∙ ap (λ (parent : Option NodeRef). flat_map (configuration_node_lines content.images)
+    (siblings (nodes_or_none (option_map (λ (entry : Sibling FileNode). entry.children) (option_map node_of parent))))) c.in-None.is in
     subst (λ bytes. g.S.Sink.appends c.args.sink.now bytes c.args.sink.now) (sym lines) (g.met.S.Sink.appends_nothing c.args.sink.now)

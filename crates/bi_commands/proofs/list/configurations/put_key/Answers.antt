@@ -16,5 +16,6 @@ returns-in-Images g c =
     let names = listed_names c.in-Images.value.now in
     let are = subst (IsListed result) c.in-Images.is c.listed_under.ensures in
     subst (λ text. Wrote g.S.Sink.appends g.S.Sink.fails c.args.sink.now text c.put_images.result c.put_images.new.sink)
-    (ap (λ name. line (codes "key" ∷ shown_text name ∷ key_name c.args.key ∷ codes "ok" ∷ map shown_text names)) c.name-configuration.ensures
+    (ap (λ name. line (codes "key" ∷ shown_text name ∷ key_name c.args.key ∷ codes "ok"
+    ∷ map shown_text names)) c.name-configuration.ensures
     ∙ sym (images_line entry.name c.args.key result names are)) c.put_images.ensures

@@ -16,10 +16,12 @@ returns-in_err-put_key g c =
     let entry = node_of c.args.node in
     passed_on S.appends S.fails c.args.sink.now _ _ c.from_residual.result c.put_key.new.sink c.from_residual.ensures.1
     (failed_within S.appends S.fails laws.fails_after laws.fails_before c.args.sink.now c.loop-key.sink c.put_key.new.sink
-    (λ (key : Key). key_line entry.name key (file_listed c.args.fit.now.images entry key)) all_keys c.loop-key.key-index Kernel _ (omega arith) c.loop-key.invariant c.in_err-put_key.ensures)
+    (λ (key : Key). key_line entry.name key (file_listed c.args.fit.now.images entry key)) all_keys c.loop-key.key-index Kernel _
+    (omega arith) c.loop-key.invariant c.in_err-put_key.ensures)
 
 pub loop-key-preserved : goal.loop-key-preserved
 loop-key-preserved g c =
     let entry = node_of c.args.node in
     next_piece_appended g.S.Sink.appends g.met.S.Sink.appends_in_turn c.args.sink.now c.loop-key.sink c.put_key.new.sink
-    (λ (key : Key). key_line entry.name key (file_listed c.args.fit.now.images entry key)) all_keys c.loop-key.key-index Kernel c.loop-key-test.true c.loop-key.invariant c.in_ok-put_key.ensures
+    (λ (key : Key). key_line entry.name key (file_listed c.args.fit.now.images entry key)) all_keys c.loop-key.key-index Kernel
+    c.loop-key-test.true c.loop-key.invariant c.in_ok-put_key.ensures

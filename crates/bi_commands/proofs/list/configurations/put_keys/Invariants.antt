@@ -10,4 +10,5 @@ use Rattle.bi_commands.proofs.list.configurations.put_keys.Given as goal
 abbrev pub invariant-loop-key : goal.invariant-loop-key
 invariant-loop-key g l =
     g.S.Sink.appends l.initial.sink
-    (flat_map (λ (key : Key). key_line (node_of l.node).name key (file_listed l.fit.images (node_of l.node) key)) (take l.key-index all_keys)) l.sink
+    (flat_map (λ (key : Key). key_line (node_of l.node).name key (file_listed l.fit.images (node_of l.node) key))
+    (take l.key-index all_keys)) l.sink

@@ -7,7 +7,8 @@ use Rattle.bi_commands.proofs.list.configurations.put_names.Given as goal
 abbrev pub invariant-loop-name : goal.invariant-loop-name
 invariant-loop-name g l =
     (done : List ℕ) × g.S.Sink.appends l.initial.sink done l.sink
-    × (done ++ flat_map (λ name. 32 ∷ shown_text name) (listed_names l.rest) ≡ flat_map (λ name. 32 ∷ shown_text name) (listed_names l.value))
+    × (done ++ flat_map (λ name. 32 ∷ shown_text name) (listed_names l.rest)
+    ≡ flat_map (λ name. 32 ∷ shown_text name) (listed_names l.value))
 
 abbrev pub decreases-loop-name : goal.decreases-loop-name
 decreases-loop-name g l = length l.rest

@@ -20,7 +20,8 @@ returns-in_err-put_head g c =
     let three : List ℕ = flat_map read_image_line content.images in
     let four : List ℕ = configurations_lines content in
     let five : List ℕ = default_line (default_of (tree_of content)) in
-    first_of_all_fails S.appends S.fails laws.fails_before c.args.sink.now c.put_head.new.sink one (two ++ (three ++ (four ++ five))) _ _ c.from_residual.result
+    first_of_all_fails S.appends S.fails laws.fails_before c.args.sink.now c.put_head.new.sink one
+    (two ++ (three ++ (four ++ five))) _ _ c.from_residual.result
     (fit_pieces content blob content.images c.blob-blob.ensures refl) c.from_residual.ensures.1 c.in_err-put_head.ensures
 
 pub returns-in_err-put_reservations : goal.returns-in_err-put_reservations
@@ -34,7 +35,8 @@ returns-in_err-put_reservations g c =
     let three : List ℕ = flat_map read_image_line content.images in
     let four : List ℕ = configurations_lines content in
     let five : List ℕ = default_line (default_of (tree_of content)) in
-    next_fails S.appends S.fails laws.fails_after laws.fails_before c.args.sink.now c.put_head.new.sink c.put_reservations.new.sink one two (three ++ (four ++ five)) _ _ c.from_residual-in_err-put_reservations.result
+    next_fails S.appends S.fails laws.fails_after laws.fails_before c.args.sink.now c.put_head.new.sink c.put_reservations.new.sink one two
+    (three ++ (four ++ five)) _ _ c.from_residual-in_err-put_reservations.result
     (one_more_piece one two (three ++ (four ++ five)) _ (fit_pieces content blob content.images c.blob-blob.ensures refl))
     c.from_residual-in_err-put_reservations.ensures.1 c.in_ok-put_head.ensures c.in_err-put_reservations.ensures
 
@@ -49,11 +51,14 @@ returns-in_err-put_images g c =
     let three : List ℕ = flat_map read_image_line (map image_model c.images.result.now) in
     let four : List ℕ = configurations_lines content in
     let five : List ℕ = default_line (default_of (tree_of content)) in
-    next_fails S.appends S.fails laws.fails_after laws.fails_before c.args.sink.now c.put_reservations.new.sink c.put_images.new.sink (one ++ two) three (four ++ five) _ _ c.from_residual-in_err-put_images.result
+    next_fails S.appends S.fails laws.fails_after laws.fails_before c.args.sink.now c.put_reservations.new.sink c.put_images.new.sink
+    (one ++ two) three (four ++ five) _ _ c.from_residual-in_err-put_images.result
     (one_more_piece (one ++ two) three (four ++ five) _
-    (one_more_piece one two (three ++ (four ++ five)) _ (fit_pieces content blob (map image_model c.images.result.now) c.blob-blob.ensures c.images.ensures)))
+    (one_more_piece one two (three ++ (four ++ five)) _
+    (fit_pieces content blob (map image_model c.images.result.now) c.blob-blob.ensures c.images.ensures)))
     c.from_residual-in_err-put_images.ensures.1
-    (laws.appends_in_turn c.args.sink.now c.put_head.new.sink c.put_reservations.new.sink one two c.in_ok-put_head.ensures c.in_ok-put_reservations.ensures)
+    (laws.appends_in_turn c.args.sink.now c.put_head.new.sink c.put_reservations.new.sink one two c.in_ok-put_head.ensures
+    c.in_ok-put_reservations.ensures)
     c.in_err-put_images.ensures
 
 pub returns-in_err-put_configurations : goal.returns-in_err-put_configurations
@@ -67,13 +72,17 @@ returns-in_err-put_configurations g c =
     let three : List ℕ = flat_map read_image_line (map image_model c.images.result.now) in
     let four : List ℕ = configurations_lines content in
     let five : List ℕ = default_line (default_of (tree_of content)) in
-    let two_done = laws.appends_in_turn c.args.sink.now c.put_head.new.sink c.put_reservations.new.sink one two c.in_ok-put_head.ensures c.in_ok-put_reservations.ensures in
-    next_fails S.appends S.fails laws.fails_after laws.fails_before c.args.sink.now c.put_images.new.sink c.put_configurations.new.sink ((one ++ two) ++ three) four five _ _ c.from_residual-in_err-put_configurations.result
+    let two_done = laws.appends_in_turn c.args.sink.now c.put_head.new.sink c.put_reservations.new.sink one two c.in_ok-put_head.ensures
+    c.in_ok-put_reservations.ensures in
+    next_fails S.appends S.fails laws.fails_after laws.fails_before c.args.sink.now c.put_images.new.sink c.put_configurations.new.sink
+    ((one ++ two) ++ three) four five _ _ c.from_residual-in_err-put_configurations.result
     (one_more_piece ((one ++ two) ++ three) four five _
     (one_more_piece (one ++ two) three (four ++ five) _
-    (one_more_piece one two (three ++ (four ++ five)) _ (fit_pieces content blob (map image_model c.images.result.now) c.blob-blob.ensures c.images.ensures))))
+    (one_more_piece one two (three ++ (four ++ five)) _
+    (fit_pieces content blob (map image_model c.images.result.now) c.blob-blob.ensures c.images.ensures))))
     c.from_residual-in_err-put_configurations.ensures.1
-    (laws.appends_in_turn c.args.sink.now c.put_reservations.new.sink c.put_images.new.sink (one ++ two) three two_done c.in_ok-put_images.ensures)
+    (laws.appends_in_turn c.args.sink.now c.put_reservations.new.sink c.put_images.new.sink
+    (one ++ two) three two_done c.in_ok-put_images.ensures)
     c.in_err-put_configurations.ensures
 
 pub returns : goal.returns
@@ -87,11 +96,16 @@ returns g c =
     let three : List ℕ = flat_map read_image_line (map image_model c.images.result.now) in
     let four : List ℕ = configurations_lines content in
     let five : List ℕ = default_line (default_of (tree_of content)) in
-    let two_done = laws.appends_in_turn c.args.sink.now c.put_head.new.sink c.put_reservations.new.sink one two c.in_ok-put_head.ensures c.in_ok-put_reservations.ensures in
-    let three_done = laws.appends_in_turn c.args.sink.now c.put_reservations.new.sink c.put_images.new.sink (one ++ two) three two_done c.in_ok-put_images.ensures in
-    last_writes S.appends S.fails laws.appends_in_turn laws.fails_after c.args.sink.now c.put_configurations.new.sink c.put_default.new.sink (((one ++ two) ++ three) ++ four) five _ c.put_default.result
+    let two_done = laws.appends_in_turn c.args.sink.now c.put_head.new.sink c.put_reservations.new.sink one two c.in_ok-put_head.ensures
+    c.in_ok-put_reservations.ensures in
+    let three_done = laws.appends_in_turn c.args.sink.now c.put_reservations.new.sink c.put_images.new.sink
+    (one ++ two) three two_done c.in_ok-put_images.ensures in
+    last_writes S.appends S.fails laws.appends_in_turn laws.fails_after c.args.sink.now c.put_configurations.new.sink c.put_default.new.sink
+    (((one ++ two) ++ three) ++ four) five _ c.put_default.result
     (one_more_piece ((one ++ two) ++ three) four five _
     (one_more_piece (one ++ two) three (four ++ five) _
-    (one_more_piece one two (three ++ (four ++ five)) _ (fit_pieces content blob (map image_model c.images.result.now) c.blob-blob.ensures c.images.ensures))))
-    (laws.appends_in_turn c.args.sink.now c.put_images.new.sink c.put_configurations.new.sink ((one ++ two) ++ three) four three_done c.in_ok-put_configurations.ensures)
+    (one_more_piece one two (three ++ (four ++ five)) _
+    (fit_pieces content blob (map image_model c.images.result.now) c.blob-blob.ensures c.images.ensures))))
+    (laws.appends_in_turn c.args.sink.now c.put_images.new.sink c.put_configurations.new.sink
+    ((one ++ two) ++ three) four three_done c.in_ok-put_configurations.ensures)
     c.put_default.ensures

@@ -14,5 +14,7 @@ returns-in_err-put_image g c =
     let error = c.in_err-put_image.field-0.0 in
     passed_on S.appends S.fails c.args.sink.now _ _ c.from_residual.result c.put_image.new.sink c.from_residual.ensures.1
     (subst (λ bytes. S.fails c.args.sink.now bytes c.put_image.new.sink error) (sym (flat_map-map read_image_line image_model images))
-    (failed_within S.appends S.fails laws.fails_after laws.fails_before c.args.sink.now c.loop-image.sink c.put_image.new.sink (λ image. read_image_line (image_model image)) images c.loop-image.image-index no_image error (omega arith)
-    (subst (λ bytes. S.appends c.args.sink.now bytes c.loop-image.sink) (flat_map-map read_image_line image_model (take c.loop-image.image-index images)) c.loop-image.invariant) c.in_err-put_image.ensures))
+    (failed_within S.appends S.fails laws.fails_after laws.fails_before c.args.sink.now c.loop-image.sink c.put_image.new.sink
+    (λ image. read_image_line (image_model image)) images c.loop-image.image-index no_image error (omega arith)
+    (subst (λ bytes. S.appends c.args.sink.now bytes c.loop-image.sink)
+    (flat_map-map read_image_line image_model (take c.loop-image.image-index images)) c.loop-image.invariant) c.in_err-put_image.ensures))

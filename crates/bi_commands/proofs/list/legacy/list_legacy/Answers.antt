@@ -17,7 +17,8 @@ returns-in_err-put_kind_and_fields g c =
     let one : List ℕ = flat_map line ((codes "kind" ∷ codes "legacy" ∷ []) ∷ field_words (image_of fields [])) in
     let two : List ℕ = flat_map line (code_words (image_of fields [])) in
     let rest : List ℕ = parts_lines parsed.image ++ line (codes "unused" ∷ decimal parsed.unused ∷ []) in
-    first_of_all_fails S.appends S.fails laws.fails_before c.args.sink.now c.put_kind_and_fields.new.sink one (two ++ rest) _ _ c.from_residual.result
+    first_of_all_fails S.appends S.fails laws.fails_before c.args.sink.now c.put_kind_and_fields.new.sink one
+    (two ++ rest) _ _ c.from_residual.result
     (legacy_pieces parsed fields parsed.unused c.fields-fields.ensures refl) c.from_residual.ensures.1 c.in_err-put_kind_and_fields.ensures
 
 pub returns-in_err-put_codes : goal.returns-in_err-put_codes
@@ -29,7 +30,8 @@ returns-in_err-put_codes g c =
     let one : List ℕ = flat_map line ((codes "kind" ∷ codes "legacy" ∷ []) ∷ field_words (image_of fields [])) in
     let two : List ℕ = flat_map line (code_words (image_of fields [])) in
     let rest : List ℕ = parts_lines parsed.image ++ line (codes "unused" ∷ decimal parsed.unused ∷ []) in
-    next_fails S.appends S.fails laws.fails_after laws.fails_before c.args.sink.now c.put_kind_and_fields.new.sink c.put_codes.new.sink one two rest _ _ c.from_residual-in_err-put_codes.result
+    next_fails S.appends S.fails laws.fails_after laws.fails_before c.args.sink.now c.put_kind_and_fields.new.sink c.put_codes.new.sink one
+    two rest _ _ c.from_residual-in_err-put_codes.result
     (one_more_piece one two rest _ (legacy_pieces parsed fields parsed.unused c.fields-fields.ensures refl))
     c.from_residual-in_err-put_codes.ensures.1 c.in_ok-put_kind_and_fields.ensures c.in_err-put_codes.ensures
 
@@ -43,10 +45,13 @@ returns-in_err-put_parts g c =
     let two : List ℕ = flat_map line (code_words (image_of fields [])) in
     let three : List ℕ = parts_lines parsed.image in
     let rest : List ℕ = line (codes "unused" ∷ decimal parsed.unused ∷ []) in
-    next_fails S.appends S.fails laws.fails_after laws.fails_before c.args.sink.now c.put_codes.new.sink c.put_parts.new.sink (one ++ two) three rest _ _ c.from_residual-in_err-put_parts.result
-    (one_more_piece (one ++ two) three rest _ (one_more_piece one two (three ++ rest) _ (legacy_pieces parsed fields parsed.unused c.fields-fields.ensures refl)))
+    next_fails S.appends S.fails laws.fails_after laws.fails_before c.args.sink.now c.put_codes.new.sink c.put_parts.new.sink
+    (one ++ two) three rest _ _ c.from_residual-in_err-put_parts.result
+    (one_more_piece (one ++ two) three rest _
+    (one_more_piece one two (three ++ rest) _ (legacy_pieces parsed fields parsed.unused c.fields-fields.ensures refl)))
     c.from_residual-in_err-put_parts.ensures.1
-    (laws.appends_in_turn c.args.sink.now c.put_kind_and_fields.new.sink c.put_codes.new.sink one two c.in_ok-put_kind_and_fields.ensures c.in_ok-put_codes.ensures)
+    (laws.appends_in_turn c.args.sink.now c.put_kind_and_fields.new.sink c.put_codes.new.sink one two
+    c.in_ok-put_kind_and_fields.ensures c.in_ok-put_codes.ensures)
     c.in_err-put_parts.ensures
 
 pub returns : goal.returns
@@ -59,9 +64,13 @@ returns g c =
     let two : List ℕ = flat_map line (code_words (image_of fields [])) in
     let three : List ℕ = parts_lines parsed.image in
     let four : List ℕ = line (codes "unused" ∷ decimal c.from.result ∷ []) in
-    last_writes S.appends S.fails laws.appends_in_turn laws.fails_after c.args.sink.now c.put_parts.new.sink c.put_line.new.sink ((one ++ two) ++ three) four _ c.put_line.result
-    (one_more_piece (one ++ two) three four _ (one_more_piece one two (three ++ four) _ (legacy_pieces parsed fields c.from.result c.fields-fields.ensures (c.from.ensures ∙ c.unused.ensures))))
+    last_writes S.appends S.fails laws.appends_in_turn laws.fails_after c.args.sink.now c.put_parts.new.sink c.put_line.new.sink
+    ((one ++ two) ++ three) four _ c.put_line.result
+    (one_more_piece (one ++ two) three four _
+    (one_more_piece one two (three ++ four) _
+    (legacy_pieces parsed fields c.from.result c.fields-fields.ensures (c.from.ensures ∙ c.unused.ensures))))
     (laws.appends_in_turn c.args.sink.now c.put_codes.new.sink c.put_parts.new.sink (one ++ two) three
-    (laws.appends_in_turn c.args.sink.now c.put_kind_and_fields.new.sink c.put_codes.new.sink one two c.in_ok-put_kind_and_fields.ensures c.in_ok-put_codes.ensures)
+    (laws.appends_in_turn c.args.sink.now c.put_kind_and_fields.new.sink c.put_codes.new.sink one two
+    c.in_ok-put_kind_and_fields.ensures c.in_ok-put_codes.ensures)
     c.in_ok-put_parts.ensures)
     c.put_line.ensures

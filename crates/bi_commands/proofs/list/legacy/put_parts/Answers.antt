@@ -12,8 +12,10 @@ pub returns-in_err-put_line : goal.returns-in_err-put_line
 returns-in_err-put_line g c =
     let image = c.args.image.now.image in
     let later : List ℕ = part_lines 0 (placed_parts image) in
-    first_of_all_fails g.S.Sink.appends g.S.Sink.fails g.met.S.Sink.fails_before c.args.sink.now c.put_line.new.sink (line (codes "parts" ∷ decimal c.part_count.result ∷ [])) later _ _ c.from_residual.result
-    (ap (λ count. line (codes "parts" ∷ decimal count ∷ []) ++ later) (sym c.part_count.ensures)) c.from_residual.ensures.1 c.in_err-put_line.ensures
+    first_of_all_fails g.S.Sink.appends g.S.Sink.fails g.met.S.Sink.fails_before c.args.sink.now c.put_line.new.sink
+    (line (codes "parts" ∷ decimal c.part_count.result ∷ [])) later _ _ c.from_residual.result
+    (ap (λ count. line (codes "parts" ∷ decimal count ∷ []) ++ later) (sym c.part_count.ensures))
+    c.from_residual.ensures.1 c.in_err-put_line.ensures
 
 pub loop-index-preserved : goal.loop-index-preserved
 loop-index-preserved g c =
@@ -41,5 +43,7 @@ returns-in_err-put_part g c =
     let text = part_line c.in-Some.index (part_model c.in-Some.part) in
     let later = part_lines (enumerate_count c.next.new.self) (enumerate_source c.next.new.self) in
     let from = lines_from_part _ _ _ _ _ _ steps.0 steps.1 steps.2 in
-    next_fails S.appends S.fails laws.fails_after laws.fails_before c.args.sink.now c.loop-index.sink c.put_part.new.sink done text later _ _ c.from_residual-in_err-put_part.result
-    (sym (append_assoc done text later ∙ ap (λ lines. done ++ lines) from ∙ is)) c.from_residual-in_err-put_part.ensures.1 written c.in_err-put_part.ensures
+    next_fails S.appends S.fails laws.fails_after laws.fails_before c.args.sink.now c.loop-index.sink c.put_part.new.sink done text later _
+    _ c.from_residual-in_err-put_part.result
+    (sym (append_assoc done text later ∙ ap (λ lines. done ++ lines) from ∙ is)) c.from_residual-in_err-put_part.ensures.1
+    written c.in_err-put_part.ensures
