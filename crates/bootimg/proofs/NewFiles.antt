@@ -7,9 +7,9 @@ use Rattle.bi_base.specs.declared.fault.Error.{Error}
 use Rattle.bootimg.specs.declared.failure.Failure.{Failure}
 use Rattle.bootimg.specs.declared.failure.Failure.TheVariants.{NotWritten}
 use Rattle.std.proofs.lemmas.List.{append_assoc, append-nil, map_push}
-use Rattle.bootimg.specs.Files.{AreNamesTaken, NoNumbers, OwnName, OneMoreName, Closed, ClosingFailed, FilePromise, FileStep, IsBeside, IsNotWrittenFile}
+use Rattle.bootimg.specs.Files.{AreNamesTaken, NoNumbers, OwnName, OneMoreName, Closed, ClosingFailed, KnownFiles, FileStep, NameHas, IsBeside, IsNotWrittenFile}
 use Rattle.bootimg.specs.Files.{IsMadeBeside, IsNotMade}
-use Rattle.bootimg.specs.Files.{IsNotPutInPlace, IsNotSaved, MakingFailed, NameTaken, NewFileFailed, NotClosed, NotMade}
+use Rattle.bootimg.specs.Files.{IsNotPutInPlace, IsNotSaved, MakingFailed, MayBeReplaced, NameTaken, NewFileFailed, NotClosed, NotMade}
 use Rattle.bootimg.specs.Files.{NotRemoved, Removed, SavesNothing, TookSteps, WritingStopped, no_files}
 
 -- A new file beside a file gets the first name that nothing has. If it cannot be written or put in place, it is removed, or that fails.
@@ -22,7 +22,7 @@ no_steps None = refl
 no_steps (Some steps) = ap (λ l. Some l) (sym (append-nil steps))
 
 -- Some steps were taken, and then others.
-steps_in_turn : (old middle new : Option (List FileStep)) (first second : List FileStep) → TookSteps old middle first
+pub steps_in_turn : (old middle new : Option (List FileStep)) (first second : List FileStep) → TookSteps old middle first
     → TookSteps middle new second → TookSteps old new (first ++ second)
 steps_in_turn old middle new first second one other = other ∙ ap (option_map (λ l. l ++ second)) one ∙ both old
   where
@@ -98,8 +98,8 @@ closing_failed {T} {E} beside bytes file filled old new written done closed erro
     (subst (λ (r : Result T E). OnErr r (TookSteps old new (NotClosed beside filled ∷ []))) fails badly)
 
 -- A new file was made and not put in place, and it was removed, or that failed.
-pub new_file_failed : {T E : Type 0} (files : FilePromise) (name bytes beside shown again : List ℕ) (failure : Failure) (file : WriteTrace)
-    (old made failed new : Option (List FileStep)) (removed : Result T E) → files.can_replace name
+pub new_file_failed : {T E : Type 0} (files : KnownFiles) (name bytes beside shown again : List ℕ) (failure : Failure) (file : WriteTrace)
+    (old made failed new : Option (List FileStep)) (removed : Result T E) → NameHas files name MayBeReplaced
     → IsMadeBeside name beside file old made → shown ≡ beside → IsNotPutInPlace name shown bytes file made failed → again ≡ beside
     → OnOk removed (TookSteps failed new (Removed again ∷ [])) → OnErr removed (TookSteps failed new (NotRemoved again ∷ []))
     → failure ≡ NotWritten → IsNotSaved files name bytes failure old new

@@ -12,6 +12,7 @@ mod files;
 mod jobs;
 mod new_file;
 mod numbers;
+mod opened_file;
 mod reports;
 mod requests;
 mod run;

@@ -27,9 +27,9 @@ pub fn save<F: FileSystem>(
     name: &str,
     bytes: &[u8],
 ) -> Result<(), Failure>
-    ensures saved { OnOk result (IsSaved (F.promise files.old) name.now bytes.now
+    ensures saved { OnOk result (IsSaved (F.known files.old) name.now bytes.now
         (F.steps files.old) (F.steps files.new)) }
-    ensures failed { IfErr result (λ failure. IsNotSaved (F.promise files.old) name.now
+    ensures failed { IfErr result (λ failure. IsNotSaved (F.known files.old) name.now
         bytes.now failure (F.steps files.old) (F.steps files.new)) }
 {
     if !files.can_replace(name) {
