@@ -15,7 +15,7 @@ use Rattle.bootimg.specs.Files.{FileStep, KnownFiles}
 use Rattle.bootimg.specs.declared.command_line.Request.{Request}
 use Rattle.bootimg.specs.declared.jobs.Problem.{Problem}
 use Rattle.bootimg.specs.declared.tasks.Done.{Done}
-use Rattle.bootimg.specs.Runs.{Inputs, Run, Work, work_of, with_input, Logs, IsLogged, HasStopped, Notes}
+use Rattle.bootimg.specs.Runs.{Inputs, Run, Work, no_input, work_of, with_input, Logs, IsLogged, HasStopped, Notes}
 use Rattle.bootimg.specs.Runs.{HasNone, HasSome, IsRejection, IsTaskWork, Succeeded, HasFailed, IsImageWork, DoneOnInput, DoneOnFile}
 use Rattle.bootimg.specs.Runs.{FileNotOpened, IsImageRead, InputRead, FileRead, IsImageNotRead, InputNotRead, FileNotRead, IsComparedWork}
 use Rattle.bootimg.specs.Runs.{WroteDifferences, NotAllWritten, NotCompared, IsCompareWork, BothRead, OneNotRead, OtherNotRead}
@@ -120,8 +120,8 @@ built_keeps plan parts limits work (WasNotBuilt error piped outcome) =
 build_work_keeps : (files : KnownFiles) (plan : BuildPlan) (limits : Limits) (work : Work) (old new : Option (List FileStep))
     → IsBuildWork files plan limits work old new → KeepsWork work
 build_work_keeps files plan limits work old new (BuiltWithInput parts are reads built) = built_keeps _ _ _ _ built
-build_work_keeps files plan limits work old new (BuiltOfFiles parts are reads nothing end empty built same) =
-    record { reader = ap (λ trace. trace.reader) same; writer = (built_keeps plan parts limits (with_input work nothing end) built).writer }
+build_work_keeps files plan limits work old new (BuiltOfFiles parts are reads built same) =
+    record { reader = ap (λ trace. trace.reader) same; writer = (built_keeps plan parts limits (with_input work no_input no_input) built).writer }
 build_work_keeps files plan limits work old new (PartNotRead failed not_read is same) =
     record { reader = ap (λ trace. trace.reader) same; writer = ap (λ trace. trace.writer) is.nothing_written }
 build_work_keeps files plan limits work old new (NoRoom first is same) =

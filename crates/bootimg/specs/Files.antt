@@ -1,5 +1,5 @@
 use Rattle.std.specs.Prelude.{◌≡◌, ◌≢◌, ◌⊎◌, ◌<◌, ◌+◌, ⊤, ℕ, List, [], ◌∷◌, ◌++◌, length, get_or}
-use Rattle.std.specs.Prelude.{Option, None, Some, codes, map, option_map}
+use Rattle.std.specs.Prelude.{IsFalse, Option, None, Some, codes, map, option_map}
 use Rattle.std.specs.Fmt.{decimal}
 use Rattle.bi_base.specs.Traces.{ReadTrace, WriteTrace, ReadsWell, WritesWell}
 use Rattle.bi_base.specs.Writing.{WroteAndFlushed, WriteOrFlushStopped}
@@ -105,6 +105,7 @@ WereReadInTurn WasRead sources values old new = ⊥
 -- The reader of a file of this name before the first call.
 pub record IsOpenFile (files : KnownFiles) (name : List ℕ) (reader : ReadTrace) : Type 0 where
   pub is_file : NameHas files name (MayBeOpened reader.remaining)
+  pub not_failed : IsFalse reader.failed
   pub reads_well : ReadsWell reader
   pub none_taken : reader.taken ≡ 0
 
@@ -133,6 +134,8 @@ HasNoBytes (Some bytes) = bytes ≡ []
 -- The writer of a new file before the first call.
 pub record IsNewFile (file : WriteTrace) : Type 0 where
   pub has_no_bytes : HasNoBytes file.contents
+  pub not_failed : IsFalse file.failed
+  pub not_stalled : IsFalse file.stalled
   pub writes_well : WritesWell file
 
 -- ---- saving

@@ -294,15 +294,20 @@ pub data IsBuiltWork (plan : BuildPlan) (parts : List Part) (limits : Limits) (w
         work.output work.new_output (Err error)
         → work.outcome ≡ Err (problem Standard (Call error)) → IsBuiltWork plan parts limits work
 
--- A reader without bytes, before the first call.
-pub record IsNoInput (trace : ReadTrace) : Type 0 where
-  pub no_bytes : trace.remaining ≡ Some []
-  pub reads_well : ReadsWell trace
-  pub none_taken : trace.taken ≡ 0
+-- An input without bytes, before each call and after it. No call on it fails.
+abbrev pub no_input : ReadTrace
+no_input = record {
+  reader = 0;
+  remaining = Some [];
+  taken = 0;
+  failed = false;
+  interruptions = 0;
+  stopped = false;
+}
 
 -- The files of the parts were read, in their order, and then the image was built: with standard
--- input if it is to be read, and else with an input without bytes. Or that failed before standard
--- input was read.
+-- input if it is to be read, and else with an input without bytes, which is no step. Or that failed
+-- before standard input was read.
 pub data IsBuildWork (files : KnownFiles) (plan : BuildPlan) (limits : Limits) (work : Work)
     (old new : Option (List FileStep)) : Type 0
   where
@@ -311,8 +316,7 @@ pub data IsBuildWork (files : KnownFiles) (plan : BuildPlan) (limits : Limits) (
         → IsBuildWork files plan limits work old new
     BuiltOfFiles : (parts : List Part) → ArePartsRead files limits (sources_of plan) parts old new
         → reads_input (sources_of plan) ≡ false
-        → (nothing end : ReadTrace) → IsNoInput nothing
-        → IsBuiltWork plan parts limits (with_input work nothing end)
+        → IsBuiltWork plan parts limits (with_input work no_input no_input)
         → work.new_input ≡ work.input → IsBuildWork files plan limits work old new
     PartNotRead : (failed : Problem)
         → IsPartNotRead files limits (sources_of plan) failed old new

@@ -16,13 +16,13 @@ use crate::command_line::{BuildPlan, ImageSource, PartSource};
 use crate::failure::Failure;
 use crate::files::FileSystem;
 use crate::jobs::{Problem, read_file};
+use crate::no_input::NoInput;
 use crate::tasks::{Done, SUCCESS};
-use bi_base::{Error, Limits, TracedRead, TracedReader, TracedWrite, pipe};
+use bi_base::{Error, Limits, TracedRead, TracedWrite, pipe};
 use bi_commands::build_fit::FitBuilder;
 use bi_commands::build_legacy::LegacyBuilder;
 use bi_commands::parts::Part;
 use std::alloc::Global;
-use std::io;
 
 /// A part of an image to be built, whose file was read if it has one.
 #[derive(Drop)]
@@ -61,9 +61,7 @@ pub fn build_image<'a, S: TracedRead, T: TracedWrite, F: FileSystem>(
     if reads_input(sources) {
         build(alloc, plan, &parts, limits, input, output)
     } else {
-        let mut empty = io::empty();
-        let mut nothing = TracedReader::new(&mut empty);
-        build(alloc, plan, &parts, limits, &mut nothing, output)
+        build(alloc, plan, &parts, limits, &mut NoInput, output)
     }
 }
 

@@ -11,6 +11,7 @@ mod failure;
 mod files;
 mod jobs;
 mod new_file;
+mod no_input;
 mod numbers;
 mod opened_file;
 mod reports;

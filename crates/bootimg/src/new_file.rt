@@ -1,6 +1,6 @@
 //! New files, which record the outcomes of the calls on them.
 
-ghost use Rattle.std.specs.Prelude.{◌≡◌};
+ghost use Rattle.std.specs.Prelude.{◌≡◌, IsFalse};
 ghost use Rattle.bi_base.specs.Traces.{WritesWell};
 
 use bi_base::{CallOutcome, TracedWrite};
@@ -21,6 +21,8 @@ impl<W: Write> NewFile<W> {
     pub fn new(writer: W) -> NewFile<W>
         ensures contents { (⟦<NewFile<W> as TracedWrite>⟧.trace result).contents
             ≡ W.contents writer }
+        ensures not_failed { IsFalse (⟦<NewFile<W> as TracedWrite>⟧.trace result).failed }
+        ensures not_stalled { IsFalse (⟦<NewFile<W> as TracedWrite>⟧.trace result).stalled }
         ensures well { WritesWell (⟦<NewFile<W> as TracedWrite>⟧.trace result) }
     {
         NewFile {

@@ -1,6 +1,6 @@
 //! Files that are open for reading, which record the outcomes of the calls on them.
 
-ghost use Rattle.std.specs.Prelude.{◌≡◌};
+ghost use Rattle.std.specs.Prelude.{◌≡◌, IsFalse};
 ghost use Rattle.bi_base.specs.Traces.{ReadsWell};
 
 use bi_base::{CallOutcome, TracedRead};
@@ -21,6 +21,7 @@ impl<R: Read> OpenedFile<R> {
         ensures remaining { (⟦<OpenedFile<R> as TracedRead>⟧.trace result).remaining
             ≡ R.remaining reader }
         ensures none_taken { (⟦<OpenedFile<R> as TracedRead>⟧.trace result).taken ≡ 0 }
+        ensures not_failed { IsFalse (⟦<OpenedFile<R> as TracedRead>⟧.trace result).failed }
         ensures well { ReadsWell (⟦<OpenedFile<R> as TracedRead>⟧.trace result) }
     {
         OpenedFile {

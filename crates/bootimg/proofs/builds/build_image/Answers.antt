@@ -63,5 +63,4 @@ returns-clause-work g c =
     c.in_ok-parts.parts.items c.deref-else-reads_input.result.now _ _ c.sources-sources.ensures c.deref.ensures.value
     c.deref-else-reads_input.ensures.value c.in_ok-read.ensures.read c.in_ok-parts.ensures.parts)
     (ap reads_input (sym c.sources-sources.ensures) ∙ sym c.reads_input.ensures ∙ c.if-reads_input.false)
-    _ _ (record { no_bytes = c.new-nothing.ensures.remaining; reads_well = c.new-nothing.ensures.well; none_taken = c.new-nothing.ensures.none_taken })
     c.build-else-reads_input.ensures refl
