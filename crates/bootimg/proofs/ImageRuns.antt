@@ -17,7 +17,7 @@ use Rattle.bootimg.specs.Files.{IsNotSaved, IsSaved, TookSteps, WasNotOpened, Wa
 use Rattle.bootimg.specs.declared.jobs.Problem.{Problem}
 use Rattle.bootimg.specs.declared.tasks.Done.{Done}
 use Rattle.bootimg.specs.Runs.{Inputs, Work, with_input, problem, IsNotRead, IsImageRead, InputRead, FileRead, IsImageNotRead, InputNotRead}
-use Rattle.bootimg.specs.Runs.{FileNotRead, IsFileRead, IsFileNotRead, CouldNotOpen, OpenedNotRead, IsTaskWork, IsImageWork, DoneOnInput}
+use Rattle.bootimg.specs.Runs.{FileNotRead, IsFileRead, IsFileNotRead, OpenedNotRead, IsTaskWork, IsImageWork, DoneOnInput}
 use Rattle.bootimg.specs.Runs.{DoneOnFile, FileNotOpened, IsComparedWork, IsCompareWork, BothRead, OtherNotRead, IsFailedWork, IsBuildWork}
 use Rattle.bootimg.specs.Runs.{IsExplainWork, IsJobWork, IsHeldWork, IsHeldFailure, failure_in_memory, Run, work_of, inputs_before}
 use Rattle.bootimg.specs.Runs.{inputs_after, IsOutputRun, IsSavedWork, OutputSaved, OutputNotSaved, ToStandardOutput, ToFile}

@@ -2,7 +2,7 @@ use Rattle.std.proofs.Common.{◌≡◌, ◌∙◌, ℕ, List, Option, Bor, Resu
 use Rattle.clap.specs.declared.error.kind.ErrorKind.{ErrorKind}
 use Rattle.bi_base.specs.declared.fault.Cause.{Cause}
 use Rattle.bi_base.specs.Limits.{Limits}
-use Rattle.bi_base.specs.Traces.{ReadTrace, WriteTrace}
+use Rattle.bi_base.specs.Traces.{WriteTrace}
 use Rattle.bi_commands.specs.declared.parts.Part.{Part}
 use Rattle.bootimg.specs.declared.command_line.Job.{Job}
 use Rattle.bootimg.specs.declared.command_line.Job.TheVariants.{Run as RunTask, Compare, Build, Explain}

@@ -1,5 +1,5 @@
 use Rattle.std.specs.Prelude.{◌≡◌, ◌≢◌, ◌⊎◌, ◌<◌, ◌+◌, ⊤, ℕ, List, [], ◌∷◌, ◌++◌, length, get_or}
-use Rattle.std.specs.Prelude.{IsFalse, Option, None, Some, codes, map, option_map}
+use Rattle.std.specs.Prelude.{IfSome, IsFalse, Option, None, Some, codes, map}
 use Rattle.std.specs.Fmt.{decimal}
 use Rattle.bi_base.specs.Traces.{ReadTrace, WriteTrace, ReadsWell, WritesWell}
 use Rattle.bi_base.specs.Writing.{WroteAndFlushed, WriteOrFlushStopped}
@@ -21,9 +21,13 @@ pub data Entry : Type 0 where
   -- Nothing can have it, as a name that is too long.
   Unusable : Entry
 
+-- What has each name.
+abbrev pub Names : Type 0
+Names = List ℕ → Entry
+
 -- What has each name, if it is known.
 abbrev pub KnownFiles : Type 0
-KnownFiles = Option (List ℕ → Entry)
+KnownFiles = Option Names
 
 -- There are no files, and none can be made.
 abbrev pub no_files : KnownFiles
@@ -33,6 +37,11 @@ no_files = Some (λ name. Unusable)
 abbrev pub NameHas : KnownFiles → (name : List ℕ) → (IsEntry : Entry → Type 0) → Type 0
 NameHas None name IsEntry = ⊤
 NameHas (Some entries) name IsEntry = IsEntry (entries name)
+
+-- Nothing.
+abbrev pub IsNoFile : Entry → Type 0
+IsNoFile NoFile = ⊤
+IsNoFile entry = ⊥
 
 -- What can be opened for reading, and the bytes of its reader, if they are known: a regular file
 -- has its own.
@@ -85,9 +94,10 @@ pub data FileStep : Type 0 where
   -- Removing the file of this name failed.
   NotRemoved : (name : List ℕ) → FileStep
 
--- These steps were taken between two times, if the steps up to each are known.
+-- These steps were taken between two times, if the steps up to the later one are known.
 abbrev pub TookSteps : (old new : Option (List FileStep)) → List FileStep → Type 0
-TookSteps old new steps = new ≡ option_map (λ before. before ++ steps) old
+TookSteps old new steps =
+    IfSome new (λ after. (before : List FileStep) × (old ≡ Some before) × (after ≡ before ++ steps))
 
 -- Each source has the value beside it, and was read before the next one: `WasRead source value old
 -- new` is about one source, and the steps before and after it was read.
@@ -177,13 +187,14 @@ pub record IsNewName (name : List ℕ) (number : ℕ) (beside : List ℕ) : Type
 
 -- A new file was made beside the file of this name. It has the first of the numbered names that
 -- nothing has and that is not the file's own.
-pub record IsMadeBeside (name beside : List ℕ) (file : WriteTrace)
+pub record IsMadeBeside (files : KnownFiles) (name beside : List ℕ) (file : WriteTrace)
     (old new : Option (List FileStep)) : Type 0
   where
     pub number : ℕ
     pub tried : Option (List FileStep)
     pub are_taken : AreNamesTaken name number old tried
     pub is_name : IsNewName name number beside
+    pub is_unused : NameHas files beside IsNoFile
     pub is_new : IsNewFile file
     pub made : TookSteps tried new (Made beside file ∷ [])
 
@@ -248,7 +259,7 @@ pub record IsSaved (files : KnownFiles) (name bytes : List ℕ) (old new : Optio
     pub file : WriteTrace
     pub made : Option (List FileStep)
     pub can_be_replaced : NameHas files name MayBeReplaced
-    pub is_made : IsMadeBeside name beside file old made
+    pub is_made : IsMadeBeside files name beside file old made
     pub is_put_in_place : IsPutInPlace name beside bytes file made new
 
 -- The file of this name is as it was, for this reason. If a new file was made it was removed then.
@@ -261,7 +272,7 @@ pub data IsNotSaved (files : KnownFiles) (name bytes : List ℕ) (failure : Fail
     NoNewFile : NameHas files name MayBeReplaced → IsNotMade name failure old new
         → IsNotSaved files name bytes failure old new
     NewFileFailed : (beside : List ℕ) (file : WriteTrace) (made failed : Option (List FileStep))
-        → NameHas files name MayBeReplaced → IsMadeBeside name beside file old made
+        → NameHas files name MayBeReplaced → IsMadeBeside files name beside file old made
         → IsNotPutInPlace name beside bytes file made failed
         → TookSteps failed new (Removed beside ∷ []) ⊎ TookSteps failed new (NotRemoved beside ∷ [])
         → failure ≡ NotWritten → IsNotSaved files name bytes failure old new

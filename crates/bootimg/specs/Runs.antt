@@ -1,11 +1,10 @@
-use Rattle.std.specs.Prelude.{◌≡◌, ◌≢◌, ◌⊎◌, ◌++◌, ◌+◌, ◌<◌, ℕ, Bool, true, false, List, []}
+use Rattle.std.specs.Prelude.{◌≡◌, ◌≢◌, ◌⊎◌, ◌++◌, ◌<◌, ℕ, Bool, true, false, List, []}
 use Rattle.std.specs.Prelude.{◌∷◌}
 use Rattle.std.specs.Prelude.{Option, None, Some}
-use Rattle.std.specs.Prelude.{Result, Ok, Err, codes, length}
+use Rattle.std.specs.Prelude.{Result, Ok, Err, codes}
 use Rattle.std.specs.Borrow.{Bor}
 use Rattle.std.specs.Fmt.{decimal}
 use Rattle.bi_base.specs.declared.fault.Cause.{Cause}
-use Rattle.std.specs.List.{AllZip}
 use Rattle.bi_base.specs.declared.fault.Error.{Error}
 use Rattle.bi_base.specs.declared.fault.Error.TheVariants.{OutOfMemory, WriteFailed}
 use Rattle.bi_base.specs.Limits.{Limits}
@@ -330,7 +329,8 @@ pub data IsBuildWork (files : KnownFiles) (plan : BuildPlan) (limits : Limits) (
 -- ---- a job
 
 -- The job was done. `old` and `new` are the steps with files before it and after it.
-abbrev pub IsJobWork : KnownFiles → Job → Limits → Work → (old new : Option (List FileStep)) → Type 0
+abbrev pub IsJobWork : KnownFiles → Job → Limits → Work → (old new : Option (List FileStep))
+    → Type 0
 IsJobWork files (RunTask task source) limits work old new =
     IsImageWork files task limits work old new source
 IsJobWork files (Compare plan) limits work old new = IsCompareWork files plan limits work old new

@@ -5,8 +5,8 @@ ghost use Rattle.std.specs.Prelude.{IfOk, IfErr, IfSome, IfNone, IsTrue, IsFalse
 ghost use Rattle.std.specs.IoError.{error_kind};
 ghost use Rattle.std.specs.declared.io.ErrorKind.TheVariants.{AlreadyExists};
 ghost use Rattle.bootimg.specs.Files.{no_files, FileStep, NameHas, KnownFiles};
-ghost use Rattle.bootimg.specs.Files.{IsNewFile, IsNoRegularFile, IsOpenFile, MayBeReplaced};
-ghost use Rattle.bootimg.specs.Files.{MayNotBeReplaced, TookSteps};
+ghost use Rattle.bootimg.specs.Files.{IsNewFile, IsNoFile, IsNoRegularFile, IsOpenFile};
+ghost use Rattle.bootimg.specs.Files.{MayBeReplaced, MayNotBeReplaced, TookSteps};
 ghost use Rattle.bootimg.specs.Files.{Opened, NotOpened, ReaderClosed};
 ghost use Rattle.bootimg.specs.Files.{Made, NameTaken, NotMade, Closed, NotClosed};
 ghost use Rattle.bootimg.specs.Files.{Renamed, NotRenamed, Removed, NotRemoved};
@@ -28,7 +28,7 @@ pub trait FileSystem {
     // What has each name, if it is known.
     ghost known: { Self → KnownFiles };
 
-    // The steps with files so far, if they are known.
+    // The steps with files so far, if they are known. Once they are not, they stay unknown.
     ghost steps: { Self → Option (List FileStep) };
 
     /// Opens the file of this name for reading. Returns None if it cannot be opened.
@@ -58,6 +58,8 @@ pub trait FileSystem {
     /// something has the name `name`.
     fn create(&mut self, name: &str, replaced: &str) -> io::Result<Self::Created>
         ensures is_new { IfOk result (λ file. IsNewFile (Self.Created.trace file)) }
+        ensures is_unused { OnOk result (NameHas (known self.old) name.now IsNoFile) }
+        ensures same_files { OnErr result (known self.new ≡ known self.old) }
         ensures made { IfOk result (λ file. TookSteps (steps self.old) (steps self.new)
             (Made name.now (Self.Created.trace file) ∷ [])) }
         ensures taken { IfErr result (λ error. error_kind error ≡ AlreadyExists

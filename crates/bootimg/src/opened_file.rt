@@ -6,6 +6,14 @@ ghost use Rattle.bi_base.specs.Traces.{ReadsWell};
 use bi_base::{CallOutcome, TracedRead};
 use std::io::{self, Read};
 
+/// What is recorded of the calls on a reader.
+#[derive(Clone, Copy)]
+pub struct ReadCalls {
+    taken: u64,
+    outcome: CallOutcome,
+    stopped: bool,
+}
+
 /// A file that is open for reading, with its reader. It is closed when it is dropped.
 #[derive(Drop)]
 pub struct OpenedFile<R> {
@@ -30,6 +38,28 @@ impl<R: Read> OpenedFile<R> {
             outcome: CallOutcome::new(),
             stopped: false,
         }
+    }
+
+    /// Returns what is recorded of the calls so far.
+    pub fn calls(&self) -> ReadCalls
+        ensures { result ≡ record {
+          taken = self.now.taken;
+          outcome = self.now.outcome;
+          stopped = self.now.stopped;
+        } }
+    {
+        ReadCalls {
+            taken: self.taken,
+            outcome: self.outcome,
+            stopped: self.stopped,
+        }
+    }
+
+    /// Returns the reader.
+    pub fn into_reader(self) -> R
+        ensures { result ≡ self.reader }
+    {
+        self.reader
     }
 }
 

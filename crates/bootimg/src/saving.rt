@@ -97,8 +97,8 @@ fn create_beside<F: FileSystem>(
     files: &mut F,
     name: &str,
 ) -> Result<(String, F::Created), Failure>
-    ensures made { IfOk result (λ made. IsMadeBeside name.now (string_bytes made.0)
-        (F.Created.trace made.1) (F.steps files.old) (F.steps files.new)) }
+    ensures made { IfOk result (λ made. IsMadeBeside (F.known files.old) name.now
+        (string_bytes made.0) (F.Created.trace made.1) (F.steps files.old) (F.steps files.new)) }
     ensures failed { IfErr result (λ failure. IsNotMade name.now failure (F.steps files.old)
         (F.steps files.new)) }
 {

@@ -28,6 +28,8 @@ pub returns-in_err-push-clause-failed : goal.returns-in_err-push-clause-failed
 returns-in_err-push-clause-failed g c =
     let p = err_from_is_err_and c.from_residual-in_err-push.result c.from_residual-in_err-push.ensures.1 in
     rw (p.1, p.2)
-    (inr
-    (next_read_too _ _ c.args.limits c.args.sources.now c.loop-source.source-index (Input 0) c.loop-source.read.items c.in_ok-part.part
-    _ _ _ (omega arith) c.loop-source.invariant.0 c.loop-source.invariant.1 c.in_ok-part.ensures.read, refl))
+    (inr (
+      next_read_too _ _ c.args.limits c.args.sources.now c.loop-source.source-index (Input 0) c.loop-source.read.items c.in_ok-part.part
+          _ _ _ (omega arith) c.loop-source.invariant.0 c.loop-source.invariant.1 c.in_ok-part.ensures.read,
+      refl,
+    ))
