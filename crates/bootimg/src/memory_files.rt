@@ -106,6 +106,13 @@ impl<'a> MemoryFiles<'a> {
         None
     }
 
+    /// Returns whether memory ran out for a step, so that not all are recorded.
+    pub fn has_lost_steps(&self) -> bool
+        ensures { result ≡ self.now.is_lost }
+    {
+        self.is_lost
+    }
+
     /// Records a step with the file of this name, and returns whether there was memory for it.
     fn record(&mut self, name: &[u8], kind: StepKind<'a>) -> bool
         ensures steps { TookSteps (recorded_steps self.old.is_lost self.old.log.items)
