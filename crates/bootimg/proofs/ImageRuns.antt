@@ -1,8 +1,8 @@
-use Rattle.std.proofs.Common.{◌≡◌, ℕ, List, [], Option, None, Some, Bor, Result, Ok, Err, IfOk, IfErr, refl, subst, sym}
+use Rattle.std.proofs.Common.{◌≡◌, ◌∷◌, ℕ, List, [], Option, None, Some, Bor, Result, Ok, Err, IfOk, IfErr, refl, subst, sym}
 use Rattle.bi_base.specs.declared.fault.Cause.{Cause}
 use Rattle.bi_base.specs.Limits.{Limits}
 use Rattle.bi_base.specs.Reading.{IsInputRead}
-use Rattle.bi_base.specs.Traces.{ReadTrace, ReadsWell, WriteTrace, WritesWell}
+use Rattle.bi_base.specs.Traces.{ReadTrace, WriteTrace, WritesWell}
 use Rattle.bootimg.specs.declared.command_line.Job.{Job}
 use Rattle.bootimg.specs.declared.command_line.Job.TheVariants.{Compare, Build, Explain}
 use Rattle.bootimg.specs.declared.command_line.Task.{Task}
@@ -12,129 +12,168 @@ use Rattle.bootimg.specs.declared.command_line.source.ImageSource.{ImageSource}
 use Rattle.bootimg.specs.declared.command_line.source.ImageSource.TheVariants.{Standard, File}
 use Rattle.bootimg.specs.declared.failure.Failure.{Failure}
 use Rattle.bootimg.specs.declared.failure.Failure.TheVariants.{CannotOpen}
-use Rattle.bootimg.specs.Files.{FilePromise, IsOpenFile}
+use Rattle.bootimg.specs.Files.{FileStep, NameHas, IsNoRegularFile, IsOpenFile, KnownFiles, NotOpened, Opened, ReaderClosed}
+use Rattle.bootimg.specs.Files.{IsNotSaved, IsSaved, TookSteps, WasNotOpened, WasOpened}
 use Rattle.bootimg.specs.declared.jobs.Problem.{Problem}
 use Rattle.bootimg.specs.declared.tasks.Done.{Done}
-use Rattle.bootimg.specs.Runs.{Work, with_input, problem, IsNotRead, IsImageRead, InputRead, FileRead, IsImageNotRead, InputNotRead}
-use Rattle.bootimg.specs.Runs.{FileNotRead, IsFileRead, IsFileNotRead, OpenedNotRead, IsTaskWork, IsImageWork, DoneOnInput, DoneOnFile}
-use Rattle.bootimg.specs.Runs.{FileNotOpened, IsComparedWork, IsCompareWork, BothRead, IsBuildWork, IsExplainWork, IsJobWork, IsHeldWork}
-use Rattle.bootimg.specs.Runs.{IsHeldFailure, failure_in_memory, Run, work_of, IsOutputRun, IsSavedWork, ToStandardOutput, ToFile}
+use Rattle.bootimg.specs.Runs.{Inputs, Work, with_input, problem, IsNotRead, IsImageRead, InputRead, FileRead, IsImageNotRead, InputNotRead}
+use Rattle.bootimg.specs.Runs.{FileNotRead, IsFileRead, IsFileNotRead, OpenedNotRead, IsTaskWork, IsImageWork, DoneOnInput}
+use Rattle.bootimg.specs.Runs.{DoneOnFile, FileNotOpened, IsComparedWork, IsCompareWork, BothRead, OtherNotRead, IsFailedWork, IsBuildWork}
+use Rattle.bootimg.specs.Runs.{IsExplainWork, IsJobWork, IsHeldWork, IsHeldFailure, failure_in_memory, Run, work_of, inputs_before}
+use Rattle.bootimg.specs.Runs.{inputs_after, IsOutputRun, IsSavedWork, OutputSaved, OutputNotSaved, ToStandardOutput, ToFile}
+use Rattle.bootimg.proofs.NewFiles.{steps_in_turn}
 
 -- Reading standard input or a file that was opened reads the image, and each job that was done with it is the work of the job.
 
--- A reader of a file that was opened.
-pub image_is_opened : (files : FilePromise) (name : List ℕ) (remaining : Option (List ℕ)) (trace : ReadTrace)
-    → files.has_file name remaining → trace.remaining ≡ remaining → ReadsWell trace → trace.taken ≡ 0 → IsOpenFile files name trace
-image_is_opened files name remaining trace is same well none = record {
-  is_file = subst (λ r. files.has_file name r) (sym same) is;
-  reads_well = well;
-  none_taken = none;
+-- ---- files that were opened
+
+-- A file was opened, and then closed.
+pub opened_and_closed : (files : KnownFiles) (name : List ℕ) (opened end : ReadTrace) (old middle new : Option (List FileStep))
+    → IsOpenFile files name opened → TookSteps old middle (Opened name opened ∷ [])
+    → TookSteps middle new (ReaderClosed name end ∷ []) → WasOpened files name opened end old new
+opened_and_closed files name opened end old middle new is_open opens closes = record {
+  is_open = is_open;
+  steps = steps_in_turn old middle new (Opened name opened ∷ []) (ReaderClosed name end ∷ []) opens closes;
 }
 
--- Reading standard input reads the image.
-pub input_read : {V E : Type 0} (items : V → List ℕ) (files : FilePromise) (limits : Limits) (old new : ReadTrace)
-    (source : ImageSource) (result : Result V E) → source ≡ Standard → IfOk result (λ v. IsInputRead limits old new (items v))
-    → IfOk result (λ v. IsImageRead files limits old new (items v) source)
-input_read items files limits old new source (Err error) is read = tt
-input_read items files limits old new source (Ok v) is read =
-    subst (λ s. IsImageRead files limits old new (items v) s) (sym is) (InputRead read)
-
-pub input_not_read : {V : Type 0} (files : FilePromise) (limits : Limits) (old new : ReadTrace) (source : ImageSource)
-    (result : Result V Failure) → source ≡ Standard → IfErr result (λ failure. IsNotRead limits old new failure)
-    → IfErr result (λ failure. IsImageNotRead files limits old new failure source)
-input_not_read files limits old new source (Ok v) is not_read = tt
-input_not_read files limits old new source (Err failure) is not_read =
-    subst (λ s. IsImageNotRead files limits old new failure s) (sym is) (InputNotRead not_read)
+-- No file was opened.
+pub no_file_opened : (files : KnownFiles) (name : List ℕ) (old new : Option (List FileStep)) → NameHas files name IsNoRegularFile
+    → TookSteps old new (NotOpened name ∷ []) → WasNotOpened files name old new
+no_file_opened files name old new none steps = record { is_no_file = none; steps = steps }
 
 -- Reading a file that was opened reads the whole file.
-pub whole_file_read : {V E : Type 0} (items : V → List ℕ) (files : FilePromise) (limits : Limits) (name : List ℕ)
-    (image_is_opened end : ReadTrace)
-    (result : Result V E) → IsOpenFile files name image_is_opened → IfOk result (λ v. IsInputRead limits image_is_opened end (items v))
-    → IfOk result (λ v. IsFileRead files limits name (items v))
-whole_file_read items files limits name image_is_opened end (Err error) is_opened read = tt
-whole_file_read items files limits name image_is_opened end (Ok v) is_opened read =
-    record { opened = image_is_opened; end = end; is_opened = is_opened; is_read = read }
+pub whole_file_read : {V E : Type 0} (items : V → List ℕ) (files : KnownFiles) (limits : Limits) (name : List ℕ)
+    (opened end : ReadTrace) (old new : Option (List FileStep)) (result : Result V E) → WasOpened files name opened end old new
+    → IfOk result (λ v. IsInputRead limits opened end (items v))
+    → IfOk result (λ v. IsFileRead files limits name (items v) old new)
+whole_file_read items files limits name opened end old new (Err error) was_opened read = tt
+whole_file_read items files limits name opened end old new (Ok v) was_opened read =
+    record { opened = opened; end = end; was_opened = was_opened; is_read = read }
 
-pub whole_file_not_read : {V : Type 0} (files : FilePromise) (limits : Limits) (name : List ℕ) (image_is_opened end : ReadTrace)
-    (result : Result V Failure) → IsOpenFile files name image_is_opened →
-    IfErr result (λ failure. IsNotRead limits image_is_opened end failure)
-    → IfErr result (λ failure. IsFileNotRead files limits name failure)
-whole_file_not_read files limits name image_is_opened end (Ok v) is_opened not_read = tt
-whole_file_not_read files limits name image_is_opened end (Err failure) is_opened not_read = OpenedNotRead image_is_opened end is_opened not_read
+pub whole_file_not_read : {V : Type 0} (files : KnownFiles) (limits : Limits) (name : List ℕ) (opened end : ReadTrace)
+    (old new : Option (List FileStep)) (result : Result V Failure) → WasOpened files name opened end old new
+    → IfErr result (λ failure. IsNotRead limits opened end failure)
+    → IfErr result (λ failure. IsFileNotRead files limits name failure old new)
+whole_file_not_read files limits name opened end old new (Ok v) was_opened not_read = tt
+whole_file_not_read files limits name opened end old new (Err failure) was_opened not_read = OpenedNotRead opened end was_opened not_read
+
+-- ---- images
+
+-- Reading standard input reads the image, and takes no step with a file.
+pub input_read : {V E : Type 0} (items : V → List ℕ) (files : KnownFiles) (limits : Limits) (old new : Inputs)
+    (source : ImageSource) (result : Result V E) → source ≡ Standard → new.steps ≡ old.steps
+    → IfOk result (λ v. IsInputRead limits old.input new.input (items v))
+    → IfOk result (λ v. IsImageRead files limits old new (items v) source)
+input_read items files limits old new source (Err error) is same read = tt
+input_read items files limits old new source (Ok v) is same read =
+    subst (λ s. IsImageRead files limits old new (items v) s) (sym is) (InputRead read same)
+
+pub input_not_read : {V : Type 0} (files : KnownFiles) (limits : Limits) (old new : Inputs) (source : ImageSource)
+    (result : Result V Failure) → source ≡ Standard → new.steps ≡ old.steps
+    → IfErr result (λ failure. IsNotRead limits old.input new.input failure)
+    → IfErr result (λ failure. IsImageNotRead files limits old new failure source)
+input_not_read files limits old new source (Ok v) is same not_read = tt
+input_not_read files limits old new source (Err failure) is same not_read =
+    subst (λ s. IsImageNotRead files limits old new failure s) (sym is) (InputNotRead not_read same)
 
 -- Reading a file reads the image, and leaves standard input as it was.
-pub file_read : {V E : Type 0} (items : V → List ℕ) (files : FilePromise) (limits : Limits) (input : ReadTrace) (source : ImageSource)
-    (name : Bor (List ℕ)) (result : Result V E) → source ≡ File name → IfOk result (λ v. IsFileRead files limits name.now (items v))
-    → IfOk result (λ v. IsImageRead files limits input input (items v) source)
-file_read items files limits input source name (Err error) is read = tt
-file_read items files limits input source name (Ok v) is read =
-    subst (λ s. IsImageRead files limits input input (items v) s) (sym is) (FileRead name read refl)
+pub file_read : {V E : Type 0} (items : V → List ℕ) (files : KnownFiles) (limits : Limits) (old new : Inputs) (source : ImageSource)
+    (name : Bor (List ℕ)) (result : Result V E) → source ≡ File name → new.input ≡ old.input
+    → IfOk result (λ v. IsFileRead files limits name.now (items v) old.steps new.steps)
+    → IfOk result (λ v. IsImageRead files limits old new (items v) source)
+file_read items files limits old new source name (Err error) is same read = tt
+file_read items files limits old new source name (Ok v) is same read =
+    subst (λ s. IsImageRead files limits old new (items v) s) (sym is) (FileRead name read same)
 
-pub file_not_read : {V : Type 0} (files : FilePromise) (limits : Limits) (input : ReadTrace) (source : ImageSource)
-    (name : Bor (List ℕ)) (result : Result V Failure) → source ≡ File name
-    → IfErr result (λ failure. IsFileNotRead files limits name.now failure)
-    → IfErr result (λ failure. IsImageNotRead files limits input input failure source)
-file_not_read files limits input source name (Ok v) is not_read = tt
-file_not_read files limits input source name (Err failure) is not_read =
-    subst (λ s. IsImageNotRead files limits input input failure s) (sym is) (FileNotRead name not_read refl)
+pub file_not_read : {V : Type 0} (files : KnownFiles) (limits : Limits) (old new : Inputs) (source : ImageSource)
+    (name : Bor (List ℕ)) (result : Result V Failure) → source ≡ File name → new.input ≡ old.input
+    → IfErr result (λ failure. IsFileNotRead files limits name.now failure old.steps new.steps)
+    → IfErr result (λ failure. IsImageNotRead files limits old new failure source)
+file_not_read files limits old new source name (Ok v) is same not_read = tt
+file_not_read files limits old new source name (Err failure) is same not_read =
+    subst (λ s. IsImageNotRead files limits old new failure s) (sym is) (FileNotRead name not_read same)
 
 -- A task over standard input, over a file that was opened, and without one.
-pub done_on_input : (files : FilePromise) (task : Task) (limits : Limits) (source : ImageSource) (work : Work)
-    → source ≡ Standard → IsTaskWork task limits source work → IsImageWork files task limits work source
-done_on_input files task limits source work is done =
-    subst (λ s. IsImageWork files task limits work s) (sym is) (DoneOnInput (subst (λ s. IsTaskWork task limits s work) is done))
+pub done_on_input : (files : KnownFiles) (task : Task) (limits : Limits) (source : ImageSource) (work : Work)
+    (old new : Option (List FileStep)) → source ≡ Standard → IsTaskWork task limits source work → new ≡ old
+    → IsImageWork files task limits work old new source
+done_on_input files task limits source work old new is done same =
+    subst (λ s. IsImageWork files task limits work old new s) (sym is)
+    (DoneOnInput (subst (λ s. IsTaskWork task limits s work) is done) same)
 
-pub done_on_file : (files : FilePromise) (task : Task) (limits : Limits) (source : ImageSource) (name : Bor (List ℕ)) (work : Work)
-    (image_is_opened end : ReadTrace) → source ≡ File name → IsOpenFile files name.now image_is_opened
-    → IsTaskWork task limits source (with_input work image_is_opened end) → work.new_input ≡ work.input
-    → IsImageWork files task limits work source
-done_on_file files task limits source name work image_is_opened end is is_opened done same =
-    subst (λ s. IsImageWork files task limits work s) (sym is)
-    (DoneOnFile name image_is_opened end is_opened (subst (λ s. IsTaskWork task limits s (with_input work image_is_opened end)) is done) same)
+pub done_on_file : (files : KnownFiles) (task : Task) (limits : Limits) (source : ImageSource) (name : Bor (List ℕ)) (work : Work)
+    (opened end : ReadTrace) (old new : Option (List FileStep)) → source ≡ File name → WasOpened files name.now opened end old new
+    → IsTaskWork task limits source (with_input work opened end) → work.new_input ≡ work.input
+    → IsImageWork files task limits work old new source
+done_on_file files task limits source name work opened end old new is was_opened done same =
+    subst (λ s. IsImageWork files task limits work old new s) (sym is)
+    (DoneOnFile name opened end was_opened (subst (λ s. IsTaskWork task limits s (with_input work opened end)) is done) same)
 
-pub done_without_file : (files : FilePromise) (task : Task) (limits : Limits) (source : ImageSource) (name : Bor (List ℕ)) (work : Work)
-    → source ≡ File name → files.has_no_file name.now → work.new_input ≡ work.input → work.new_output ≡ work.output
-    → work.outcome ≡ Err (problem source CannotOpen) → IsImageWork files task limits work source
-done_without_file files task limits source name work is none read written outcome =
-    subst (λ s. IsImageWork files task limits work s) (sym is)
+pub done_without_file : (files : KnownFiles) (task : Task) (limits : Limits) (source : ImageSource) (name : Bor (List ℕ)) (work : Work)
+    (old new : Option (List FileStep)) → source ≡ File name → WasNotOpened files name.now old new → work.new_input ≡ work.input
+    → work.new_output ≡ work.output → work.outcome ≡ Err (problem source CannotOpen)
+    → IsImageWork files task limits work old new source
+done_without_file files task limits source name work old new is none read written outcome =
+    subst (λ s. IsImageWork files task limits work old new s) (sym is)
     (FileNotOpened name none
     (record { nothing_written = written; outcome = subst (λ s. work.outcome ≡ Err (problem s CannotOpen)) is outcome }) read)
 
--- Two images that were read were compared.
-pub both_read : (files : FilePromise) (plan : ComparePlan) (limits : Limits) (work : Work) (one other same_one same_other : List ℕ)
-    (middle : ReadTrace) → IsImageRead files limits work.input middle one plan.one
-    → IsImageRead files limits middle work.new_input other plan.other → same_one ≡ one → same_other ≡ other
-    → IsComparedWork plan limits same_one same_other work → IsCompareWork files plan limits work
-both_read files plan limits work one other same_one same_other middle one_read other_read ones others images_are_compared =
-    BothRead one other middle one_read other_read
+-- ---- comparing
+
+-- Two images that were read were compared. Reading the first one did not change what is known of the files.
+pub both_read : (files later : KnownFiles) (plan : ComparePlan) (limits : Limits) (work : Work) (old new : Option (List FileStep))
+    (one other same_one same_other : List ℕ) (middle : Inputs)
+    → IsImageRead files limits (record { input = work.input; steps = old }) middle one plan.one → later ≡ files
+    → IsImageRead later limits middle (record { input = work.new_input; steps = new }) other plan.other → same_one ≡ one
+    → same_other ≡ other → IsComparedWork plan limits same_one same_other work → IsCompareWork files plan limits work old new
+both_read files later plan limits work old new one other same_one same_other middle one_read same other_read ones others compared =
+    BothRead one other middle one_read
+    (subst (λ f. IsImageRead f limits middle (record { input = work.new_input; steps = new }) other plan.other) same other_read)
     (subst (λ file. IsComparedWork plan limits file other work) ones
-    (subst (λ file. IsComparedWork plan limits same_one file work) others images_are_compared))
+    (subst (λ file. IsComparedWork plan limits same_one file work) others compared))
+
+-- The second image was not read.
+pub other_not_read : (files later : KnownFiles) (plan : ComparePlan) (limits : Limits) (work : Work) (old new : Option (List FileStep))
+    (one : List ℕ) (middle : Inputs) (failure : Failure)
+    → IsImageRead files limits (record { input = work.input; steps = old }) middle one plan.one → later ≡ files
+    → IsImageNotRead later limits middle (record { input = work.new_input; steps = new }) failure plan.other
+    → IsFailedWork plan.other failure work → IsCompareWork files plan limits work old new
+other_not_read files later plan limits work old new one middle failure one_read same not_read failed =
+    OtherNotRead one middle failure one_read
+    (subst (λ f. IsImageNotRead f limits middle (record { input = work.new_input; steps = new }) failure plan.other) same not_read)
+    failed
+
+-- ---- jobs
 
 -- The job is to compare two images.
-pub images_are_compared : (files : FilePromise) (job : Job) (plan : ComparePlan) (limits : Limits) (work : Work) → job ≡ Compare plan
-    → IsCompareWork files plan limits work → IsJobWork files job limits work
-images_are_compared files job plan limits work is done = subst (λ j. IsJobWork files j limits work) (sym is) done
+pub images_are_compared : (files : KnownFiles) (job : Job) (plan : ComparePlan) (limits : Limits) (work : Work)
+    (old new : Option (List FileStep)) → job ≡ Compare plan → IsCompareWork files plan limits work old new
+    → IsJobWork files job limits work old new
+images_are_compared files job plan limits work old new is done = subst (λ j. IsJobWork files j limits work old new) (sym is) done
 
 -- The job is to explain.
-pub explained_work : (files : FilePromise) (job : Job) (cause : Option Cause) (limits : Limits) (work : Work) → job ≡ Explain cause
-    → IsExplainWork cause work → IsJobWork files job limits work
-explained_work files job cause limits work is done = subst (λ j. IsJobWork files j limits work) (sym is) done
+pub explained_work : (files : KnownFiles) (job : Job) (cause : Option Cause) (limits : Limits) (work : Work)
+    (steps : Option (List FileStep)) → job ≡ Explain cause → IsExplainWork cause work → IsJobWork files job limits work steps steps
+explained_work files job cause limits work steps is done =
+    subst (λ j. IsJobWork files j limits work steps steps) (sym is) (done, refl)
 
 -- The job is to build an image.
-pub image_is_built : (files : FilePromise) (job : Job) (plan : BuildPlan) (limits : Limits) (work : Work) → job ≡ Build plan
-    → IsBuildWork files plan limits work → IsJobWork files job limits work
-image_is_built files job plan limits work is done = subst (λ j. IsJobWork files j limits work) (sym is) done
+pub image_is_built : (files : KnownFiles) (job : Job) (plan : BuildPlan) (limits : Limits) (work : Work)
+    (old new : Option (List FileStep)) → job ≡ Build plan → IsBuildWork files plan limits work old new
+    → IsJobWork files job limits work old new
+image_is_built files job plan limits work old new is done = subst (λ j. IsJobWork files j limits work old new) (sym is) done
 
 -- ---- outputs in memory and in files
 
 -- The output of a job is held in memory.
-pub held_work : (files : FilePromise) (job : Job) (limits : Limits) (input new_input : ReadTrace) (memory new_memory : WriteTrace)
+pub held_work : (files : KnownFiles) (job : Job) (limits : Limits) (before after : Inputs) (memory new_memory : WriteTrace)
     (result outcome : Result Done Problem) (held : Option (List ℕ)) → result ≡ outcome → memory.contents ≡ Some [] → WritesWell memory
     → new_memory.contents ≡ held
     → IsJobWork files job limits
-    (record { input = input; new_input = new_input; output = memory; new_output = new_memory; outcome = result })
-    → IsHeldWork files job limits input new_input outcome held
-held_work files job limits input new_input memory new_memory result outcome held same empty well holds done = record {
+    (record { input = before.input; new_input = after.input; output = memory; new_output = new_memory; outcome = result })
+    before.steps after.steps
+    → IsHeldWork files job limits before after outcome held
+held_work files job limits before after memory new_memory result outcome held same empty well holds done = record {
   memory = memory;
   new_memory = new_memory;
   empty = empty;
@@ -142,35 +181,60 @@ held_work files job limits input new_input memory new_memory result outcome held
   holds = holds;
   work = subst
       (λ (r : Result Done Problem). IsJobWork files job limits
-      (record { input = input; new_input = new_input; output = memory; new_output = new_memory; outcome = r }))
+      (record { input = before.input; new_input = after.input; output = memory; new_output = new_memory; outcome = r })
+      before.steps after.steps)
       same done;
 }
 
 -- A job failed whose output is held in memory.
-pub held_failure : (files : FilePromise) (job : Job) (limits : Limits) (input new_input : ReadTrace) (memory new_memory : WriteTrace)
+pub held_failure : (files : KnownFiles) (job : Job) (limits : Limits) (before after : Inputs) (memory new_memory : WriteTrace)
     (result : Result Done Problem) (cause failed : Problem) → result ≡ Err cause → memory.contents ≡ Some [] → WritesWell memory
     → IsJobWork files job limits
-    (record { input = input; new_input = new_input; output = memory; new_output = new_memory; outcome = result })
+    (record { input = before.input; new_input = after.input; output = memory; new_output = new_memory; outcome = result })
+    before.steps after.steps
     → failed.source ≡ cause.source → failed.failure ≡ failure_in_memory cause.failure
-    → IsHeldFailure files job limits input new_input failed
-held_failure files job limits input new_input memory new_memory result cause failed same empty well done source failure = record {
+    → IsHeldFailure files job limits before after failed
+held_failure files job limits before after memory new_memory result cause failed same empty well done source failure = record {
   cause = cause;
   held = new_memory.contents;
-  work = held_work files job limits input new_input memory new_memory result (Err cause) new_memory.contents same empty well refl done;
+  work = held_work files job limits before after memory new_memory result (Err cause) new_memory.contents same empty well refl done;
   source = source;
   failure = failure;
 }
 
--- The output goes to standard output, or to the file that is named.
-pub to_standard_output : (files : FilePromise) (job : Job) (limits : Limits) (run : Run) (outcome : Result Done Problem)
-    (output : Option (Bor (List ℕ))) → output ≡ None → IsJobWork files job limits (work_of run outcome)
-    → run.new_steps ≡ run.steps → IsOutputRun files job limits run outcome output
-to_standard_output files job limits run outcome output is done same =
-    subst (λ o. IsOutputRun files job limits run outcome o) (sym is) (ToStandardOutput done same)
+-- A job was done and its output was saved, or not. The job did not change what is known of the files.
+pub output_saved : (files later : KnownFiles) (job : Job) (limits : Limits) (name : Bor (List ℕ)) (before after : Inputs)
+    (worked : Option (List FileStep)) (done : Done) (output saved : List ℕ) (outcome : Result Done Problem)
+    → IsHeldWork files job limits before (record { input = after.input; steps = worked }) (Ok done) (Some output) → later ≡ files
+    → saved ≡ output → IsSaved later name.now saved worked after.steps → outcome ≡ Ok done
+    → IsSavedWork files job limits name before after outcome
+output_saved files later job limits name before after worked done output saved outcome work same bytes is ends =
+    OutputSaved done output worked work
+    (subst (λ f. IsSaved f name.now output worked after.steps) same
+    (subst (λ b. IsSaved later name.now b worked after.steps) bytes is))
+    ends
 
-pub to_file : (files : FilePromise) (job : Job) (limits : Limits) (run : Run) (outcome : Result Done Problem)
+pub output_not_saved : (files later : KnownFiles) (job : Job) (limits : Limits) (name : Bor (List ℕ)) (before after : Inputs)
+    (worked : Option (List FileStep)) (done : Done) (output saved : List ℕ) (outcome : Result Done Problem) (failure : Failure)
+    → IsHeldWork files job limits before (record { input = after.input; steps = worked }) (Ok done) (Some output) → later ≡ files
+    → saved ≡ output → IsNotSaved later name.now saved failure worked after.steps → outcome ≡ Err (problem (File name) failure)
+    → IsSavedWork files job limits name before after outcome
+output_not_saved files later job limits name before after worked done output saved outcome failure work same bytes is ends =
+    OutputNotSaved done output worked work failure
+    (subst (λ f. IsNotSaved f name.now output failure worked after.steps) same
+    (subst (λ b. IsNotSaved later name.now b failure worked after.steps) bytes is))
+    ends
+
+-- The output goes to standard output, or to the file that is named.
+pub to_standard_output : (files : KnownFiles) (job : Job) (limits : Limits) (run : Run) (outcome : Result Done Problem)
+    (output : Option (Bor (List ℕ))) → output ≡ None
+    → IsJobWork files job limits (work_of run outcome) run.steps run.new_steps → IsOutputRun files job limits run outcome output
+to_standard_output files job limits run outcome output is done =
+    subst (λ o. IsOutputRun files job limits run outcome o) (sym is) (ToStandardOutput done)
+
+pub to_file : (files : KnownFiles) (job : Job) (limits : Limits) (run : Run) (outcome : Result Done Problem)
     (output : Option (Bor (List ℕ))) (name : Bor (List ℕ)) → output ≡ Some name
-    → IsSavedWork files job limits name run.input run.new_input run.steps run.new_steps outcome
+    → IsSavedWork files job limits name (inputs_before run) (inputs_after run) outcome
     → run.new_output ≡ run.output → IsOutputRun files job limits run outcome output
 to_file files job limits run outcome output name is saved same =
     subst (λ o. IsOutputRun files job limits run outcome o) (sym is) (ToFile name saved same)

@@ -13,3 +13,6 @@ pub mod NewFiles
 pub mod ProgramFacts
 pub mod NoRequests
 pub mod CauseLines
+pub mod FilesAfter
+pub mod LeftFiles
+pub mod MemoryLogs

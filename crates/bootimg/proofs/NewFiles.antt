@@ -1,4 +1,4 @@
-use Rattle.std.proofs.Common.{◌≡◌, ◌≢◌, ◌++◌, ◌∷◌, [], ◌∙◌, ◌<◌, ◌+◌, ◌⊎◌, ℕ, List, Option, Some, None, option_map, map, Result}
+use Rattle.std.proofs.Common.{◌≡◌, ◌≢◌, ◌++◌, ◌∷◌, [], ◌∙◌, ◌<◌, ◌+◌, ◌⊎◌, ℕ, List, Option, Some, None, map, Result}
 use Rattle.std.proofs.Common.{OnOk, OnErr, IfErr, Ok, Err, ap, subst, sym, inl, inr, refl}
 use Rattle.bi_base.specs.Sinks.{Wrote}
 use Rattle.bi_base.specs.Traces.{WriteTrace}
@@ -7,9 +7,9 @@ use Rattle.bi_base.specs.declared.fault.Error.{Error}
 use Rattle.bootimg.specs.declared.failure.Failure.{Failure}
 use Rattle.bootimg.specs.declared.failure.Failure.TheVariants.{NotWritten}
 use Rattle.std.proofs.lemmas.List.{append_assoc, append-nil, map_push}
-use Rattle.bootimg.specs.Files.{AreNamesTaken, NoNumbers, OwnName, OneMoreName, Closed, ClosingFailed, FilePromise, FileStep, IsBeside, IsNotWrittenFile}
-use Rattle.bootimg.specs.Files.{IsMadeBeside, IsNotMade}
-use Rattle.bootimg.specs.Files.{IsNotPutInPlace, IsNotSaved, MakingFailed, NameTaken, NewFileFailed, NotClosed, NotMade}
+use Rattle.bootimg.specs.Files.{AreNamesTaken, NoNumbers, OwnName, OneMoreName, Closed, ClosingFailed, KnownFiles, FileStep, NameHas, IsBeside, IsNotWrittenFile}
+use Rattle.bootimg.specs.Files.{IsMadeBeside, IsNewFile, IsNoFile, IsNotMade, Made}
+use Rattle.bootimg.specs.Files.{IsNotPutInPlace, IsNotSaved, MakingFailed, MayBeReplaced, NameTaken, NewFileFailed, NotClosed, NotMade}
 use Rattle.bootimg.specs.Files.{NotRemoved, Removed, SavesNothing, TookSteps, WritingStopped, no_files}
 
 -- A new file beside a file gets the first name that nothing has. If it cannot be written or put in place, it is removed, or that fails.
@@ -18,18 +18,17 @@ use Rattle.bootimg.specs.Files.{NotRemoved, Removed, SavesNothing, TookSteps, Wr
 
 -- No step was taken.
 no_steps : (now : Option (List FileStep)) → TookSteps now now []
-no_steps None = refl
-no_steps (Some steps) = ap (λ l. Some l) (sym (append-nil steps))
+no_steps None = tt
+no_steps (Some steps) = (steps, refl, sym (append-nil steps))
 
 -- Some steps were taken, and then others.
-steps_in_turn : (old middle new : Option (List FileStep)) (first second : List FileStep) → TookSteps old middle first
+pub steps_in_turn : (old middle new : Option (List FileStep)) (first second : List FileStep) → TookSteps old middle first
     → TookSteps middle new second → TookSteps old new (first ++ second)
-steps_in_turn old middle new first second one other = other ∙ ap (option_map (λ l. l ++ second)) one ∙ both old
-  where
-    both : (old : Option (List FileStep))
-        → option_map (λ l. l ++ second) (option_map (λ l. l ++ first) old) ≡ option_map (λ l. l ++ (first ++ second)) old
-    both None = refl
-    both (Some l) = ap (λ l. Some l) (append_assoc l first second)
+steps_in_turn old middle None first second one other = tt
+steps_in_turn old None (Some after) first second one other = absurd (let none : None ≡ Some other.0 = other.1 in cc)
+steps_in_turn old (Some between) (Some after) first second one other =
+    let same : between ≡ other.0 = let is : Some between ≡ Some other.0 = other.1 in cc in
+    (one.0, one.1, other.2 ∙ ap (λ l. l ++ second) (sym same ∙ one.2) ∙ append_assoc one.0 first second)
 
 -- ---- names that were tried
 
@@ -66,6 +65,21 @@ making_failed name beside shown number old middle new within are is shows other 
     MakingFailed number beside middle are (record { within = within; is_beside = is; is_another = λ same. other (shows ∙ same) })
     (subst (λ s. TookSteps middle new (NotMade s ∷ [])) shows took) refl
 
+-- The next name is that of the new file.
+pub made_beside : (files later : KnownFiles) (name beside shown : List ℕ) (number : ℕ) (file : WriteTrace)
+    (old middle new : Option (List FileStep)) → number < 10000 → AreNamesTaken name number old middle → later ≡ files
+    → IsBeside name number beside → shown ≡ beside → shown ≢ name → NameHas later shown IsNoFile → IsNewFile file
+    → TookSteps middle new (Made shown file ∷ []) → IsMadeBeside files name beside file old new
+made_beside files later name beside shown number file old middle new within are same is shows other unused fresh took = record {
+  number = number;
+  tried = middle;
+  are_taken = are;
+  is_name = record { within = within; is_beside = is; is_another = λ own. other (shows ∙ own) };
+  is_unused = subst (λ f. NameHas f beside IsNoFile) same (subst (λ n. NameHas later n IsNoFile) shows unused);
+  is_new = fresh;
+  made = subst (λ n. TookSteps middle new (Made n file ∷ [])) shows took;
+}
+
 -- ---- the steps with a new file
 
 -- What is true is so at an error.
@@ -98,9 +112,9 @@ closing_failed {T} {E} beside bytes file filled old new written done closed erro
     (subst (λ (r : Result T E). OnErr r (TookSteps old new (NotClosed beside filled ∷ []))) fails badly)
 
 -- A new file was made and not put in place, and it was removed, or that failed.
-pub new_file_failed : {T E : Type 0} (files : FilePromise) (name bytes beside shown again : List ℕ) (failure : Failure) (file : WriteTrace)
-    (old made failed new : Option (List FileStep)) (removed : Result T E) → files.can_replace name
-    → IsMadeBeside name beside file old made → shown ≡ beside → IsNotPutInPlace name shown bytes file made failed → again ≡ beside
+pub new_file_failed : {T E : Type 0} (files : KnownFiles) (name bytes beside shown again : List ℕ) (failure : Failure) (file : WriteTrace)
+    (old made failed new : Option (List FileStep)) (removed : Result T E) → NameHas files name MayBeReplaced
+    → IsMadeBeside files name beside file old made → shown ≡ beside → IsNotPutInPlace name shown bytes file made failed → again ≡ beside
     → OnOk removed (TookSteps failed new (Removed again ∷ [])) → OnErr removed (TookSteps failed new (NotRemoved again ∷ []))
     → failure ≡ NotWritten → IsNotSaved files name bytes failure old new
 new_file_failed files name bytes beside shown again failure file old made failed new removed can is shows not_put same well badly why =

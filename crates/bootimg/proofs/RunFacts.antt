@@ -12,7 +12,7 @@ use Rattle.bi_base.specs.Pipes.{IsTracedPipe}
 use Rattle.bootimg.specs.declared.command_line.Task.{Task}
 use Rattle.bootimg.specs.declared.command_line.source.ImageSource.{ImageSource}
 use Rattle.bootimg.specs.declared.failure.Failure.{Failure}
-use Rattle.bootimg.specs.Files.{FileStep, FilePromise}
+use Rattle.bootimg.specs.Files.{FileStep, KnownFiles}
 use Rattle.bootimg.specs.declared.tasks.Done.{Done}
 use Rattle.bootimg.specs.Runs.{IsPlainRun, IsRun, IsTaskWork, Logs, IsLogged, HasStopped, IsRejection, Reports, Run, Work, Succeeded}
 use Rattle.bootimg.specs.Runs.{HasFailed, IsAskedFor, IsMistake, problem}
@@ -41,7 +41,7 @@ asked_for other is_usage says fails =
     absurd (let none : IsTrue false = subst (λ test. IsTrue test) fails why in cc)
 
 -- A run over traced streams is one over plain streams with what the traces record.
-pub plain_run : (arguments : List (List ℕ)) (files : FilePromise) (steps new_steps : Option (List FileStep)) (run : Run)
+pub plain_run : (arguments : List (List ℕ)) (files : KnownFiles) (steps new_steps : Option (List FileStep)) (run : Run)
     (remaining new_remaining contents new_contents errors new_errors : Option (List ℕ)) → IsRun arguments files run
     → ReadsWell run.input → run.input.taken ≡ 0 → WritesWell run.output → WritesWell run.errors
     → run.steps ≡ steps → run.new_steps ≡ new_steps
@@ -74,7 +74,7 @@ pub run_is_rejected : (source : ImageSource) (failure : Failure) (run : Run) →
 run_is_rejected source failure run read written changed reports status = record {
   nothing_read = read;
   nothing_written = written;
-  nothing_changed = changed;
+  no_steps = changed;
   reports = reports;
   status = status;
 }

@@ -2,7 +2,7 @@ use Rattle.std.proofs.Common.{◌≡◌, ◌∙◌, ℕ, List, Option, Bor, Resu
 use Rattle.clap.specs.declared.error.kind.ErrorKind.{ErrorKind}
 use Rattle.bi_base.specs.declared.fault.Cause.{Cause}
 use Rattle.bi_base.specs.Limits.{Limits}
-use Rattle.bi_base.specs.Traces.{ReadTrace, WriteTrace}
+use Rattle.bi_base.specs.Traces.{WriteTrace}
 use Rattle.bi_commands.specs.declared.parts.Part.{Part}
 use Rattle.bootimg.specs.declared.command_line.Job.{Job}
 use Rattle.bootimg.specs.declared.command_line.Job.TheVariants.{Run as RunTask, Compare, Build, Explain}
@@ -11,11 +11,11 @@ use Rattle.bootimg.specs.declared.command_line.build.BuildPlan.{BuildPlan}
 use Rattle.bootimg.specs.declared.command_line.source.ComparePlan.{ComparePlan}
 use Rattle.bootimg.specs.declared.command_line.source.ImageSource.{ImageSource}
 use Rattle.bootimg.specs.declared.failure.Failure.{Failure}
-use Rattle.bootimg.specs.Files.{FileStep, FilePromise}
+use Rattle.bootimg.specs.Files.{FileStep, KnownFiles}
 use Rattle.bootimg.specs.declared.command_line.Request.{Request}
 use Rattle.bootimg.specs.declared.jobs.Problem.{Problem}
 use Rattle.bootimg.specs.declared.tasks.Done.{Done}
-use Rattle.bootimg.specs.Runs.{Run, Work, work_of, with_input, Logs, IsLogged, HasStopped, Notes}
+use Rattle.bootimg.specs.Runs.{Inputs, Run, Work, no_input, work_of, with_input, Logs, IsLogged, HasStopped, Notes}
 use Rattle.bootimg.specs.Runs.{HasNone, HasSome, IsRejection, IsTaskWork, Succeeded, HasFailed, IsImageWork, DoneOnInput, DoneOnFile}
 use Rattle.bootimg.specs.Runs.{FileNotOpened, IsImageRead, InputRead, FileRead, IsImageNotRead, InputNotRead, FileNotRead, IsComparedWork}
 use Rattle.bootimg.specs.Runs.{WroteDifferences, NotAllWritten, NotCompared, IsCompareWork, BothRead, OneNotRead, OtherNotRead}
@@ -42,14 +42,14 @@ notes_keep signatures old new (HasNone none same) = ap (λ trace. trace.writer) 
 notes_keep signatures old new (HasSome some logs) = logs_keep _ _ _ logs
 
 -- The reader is the same after an image was read, or not read, from its source.
-read_keeps : (files : FilePromise) (limits : Limits) (old new : ReadTrace) (image : List ℕ) (source : ImageSource)
-    → IsImageRead files limits old new image source → new.reader ≡ old.reader
-read_keeps files limits old new image source (InputRead read) = read.same_reader
+read_keeps : (files : KnownFiles) (limits : Limits) (old new : Inputs) (image : List ℕ) (source : ImageSource)
+    → IsImageRead files limits old new image source → new.input.reader ≡ old.input.reader
+read_keeps files limits old new image source (InputRead read same) = read.same_reader
 read_keeps files limits old new image source (FileRead name read same) = ap (λ trace. trace.reader) same
 
-not_read_keeps : (files : FilePromise) (limits : Limits) (old new : ReadTrace) (failure : Failure) (source : ImageSource)
-    → IsImageNotRead files limits old new failure source → new.reader ≡ old.reader
-not_read_keeps files limits old new failure source (InputNotRead read) = read.not_read.same_reader
+not_read_keeps : (files : KnownFiles) (limits : Limits) (old new : Inputs) (failure : Failure) (source : ImageSource)
+    → IsImageNotRead files limits old new failure source → new.input.reader ≡ old.input.reader
+not_read_keeps files limits old new failure source (InputNotRead read same) = read.not_read.same_reader
 not_read_keeps files limits old new failure source (FileNotRead name read same) = ap (λ trace. trace.reader) same
 
 rejection_keeps : (source : ImageSource) (failure : Failure) (run : Run) → IsRejection source failure run → KeepsStreams run
@@ -71,12 +71,12 @@ task_work_keeps task limits source work (Succeeded done piped outcome) =
 task_work_keeps task limits source work (HasFailed failure piped outcome) =
     record { reader = piped.same_streams.same_reader; writer = piped.same_streams.same_writer }
 
-image_work_keeps : (files : FilePromise) (task : Task) (limits : Limits) (work : Work) (source : ImageSource)
-    → IsImageWork files task limits work source → KeepsWork work
-image_work_keeps files task limits work source (DoneOnInput done) = task_work_keeps _ _ _ _ done
-image_work_keeps files task limits work source (DoneOnFile name opened end is done same) =
+image_work_keeps : (files : KnownFiles) (task : Task) (limits : Limits) (work : Work) (old new : Option (List FileStep))
+    (source : ImageSource) → IsImageWork files task limits work old new source → KeepsWork work
+image_work_keeps files task limits work old new source (DoneOnInput done steps) = task_work_keeps _ _ _ _ done
+image_work_keeps files task limits work old new source (DoneOnFile name opened end is done same) =
     record { reader = ap (λ trace. trace.reader) same; writer = (task_work_keeps task limits _ (with_input work opened end) done).writer }
-image_work_keeps files task limits work source (FileNotOpened name none failed same) =
+image_work_keeps files task limits work old new source (FileNotOpened name none failed same) =
     record { reader = ap (λ trace. trace.reader) same; writer = ap (λ trace. trace.writer) failed.nothing_written }
 
 -- The output is the same after two images were compared.
@@ -86,17 +86,17 @@ compared_keeps_writer plan limits one other work (WroteDifferences same text is 
 compared_keeps_writer plan limits one other work (NotAllWritten same text is error stopped outcome) = stopped.same_writer
 compared_keeps_writer plan limits one other work (NotCompared error is failed) = ap (λ trace. trace.writer) failed.nothing_written
 
-compare_work_keeps : (files : FilePromise) (plan : ComparePlan) (limits : Limits) (work : Work) → IsCompareWork files plan limits work
-    → KeepsWork work
-compare_work_keeps files plan limits work (BothRead one other middle one_read other_read compared) = record {
+compare_work_keeps : (files : KnownFiles) (plan : ComparePlan) (limits : Limits) (work : Work) (old new : Option (List FileStep))
+    → IsCompareWork files plan limits work old new → KeepsWork work
+compare_work_keeps files plan limits work old new (BothRead one other middle one_read other_read compared) = record {
   reader = read_keeps _ _ _ _ _ _ other_read ∙ read_keeps _ _ _ _ _ _ one_read;
   writer = compared_keeps_writer _ _ _ _ _ compared;
 }
-compare_work_keeps files plan limits work (OneNotRead failure not_read failed) = record {
+compare_work_keeps files plan limits work old new (OneNotRead failure not_read failed) = record {
   reader = not_read_keeps _ _ _ _ _ _ not_read;
   writer = ap (λ trace. trace.writer) failed.nothing_written;
 }
-compare_work_keeps files plan limits work (OtherNotRead one middle failure one_read not_read failed) = record {
+compare_work_keeps files plan limits work old new (OtherNotRead one middle failure one_read not_read failed) = record {
   reader = not_read_keeps _ _ _ _ _ _ not_read ∙ read_keeps _ _ _ _ _ _ one_read;
   writer = ap (λ trace. trace.writer) failed.nothing_written;
 }
@@ -117,50 +117,49 @@ built_keeps plan parts limits work (WasBuilt done piped ended outcome) =
 built_keeps plan parts limits work (WasNotBuilt error piped outcome) =
     record { reader = piped.same_streams.same_reader; writer = piped.same_streams.same_writer }
 
-build_work_keeps : (files : FilePromise) (plan : BuildPlan) (limits : Limits) (work : Work) → IsBuildWork files plan limits work
-    → KeepsWork work
-build_work_keeps files plan limits work (BuiltWithInput parts are reads built) = built_keeps _ _ _ _ built
-build_work_keeps files plan limits work (BuiltOfFiles parts are reads nothing end empty built same) =
-    record { reader = ap (λ trace. trace.reader) same; writer = (built_keeps plan parts limits (with_input work nothing end) built).writer }
-build_work_keeps files plan limits work (PartNotRead failed not_read is same) =
+build_work_keeps : (files : KnownFiles) (plan : BuildPlan) (limits : Limits) (work : Work) (old new : Option (List FileStep))
+    → IsBuildWork files plan limits work old new → KeepsWork work
+build_work_keeps files plan limits work old new (BuiltWithInput parts are reads built) = built_keeps _ _ _ _ built
+build_work_keeps files plan limits work old new (BuiltOfFiles parts are reads built same) =
+    record { reader = ap (λ trace. trace.reader) same; writer = (built_keeps plan parts limits (with_input work no_input no_input) built).writer }
+build_work_keeps files plan limits work old new (PartNotRead failed not_read is same) =
     record { reader = ap (λ trace. trace.reader) same; writer = ap (λ trace. trace.writer) is.nothing_written }
-build_work_keeps files plan limits work (NoRoom is same) =
+build_work_keeps files plan limits work old new (NoRoom first is same) =
     record { reader = ap (λ trace. trace.reader) same; writer = ap (λ trace. trace.writer) is.nothing_written }
 
 -- A job keeps its input and its output.
-pub job_work_keeps : (files : FilePromise) (job : Job) (limits : Limits) (work : Work) → IsJobWork files job limits work
-    → KeepsWork work
-job_work_keeps files (RunTask task source) limits work done = image_work_keeps _ _ _ _ _ done
-job_work_keeps files (Compare plan) limits work done = compare_work_keeps _ _ _ _ done
-job_work_keeps files (Explain cause) limits work done = explain_work_keeps _ _ done
-job_work_keeps files (Build plan) limits work done = build_work_keeps _ _ _ _ done
+pub job_work_keeps : (files : KnownFiles) (job : Job) (limits : Limits) (work : Work) (old new : Option (List FileStep))
+    → IsJobWork files job limits work old new → KeepsWork work
+job_work_keeps files (RunTask task source) limits work old new done = image_work_keeps _ _ _ _ _ _ _ done
+job_work_keeps files (Compare plan) limits work old new done = compare_work_keeps _ _ _ _ _ _ done
+job_work_keeps files (Explain cause) limits work old new done = explain_work_keeps _ _ done.0
+job_work_keeps files (Build plan) limits work old new done = build_work_keeps _ _ _ _ _ _ done
 
-held_work_keeps : (files : FilePromise) (job : Job) (limits : Limits) (input new_input : ReadTrace) (outcome : Result Done Problem)
-    (held : Option (List ℕ)) → IsHeldWork files job limits input new_input outcome held → new_input.reader ≡ input.reader
-held_work_keeps files job limits input new_input outcome held is = (job_work_keeps files job limits _ is.work).reader
+held_work_keeps : (files : KnownFiles) (job : Job) (limits : Limits) (before after : Inputs) (outcome : Result Done Problem)
+    (held : Option (List ℕ)) → IsHeldWork files job limits before after outcome held → after.input.reader ≡ before.input.reader
+held_work_keeps files job limits before after outcome held is = (job_work_keeps files job limits _ _ _ is.work).reader
 
-saved_work_keeps : (files : FilePromise) (job : Job) (limits : Limits) (name : Bor (List ℕ)) (input new_input : ReadTrace)
-    (steps new_steps : Option (List FileStep)) (outcome : Result Done Problem)
-    → IsSavedWork files job limits name input new_input steps new_steps outcome → new_input.reader ≡ input.reader
-saved_work_keeps files job limits name input new_input steps new_steps outcome (OutputSaved done output is saved same) =
+saved_work_keeps : (files : KnownFiles) (job : Job) (limits : Limits) (name : Bor (List ℕ)) (before after : Inputs)
+    (outcome : Result Done Problem) → IsSavedWork files job limits name before after outcome
+    → after.input.reader ≡ before.input.reader
+saved_work_keeps files job limits name before after outcome (OutputSaved done output worked is saved same) =
     held_work_keeps _ job limits _ _ _ _ is
-saved_work_keeps files job limits name input new_input steps new_steps outcome (OutputNotSaved done output is failure not same) =
+saved_work_keeps files job limits name before after outcome (OutputNotSaved done output worked is failure not same) =
     held_work_keeps _ job limits _ _ _ _ is
-saved_work_keeps files job limits name input new_input steps new_steps outcome (NoOutput failed is kept same) =
-    held_work_keeps _ job limits _ _ _ _ is.work
+saved_work_keeps files job limits name before after outcome (NoOutput failed is same) = held_work_keeps _ job limits _ _ _ _ is.work
 
-output_run_keeps : (files : FilePromise) (job : Job) (limits : Limits) (run : Run) (outcome : Result Done Problem)
+output_run_keeps : (files : KnownFiles) (job : Job) (limits : Limits) (run : Run) (outcome : Result Done Problem)
     (output : Option (Bor (List ℕ))) → IsOutputRun files job limits run outcome output → KeepsWork (work_of run outcome)
-output_run_keeps files job limits run outcome output (ToStandardOutput work kept) = job_work_keeps files job limits _ work
+output_run_keeps files job limits run outcome output (ToStandardOutput work) = job_work_keeps files job limits _ _ _ work
 output_run_keeps files job limits run outcome output (ToFile name saved same) =
-    record { reader = saved_work_keeps _ job limits _ _ _ _ _ _ saved; writer = ap (λ trace. trace.writer) same }
+    record { reader = saved_work_keeps _ job limits _ _ _ _ saved; writer = ap (λ trace. trace.writer) same }
 
 end_keeps : (errors new_errors : WriteTrace) (status : ℕ) (outcome : Result Done Problem) → IsEnd errors new_errors status outcome
     → new_errors.writer ≡ errors.writer
 end_keeps errors new_errors status outcome (EndsWell done same notes is) = notes_keep _ _ _ notes
 end_keeps errors new_errors status outcome (EndsWithFailure failed same reports is) = logs_keep _ _ _ reports
 
-request_run_keeps : (files : FilePromise) (request : Request) (run : Run) → IsRequestRun files request run → KeepsStreams run
+request_run_keeps : (files : KnownFiles) (request : Request) (run : Run) → IsRequestRun files request run → KeepsStreams run
 request_run_keeps files request run is =
     let keeps = output_run_keeps files request.job request.limits run is.outcome request.output is.done in
     record { reader = keeps.reader; writer = keeps.writer; log = end_keeps _ _ _ _ is.end }
@@ -183,7 +182,7 @@ text_run_keeps kind text run (IsUsage why logs output input steps status) = reco
 }
 
 -- A run keeps its streams.
-pub run_keeps : (arguments : List (List ℕ)) (files : FilePromise) (run : Run) → IsRun arguments files run → KeepsStreams run
+pub run_keeps : (arguments : List (List ℕ)) (files : KnownFiles) (run : Run) → IsRun arguments files run → KeepsStreams run
 run_keeps arguments files run (RanJob request is lengths ran) = request_run_keeps _ request _ ran
 run_keeps arguments files run (Rejected failure why rejection) = rejection_keeps _ _ _ rejection
 run_keeps arguments files run (WroteText kind text answers is) = text_run_keeps _ _ _ is

@@ -1,5 +1,5 @@
 use Rattle.std.specs.Prelude.{◌≡◌, ◌≢◌, ◌⊎◌, ◌<◌, ◌+◌, ⊤, ℕ, List, [], ◌∷◌, ◌++◌, length, get_or}
-use Rattle.std.specs.Prelude.{Option, None, Some, codes, map, option_map}
+use Rattle.std.specs.Prelude.{IfSome, IsFalse, Option, None, Some, codes, map}
 use Rattle.std.specs.Fmt.{decimal}
 use Rattle.bi_base.specs.Traces.{ReadTrace, WriteTrace, ReadsWell, WritesWell}
 use Rattle.bi_base.specs.Writing.{WroteAndFlushed, WriteOrFlushStopped}
@@ -10,57 +10,80 @@ use Rattle.bootimg.specs.declared.failure.Failure.TheVariants.{Call, NotWritten}
 
 -- The files that the program opens by name, and those that it makes (profile of this project).
 
--- What a file system promises of the file of each name.
-pub record FilePromise : Type 1 where
-  -- A file of this name can be opened, and its reader has these bytes, if they are known.
-  pub has_file : (name : List ℕ) → (remaining : Option (List ℕ)) → Type 0
-  -- No file of this name can be opened.
-  pub has_no_file : (name : List ℕ) → Type 0
-  -- A new file may take this name: nothing has it, or a regular file does.
-  pub can_replace : (name : List ℕ) → Type 0
-  -- No new file may take this name.
-  pub cannot_replace : (name : List ℕ) → Type 0
+-- What has a name.
+pub data Entry : Type 0 where
+  -- Nothing has it.
+  NoFile : Entry
+  -- A regular file with these bytes has it.
+  RegularFile : (bytes : List ℕ) → Entry
+  -- Something else has it, for example a directory or a device.
+  OtherFile : Entry
+  -- Nothing can have it, as a name that is too long.
+  Unusable : Entry
 
--- The promise of a file system without files.
-abbrev pub no_files : FilePromise
-no_files = record {
-  has_file = λ name remaining. ⊥;
-  has_no_file = λ name. ⊤;
-  can_replace = λ name. ⊥;
-  cannot_replace = λ name. ⊤;
-}
+-- What has each name.
+abbrev pub Names : Type 0
+Names = List ℕ → Entry
 
--- The promise of a file system of which nothing is known.
-abbrev pub any_files : FilePromise
-any_files = record {
-  has_file = λ name remaining. ⊤;
-  has_no_file = λ name. ⊤;
-  can_replace = λ name. ⊤;
-  cannot_replace = λ name. ⊤;
-}
+-- What has each name, if it is known.
+abbrev pub KnownFiles : Type 0
+KnownFiles = Option Names
 
--- The file of this name was opened, and this is its reader before the first call. What the calls
--- made of it is known by their own promises alone: the file is closed after them, and no one else
--- sees its reader.
-pub record IsOpenFile (files : FilePromise) (name : List ℕ) (trace : ReadTrace) : Type 0 where
-  pub is_file : files.has_file name trace.remaining
-  pub reads_well : ReadsWell trace
-  pub none_taken : trace.taken ≡ 0
+-- There are no files, and none can be made.
+abbrev pub no_files : KnownFiles
+no_files = Some (λ name. Unusable)
 
--- ---- new files
+-- What has this name is such an entry, if it is known.
+abbrev pub NameHas : KnownFiles → (name : List ℕ) → (IsEntry : Entry → Type 0) → Type 0
+NameHas None name IsEntry = ⊤
+NameHas (Some entries) name IsEntry = IsEntry (entries name)
 
--- A step with a new file, which succeeded or failed. Its writer is known before the first call, and
--- when it is closed.
+-- Nothing.
+abbrev pub IsNoFile : Entry → Type 0
+IsNoFile NoFile = ⊤
+IsNoFile entry = ⊥
+
+-- What can be opened for reading, and the bytes of its reader, if they are known: a regular file
+-- has its own.
+abbrev pub MayBeOpened : (remaining : Option (List ℕ)) → Entry → Type 0
+MayBeOpened remaining (RegularFile bytes) = remaining ≡ Some bytes
+MayBeOpened remaining OtherFile = ⊤
+MayBeOpened remaining entry = ⊥
+
+-- What is no regular file. A regular file can always be opened.
+abbrev pub IsNoRegularFile : Entry → Type 0
+IsNoRegularFile (RegularFile bytes) = ⊥
+IsNoRegularFile entry = ⊤
+
+-- What a new file may replace: nothing, or a regular file.
+abbrev pub MayBeReplaced : Entry → Type 0
+MayBeReplaced NoFile = ⊤
+MayBeReplaced (RegularFile bytes) = ⊤
+MayBeReplaced entry = ⊥
+
+abbrev pub MayNotBeReplaced : Entry → Type 0
+MayNotBeReplaced entry = ¬ MayBeReplaced entry
+
+-- ---- steps
+
+-- A step with a file, which succeeded or failed. The reader of a file that is opened is known
+-- before the first call and when it is closed, and so is the writer of a new file.
 pub data FileStep : Type 0 where
-  -- A file of this name was made, which nothing had before.
+  -- The file of this name was opened for reading.
+  Opened : (name : List ℕ) → (reader : ReadTrace) → FileStep
+  -- No file of this name could be opened for reading.
+  NotOpened : (name : List ℕ) → FileStep
+  -- The reader of the file of this name was closed.
+  ReaderClosed : (name : List ℕ) → (reader : ReadTrace) → FileStep
+  -- A new file of this name was made, which nothing had before.
   Made : (name : List ℕ) → (file : WriteTrace) → FileStep
   -- No file of this name was made, since something has the name.
   NameTaken : (name : List ℕ) → FileStep
   -- No file of this name could be made, for another reason.
   NotMade : (name : List ℕ) → FileStep
-  -- The file of this name was closed.
+  -- The new file of this name was closed.
   Closed : (name : List ℕ) → (file : WriteTrace) → FileStep
-  -- Closing the file of this name failed.
+  -- Closing the new file of this name failed.
   NotClosed : (name : List ℕ) → (file : WriteTrace) → FileStep
   -- The file of the first name took the second one, in place of the file that had it.
   Renamed : (name new_name : List ℕ) → FileStep
@@ -71,9 +94,47 @@ pub data FileStep : Type 0 where
   -- Removing the file of this name failed.
   NotRemoved : (name : List ℕ) → FileStep
 
--- These steps were taken between two times, if the steps up to each are known.
+-- These steps were taken between two times, if the steps up to the later one are known.
 abbrev pub TookSteps : (old new : Option (List FileStep)) → List FileStep → Type 0
-TookSteps old new steps = new ≡ option_map (λ before. before ++ steps) old
+TookSteps old new steps =
+    IfSome new (λ after. (before : List FileStep) × (old ≡ Some before) × (after ≡ before ++ steps))
+
+-- Each source has the value beside it, and was read before the next one: `WasRead source value old
+-- new` is about one source, and the steps before and after it was read.
+abbrev pub WereReadInTurn : {S V : Type 0}
+    → (WasRead : S → V → (old new : Option (List FileStep)) → Type 0)
+    → (sources : List S) → (values : List V) → (old new : Option (List FileStep)) → Type 0
+WereReadInTurn WasRead [] [] old new = new ≡ old
+WereReadInTurn WasRead (source ∷ sources) (value ∷ values) old new =
+    (middle : Option (List FileStep)) × WasRead source value old middle
+    × WereReadInTurn WasRead sources values middle new
+WereReadInTurn WasRead sources values old new = ⊥
+
+-- ---- reading
+
+-- The reader of a file of this name before the first call.
+pub record IsOpenFile (files : KnownFiles) (name : List ℕ) (reader : ReadTrace) : Type 0 where
+  pub is_file : NameHas files name (MayBeOpened reader.remaining)
+  pub not_failed : IsFalse reader.failed
+  pub reads_well : ReadsWell reader
+  pub none_taken : reader.taken ≡ 0
+
+-- The file of this name was opened once and closed once, and no other step was taken. Its reader
+-- was `opened` before the first call, and `end` after the last one.
+pub record WasOpened (files : KnownFiles) (name : List ℕ) (opened end : ReadTrace)
+    (old new : Option (List FileStep)) : Type 0
+  where
+    pub is_open : IsOpenFile files name opened
+    pub steps : TookSteps old new (Opened name opened ∷ ReaderClosed name end ∷ [])
+
+-- The file of this name could not be opened, which was tried once, and no other step was taken.
+pub record WasNotOpened (files : KnownFiles) (name : List ℕ) (old new : Option (List FileStep))
+    : Type 0
+  where
+    pub is_no_file : NameHas files name IsNoRegularFile
+    pub steps : TookSteps old new (NotOpened name ∷ [])
+
+-- ---- new files
 
 -- There are no bytes, if they are known.
 abbrev pub HasNoBytes : Option (List ℕ) → Type 0
@@ -83,6 +144,8 @@ HasNoBytes (Some bytes) = bytes ≡ []
 -- The writer of a new file before the first call.
 pub record IsNewFile (file : WriteTrace) : Type 0 where
   pub has_no_bytes : HasNoBytes file.contents
+  pub not_failed : IsFalse file.failed
+  pub not_stalled : IsFalse file.stalled
   pub writes_well : WritesWell file
 
 -- ---- saving
@@ -124,13 +187,14 @@ pub record IsNewName (name : List ℕ) (number : ℕ) (beside : List ℕ) : Type
 
 -- A new file was made beside the file of this name. It has the first of the numbered names that
 -- nothing has and that is not the file's own.
-pub record IsMadeBeside (name beside : List ℕ) (file : WriteTrace)
+pub record IsMadeBeside (files : KnownFiles) (name beside : List ℕ) (file : WriteTrace)
     (old new : Option (List FileStep)) : Type 0
   where
     pub number : ℕ
     pub tried : Option (List FileStep)
     pub are_taken : AreNamesTaken name number old tried
     pub is_name : IsNewName name number beside
+    pub is_unused : NameHas files beside IsNoFile
     pub is_new : IsNewFile file
     pub made : TookSteps tried new (Made beside file ∷ [])
 
@@ -188,33 +252,33 @@ pub data IsNotPutInPlace (name beside bytes : List ℕ) (file : WriteTrace)
 
 -- The file of this name has these bytes now: they were written to a new file beside it, which was
 -- flushed and closed, and took its name.
-pub record IsSaved (files : FilePromise) (name bytes : List ℕ) (old new : Option (List FileStep))
+pub record IsSaved (files : KnownFiles) (name bytes : List ℕ) (old new : Option (List FileStep))
     : Type 0
   where
     pub beside : List ℕ
     pub file : WriteTrace
     pub made : Option (List FileStep)
-    pub can_be_replaced : files.can_replace name
-    pub is_made : IsMadeBeside name beside file old made
+    pub can_be_replaced : NameHas files name MayBeReplaced
+    pub is_made : IsMadeBeside files name beside file old made
     pub is_put_in_place : IsPutInPlace name beside bytes file made new
 
 -- The file of this name is as it was, for this reason. If a new file was made it was removed then.
 -- If that failed, it is left.
-pub data IsNotSaved (files : FilePromise) (name bytes : List ℕ) (failure : Failure)
+pub data IsNotSaved (files : KnownFiles) (name bytes : List ℕ) (failure : Failure)
     (old new : Option (List FileStep)) : Type 0
   where
-    CannotBeReplaced : files.cannot_replace name → new ≡ old → failure ≡ NotWritten
+    CannotBeReplaced : NameHas files name MayNotBeReplaced → new ≡ old → failure ≡ NotWritten
         → IsNotSaved files name bytes failure old new
-    NoNewFile : files.can_replace name → IsNotMade name failure old new
+    NoNewFile : NameHas files name MayBeReplaced → IsNotMade name failure old new
         → IsNotSaved files name bytes failure old new
     NewFileFailed : (beside : List ℕ) (file : WriteTrace) (made failed : Option (List FileStep))
-        → files.can_replace name → IsMadeBeside name beside file old made
+        → NameHas files name MayBeReplaced → IsMadeBeside files name beside file old made
         → IsNotPutInPlace name beside bytes file made failed
         → TookSteps failed new (Removed beside ∷ []) ⊎ TookSteps failed new (NotRemoved beside ∷ [])
         → failure ≡ NotWritten → IsNotSaved files name bytes failure old new
 
 -- No output can be saved with such files.
-abbrev pub SavesNothing : FilePromise → Type 0
+abbrev pub SavesNothing : KnownFiles → Type 0
 SavesNothing files =
     (name bytes : List ℕ) (old new : Option (List FileStep))
     → ¬ (IsSaved files name bytes old new)

@@ -12,3 +12,6 @@ pub mod Runs
 pub mod Selections
 pub mod Explanations
 pub mod ErrorLines
+pub mod FilesAfter
+pub mod LeftFiles
+pub mod MemoryFiles

@@ -1,4 +1,4 @@
-use Rattle.std.specs.Prelude.{◌≡◌, ◌⊎◌, List}
+use Rattle.std.specs.Prelude.{◌≡◌, ◌⊎◌, List, Option}
 use Rattle.bi_base.specs.Limits.{Limits}
 use Rattle.bi_base.specs.declared.fault.Error.TheVariants.{OutOfMemory}
 use Rattle.bi_commands.specs.declared.parts.Part.{Part}
@@ -10,28 +10,37 @@ use Rattle.bootimg.specs.declared.command_line.part.PartSource.TheVariants as pa
 use Rattle.bootimg.specs.declared.command_line.source.ImageSource.TheVariants.{Standard, File}
 use Rattle.bootimg.specs.declared.failure.Failure.TheVariants.{Call}
 use Rattle.bootimg.specs.declared.jobs.Problem.{Problem}
-use Rattle.bootimg.specs.Files.{FilePromise}
-use Rattle.bootimg.specs.Runs.{problem, IsFileNotRead, IsFileRead, IsPartNotRead}
+use Rattle.bootimg.specs.Files.{FileStep, KnownFiles, WereReadInTurn}
+use Rattle.bootimg.specs.Runs.{problem, AreFirstRead, IsFileNotRead, IsFileRead, IsPartNotRead}
 
 -- The parts of an image to be built, once their files are read (profile of this project).
 
 -- What was read for a part: its length, or the bytes of its whole file.
-abbrev pub WasRead : FilePromise → Limits → PartSource → ReadPart → Type 0
-WasRead files limits (part.Input size) (read.Input other) = other ≡ size
-WasRead files limits (part.File name) (read.File bytes) =
-    IsFileRead files limits name.now bytes.items
-WasRead files limits source other = ⊥
+abbrev pub WasRead : KnownFiles → Limits → PartSource → ReadPart
+    → (old new : Option (List FileStep)) → Type 0
+WasRead files limits (part.Input size) (read.Input other) old new = (other ≡ size) × (new ≡ old)
+WasRead files limits (part.File name) (read.File bytes) old new =
+    IsFileRead files limits name.now bytes.items old new
+WasRead files limits source other old new = ⊥
+
+-- What was read for the parts, in their order.
+abbrev pub WereRead : KnownFiles → Limits → List PartSource → List ReadPart
+    → (old new : Option (List FileStep)) → Type 0
+WereRead files limits = WereReadInTurn (WasRead files limits)
 
 -- The file of this part was not read.
-abbrev pub IsSourceProblem : FilePromise → Limits → PartSource → Problem → Type 0
-IsSourceProblem files limits (part.Input size) failed = ⊥
-IsSourceProblem files limits (part.File name) failed =
-    IsFileNotRead files limits name.now failed.failure × (failed.source ≡ File name)
+abbrev pub IsSourceProblem : KnownFiles → Limits → PartSource → Problem
+    → (old new : Option (List FileStep)) → Type 0
+IsSourceProblem files limits (part.Input size) failed old new = ⊥
+IsSourceProblem files limits (part.File name) failed old new =
+    IsFileNotRead files limits name.now failed.failure old new × (failed.source ≡ File name)
 
 -- The file of the first of these parts that could not be read was not read, or memory ran out.
-abbrev pub IsReadingProblem : FilePromise → Limits → List PartSource → Problem → Type 0
-IsReadingProblem files limits sources failed =
-    IsPartNotRead files limits sources failed ⊎ (failed ≡ problem Standard (Call OutOfMemory))
+abbrev pub IsReadingProblem : KnownFiles → Limits → List PartSource → Problem
+    → (old new : Option (List FileStep)) → Type 0
+IsReadingProblem files limits sources failed old new =
+    IsPartNotRead files limits sources failed old new
+    ⊎ (AreFirstRead files limits sources old new × (failed ≡ problem Standard (Call OutOfMemory)))
 
 -- The part has the same length, or the same bytes.
 abbrev pub IsLent : ReadPart → Part → Type 0

@@ -1,11 +1,10 @@
-use Rattle.std.specs.Prelude.{◌≡◌, ◌≢◌, ◌⊎◌, ◌++◌, ◌+◌, ◌<◌, ℕ, Bool, true, false, List, []}
+use Rattle.std.specs.Prelude.{◌≡◌, ◌≢◌, ◌⊎◌, ◌++◌, ◌<◌, ℕ, Bool, true, false, List, []}
 use Rattle.std.specs.Prelude.{◌∷◌}
 use Rattle.std.specs.Prelude.{Option, None, Some}
-use Rattle.std.specs.Prelude.{Result, Ok, Err, codes, length}
+use Rattle.std.specs.Prelude.{Result, Ok, Err, codes}
 use Rattle.std.specs.Borrow.{Bor}
 use Rattle.std.specs.Fmt.{decimal}
 use Rattle.bi_base.specs.declared.fault.Cause.{Cause}
-use Rattle.std.specs.List.{AllZip}
 use Rattle.bi_base.specs.declared.fault.Error.{Error}
 use Rattle.bi_base.specs.declared.fault.Error.TheVariants.{OutOfMemory, WriteFailed}
 use Rattle.bi_base.specs.Limits.{Limits}
@@ -42,7 +41,8 @@ use Rattle.bootimg.specs.ComparedFiles.{IsCompareOutput, IsCompareFailure, compa
 use Rattle.bootimg.specs.ComparedFiles.{failure_of_comparing, refused_source}
 use Rattle.bootimg.specs.Explanations.{explain_text}
 use Rattle.bootimg.specs.Failures.{failure_text, name_text}
-use Rattle.bootimg.specs.Files.{FileStep, FilePromise, IsOpenFile, IsSaved, IsNotSaved}
+use Rattle.bootimg.specs.Files.{FileStep, KnownFiles, WasOpened, WasNotOpened, IsSaved, IsNotSaved}
+use Rattle.bootimg.specs.Files.{WereReadInTurn}
 use Rattle.bootimg.specs.Tasks.{EndedWith, task_promise}
 
 -- What a run of the program does: which bytes it writes to which stream, and its exit status
@@ -85,6 +85,11 @@ pub record Work : Type 0 where
   pub new_output : WriteTrace
   pub outcome : Result Done Problem
 
+-- Standard input, and the steps with files so far.
+pub record Inputs : Type 0 where
+  pub input : ReadTrace
+  pub steps : Option (List FileStep)
+
 -- Work with another input.
 abbrev pub with_input : Work → (old new : ReadTrace) → Work
 with_input work old new = record {
@@ -114,18 +119,21 @@ pub data IsTaskWork (task : Task) (limits : Limits) (source : ImageSource) (work
         work.new_output (Err failure)
         → work.outcome ≡ Err (problem source failure) → IsTaskWork task limits source work
 
--- The task was done with an image from its source: standard input, or a file that was opened.
--- Standard input is not read beside a file.
-pub data IsImageWork (files : FilePromise) (task : Task) (limits : Limits) (work : Work)
-    : (source : ImageSource) → Type 0
+-- The task was done with an image from its source: standard input, and no step with a file was
+-- taken; or a file that was opened and closed. Standard input is not read beside a file. `old` and
+-- `new` are the steps with files before the work and after it.
+pub data IsImageWork (files : KnownFiles) (task : Task) (limits : Limits) (work : Work)
+    (old new : Option (List FileStep)) : (source : ImageSource) → Type 0
   where
-    DoneOnInput : IsTaskWork task limits Standard work → IsImageWork files task limits work Standard
-    DoneOnFile : (name : Bor (List ℕ)) (opened end : ReadTrace) → IsOpenFile files name.now opened
+    DoneOnInput : IsTaskWork task limits Standard work → new ≡ old
+        → IsImageWork files task limits work old new Standard
+    DoneOnFile : (name : Bor (List ℕ)) (opened end : ReadTrace)
+        → WasOpened files name.now opened end old new
         → IsTaskWork task limits (File name) (with_input work opened end)
-        → work.new_input ≡ work.input → IsImageWork files task limits work (File name)
-    FileNotOpened : (name : Bor (List ℕ)) → files.has_no_file name.now
+        → work.new_input ≡ work.input → IsImageWork files task limits work old new (File name)
+    FileNotOpened : (name : Bor (List ℕ)) → WasNotOpened files name.now old new
         → IsFailedWork (File name) CannotOpen work → work.new_input ≡ work.input
-        → IsImageWork files task limits work (File name)
+        → IsImageWork files task limits work old new (File name)
 
 -- ---- whole inputs and files
 
@@ -135,40 +143,45 @@ pub record IsNotRead (limits : Limits) (old new : ReadTrace) (failure : Failure)
   pub not_read : IsInputNotRead limits old new error
   pub is : failure ≡ Call error
 
--- The whole file of this name was opened and read.
-pub record IsFileRead (files : FilePromise) (limits : Limits) (name bytes : List ℕ) : Type 0 where
-  pub opened : ReadTrace
-  pub end : ReadTrace
-  pub is_opened : IsOpenFile files name opened
-  pub is_read : IsInputRead limits opened end bytes
-
--- The file of this name was not read, for this reason.
-pub data IsFileNotRead (files : FilePromise) (limits : Limits) (name : List ℕ) (failure : Failure)
-    : Type 0
+-- The file of this name was opened, read as a whole and closed.
+pub record IsFileRead (files : KnownFiles) (limits : Limits) (name bytes : List ℕ)
+    (old new : Option (List FileStep)) : Type 0
   where
-    NotOpened : files.has_no_file name → failure ≡ CannotOpen
-        → IsFileNotRead files limits name failure
-    OpenedNotRead : (opened end : ReadTrace) → IsOpenFile files name opened
-        → IsNotRead limits opened end failure → IsFileNotRead files limits name failure
+    pub opened : ReadTrace
+    pub end : ReadTrace
+    pub was_opened : WasOpened files name opened end old new
+    pub is_read : IsInputRead limits opened end bytes
+
+-- The file of this name was not read, for this reason: it could not be opened, or it was opened,
+-- reading it failed, and it was closed.
+pub data IsFileNotRead (files : KnownFiles) (limits : Limits) (name : List ℕ) (failure : Failure)
+    (old new : Option (List FileStep)) : Type 0
+  where
+    CouldNotOpen : WasNotOpened files name old new → failure ≡ CannotOpen
+        → IsFileNotRead files limits name failure old new
+    OpenedNotRead : (opened end : ReadTrace) → WasOpened files name opened end old new
+        → IsNotRead limits opened end failure → IsFileNotRead files limits name failure old new
 
 -- ---- comparing
 
 -- The image was read from its source. Standard input is as before if it is a file.
-pub data IsImageRead (files : FilePromise) (limits : Limits) (old new : ReadTrace) (image : List ℕ)
+pub data IsImageRead (files : KnownFiles) (limits : Limits) (old new : Inputs) (image : List ℕ)
     : (source : ImageSource) → Type 0
   where
-    InputRead : IsInputRead limits old new image → IsImageRead files limits old new image Standard
-    FileRead : (name : Bor (List ℕ)) → IsFileRead files limits name.now image → new ≡ old
-        → IsImageRead files limits old new image (File name)
+    InputRead : IsInputRead limits old.input new.input image → new.steps ≡ old.steps
+        → IsImageRead files limits old new image Standard
+    FileRead : (name : Bor (List ℕ)) → IsFileRead files limits name.now image old.steps new.steps
+        → new.input ≡ old.input → IsImageRead files limits old new image (File name)
 
 -- The image was not read from its source, for this reason.
-pub data IsImageNotRead (files : FilePromise) (limits : Limits) (old new : ReadTrace)
+pub data IsImageNotRead (files : KnownFiles) (limits : Limits) (old new : Inputs)
     (failure : Failure) : (source : ImageSource) → Type 0
   where
-    InputNotRead : IsNotRead limits old new failure
+    InputNotRead : IsNotRead limits old.input new.input failure → new.steps ≡ old.steps
         → IsImageNotRead files limits old new failure Standard
-    FileNotRead : (name : Bor (List ℕ)) → IsFileNotRead files limits name.now failure → new ≡ old
-        → IsImageNotRead files limits old new failure (File name)
+    FileNotRead : (name : Bor (List ℕ))
+        → IsFileNotRead files limits name.now failure old.steps new.steps
+        → new.input ≡ old.input → IsImageNotRead files limits old new failure (File name)
 
 -- Two images were compared: their differences were written, or that failed, or they could not be
 -- compared.
@@ -189,21 +202,25 @@ pub data IsComparedWork (plan : ComparePlan) (limits : Limits) (one other : List
         → IsFailedWork (refused_source plan error) (failure_of_comparing error) work
         → IsComparedWork plan limits one other work
 
--- The first image was read, then the second one, and then both were compared.
-pub data IsCompareWork (files : FilePromise) (plan : ComparePlan) (limits : Limits) (work : Work)
-    : Type 0
+-- The first image was read, then the second one, and then both were compared. If an image was not
+-- read, nothing else was.
+pub data IsCompareWork (files : KnownFiles) (plan : ComparePlan) (limits : Limits) (work : Work)
+    (old new : Option (List FileStep)) : Type 0
   where
-    BothRead : (one other : List ℕ) (middle : ReadTrace)
-        → IsImageRead files limits work.input middle one plan.one
-        → IsImageRead files limits middle work.new_input other plan.other
-        → IsComparedWork plan limits one other work → IsCompareWork files plan limits work
+    BothRead : (one other : List ℕ) (middle : Inputs)
+        → IsImageRead files limits (record { input = work.input; steps = old }) middle one plan.one
+        → IsImageRead files limits middle (record { input = work.new_input; steps = new }) other
+        plan.other
+        → IsComparedWork plan limits one other work → IsCompareWork files plan limits work old new
     OneNotRead : (failure : Failure)
-        → IsImageNotRead files limits work.input work.new_input failure plan.one
-        → IsFailedWork plan.one failure work → IsCompareWork files plan limits work
-    OtherNotRead : (one : List ℕ) (middle : ReadTrace) (failure : Failure)
-        → IsImageRead files limits work.input middle one plan.one
-        → IsImageNotRead files limits middle work.new_input failure plan.other
-        → IsFailedWork plan.other failure work → IsCompareWork files plan limits work
+        → IsImageNotRead files limits (record { input = work.input; steps = old })
+        (record { input = work.new_input; steps = new }) failure plan.one
+        → IsFailedWork plan.one failure work → IsCompareWork files plan limits work old new
+    OtherNotRead : (one : List ℕ) (middle : Inputs) (failure : Failure)
+        → IsImageRead files limits (record { input = work.input; steps = old }) middle one plan.one
+        → IsImageNotRead files limits middle (record { input = work.new_input; steps = new })
+        failure plan.other
+        → IsFailedWork plan.other failure work → IsCompareWork files plan limits work old new
 
 -- ---- explaining
 
@@ -222,22 +239,41 @@ pub data IsExplainWork (cause : Option Cause) (work : Work) : Type 0 where
 -- ---- building
 
 -- A part from its source: of the length that is given, or with the bytes of the whole file.
-abbrev pub IsPart : FilePromise → Limits → PartSource → Part → Type 0
-IsPart files limits (part.Input size) (Length other) = other ≡ size
-IsPart files limits (part.File name) (Bytes bytes) = IsFileRead files limits name.now bytes.now
-IsPart files limits source other = ⊥
+abbrev pub IsPart : KnownFiles → Limits → PartSource → Part → (old new : Option (List FileStep))
+    → Type 0
+IsPart files limits (part.Input size) (Length other) old new = (other ≡ size) × (new ≡ old)
+IsPart files limits (part.File name) (Bytes bytes) old new =
+    IsFileRead files limits name.now bytes.now old new
+IsPart files limits source other old new = ⊥
+
+-- The parts are those of their sources, whose files were read in this order.
+abbrev pub ArePartsRead : KnownFiles → Limits → List PartSource → List Part
+    → (old new : Option (List FileStep)) → Type 0
+ArePartsRead files limits = WereReadInTurn (IsPart files limits)
 
 -- The file of a part was not read, for this reason, and those of the parts before it were.
-pub record IsPartNotRead (files : FilePromise) (limits : Limits) (sources : List PartSource)
-    (failed : Problem) : Type 0 where
-  pub before : List PartSource
-  pub name : Bor (List ℕ)
-  pub later : List PartSource
-  pub parts : List Part
-  pub is : sources ≡ before ++ part.File name ∷ later
-  pub are_read : AllZip (IsPart files limits) before parts
-  pub not_read : IsFileNotRead files limits name.now failed.failure
-  pub named : failed.source ≡ File name
+pub record IsPartNotRead (files : KnownFiles) (limits : Limits) (sources : List PartSource)
+    (failed : Problem) (old new : Option (List FileStep)) : Type 0
+  where
+    pub before : List PartSource
+    pub name : Bor (List ℕ)
+    pub later : List PartSource
+    pub parts : List Part
+    pub middle : Option (List FileStep)
+    pub is : sources ≡ before ++ part.File name ∷ later
+    pub are_read : ArePartsRead files limits before parts old middle
+    pub not_read : IsFileNotRead files limits name.now failed.failure middle new
+    pub named : failed.source ≡ File name
+
+-- The files of the first of these parts were read, and of no others.
+pub record AreFirstRead (files : KnownFiles) (limits : Limits) (sources : List PartSource)
+    (old new : Option (List FileStep)) : Type 0
+  where
+    pub first : List PartSource
+    pub later : List PartSource
+    pub parts : List Part
+    pub is : sources ≡ first ++ later
+    pub are_read : ArePartsRead files limits first parts old new
 
 -- What building an image of these parts promises as a command.
 abbrev pub build_promise : BuildPlan → List Part → Limits → CommandPromise (Unit {0}) Error
@@ -257,60 +293,70 @@ pub data IsBuiltWork (plan : BuildPlan) (parts : List Part) (limits : Limits) (w
         work.output work.new_output (Err error)
         → work.outcome ≡ Err (problem Standard (Call error)) → IsBuiltWork plan parts limits work
 
--- A reader without bytes, before the first call.
-pub record IsNoInput (trace : ReadTrace) : Type 0 where
-  pub no_bytes : trace.remaining ≡ Some []
-  pub reads_well : ReadsWell trace
-  pub none_taken : trace.taken ≡ 0
+-- An input without bytes, before each call and after it. No call on it fails.
+abbrev pub no_input : ReadTrace
+no_input = record {
+  reader = 0;
+  remaining = Some [];
+  taken = 0;
+  failed = false;
+  interruptions = 0;
+  stopped = false;
+}
 
 -- The files of the parts were read, in their order, and then the image was built: with standard
--- input if it is to be read, and else with an input without bytes. Or that failed before standard
--- input was read.
-pub data IsBuildWork (files : FilePromise) (plan : BuildPlan) (limits : Limits) (work : Work)
-    : Type 0
+-- input if it is to be read, and else with an input without bytes, which is no step. Or that failed
+-- before standard input was read.
+pub data IsBuildWork (files : KnownFiles) (plan : BuildPlan) (limits : Limits) (work : Work)
+    (old new : Option (List FileStep)) : Type 0
   where
-    BuiltWithInput : (parts : List Part) → AllZip (IsPart files limits) (sources_of plan) parts
+    BuiltWithInput : (parts : List Part) → ArePartsRead files limits (sources_of plan) parts old new
         → reads_input (sources_of plan) ≡ true → IsBuiltWork plan parts limits work
-        → IsBuildWork files plan limits work
-    BuiltOfFiles : (parts : List Part) → AllZip (IsPart files limits) (sources_of plan) parts
+        → IsBuildWork files plan limits work old new
+    BuiltOfFiles : (parts : List Part) → ArePartsRead files limits (sources_of plan) parts old new
         → reads_input (sources_of plan) ≡ false
-        → (nothing end : ReadTrace) → IsNoInput nothing
-        → IsBuiltWork plan parts limits (with_input work nothing end)
-        → work.new_input ≡ work.input → IsBuildWork files plan limits work
-    PartNotRead : (failed : Problem) → IsPartNotRead files limits (sources_of plan) failed
+        → IsBuiltWork plan parts limits (with_input work no_input no_input)
+        → work.new_input ≡ work.input → IsBuildWork files plan limits work old new
+    PartNotRead : (failed : Problem)
+        → IsPartNotRead files limits (sources_of plan) failed old new
         → IsFailedWork failed.source failed.failure work → work.new_input ≡ work.input
-        → IsBuildWork files plan limits work
+        → IsBuildWork files plan limits work old new
     -- Memory ran out for the list of parts.
-    NoRoom : IsFailedWork Standard (Call OutOfMemory) work → work.new_input ≡ work.input
-        → IsBuildWork files plan limits work
+    NoRoom : AreFirstRead files limits (sources_of plan) old new
+        → IsFailedWork Standard (Call OutOfMemory) work → work.new_input ≡ work.input
+        → IsBuildWork files plan limits work old new
 
 -- ---- a job
 
--- The job was done.
-abbrev pub IsJobWork : FilePromise → Job → Limits → Work → Type 0
-IsJobWork files (RunTask task source) limits work = IsImageWork files task limits work source
-IsJobWork files (Compare plan) limits work = IsCompareWork files plan limits work
-IsJobWork files (Explain cause) limits work = IsExplainWork cause work
-IsJobWork files (Build plan) limits work = IsBuildWork files plan limits work
+-- The job was done. `old` and `new` are the steps with files before it and after it.
+abbrev pub IsJobWork : KnownFiles → Job → Limits → Work → (old new : Option (List FileStep))
+    → Type 0
+IsJobWork files (RunTask task source) limits work old new =
+    IsImageWork files task limits work old new source
+IsJobWork files (Compare plan) limits work old new = IsCompareWork files plan limits work old new
+IsJobWork files (Explain cause) limits work old new = IsExplainWork cause work × (new ≡ old)
+IsJobWork files (Build plan) limits work old new = IsBuildWork files plan limits work old new
 
 -- ---- an output in a file
 
 -- A job was done with an output that is held in memory, which was empty before.
-pub record IsHeldWork (files : FilePromise) (job : Job) (limits : Limits)
-    (input new_input : ReadTrace) (outcome : Result Done Problem) (held : Option (List ℕ)) : Type 0
+pub record IsHeldWork (files : KnownFiles) (job : Job) (limits : Limits) (before after : Inputs)
+    (outcome : Result Done Problem) (held : Option (List ℕ)) : Type 0
   where
     pub memory : WriteTrace
     pub new_memory : WriteTrace
     pub empty : memory.contents ≡ Some []
     pub writes_well : WritesWell memory
     pub holds : new_memory.contents ≡ held
-    pub work : IsJobWork files job limits (record {
-      input = input;
-      new_input = new_input;
-      output = memory;
-      new_output = new_memory;
-      outcome = outcome;
-    })
+    pub work : IsJobWork files job limits
+        (record {
+          input = before.input;
+          new_input = after.input;
+          output = memory;
+          new_output = new_memory;
+          outcome = outcome;
+        })
+        before.steps after.steps
 
 -- A failed write to memory means that memory ran out.
 abbrev pub failure_in_memory : Failure → Failure
@@ -318,37 +364,38 @@ failure_in_memory (Call WriteFailed) = Call OutOfMemory
 failure_in_memory failure = failure
 
 -- A job failed with this problem, with an output that is held in memory.
-pub record IsHeldFailure (files : FilePromise) (job : Job) (limits : Limits)
-    (input new_input : ReadTrace) (failed : Problem) : Type 0 where
-  pub cause : Problem
-  pub held : Option (List ℕ)
-  pub work : IsHeldWork files job limits input new_input (Err cause) held
-  pub source : failed.source ≡ cause.source
-  pub failure : failed.failure ≡ failure_in_memory cause.failure
-
--- A job was done, and its whole output was saved in the file of this name; or that failed, or the
--- job did, and the file is as it was.
-pub data IsSavedWork (files : FilePromise) (job : Job) (limits : Limits) (name : Bor (List ℕ))
-    (input new_input : ReadTrace) (steps new_steps : Option (List FileStep))
-    (outcome : Result Done Problem) : Type 0
+pub record IsHeldFailure (files : KnownFiles) (job : Job) (limits : Limits) (before after : Inputs)
+    (failed : Problem) : Type 0
   where
-    OutputSaved : (done : Done) (output : List ℕ)
-        → IsHeldWork files job limits input new_input (Ok done) (Some output)
-        → IsSaved files name.now output steps new_steps → outcome ≡ Ok done
-        → IsSavedWork files job limits name input new_input steps new_steps outcome
-    OutputNotSaved : (done : Done) (output : List ℕ)
-        → IsHeldWork files job limits input new_input (Ok done) (Some output)
-        → (failure : Failure) → IsNotSaved files name.now output failure steps new_steps
+    pub cause : Problem
+    pub held : Option (List ℕ)
+    pub work : IsHeldWork files job limits before after (Err cause) held
+    pub source : failed.source ≡ cause.source
+    pub failure : failed.failure ≡ failure_in_memory cause.failure
+
+-- A job was done, and then its whole output was saved in the file of this name; or that failed, or
+-- the job did, and the file is as it was.
+pub data IsSavedWork (files : KnownFiles) (job : Job) (limits : Limits) (name : Bor (List ℕ))
+    (before after : Inputs) (outcome : Result Done Problem) : Type 0
+  where
+    OutputSaved : (done : Done) (output : List ℕ) (worked : Option (List FileStep))
+        → IsHeldWork files job limits before (record { input = after.input; steps = worked })
+        (Ok done) (Some output)
+        → IsSaved files name.now output worked after.steps → outcome ≡ Ok done
+        → IsSavedWork files job limits name before after outcome
+    OutputNotSaved : (done : Done) (output : List ℕ) (worked : Option (List FileStep))
+        → IsHeldWork files job limits before (record { input = after.input; steps = worked })
+        (Ok done) (Some output)
+        → (failure : Failure) → IsNotSaved files name.now output failure worked after.steps
         → outcome ≡ Err (problem (File name) failure)
-        → IsSavedWork files job limits name input new_input steps new_steps outcome
-    NoOutput : (failed : Problem) → IsHeldFailure files job limits input new_input failed
-        → new_steps ≡ steps → outcome ≡ Err failed
-        → IsSavedWork files job limits name input new_input steps new_steps outcome
+        → IsSavedWork files job limits name before after outcome
+    NoOutput : (failed : Problem) → IsHeldFailure files job limits before after failed
+        → outcome ≡ Err failed → IsSavedWork files job limits name before after outcome
 
 -- ---- a run
 
--- The three streams and the steps with new files, before and after a call, and the exit status
--- that it returns.
+-- The three streams and the steps with files, before and after a call, and the exit status that it
+-- returns.
 pub record Run : Type 0 where
   pub input : ReadTrace
   pub new_input : ReadTrace
@@ -370,25 +417,31 @@ work_of run outcome = record {
   outcome = outcome;
 }
 
--- Nothing was read or written, no file was changed, and a failure with an image from this source
--- was reported.
+-- The inputs of a run before it and after it.
+abbrev pub inputs_before : Run → Inputs
+inputs_before run = record { input = run.input; steps = run.steps }
+
+abbrev pub inputs_after : Run → Inputs
+inputs_after run = record { input = run.new_input; steps = run.new_steps }
+
+-- Nothing was read or written, no step with a file was taken, and a failure with an image from this
+-- source was reported.
 pub record IsRejection (source : ImageSource) (failure : Failure) (run : Run) : Type 0 where
   pub nothing_read : run.new_input ≡ run.input
   pub nothing_written : run.new_output ≡ run.output
-  pub nothing_changed : run.new_steps ≡ run.steps
+  pub no_steps : run.new_steps ≡ run.steps
   pub reports : Reports source failure run.errors run.new_errors
   pub status : run.status ≡ 2
 
 -- A job was done with this output: standard output if no file is named, or else the file of this
 -- name, and then nothing was written to standard output.
-pub data IsOutputRun (files : FilePromise) (job : Job) (limits : Limits) (run : Run)
+pub data IsOutputRun (files : KnownFiles) (job : Job) (limits : Limits) (run : Run)
     (outcome : Result Done Problem) : (output : Option (Bor (List ℕ))) → Type 0
   where
-    ToStandardOutput : IsJobWork files job limits (work_of run outcome)
-        → run.new_steps ≡ run.steps → IsOutputRun files job limits run outcome None
+    ToStandardOutput : IsJobWork files job limits (work_of run outcome) run.steps run.new_steps
+        → IsOutputRun files job limits run outcome None
     ToFile : (name : Bor (List ℕ))
-        → IsSavedWork files job limits name run.input run.new_input run.steps run.new_steps
-        outcome
+        → IsSavedWork files job limits name (inputs_before run) (inputs_after run) outcome
         → run.new_output ≡ run.output → IsOutputRun files job limits run outcome (Some name)
 
 -- How a run ends: with a note on signature nodes if there are any, or with the line of a failure.
@@ -402,7 +455,7 @@ pub data IsEnd (errors new_errors : WriteTrace) (status : ℕ) (outcome : Result
         → IsEnd errors new_errors status outcome
 
 -- The job that is requested was done with the output that is requested.
-pub record IsRequestRun (files : FilePromise) (request : Request) (run : Run) : Type 0 where
+pub record IsRequestRun (files : KnownFiles) (request : Request) (run : Run) : Type 0 where
   pub outcome : Result Done Problem
   pub done : IsOutputRun files request.job request.limits run outcome request.output
   pub end : IsEnd run.errors run.new_errors run.status outcome
@@ -416,8 +469,8 @@ abbrev pub IsMistake : ErrorKind → Type 0
 IsMistake kind = (kind ≢ DisplayHelp) × (kind ≢ DisplayVersion)
 
 -- A text of this kind about the arguments was written: help or the version to standard
--- output, or why the arguments are wrong to standard error. Nothing was read, and no file was
--- changed.
+-- output, or why the arguments are wrong to standard error. Nothing was read, and no step with a
+-- file was taken.
 pub data IsTextRun (kind : ErrorKind) (text : List ℕ) (run : Run) : Type 0 where
   IsWritten : IsAskedFor kind → WroteAndFlushed run.output text run.new_output
       → run.new_errors ≡ run.errors → run.new_input ≡ run.input → run.new_steps ≡ run.steps
@@ -433,7 +486,7 @@ pub data IsTextRun (kind : ErrorKind) (text : List ℕ) (run : Run) : Type 0 whe
 
 -- The program ran with these arguments: it did the job that they request, rejected them, or wrote a
 -- text that clap has for them.
-pub data IsRun (arguments : List (List ℕ)) (files : FilePromise) (run : Run) : Type 0 where
+pub data IsRun (arguments : List (List ℕ)) (files : KnownFiles) (run : Run) : Type 0 where
   RanJob : (request : Request) → IsRequest arguments request → HasJobLengths request.job
       → IsRequestRun files request run → IsRun arguments files run
   Rejected : (failure : Failure) → IsRejected arguments failure
@@ -443,7 +496,7 @@ pub data IsRun (arguments : List (List ℕ)) (files : FilePromise) (run : Run) :
 
 -- The program ran over plain streams: it did what traces of these streams record, which begin when
 -- the run does.
-pub record IsPlainRun (arguments : List (List ℕ)) (files : FilePromise)
+pub record IsPlainRun (arguments : List (List ℕ)) (files : KnownFiles)
     (steps new_steps : Option (List FileStep))
     (remaining new_remaining contents new_contents : Option (List ℕ))
     (errors new_errors : Option (List ℕ)) (status : ℕ) : Type 0 where

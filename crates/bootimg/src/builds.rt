@@ -7,6 +7,7 @@ ghost use Rattle.bi_base.specs.declared.fault.Error.TheVariants.{OutOfMemory};
 ghost use Rattle.bootimg.specs.CommandLine.{HasLengths, sources_of};
 ghost use Rattle.bootimg.specs.CommandLine.{is_input as is_input_of, reads_input as reads_input_of};
 ghost use Rattle.bootimg.specs.ReadParts.{IsLent, IsReadingProblem, IsSourceProblem, WasRead};
+ghost use Rattle.bootimg.specs.ReadParts.{WereRead};
 ghost use Rattle.bootimg.specs.Runs.{build_promise, problem, IsBuildWork, IsBuiltWork};
 ghost use Rattle.bootimg.specs.declared.command_line.source.ImageSource.TheVariants.{Standard};
 ghost use Rattle.bootimg.specs.declared.failure.Failure.TheVariants.{Call};
@@ -15,13 +16,13 @@ use crate::command_line::{BuildPlan, ImageSource, PartSource};
 use crate::failure::Failure;
 use crate::files::FileSystem;
 use crate::jobs::{Problem, read_file};
+use crate::no_input::NoInput;
 use crate::tasks::{Done, SUCCESS};
-use bi_base::{Error, Limits, TracedRead, TracedReader, TracedWrite, pipe};
+use bi_base::{Error, Limits, TracedRead, TracedWrite, pipe};
 use bi_commands::build_fit::FitBuilder;
 use bi_commands::build_legacy::LegacyBuilder;
 use bi_commands::parts::Part;
 use std::alloc::Global;
-use std::io;
 
 /// A part of an image to be built, whose file was read if it has one.
 #[derive(Drop)]
@@ -38,18 +39,21 @@ pub fn build_image<'a, S: TracedRead, T: TracedWrite, F: FileSystem>(
     alloc: Global,
     plan: &BuildPlan<'a>,
     limits: Limits,
-    files: &F,
+    files: &mut F,
     input: &mut S,
     output: &mut T,
 ) -> Result<Done, Problem<'a>>
     requires { HasLengths plan.now }
-    ensures { IsBuildWork (F.promise files.now) plan.now limits (record {
-      input = S.trace input.old;
-      new_input = S.trace input.new;
-      output = T.trace output.old;
-      new_output = T.trace output.new;
-      outcome = result;
-    }) }
+    ensures work { IsBuildWork (F.known files.old) plan.now limits
+        (record {
+          input = S.trace input.old;
+          new_input = S.trace input.new;
+          output = T.trace output.old;
+          new_output = T.trace output.new;
+          outcome = result;
+        })
+        (F.steps files.old) (F.steps files.new) }
+    ensures same_files { F.known files.new ≡ F.known files.old }
 {
     let sources = plan.sources();
     let read = read_parts(alloc, sources, limits, files)?;
@@ -57,9 +61,7 @@ pub fn build_image<'a, S: TracedRead, T: TracedWrite, F: FileSystem>(
     if reads_input(sources) {
         build(alloc, plan, &parts, limits, input, output)
     } else {
-        let mut empty = io::empty();
-        let mut nothing = TracedReader::new(&mut empty);
-        build(alloc, plan, &parts, limits, &mut nothing, output)
+        build(alloc, plan, &parts, limits, &mut NoInput, output)
     }
 }
 
@@ -93,11 +95,13 @@ fn read_parts<'a, F: FileSystem>(
     alloc: Global,
     sources: &[PartSource<'a>],
     limits: Limits,
-    files: &F,
+    files: &mut F,
 ) -> Result<Vec<ReadPart>, Problem<'a>>
-    ensures read { IfOk result (λ read. AllZip (WasRead (F.promise files.now) limits) sources.now
-        read.items) }
-    ensures failed { IfErr result (IsReadingProblem (F.promise files.now) limits sources.now) }
+    ensures read { IfOk result (λ read. WereRead (F.known files.old) limits sources.now read.items
+        (F.steps files.old) (F.steps files.new)) }
+    ensures failed { IfErr result (λ failed. IsReadingProblem (F.known files.old) limits
+        sources.now failed (F.steps files.old) (F.steps files.new)) }
+    ensures same_files { F.known files.new ≡ F.known files.old }
 {
     let mut read = Vec::with_capacity(alloc, sources.len())?;
     for source in sources {
@@ -112,10 +116,13 @@ fn read_part<'a, F: FileSystem>(
     alloc: Global,
     source: PartSource<'a>,
     limits: Limits,
-    files: &F,
+    files: &mut F,
 ) -> Result<ReadPart, Problem<'a>>
-    ensures read { IfOk result (λ read. WasRead (F.promise files.now) limits source.entry read) }
-    ensures failed { IfErr result (IsSourceProblem (F.promise files.now) limits source.entry) }
+    ensures read { IfOk result (λ read. WasRead (F.known files.old) limits source.entry read
+        (F.steps files.old) (F.steps files.new)) }
+    ensures failed { IfErr result (λ failed. IsSourceProblem (F.known files.old) limits
+        source.entry failed (F.steps files.old) (F.steps files.new)) }
+    ensures same_files { F.known files.new ≡ F.known files.old }
 {
     match source {
         PartSource::Input(length) => Ok(ReadPart::Input(length)),

@@ -4,46 +4,62 @@ ghost use Rattle.std.specs.Prelude.{◌≡◌, ◌≢◌, ◌∷◌, [], Option,
 ghost use Rattle.std.specs.Prelude.{IfOk, IfErr, IfSome, IfNone, IsTrue, IsFalse};
 ghost use Rattle.std.specs.IoError.{error_kind};
 ghost use Rattle.std.specs.declared.io.ErrorKind.TheVariants.{AlreadyExists};
-ghost use Rattle.bootimg.specs.Files.{any_files, no_files, FilePromise, FileStep};
-ghost use Rattle.bootimg.specs.Files.{IsNewFile, TookSteps};
+ghost use Rattle.bootimg.specs.Files.{no_files, FileStep, NameHas, KnownFiles};
+ghost use Rattle.bootimg.specs.Files.{IsNewFile, IsNoFile, IsNoRegularFile, IsOpenFile};
+ghost use Rattle.bootimg.specs.Files.{MayBeReplaced, MayNotBeReplaced, TookSteps};
+ghost use Rattle.bootimg.specs.Files.{Opened, NotOpened, ReaderClosed};
 ghost use Rattle.bootimg.specs.Files.{Made, NameTaken, NotMade, Closed, NotClosed};
 ghost use Rattle.bootimg.specs.Files.{Renamed, NotRenamed, Removed, NotRemoved};
 
 use crate::new_file::NewFile;
-use bi_base::TracedWrite;
+use crate::opened_file::OpenedFile;
+use bi_base::{TracedRead, TracedWrite};
 use std::fs::{self, File, Files, OpenFile};
 use std::io::{self, Empty, ErrorKind, Read, Write};
 
 /// What opens files, and makes them.
 pub trait FileSystem {
-    /// A file that is open for reading. It is closed when it is dropped.
-    type Opened: Read + Drop;
+    /// A file that is open for reading, which records the outcome of each call.
+    type Opened: TracedRead + Drop;
 
     /// A new file that is open for writing, which records the outcome of each call.
     type Created: TracedWrite + Drop;
 
-    // What is known of the file of each name.
-    ghost promise: { Self → FilePromise };
+    // What has each name, if it is known.
+    ghost known: { Self → KnownFiles };
 
-    // The steps with new files so far, if they are known.
+    // The steps with files so far, if they are known. Once they are not, they stay unknown.
     ghost steps: { Self → Option (List FileStep) };
 
     /// Opens the file of this name for reading. Returns None if it cannot be opened.
-    fn open(&self, name: &str) -> Option<Self::Opened>
-        ensures opened { IfSome result (λ file. (promise self.now).has_file name.now
-            (Self.Opened.remaining file)) }
-        ensures not_opened { IfNone result ((promise self.now).has_no_file name.now) };
+    fn open(&mut self, name: &str) -> Option<Self::Opened>
+        ensures is_open { IfSome result (λ file. IsOpenFile (known self.old) name.now
+            (Self.Opened.trace file)) }
+        ensures is_no_file { IfNone result (NameHas (known self.old) name.now IsNoRegularFile) }
+        ensures opened { IfSome result (λ file. TookSteps (steps self.old) (steps self.new)
+            (Opened name.now (Self.Opened.trace file) ∷ [])) }
+        ensures not_opened { IfNone result (TookSteps (steps self.old) (steps self.new)
+            (NotOpened name.now ∷ [])) }
+        ensures same_files { known self.new ≡ known self.old };
+
+    /// Closes the file of this name, which was opened for reading.
+    fn close_reader(&mut self, name: &str, file: Self::Opened)
+        ensures closed { TookSteps (steps self.old) (steps self.new)
+            (ReaderClosed name.now (Self.Opened.trace file) ∷ []) }
+        ensures same_files { known self.new ≡ known self.old };
 
     /// Returns whether a new file may take this name: nothing has it, or a regular file does.
     fn can_replace(&self, name: &str) -> bool
-        ensures can { IsTrue result → (promise self.now).can_replace name.now }
-        ensures cannot { IsFalse result → (promise self.now).cannot_replace name.now };
+        ensures can { IsTrue result → NameHas (known self.now) name.now MayBeReplaced }
+        ensures cannot { IsFalse result → NameHas (known self.now) name.now MayNotBeReplaced };
 
     /// Makes a new file of this name for writing, which is to take the name `replaced`. If a file
     /// has that name, the new one has its permissions. Fails with the kind AlreadyExists if
     /// something has the name `name`.
     fn create(&mut self, name: &str, replaced: &str) -> io::Result<Self::Created>
         ensures is_new { IfOk result (λ file. IsNewFile (Self.Created.trace file)) }
+        ensures is_unused { OnOk result (NameHas (known self.old) name.now IsNoFile) }
+        ensures same_files { OnErr result (known self.new ≡ known self.old) }
         ensures made { IfOk result (λ file. TookSteps (steps self.old) (steps self.new)
             (Made name.now (Self.Created.trace file) ∷ [])) }
         ensures taken { IfErr result (λ error. error_kind error ≡ AlreadyExists
@@ -80,17 +96,19 @@ pub trait FileSystem {
 pub struct NoFiles;
 
 impl FileSystem for NoFiles {
-    type Opened = Empty;
+    type Opened = OpenedFile<Empty>;
 
     type Created = NewFile<Vec<u8>>;
 
-    ghost promise = { λ _. no_files };
+    ghost known = { λ _. no_files };
 
     ghost steps = { λ _. None };
 
-    fn open(&self, _name: &str) -> Option<Empty> {
+    fn open(&mut self, _name: &str) -> Option<OpenedFile<Empty>> {
         None
     }
+
+    fn close_reader(&mut self, _name: &str, _file: OpenedFile<Empty>) {}
 
     fn can_replace(&self, _name: &str) -> bool {
         false
@@ -121,17 +139,23 @@ pub struct SystemFiles<'a, R> {
 }
 
 impl<'a, R: Files> FileSystem for SystemFiles<'a, R> {
-    type Opened = R::File;
+    type Opened = OpenedFile<R::File>;
 
     type Created = NewFile<SystemFile<R::File>>;
 
-    ghost promise = { λ _. any_files };
+    ghost known = { λ _. None };
 
     ghost steps = { λ _. None };
 
-    fn open(&self, name: &str) -> Option<R::File> {
-        File::open(self.runtime, name).ok()
+    fn open(&mut self, name: &str) -> Option<OpenedFile<R::File>> {
+        match File::open(self.runtime, name) {
+            Ok(file) => Some(OpenedFile::new(file)),
+            Err(_) => None,
+        }
     }
+
+    // The system closes a file when it is dropped.
+    fn close_reader(&mut self, _name: &str, _file: OpenedFile<R::File>) {}
 
     fn can_replace(&self, name: &str) -> bool {
         match fs::symlink_metadata(self.runtime, name) {

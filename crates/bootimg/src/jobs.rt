@@ -21,8 +21,7 @@ use crate::failure::Failure;
 use crate::files::FileSystem;
 use crate::tasks::Done;
 use bi_base::{
-    Cause, Error, Limits, TracedRead, TracedReader, TracedWrite, pipe, read_all_traced,
-    write_and_flush,
+    Cause, Error, Limits, TracedRead, TracedWrite, pipe, read_all_traced, write_and_flush,
 };
 use bi_commands::compare::{CompareError, Comparison, compare, have_same_meaning};
 use std::alloc::{AllocError, AllocFailed, Global};
@@ -72,18 +71,21 @@ pub fn do_job<'a, S: TracedRead, T: TracedWrite, F: FileSystem>(
     alloc: Global,
     job: &Job<'a>,
     limits: Limits,
-    files: &F,
+    files: &mut F,
     input: &mut S,
     output: &mut T,
 ) -> Result<Done, Problem<'a>>
     requires lengths { HasJobLengths job.now }
-    ensures { IsJobWork (F.promise files.now) job.now limits (record {
-      input = S.trace input.old;
-      new_input = S.trace input.new;
-      output = T.trace output.old;
-      new_output = T.trace output.new;
-      outcome = result;
-    }) }
+    ensures work { IsJobWork (F.known files.old) job.now limits
+        (record {
+          input = S.trace input.old;
+          new_input = S.trace input.new;
+          output = T.trace output.old;
+          new_output = T.trace output.new;
+          outcome = result;
+        })
+        (F.steps files.old) (F.steps files.new) }
+    ensures same_files { F.known files.new ≡ F.known files.old }
 {
     match job {
         Job::Run(task, source) => {
@@ -101,24 +103,28 @@ fn run_on_image<'a, S: TracedRead, T: TracedWrite, F: FileSystem>(
     task: &Task,
     source: ImageSource<'a>,
     limits: Limits,
-    files: &F,
+    files: &mut F,
     input: &mut S,
     output: &mut T,
 ) -> Result<Done, Problem<'a>>
-    ensures { IsImageWork (F.promise files.now) task.now limits (record {
-      input = S.trace input.old;
-      new_input = S.trace input.new;
-      output = T.trace output.old;
-      new_output = T.trace output.new;
-      outcome = result;
-    }) source.entry }
+    ensures work { IsImageWork (F.known files.old) task.now limits
+        (record {
+          input = S.trace input.old;
+          new_input = S.trace input.new;
+          output = T.trace output.old;
+          new_output = T.trace output.new;
+          outcome = result;
+        })
+        (F.steps files.old) (F.steps files.new) source.entry }
+    ensures same_files { F.known files.new ≡ F.known files.old }
 {
     match source {
         ImageSource::Standard => run_task(alloc, task, source, limits, input, output),
         ImageSource::File(name) => match files.open(name) {
-            Some(mut file) => {
-                let mut image = TracedReader::new(&mut file);
-                run_task(alloc, task, source, limits, &mut image, output)
+            Some(mut image) => {
+                let outcome = run_task(alloc, task, source, limits, &mut image, output);
+                files.close_reader(name, image);
+                outcome
             }
             None => Err(Problem {
                 source,
@@ -156,17 +162,20 @@ fn compare_images<'a, S: TracedRead, T: TracedWrite, F: FileSystem>(
     alloc: Global,
     plan: ComparePlan<'a>,
     limits: Limits,
-    files: &F,
+    files: &mut F,
     input: &mut S,
     output: &mut T,
 ) -> Result<Done, Problem<'a>>
-    ensures { IsCompareWork (F.promise files.now) plan.entry limits (record {
-      input = S.trace input.old;
-      new_input = S.trace input.new;
-      output = T.trace output.old;
-      new_output = T.trace output.new;
-      outcome = result;
-    }) }
+    ensures work { IsCompareWork (F.known files.old) plan.entry limits
+        (record {
+          input = S.trace input.old;
+          new_input = S.trace input.new;
+          output = T.trace output.old;
+          new_output = T.trace output.new;
+          outcome = result;
+        })
+        (F.steps files.old) (F.steps files.new) }
+    ensures same_files { F.known files.new ≡ F.known files.old }
 {
     let one = match read_image(alloc, plan.one, limits, files, input) {
         Ok(one) => one,
@@ -191,13 +200,18 @@ fn read_image<S: TracedRead, F: FileSystem>(
     alloc: Global,
     source: ImageSource<'_>,
     limits: Limits,
-    files: &F,
+    files: &mut F,
     input: &mut S,
 ) -> Result<Vec<u8>, Failure>
-    ensures read { IfOk result (λ image. IsImageRead (F.promise files.now) limits
-        (S.trace input.old) (S.trace input.new) image.items source.entry) }
-    ensures failed { IfErr result (λ failure. IsImageNotRead (F.promise files.now) limits
-        (S.trace input.old) (S.trace input.new) failure source.entry) }
+    ensures read { IfOk result (λ image. IsImageRead (F.known files.old) limits
+        (record { input = S.trace input.old; steps = F.steps files.old })
+        (record { input = S.trace input.new; steps = F.steps files.new })
+        image.items source.entry) }
+    ensures failed { IfErr result (λ failure. IsImageNotRead (F.known files.old) limits
+        (record { input = S.trace input.old; steps = F.steps files.old })
+        (record { input = S.trace input.new; steps = F.steps files.new })
+        failure source.entry) }
+    ensures same_files { F.known files.new ≡ F.known files.old }
 {
     match source {
         ImageSource::Standard => read_input(alloc, limits, input),
@@ -205,22 +219,25 @@ fn read_image<S: TracedRead, F: FileSystem>(
     }
 }
 
-/// Opens the file of this name and reads the whole of it. Fails as `read_input` does, or with
-/// CannotOpen.
+/// Opens the file of this name, reads the whole of it and closes it. Fails as `read_input` does, or
+/// with CannotOpen.
 pub fn read_file<F: FileSystem>(
     alloc: Global,
     name: &str,
     limits: Limits,
-    files: &F,
+    files: &mut F,
 ) -> Result<Vec<u8>, Failure>
-    ensures read { IfOk result (λ bytes. IsFileRead (F.promise files.now) limits name.now
-        bytes.items) }
-    ensures failed { IfErr result (IsFileNotRead (F.promise files.now) limits name.now) }
+    ensures read { IfOk result (λ bytes. IsFileRead (F.known files.old) limits name.now
+        bytes.items (F.steps files.old) (F.steps files.new)) }
+    ensures failed { IfErr result (λ failure. IsFileNotRead (F.known files.old) limits name.now
+        failure (F.steps files.old) (F.steps files.new)) }
+    ensures same_files { F.known files.new ≡ F.known files.old }
 {
     match files.open(name) {
         Some(mut file) => {
-            let mut bytes = TracedReader::new(&mut file);
-            read_input(alloc, limits, &mut bytes)
+            let bytes = read_input(alloc, limits, &mut file);
+            files.close_reader(name, file);
+            bytes
         }
         None => Err(Failure::CannotOpen),
     }

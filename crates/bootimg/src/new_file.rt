@@ -1,10 +1,19 @@
 //! New files, which record the outcomes of the calls on them.
 
-ghost use Rattle.std.specs.Prelude.{◌≡◌};
+ghost use Rattle.std.specs.Prelude.{◌≡◌, IsFalse};
 ghost use Rattle.bi_base.specs.Traces.{WritesWell};
 
 use bi_base::{CallOutcome, TracedWrite};
 use std::io::{self, Write};
+
+/// What is recorded of the calls on a writer.
+#[derive(Clone, Copy)]
+pub struct WriteCalls {
+    outcome: CallOutcome,
+    stalled: bool,
+    flushing: bool,
+    stopped: bool,
+}
 
 /// A new file, with its writer. It is closed when it is dropped.
 #[derive(Drop)]
@@ -21,6 +30,8 @@ impl<W: Write> NewFile<W> {
     pub fn new(writer: W) -> NewFile<W>
         ensures contents { (⟦<NewFile<W> as TracedWrite>⟧.trace result).contents
             ≡ W.contents writer }
+        ensures not_failed { IsFalse (⟦<NewFile<W> as TracedWrite>⟧.trace result).failed }
+        ensures not_stalled { IsFalse (⟦<NewFile<W> as TracedWrite>⟧.trace result).stalled }
         ensures well { WritesWell (⟦<NewFile<W> as TracedWrite>⟧.trace result) }
     {
         NewFile {
@@ -37,6 +48,30 @@ impl<W: Write> NewFile<W> {
         ensures { result.now ≡ self.now.writer }
     {
         &self.writer
+    }
+
+    /// Returns what is recorded of the calls so far.
+    pub fn calls(&self) -> WriteCalls
+        ensures { result ≡ record {
+          outcome = self.now.outcome;
+          stalled = self.now.stalled;
+          flushing = self.now.flushing;
+          stopped = self.now.stopped;
+        } }
+    {
+        WriteCalls {
+            outcome: self.outcome,
+            stalled: self.stalled,
+            flushing: self.flushing,
+            stopped: self.stopped,
+        }
+    }
+
+    /// Returns the writer.
+    pub fn into_writer(self) -> W
+        ensures { result ≡ self.writer }
+    {
+        self.writer
     }
 }
 

@@ -25,7 +25,7 @@ pub fn perform<S: TracedRead, T: TracedWrite, E: TracedWrite, F: FileSystem>(
     errors: &mut E,
 ) -> u8
     requires lengths { HasJobLengths request.now.job }
-    ensures { IsRequestRun (F.promise files.old) request.now (record {
+    ensures { IsRequestRun (F.known files.old) request.now (record {
       input = S.trace input.old;
       new_input = S.trace input.new;
       output = T.trace output.old;
@@ -76,8 +76,9 @@ fn do_job_to_file<'a, S: TracedRead, F: FileSystem>(
     input: &mut S,
 ) -> Result<Done, Problem<'a>>
     requires lengths { HasJobLengths job.now }
-    ensures { IsSavedWork (F.promise files.old) job.now limits name.entry (S.trace input.old)
-        (S.trace input.new) (F.steps files.old) (F.steps files.new) result }
+    ensures { IsSavedWork (F.known files.old) job.now limits name.entry
+        (record { input = S.trace input.old; steps = F.steps files.old })
+        (record { input = S.trace input.new; steps = F.steps files.new }) result }
 {
     let (done, bytes) = do_job_in_memory(alloc, job, limits, files, input)?;
     match save(alloc, files, name, &bytes) {
@@ -94,14 +95,18 @@ fn do_job_in_memory<'a, S: TracedRead, F: FileSystem>(
     alloc: Global,
     job: &Job<'a>,
     limits: Limits,
-    files: &F,
+    files: &mut F,
     input: &mut S,
 ) -> Result<(Done, Vec<u8>), Problem<'a>>
     requires lengths { HasJobLengths job.now }
-    ensures done { IfOk result (λ made. IsHeldWork (F.promise files.now) job.now limits
-        (S.trace input.old) (S.trace input.new) (Ok made.0) (Some made.1.items)) }
-    ensures failed { IfErr result (IsHeldFailure (F.promise files.now) job.now limits
-        (S.trace input.old) (S.trace input.new)) }
+    ensures done { IfOk result (λ made. IsHeldWork (F.known files.old) job.now limits
+        (record { input = S.trace input.old; steps = F.steps files.old })
+        (record { input = S.trace input.new; steps = F.steps files.new })
+        (Ok made.0) (Some made.1.items)) }
+    ensures failed { IfErr result (IsHeldFailure (F.known files.old) job.now limits
+        (record { input = S.trace input.old; steps = F.steps files.old })
+        (record { input = S.trace input.new; steps = F.steps files.new })) }
+    ensures same_files { F.known files.new ≡ F.known files.old }
 {
     let mut bytes = Vec::new(alloc);
     let mut memory = TracedWriter::new(&mut bytes);

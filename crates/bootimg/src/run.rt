@@ -59,7 +59,7 @@ pub fn run_with_files<'a, R: Read, W: Write, E: Write, F: FileSystem>(
     writer: &mut W,
     errors: &mut E,
 ) -> u8
-    ensures { IsPlainRun (texts_of arguments.entry.now) (F.promise files.old)
+    ensures { IsPlainRun (texts_of arguments.entry.now) (F.known files.old)
         (F.steps files.old) (F.steps files.new)
         (R.remaining reader.old) (R.remaining reader.new)
         (W.contents writer.old) (W.contents writer.new)
@@ -81,7 +81,7 @@ pub fn run_traced<'a, S: TracedRead, T: TracedWrite, E: TracedWrite, F: FileSyst
     output: &mut T,
     errors: &mut E,
 ) -> u8
-    ensures { IsRun (texts_of arguments.entry.now) (F.promise files.old) (record {
+    ensures { IsRun (texts_of arguments.entry.now) (F.known files.old) (record {
       input = S.trace input.old;
       new_input = S.trace input.new;
       output = T.trace output.old;

@@ -27,9 +27,9 @@ pub fn save<F: FileSystem>(
     name: &str,
     bytes: &[u8],
 ) -> Result<(), Failure>
-    ensures saved { OnOk result (IsSaved (F.promise files.old) name.now bytes.now
+    ensures saved { OnOk result (IsSaved (F.known files.old) name.now bytes.now
         (F.steps files.old) (F.steps files.new)) }
-    ensures failed { IfErr result (λ failure. IsNotSaved (F.promise files.old) name.now
+    ensures failed { IfErr result (λ failure. IsNotSaved (F.known files.old) name.now
         bytes.now failure (F.steps files.old) (F.steps files.new)) }
 {
     if !files.can_replace(name) {
@@ -97,8 +97,8 @@ fn create_beside<F: FileSystem>(
     files: &mut F,
     name: &str,
 ) -> Result<(String, F::Created), Failure>
-    ensures made { IfOk result (λ made. IsMadeBeside name.now (string_bytes made.0)
-        (F.Created.trace made.1) (F.steps files.old) (F.steps files.new)) }
+    ensures made { IfOk result (λ made. IsMadeBeside (F.known files.old) name.now
+        (string_bytes made.0) (F.Created.trace made.1) (F.steps files.old) (F.steps files.new)) }
     ensures failed { IfErr result (λ failure. IsNotMade name.now failure (F.steps files.old)
         (F.steps files.new)) }
 {

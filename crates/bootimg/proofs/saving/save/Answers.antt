@@ -11,7 +11,7 @@ returns-in_err-beside-clause-failed g c =
 
 pub returns-clause-failed : goal.returns-clause-failed
 returns-clause-failed g c =
-    new_file_failed (g.F.FileSystem.promise c.args.files.now) c.args.name.now c.args.bytes.now (string_bytes c.in_ok-beside.beside)
+    new_file_failed (g.F.FileSystem.known c.args.files.now) c.args.name.now c.args.bytes.now (string_bytes c.in_ok-beside.beside)
     c.as_str.result.now c.as_str-in-Err.result.now c.in-Err.failure (g.F.Created.TracedWrite.trace c.in_ok-beside.file) _ _ _ _
     c.remove.result (c.if-not-can_replace.ensures.can refl) c.in_ok-beside.ensures.made c.as_str.ensures.value c.in-Err.ensures.not_put
     c.as_str-in-Err.ensures.value c.remove.ensures.removed c.remove.ensures.not_removed c.in-Err.ensures.failure

@@ -1,0 +1,32 @@
+use Rattle.std.proofs.Common.{◌∙◌, ◌-◌, arith, subst, sym, take}
+use Rattle.bootimg.specs.Files.{Entry}
+use Rattle.bootimg.specs.MemoryFiles.{recorded_names, IsFileFound}
+use Rattle.bootimg.proofs.MemoryLogs.{one_step_back}
+use Rattle.bootimg.proofs.memory_files.MemoryFiles.find.Goals as goal
+
+pub returns-in-Has : goal.returns-in-Has
+returns-in-Has c =
+    let log = c.args.self.now.log.items in
+    let back =
+    one_step_back log c.loop-left.left c.index.result.now c.args.name.now c.loop-left.wanted.now c.loop-left-test.true
+    c.loop-left.invariant.within c.index.ensures c.loop-left.invariant.same
+    in
+    subst (λ (e : Entry). IsFileFound e c.in-Has.found) (sym back) (c.in-Has.ensures (recorded_names (take (c.loop-left.left - 1) log)))
+
+pub loop-left-preserved-in-HadName : goal.loop-left-preserved-in-HadName
+loop-left-preserved-in-HadName c =
+    let log = c.args.self.now.log.items in
+    let back =
+    one_step_back log c.loop-left.left c.index.result.now c.args.name.now c.loop-left.wanted.now c.loop-left-test.true
+    c.loop-left.invariant.within c.index.ensures c.loop-left.invariant.same
+    in
+    record { within = omega arith; same = back ∙ c.in-HadName.ensures (recorded_names (take (c.loop-left.left - 1) log)) }
+
+pub loop-left-preserved : goal.loop-left-preserved
+loop-left-preserved c =
+    let log = c.args.self.now.log.items in
+    let back =
+    one_step_back log c.loop-left.left c.index.result.now c.args.name.now c.loop-left.wanted.now c.loop-left-test.true
+    c.loop-left.invariant.within c.index.ensures c.loop-left.invariant.same
+    in
+    record { within = omega arith; same = back ∙ c.in-HadSameName.ensures (recorded_names (take (c.loop-left.left - 1) log)) }

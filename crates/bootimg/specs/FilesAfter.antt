@@ -1,0 +1,69 @@
+use Rattle.std.specs.Prelude.{◌≡◌, ◌≢◌, ⊤, ℕ, List, [], ◌∷◌, ◌++◌, Some, unwrap_or, bytes_eq}
+use Rattle.std.specs.Prelude.{if◌then◌else◌}
+use Rattle.bi_base.specs.Traces.{WriteTrace}
+use Rattle.bootimg.specs.Files.{Entry, NoFile, RegularFile, FileStep, Names}
+use Rattle.bootimg.specs.Files.{Made, Closed, NotClosed, Renamed, Removed, NotRemoved}
+
+-- What has each name after some steps with files (profile of this project).
+
+-- Nothing has a name.
+abbrev pub no_names : Names
+no_names name = NoFile
+
+-- The entry has this name, and each other name has what it had.
+abbrev pub with_entry_at : Names → (name : List ℕ) → Entry → Names
+with_entry_at names name entry other = if bytes_eq other name then entry else names other
+
+-- The regular file with the bytes of a writer, which are known.
+abbrev pub written_file : WriteTrace → Entry
+written_file file = RegularFile (unwrap_or file.contents [])
+
+-- What has each name after the file of the first name took the second one.
+abbrev pub after_renaming : Names → (name new_name : List ℕ) → Names
+after_renaming names name new_name =
+    with_entry_at (with_entry_at names name NoFile) new_name (names name)
+
+-- What has each name after one more step.
+abbrev pub after_step : Names → FileStep → Names
+after_step names (Made name file) = with_entry_at names name (written_file file)
+after_step names (Closed name file) = with_entry_at names name (written_file file)
+after_step names (NotClosed name file) = with_entry_at names name (written_file file)
+after_step names (Renamed name new_name) = after_renaming names name new_name
+after_step names (Removed name) = with_entry_at names name NoFile
+after_step names step = names
+
+-- What has each name after these steps.
+abbrev pub after_steps : Names → List FileStep → Names
+after_steps names [] = names
+after_steps names (step ∷ steps) = after_steps (after_step names step) steps
+
+-- Each name has what it had.
+abbrev pub AreSameNames : (old new : Names) → Type 0
+AreSameNames old new = (name : List ℕ) → new name ≡ old name
+
+-- Each name but this one has what it had.
+abbrev pub OthersAreSame : (name : List ℕ) → (old new : Names) → Type 0
+OthersAreSame name old new = (other : List ℕ) → other ≢ name → new other ≡ old other
+
+-- A regular file with these bytes has this name, and each other name has what it had.
+pub record HasFile (old new : Names) (name bytes : List ℕ) : Type 0 where
+  pub has : new name ≡ RegularFile bytes
+  pub others_are_same : OthersAreSame name old new
+
+-- A new file is left, of a name that nothing had: the last one of these steps was to remove it, and
+-- failed.
+pub record LeavesNewFile (old new : Names) (steps : List FileStep) : Type 0 where
+  pub beside : List ℕ
+  pub earlier : List FileStep
+  pub not_removed : steps ≡ earlier ++ NotRemoved beside ∷ []
+  pub was_unused : old beside ≡ NoFile
+  pub others_are_same : OthersAreSame beside old new
+
+-- The bytes of a new file are known when it is made.
+abbrev pub HasContents : FileStep → Type 0
+HasContents (Made name file) = (bytes : List ℕ) × (file.contents ≡ Some bytes)
+HasContents step = ⊤
+
+abbrev pub HaveContents : List FileStep → Type 0
+HaveContents [] = ⊤
+HaveContents (step ∷ steps) = HasContents step × HaveContents steps

@@ -1,0 +1,90 @@
+use Rattle.std.specs.Prelude.{◌≡◌, ℕ, Bool, true, false, List, map, Option, None, Some}
+use Rattle.bi_base.specs.Traces.{ReadTrace, WriteTrace}
+use Rattle.std.specs.Borrow.{Bor}
+use Rattle.bootimg.specs.Files.{Entry, NoFile, RegularFile, FileStep, Names}
+use Rattle.bootimg.specs.Files.{Opened, NotOpened, ReaderClosed}
+use Rattle.bootimg.specs.Files.{Made, NameTaken, NotMade, Closed, NotClosed}
+use Rattle.bootimg.specs.Files.{Renamed, NotRenamed, Removed, NotRemoved}
+use Rattle.bootimg.specs.FilesAfter.{no_names, after_steps}
+use Rattle.bootimg.specs.declared.memory_files.Lookup.{Lookup}
+use Rattle.bootimg.specs.declared.memory_files.Lookup.TheVariants.{Has, HadName, HadSameName}
+use Rattle.bootimg.specs.declared.memory_files.MemoryStep.{MemoryStep}
+use Rattle.bootimg.specs.declared.memory_files.StepKind.{StepKind}
+use Rattle.bootimg.specs.declared.memory_files.StepKind.TheVariants as kind
+use Rattle.bootimg.specs.declared.memory_files.ReadFile.{ReadFile}
+use Rattle.bootimg.specs.declared.memory_files.WrittenFile.{WrittenFile}
+
+-- What files in memory recorded (profile of this project).
+
+-- The reader of a file with these bytes, before the first call.
+abbrev pub unread : List ℕ → ReadTrace
+unread bytes = record {
+  reader = 0;
+  remaining = Some bytes;
+  taken = 0;
+  failed = false;
+  interruptions = 0;
+  stopped = false;
+}
+
+-- The reader of a file that was opened.
+abbrev pub reading_trace : ReadFile → ReadTrace
+reading_trace file = record {
+  reader = 0;
+  remaining = Some file.remaining.now;
+  taken = file.calls.taken;
+  failed = file.calls.outcome.failed;
+  interruptions = file.calls.outcome.interruptions;
+  stopped = file.calls.stopped;
+}
+
+-- The writer of a new file.
+abbrev pub writing_trace : WrittenFile → WriteTrace
+writing_trace file = record {
+  writer = 0;
+  contents = Some file.bytes.now;
+  failed = file.calls.outcome.failed;
+  stalled = file.calls.stalled;
+  flushing = file.calls.flushing;
+  interruptions = file.calls.outcome.interruptions;
+  stopped = file.calls.stopped;
+}
+
+-- The step with the file of this name.
+abbrev pub named_step : (name : List ℕ) → StepKind → FileStep
+named_step name (kind.Opened bytes) = Opened name (unread bytes.now)
+named_step name kind.NotOpened = NotOpened name
+named_step name (kind.ReaderClosed file) = ReaderClosed name (reading_trace file)
+named_step name (kind.Made file) = Made name (writing_trace file)
+named_step name kind.NameTaken = NameTaken name
+named_step name kind.NotMade = NotMade name
+named_step name (kind.Closed file) = Closed name (writing_trace file)
+named_step name (kind.NotClosed file) = NotClosed name (writing_trace file)
+named_step name (kind.Renamed new_name) = Renamed name new_name.now
+named_step name (kind.NotRenamed new_name) = NotRenamed name new_name.now
+named_step name kind.Removed = Removed name
+named_step name kind.NotRemoved = NotRemoved name
+
+abbrev pub recorded_step : MemoryStep → FileStep
+recorded_step step = named_step step.name.now step.kind
+
+-- The steps that are recorded, if none is lost.
+abbrev pub recorded_steps : (is_lost : Bool) → List MemoryStep → Option (List FileStep)
+recorded_steps true log = None
+recorded_steps false log = Some (map recorded_step log)
+
+-- What has each name after the steps that are recorded.
+abbrev pub recorded_names : List MemoryStep → Names
+recorded_names log = after_steps no_names (map recorded_step log)
+
+-- What was found of a name: the bytes of a regular file, or nothing.
+abbrev pub IsFileFound : Entry → Option (Bor (List ℕ)) → Type 0
+IsFileFound entry None = entry ≡ NoFile
+IsFileFound entry (Some bytes) = entry ≡ RegularFile bytes.now
+
+-- What is known of a name after a step, where `names` is what had each name before it and
+-- `after names` what has it then.
+abbrev pub AreLookedUp : (after : Names → Names) → (name : List ℕ) → Lookup → Type 0
+AreLookedUp after name (Has found) = (names : Names) → IsFileFound (after names name) found
+AreLookedUp after name (HadName other) = (names : Names) → after names name ≡ names other.now
+AreLookedUp after name HadSameName = (names : Names) → after names name ≡ names name
