@@ -1,7 +1,7 @@
 """Checks the form and the English of the documents of a workspace. english.py ROOT prints a line for each thing that is wrong, and fails
 if there is one. `english.py ROOT --counts` prints how often each pattern is there, and in crates/ too:
 
-- README.md has at most 150 lines;
+- README.md has at most 150 lines and 1,200 words;
 - no line of a document, of the header for C, of the module for Python or of the manual page has more than 100 columns;
 - a page of more than 2,000 words has a table of contents: a link to each of its headings of the second level, before the first of them;
 - patterns that read as translated are rare in the prose of all of these together, which is without code and code spans.
@@ -15,7 +15,7 @@ import sys
 sys.dont_write_bytecode = True
 from workspace import read
 
-COLUMNS, README_LINES, WORDS = 100, 150, 2000
+COLUMNS, README_LINES, README_WORDS, WORDS = 100, 150, 1200, 2000
 
 # A pattern, how often it may be there, and what to write instead.
 PATTERNS = [
@@ -71,9 +71,11 @@ def anchor(heading):
 
 def wrong_forms(root):
     """What is wrong with the lengths of files and lines, and which tables of contents lack what."""
-    lines = len(read(os.path.join(root, "README.md")).splitlines())
-    if lines > README_LINES:
-        yield f"README.md: {lines} lines"
+    readme = read(os.path.join(root, "README.md"))
+    if len(readme.splitlines()) > README_LINES:
+        yield f"README.md: {len(readme.splitlines())} lines"
+    if len(readme.split()) > README_WORDS:
+        yield f"README.md: {len(readme.split())} words"
     for path in documents(root) + others(root):
         text = read(os.path.join(root, path))
         for number, line in enumerate(text.splitlines(), 1):

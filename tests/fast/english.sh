@@ -1,6 +1,6 @@
 #!/bin/sh
 # Checks the form and the English of the documents, the header, the module for Python and the manual page: lengths, columns, tables of
-# contents, and patterns that have to be rare. tests/fast/english.py does this. Then breaks each rule in a copy, and shows that this is
+# contents, and patterns that must be rare. tests/fast/english.py does this. Then breaks each rule in a copy, and shows that this is
 # found. It needs python3, and installs Debian's if it is missing and the script runs as root.
 set -u
 
@@ -25,6 +25,7 @@ is_found() {
 }
 
 check "a README of more lines is found" is_found README.md '1s/$/\n\n\n\n\n\n\n\n\n\n\n\n\n\n\n\n\n\n\n\n\n\n\n\n\n\n\n\n\n\n\n/' "README.md: 1[5-9][0-9] lines"
+check "a README of more words is found" is_found README.md "\$a $(seq -s ' ' 1200)" "README.md: [0-9]* words"
 check "a long line is found" is_found docs/DESIGN.md "\$a $(printf '%0101d' 0)" "docs/DESIGN.md:[0-9]*: 101 columns"
 check "a long line of the header is found" is_found include/bootimg.h "1s/.*/$(printf '%0101d' 0)/" "include/bootimg.h:1: 101 columns"
 check "a heading that the table of contents lacks is found" is_found docs/CLI.md '$a \
