@@ -190,13 +190,13 @@ for command in normalise list describe compare verify check update extract conve
     case $command in
     build-*) input="from standard input, one after another" ;;
     compare) input="standard input if it is -" ;;
-    *) input="standard input without IMAGE or if it is -" ;;
+    *) input="Without IMAGE, or if it is -, standard input is read" ;;
     esac
     check "help of $command says what it reads" prints "$input" 0 "$command" --help
 done
 
 check "help of explain has an example" prints "Example: bootimg explain" 0 explain --help
-check "a cause" writes 'A node has two properties of one name: remove one from the source.\n' 0 explain DuplicateProperty
+check "a cause" writes 'A node has two properties of the same name: remove one from the source.\n' 0 explain DuplicateProperty
 check "an unknown cause" says "usage: bad value" explain duplicateproperty
 
 # Any file.

@@ -17,23 +17,22 @@ use Rattle.bi_base.specs.declared.fault.Cause.TheVariants.{BadField, Unsupported
 -- What a cause means, and what a user can do.
 abbrev pub sentence_of : Cause → List ℕ
 sentence_of Truncated =
-    codes "The file ends before something that it has to hold, for example before the end of "
-    ++ codes "the data of a legacy image: copy it again, as a whole."
+    codes "The file ends before something that it must hold, for example before the end of the "
+    ++ codes "data of a legacy image: copy it again, as a whole."
 sentence_of BadMagic =
-    codes "The file is of no kind that the command reads: unpack it if it is compressed, or "
-    ++ codes "take away what is before the image. convert reads legacy images alone."
+    codes "The file is not of a kind that the command reads: decompress it if it is compressed, "
+    ++ codes "or remove what is before the image. convert reads only legacy images."
 sentence_of BadHeaderCrc =
-    codes "The header of a legacy image has another checksum than it says: fetch the image "
-    ++ codes "again, or build it again after a change of its fields."
+    codes "The header checksum of a legacy image is wrong: fetch the image again, or build it "
+    ++ codes "again after a change of its fields."
 sentence_of BadDataCrc =
-    codes "The data of a legacy image has another checksum than its header says: fetch the "
-    ++ codes "image again."
+    codes "The data checksum of a legacy image is wrong: fetch the image again."
 sentence_of BadPartTable =
     codes "The list of sizes of a multi-file image or a script has no end: build the image "
     ++ codes "with data, not with -s of mkimage."
 sentence_of BadPart =
-    codes "A part ends after the data of the image, as in one that was built with -x of "
-    ++ codes "mkimage: build it again without. If build-legacy or build-fit says so, the lengths "
+    codes "A part ends after the data of the image, as in images built with -x of mkimage: "
+    ++ codes "build it again without -x. If build-legacy or build-fit says so, the given lengths "
     ++ codes "are not those of the input: give the length of each part, so that together they are "
     ++ codes "the whole input."
 sentence_of BadTotalSize =
@@ -57,16 +56,17 @@ sentence_of PropertyAfterChild =
     codes "A property comes after a child of its node: build the blob again with dtc, which "
     ++ codes "writes properties first."
 sentence_of DuplicateProperty =
-    codes "A node has two properties of one name: remove one from the source."
+    codes "A node has two properties of the same name: remove one from the source."
 sentence_of DuplicateNode =
-    codes "A node has two children of one name, or two images of build-fit have one name, and "
-    ++ codes "the offset is then the number of the second, counted from 0: rename one of them."
+    codes "A node has two children of the same name, or two images of build-fit have the same "
+    ++ codes "name, and the offset is then the number of the second, counted from 0: rename one of "
+    ++ codes "them."
 sentence_of TooDeep =
-    codes "More than 64 nodes are inside one another: no boot image needs that many, so "
-    ++ codes "distrust the file."
+    codes "More than 64 nodes are inside one another: no real image is that deep, so treat the "
+    ++ codes "file as hostile."
 sentence_of NoImages =
-    codes "The devicetree blob is no flattened image tree, since its root has no node "
-    ++ codes "'images': read it with dtc."
+    codes "The blob is a plain devicetree and not a FIT, since its root has no node 'images': "
+    ++ codes "read it with dtc."
 sentence_of BadCell =
     codes "A property that gives the place or size of a payload is not a number of four bytes: "
     ++ codes "correct it in the source."
@@ -80,9 +80,9 @@ sentence_of TooLarge =
     ++ codes "check and update --hashes the payloads together are longer than --limit, which is "
     ++ codes "the offset: give a greater limit if you trust the file."
 sentence_of NoCodeName =
-    codes "A code that a flattened image tree has to name has no name: the offset is that of "
-    ++ codes "the code in the header for convert, and the number of the image, counted from 0, "
-    ++ codes "for build-fit. Give a code that has a name."
+    codes "A FIT stores names, and this code has none: the offset is that of the code in the "
+    ++ codes "header for convert, and the number of the image, counted from 0, for build-fit. Give "
+    ++ codes "a code that has a name."
 sentence_of TooManyParts =
     codes "A multi-file image of more than three parts, or a script of more than one, cannot "
     ++ codes "be converted: extract the parts, and build a tree of them."
@@ -94,8 +94,7 @@ sentence_of BadField =
     ++ codes "several parts for a type that has one (30), or, with the number of the image, a bad "
     ++ codes "name or the type multi in build-fit: give another value."
 sentence_of Unsupported =
-    codes "The file is of a kind that cannot be handled yet. No command of this version says "
-    ++ codes "so."
+    codes "Reserved: no command of this version reports it."
 
 -- The causes, in the order of the manual page.
 abbrev pub all_causes : List Cause

@@ -46,7 +46,7 @@ pub fn parse_code(field: CodeField, argument: &str) -> Option<u8>
     }
 }
 
-/// Returns the code of this field that has this name. Returns None exactly if no code has it.
+/// Returns the code of this field that has this name. Returns None if no code has it.
 fn named_code(field: CodeField, name: &str) -> Option<u8>
     ensures some { IfSome result (λ code. name_of_code (codes_of field) code ≡ Some name.now) }
     ensures exactly { (code : ℕ) → name_of_code (codes_of field) code ≡ Some name.now → result

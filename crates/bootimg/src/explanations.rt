@@ -122,28 +122,28 @@ fn sentence(cause: Cause) -> &'static str
 {
     match cause {
         Cause::Truncated => {
-            "The file ends before something that it has to hold, for example before the end \
-             of the data of a legacy image: copy it again, as a whole."
+            "The file ends before something that it must hold, for example before the end of \
+             the data of a legacy image: copy it again, as a whole."
         }
         Cause::BadMagic => {
-            "The file is of no kind that the command reads: unpack it if it is compressed, \
-             or take away what is before the image. convert reads legacy images alone."
+            "The file is not of a kind that the command reads: decompress it if it is \
+             compressed, or remove what is before the image. convert reads only legacy \
+             images."
         }
         Cause::BadHeaderCrc => {
-            "The header of a legacy image has another checksum than it says: fetch the image \
-             again, or build it again after a change of its fields."
+            "The header checksum of a legacy image is wrong: fetch the image again, or build \
+             it again after a change of its fields."
         }
         Cause::BadDataCrc => {
-            "The data of a legacy image has another checksum than its header says: fetch the \
-             image again."
+            "The data checksum of a legacy image is wrong: fetch the image again."
         }
         Cause::BadPartTable => {
             "The list of sizes of a multi-file image or a script has no end: build the image \
              with data, not with -s of mkimage."
         }
         Cause::BadPart => {
-            "A part ends after the data of the image, as in one that was built with -x of \
-             mkimage: build it again without. If build-legacy or build-fit says so, the \
+            "A part ends after the data of the image, as in images built with -x of mkimage: \
+             build it again without -x. If build-legacy or build-fit says so, the given \
              lengths are not those of the input: give the length of each part, so that \
              together they are the whole input."
         }
@@ -176,19 +176,19 @@ fn sentence(cause: Cause) -> &'static str
              which writes properties first."
         }
         Cause::DuplicateProperty => {
-            "A node has two properties of one name: remove one from the source."
+            "A node has two properties of the same name: remove one from the source."
         }
         Cause::DuplicateNode => {
-            "A node has two children of one name, or two images of build-fit have one name, \
-             and the offset is then the number of the second, counted from 0: rename one of \
-             them."
+            "A node has two children of the same name, or two images of build-fit have the \
+             same name, and the offset is then the number of the second, counted from 0: \
+             rename one of them."
         }
         Cause::TooDeep => {
-            "More than 64 nodes are inside one another: no boot image needs that many, so \
-             distrust the file."
+            "More than 64 nodes are inside one another: no real image is that deep, so treat \
+             the file as hostile."
         }
         Cause::NoImages => {
-            "The devicetree blob is no flattened image tree, since its root has no node \
+            "The blob is a plain devicetree and not a FIT, since its root has no node \
              'images': read it with dtc."
         }
         Cause::BadCell => {
@@ -208,9 +208,9 @@ fn sentence(cause: Cause) -> &'static str
              --limit, which is the offset: give a greater limit if you trust the file."
         }
         Cause::NoCodeName => {
-            "A code that a flattened image tree has to name has no name: the offset is that \
-             of the code in the header for convert, and the number of the image, counted \
-             from 0, for build-fit. Give a code that has a name."
+            "A FIT stores names, and this code has none: the offset is that of the code in \
+             the header for convert, and the number of the image, counted from 0, for \
+             build-fit. Give a code that has a name."
         }
         Cause::TooManyParts => {
             "A multi-file image of more than three parts, or a script of more than one, \
@@ -225,9 +225,6 @@ fn sentence(cause: Cause) -> &'static str
              several parts for a type that has one (30), or, with the number of the image, a \
              bad name or the type multi in build-fit: give another value."
         }
-        Cause::Unsupported => {
-            "The file is of a kind that cannot be handled yet. No command of this version \
-             says so."
-        }
+        Cause::Unsupported => "Reserved: no command of this version reports it.",
     }
 }

@@ -32,7 +32,7 @@ pub fn parse_image(argument: &str) -> Option<(ImageSpec<'_>, PartSource<'_>)>
     parse_fields(split_image(argument)?)
 }
 
-/// Splits the text of an image at its colons. Returns None exactly if it has not eight fields.
+/// Splits the text of an image at its colons. Returns None if it has not eight fields.
 fn split_image(argument: &str) -> Option<ImageTexts<'_>>
     ensures some { IfSome result (λ texts. parts_of argument.now ≡ list_of texts) }
     ensures none { IfNone result ((texts : ImageTexts) → parts_of argument.now ≢ list_of texts) }
@@ -59,7 +59,7 @@ fn split_image(argument: &str) -> Option<ImageTexts<'_>>
     }
 }
 
-/// Splits a text at its first colon. Returns None exactly if it has none.
+/// Splits a text at its first colon. Returns None if it has none.
 fn split_field(argument: &str) -> Option<(&str, &str)>
     ensures some { IfSome result (λ split. parts_of argument.now
         ≡ split.0.now ∷ parts_of split.1.now) }
@@ -68,7 +68,7 @@ fn split_field(argument: &str) -> Option<(&str, &str)>
     argument.split_once(':')
 }
 
-/// Parses the fields of the text of an image. Returns None exactly if one of them is malformed.
+/// Parses the fields of the text of an image. Returns None if one of them is malformed.
 fn parse_fields(texts: ImageTexts<'_>) -> Option<(ImageSpec<'_>, PartSource<'_>)>
     ensures some { IfSome result (IsImage texts.entry) }
     ensures none { IfNone result (NoneIs (IsImage texts.entry)) }

@@ -27,7 +27,7 @@ const VERSION: &str = "0.2.0 (Rattle logic dac8208d650f15bf)";
 
 /// The text of `--help` before the usage.
 const ABOUT: &str =
-    "Normalises, lists, describes, compares, verifies, checks, updates, takes apart, converts and \
+    "Normalises, lists, describes, compares, verifies, checks, updates, extracts, converts and \
      builds U-Boot boot images";
 
 /// The text of `--help` after the options.
@@ -38,7 +38,7 @@ const AFTER_HELP: &str =
      \x20   bootimg list kernel.uimage\n\n\
      The exit status is 0 after success. A failure is reported on standard error, and the exit\n\
      status is then 2. It is 1 if verify wrote a verdict that is not good, if check wrote a line,\n\
-     or if compare found that two images do not mean the same.";
+     or if compare found that two images do not mean the same thing.";
 
 /// How an option is given.
 #[derive(Clone, Copy)]
@@ -193,7 +193,7 @@ fn with_value<'a>(argument: Arg<'a>, option: &OptionText) -> Arg<'a>
 const FILE: OptionText = OptionText {
     name: "file",
     value_name: "IMAGE",
-    help: "The image: a file, or standard input without IMAGE or if it is -",
+    help: "The image: a file. Without IMAGE, or if it is -, standard input is read",
     form: OptionForm::Positional,
 };
 
@@ -228,14 +228,14 @@ const LIMIT: OptionText = OptionText {
 const OUTPUT: OptionText = OptionText {
     name: "output",
     value_name: "FILE",
-    help: "Write the output to FILE, not to standard output: all of it, or FILE stays as it was",
+    help: "Write the output to FILE, which is replaced atomically, instead of standard output",
     form: OptionForm::Short('o'),
 };
 
 const ALLOW: OptionText = OptionText {
     name: "allow",
     value_name: "KIND[,KIND]..",
-    help: "Leave out the lines of these kinds",
+    help: "Leave out the lines of these kinds, a comma-separated list",
     form: OptionForm::Optional,
 };
 
@@ -249,7 +249,7 @@ const NEW_TIME: OptionText = OptionText {
 const HASHES: OptionText = OptionText {
     name: "hashes",
     value_name: "",
-    help: "Give each hash node of a known algorithm the digest of its image's payload",
+    help: "Compute the digest of each hash node with a known algorithm again",
     form: OptionForm::Flag,
 };
 
@@ -319,7 +319,7 @@ const INDEX: OptionText = OptionText {
 const CAUSE: OptionText = OptionText {
     name: "cause",
     value_name: "CAUSE",
-    help: "The cause, as a refusal prints it; without CAUSE each cause is explained",
+    help: "The cause, as the error prints it; without CAUSE each cause is explained",
     form: OptionForm::Positional,
 };
 
@@ -368,14 +368,14 @@ const TIME: OptionText = OptionText {
 const LOAD: OptionText = OptionText {
     name: "load",
     value_name: "N",
-    help: "The address that the data is loaded to: a number, hexadecimal only with 0x",
+    help: "The load address: a decimal number, or hexadecimal with 0x",
     form: OptionForm::Default(ZERO),
 };
 
 const ENTRY: OptionText = OptionText {
     name: "entry",
     value_name: "N",
-    help: "The address of the entry point: a number, hexadecimal only with 0x",
+    help: "The entry point: a decimal number, or hexadecimal with 0x",
     form: OptionForm::Default(ZERO),
 };
 
@@ -407,9 +407,9 @@ static READING_COMMANDS: [CommandText; 6] = [
         about: "Write the normal form of an image",
         usage: "bootimg normalise [OPTIONS] [IMAGE] > NORMAL",
         after_help: "\
-                 Reads an image, and writes its normal form to standard output. Two images of one\n\
-                 kind have the same normal form exactly if they mean the same. A flattened image\n\
-                 tree has one normal form with --external, and another without it.\n\n\
+                 Reads an image, and writes its normal form to standard output. Two images of the\n\
+                 same kind have the same normal form if and only if they mean the same thing. A\n\
+                 flattened image tree has one normal form with --external, and another without it.\n\n\
                  Signature nodes are kept, and not checked: a signature may no longer be valid. A\n\
                  note on standard error has their number, if there are any.\n\n\
                  Example: bootimg normalise kernel.uimage > normal.uimage",
@@ -423,8 +423,8 @@ static READING_COMMANDS: [CommandText; 6] = [
                  Reads an image, and writes to standard output what it holds. Of a legacy image:\n\
                  its fields, the size and offset of each part, and the number of bytes after the\n\
                  last part. Of a flattened image tree: its memory reservations, the size and\n\
-                 offset of each payload, and what each configuration lists. Sizes and offsets are\n\
-                 in bytes.\n\n\
+                 offset of each payload, and what each configuration lists, but no load addresses:\n\
+                 describe shows those. Sizes and offsets are in bytes.\n\n\
                  Example: bootimg list kernel.uimage",
         options: &[LIMIT, OUTPUT, FILE],
     },
@@ -434,10 +434,10 @@ static READING_COMMANDS: [CommandText; 6] = [
         usage: "bootimg describe [OPTIONS] [IMAGE]",
         after_help: "\
                  Reads an image, and writes to standard output what it means, in lines for diff.\n\
-                 The lines are the same for images that mean the same: they show neither offsets,\n\
-                 padding or versions, nor whether payloads are inside a flattened image tree or\n\
-                 after it. Each payload or part has a line with its size and SHA-256. The\n\
-                 payloads together, and the description, may have as many bytes as the limit.\n\n\
+                 The lines are the same for images that mean the same thing: they show no offsets,\n\
+                 padding or versions, and not whether payloads are inside a flattened image tree\n\
+                 or after it. Each payload or part has a line with its size and SHA-256. Neither\n\
+                 the payloads together nor the description may be longer than the limit.\n\n\
                  Example: bootimg describe kernel.itb",
         options: &[LIMIT, OUTPUT, FILE],
     },
@@ -448,9 +448,9 @@ static READING_COMMANDS: [CommandText; 6] = [
         after_help: "\
                  Reads two images, and writes to standard output what differs between what they\n\
                  mean: the lines of describe that only ONE has, each after -, and those that only\n\
-                 OTHER has, each after +. Writes nothing if both mean the same, whatever their\n\
-                 layout. At most one of the two is standard input.\n\n\
-                 The exit status is 0 if both mean the same, and 1 if they do not.\n\n\
+                 OTHER has, each after +. Writes nothing if both mean the same thing, whatever\n\
+                 their layout. At most one of the two is standard input.\n\n\
+                 The exit status is 0 if both mean the same thing, and 1 if they do not.\n\n\
                  Example: bootimg compare yesterday.itb today.itb",
         options: &[QUIET, LIMIT, OUTPUT, ONE, OTHER],
     },
@@ -478,13 +478,13 @@ static READING_COMMANDS: [CommandText; 6] = [
                  \x20 bad-hash     the verdict on a hash node is not good\n\
                  \x20 unhashed     an image with a payload has no good hash node\n\
                  \x20 weak-hash    it has good ones, and none of SHA-256, SHA-384 or SHA-512\n\
-                 \x20 bad-list     a value in a configuration is no list of names\n\
+                 \x20 bad-list     a value in a configuration is not a list of names\n\
                  \x20 missing      a configuration lists an image that is not there\n\
                  \x20 bad-default  the default is none of the configurations\n\
                  \x20 trailing     bytes follow the image, and not all of them are zero\n\n\
-                 A legacy image has trailing alone: its checksums are always checked, and an\n\
-                 image with a wrong one is refused. --limit bounds the payloads of a flattened\n\
-                 image tree together, too. Signatures are not checked.\n\n\
+                 A legacy image can only have trailing: its checksums are always checked, and an\n\
+                 image with a wrong one is refused. --limit also bounds the payloads of a\n\
+                 flattened image tree together. Signatures are not checked.\n\n\
                  The exit status is 0 if no line was written, and 1 if one was.\n\n\
                  Example: bootimg check --allow weak-hash,trailing kernel.itb",
         options: &[ALLOW, LIMIT, OUTPUT, FILE],
@@ -499,12 +499,12 @@ static CHANGING_COMMANDS: [CommandText; 3] = [
         usage: "bootimg update [OPTIONS] [IMAGE]",
         after_help: "\
                  Reads an image, and writes to standard output its normal form with the changes\n\
-                 that the options request. At least one of --time and --hashes has to be given.\n\
-                 Hash nodes whose algorithm is not known, and those of images without a payload,\n\
-                 are kept as they are. A legacy image has no hash nodes, and its checksums are\n\
-                 always computed. With --hashes, --limit bounds the payloads of a flattened image\n\
-                 tree together, too. Signature nodes are carried but not checked: a note on\n\
-                 standard error has their number, if there are any.\n\n\
+                 that the options request. At least one of --time and --hashes must be given.\n\
+                 Hash nodes with an unknown algorithm, and those of images without a payload, are\n\
+                 kept as they are. A legacy image has no hash nodes, and its checksums are always\n\
+                 computed. With --hashes, --limit also bounds the payloads of a flattened image\n\
+                 tree together. Signature nodes are kept, and not checked: a note on standard\n\
+                 error has their number, if there are any.\n\n\
                  Example: bootimg update --hashes --time 1700000000 kernel.itb > new.itb",
         options: &[NEW_TIME, HASHES, EXTERNAL_NORMAL, LIMIT, OUTPUT, FILE],
     },
@@ -543,10 +543,10 @@ static CHANGING_COMMANDS: [CommandText; 3] = [
 /// The command that needs no image.
 static EXPLAIN: CommandText = CommandText {
     name: "explain",
-    about: "Say what a cause of a refusal means",
+    about: "Say what the cause of an error means",
     usage: "bootimg explain [OPTIONS] [CAUSE]",
     after_help: "\
-             Writes to standard output what the cause of a refusal means, and what can be done.\n\
+             Writes to standard output what the cause of an error means, and what can be done.\n\
              Without CAUSE, writes a line for each cause, with its name. Reads no image.\n\n\
              Example: bootimg explain BadMagic",
     options: &[OUTPUT, CAUSE],
