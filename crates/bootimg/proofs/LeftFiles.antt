@@ -191,7 +191,8 @@ output_run_leaves : (base names : Names) (arguments : List (List ℕ)) (request 
 output_run_leaves base names arguments request run outcome output is named are (ToStandardOutput work) end contents =
     kept run.new_steps (job_work_keeps_names base (Some names) request.job request.limits _ run.steps run.new_steps work)
   where
-    kept : (new : Option (List FileStep)) → KeepsNames base run.steps new → RunLeaves base names arguments run.input.remaining run.status new
+    kept : (new : Option (List FileStep)) → KeepsNames base run.steps new
+        → RunLeaves base names arguments run.input.remaining run.status new
     kept None keeps = tt
     kept (Some after) keeps = NoFileIsNamed request is named (names_kept base names run.steps after are keeps)
 output_run_leaves base names arguments request run outcome output is named are (ToFile name saved same) end contents =
@@ -214,6 +215,7 @@ run_leaves base names arguments run (Rejected failure why rejection) are content
 run_leaves base names arguments run (WroteText kind text answers is) are contents =
     kept run.new_steps (keeps_same base run.steps run.new_steps (text_run_keeps_steps kind text run is))
   where
-    kept : (new : Option (List FileStep)) → KeepsNames base run.steps new → RunLeaves base names arguments run.input.remaining run.status new
+    kept : (new : Option (List FileStep)) → KeepsNames base run.steps new
+        → RunLeaves base names arguments run.input.remaining run.status new
     kept None keeps = tt
     kept (Some after) keeps = NothingIsRequested kind answers (names_kept base names run.steps after are keeps)
