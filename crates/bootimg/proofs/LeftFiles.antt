@@ -206,7 +206,8 @@ text_run_keeps_steps kind text run (IsUsage why logs output input steps status) 
 
 -- What a run leaves of files whose names and steps are known.
 pub run_leaves : (base names : Names) (arguments : List (List ℕ)) (run : Run) → IsRun arguments (Some names) run
-    → AreNames base names run.steps → IfSome run.new_steps HaveContents → RunLeaves base names arguments run.input.remaining run.status run.new_steps
+    → AreNames base names run.steps → IfSome run.new_steps HaveContents
+    → RunLeaves base names arguments run.input.remaining run.status run.new_steps
 run_leaves base names arguments run (RanJob request is lengths ran) are contents =
     output_run_leaves base names arguments request run ran.outcome request.output is refl are ran.done ran.end contents
 run_leaves base names arguments run (Rejected failure why rejection) are contents =
