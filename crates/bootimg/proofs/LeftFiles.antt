@@ -143,19 +143,21 @@ status_at_err errors new_errors status outcome failed (EndsWell other same notes
 status_at_err errors new_errors status outcome failed (EndsWithFailure other same reports is) err = is
 
 -- What a run leaves, if its steps are known.
-abbrev pub RunLeaves : (base names : Names) → (arguments : List (List ℕ)) → (status : ℕ) → Option (List FileStep) → Type 0
-RunLeaves base names arguments status new = IfSome new (λ after. LeavesFiles arguments names (after_steps base after) after status)
+abbrev pub RunLeaves : (base names : Names) → (arguments : List (List ℕ)) → (input : Option (List ℕ)) → (status : ℕ)
+    → Option (List FileStep) → Type 0
+RunLeaves base names arguments input status new =
+    IfSome new (λ after. LeavesFiles arguments input names (after_steps base after) after status)
 
-failure_leaves : (base names : Names) (arguments : List (List ℕ)) (status : ℕ) (new : Option (List FileStep)) → status ≡ 2
-    → LeftAfterFailure base names new → RunLeaves base names arguments status new
-failure_leaves base names arguments status None is left = tt
-failure_leaves base names arguments status (Some after) is left = HasFailed is left
+failure_leaves : (base names : Names) (arguments : List (List ℕ)) (input : Option (List ℕ)) (status : ℕ) (new : Option (List FileStep))
+    → status ≡ 2 → LeftAfterFailure base names new → RunLeaves base names arguments input status new
+failure_leaves base names arguments input status None is left = tt
+failure_leaves base names arguments input status (Some after) is left = HasFailed is left
 
 saved_work_leaves : (base names : Names) (arguments : List (List ℕ)) (request : Request) (name : Bor (List ℕ)) (before after : Inputs)
     (errors new_errors : WriteTrace) (status : ℕ) (outcome : Result Done Problem) → IsRequest arguments request
     → request.output ≡ Some name → AreNames base names before.steps
     → IsSavedWork (Some names) request.job request.limits name before after outcome → IsEnd errors new_errors status outcome
-    → IfSome after.steps HaveContents → RunLeaves base names arguments status after.steps
+    → IfSome after.steps HaveContents → RunLeaves base names arguments before.input.remaining status after.steps
 saved_work_leaves base names arguments request name before after errors new_errors status outcome is named are (OutputSaved done output worked held saved ends) end contents =
     there after.steps
     (saved_leaves base names name.now output worked after.steps
@@ -163,17 +165,17 @@ saved_work_leaves base names arguments request name before after errors new_erro
     contents)
   where
     there : (new : Option (List FileStep)) → IfSome new (λ l. HasFile names (after_steps base l) name.now output)
-        → RunLeaves base names arguments status new
+        → RunLeaves base names arguments before.input.remaining status new
     there None has = tt
     there (Some l) has =
-        OutputIsThere request name done output before (record { input = after.input; steps = worked }) is named held
+        OutputIsThere request name done output before (record { input = after.input; steps = worked }) is named refl held
         (status_at_ok errors new_errors status outcome done end ends) has
 saved_work_leaves base names arguments request name before after errors new_errors status outcome is named are (OutputNotSaved done output worked held failure not ends) end contents =
-    failure_leaves base names arguments status after.steps (status_at_err errors new_errors status outcome _ end ends)
+    failure_leaves base names arguments before.input.remaining status after.steps (status_at_err errors new_errors status outcome _ end ends)
     (not_saved_leaves base names name.now output failure worked after.steps
     (kept_names base names before.steps worked are (job_work_keeps_names base (Some names) request.job request.limits _ _ _ held.work)) not)
 saved_work_leaves base names arguments request name before after errors new_errors status outcome is named are (NoOutput failed held ends) end contents =
-    failure_leaves base names arguments status after.steps (status_at_err errors new_errors status outcome failed end ends)
+    failure_leaves base names arguments before.input.remaining status after.steps (status_at_err errors new_errors status outcome failed end ends)
     (kept_is_left base names before.steps after.steps are
     (job_work_keeps_names base (Some names) request.job request.limits _ _ _ held.work.work))
 
@@ -185,11 +187,12 @@ names_kept base names old after are keeps q = ap (λ n. n q) (keeps.2 ∙ are ke
 output_run_leaves : (base names : Names) (arguments : List (List ℕ)) (request : Request) (run : Run) (outcome : Result Done Problem)
     (output : Option (Bor (List ℕ))) → IsRequest arguments request → request.output ≡ output → AreNames base names run.steps
     → IsOutputRun (Some names) request.job request.limits run outcome output → IsEnd run.errors run.new_errors run.status outcome
-    → IfSome run.new_steps HaveContents → RunLeaves base names arguments run.status run.new_steps
+    → IfSome run.new_steps HaveContents → RunLeaves base names arguments run.input.remaining run.status run.new_steps
 output_run_leaves base names arguments request run outcome output is named are (ToStandardOutput work) end contents =
     kept run.new_steps (job_work_keeps_names base (Some names) request.job request.limits _ run.steps run.new_steps work)
   where
-    kept : (new : Option (List FileStep)) → KeepsNames base run.steps new → RunLeaves base names arguments run.status new
+    kept : (new : Option (List FileStep)) → KeepsNames base run.steps new
+        → RunLeaves base names arguments run.input.remaining run.status new
     kept None keeps = tt
     kept (Some after) keeps = NoFileIsNamed request is named (names_kept base names run.steps after are keeps)
 output_run_leaves base names arguments request run outcome output is named are (ToFile name saved same) end contents =
@@ -203,15 +206,17 @@ text_run_keeps_steps kind text run (IsUsage why logs output input steps status) 
 
 -- What a run leaves of files whose names and steps are known.
 pub run_leaves : (base names : Names) (arguments : List (List ℕ)) (run : Run) → IsRun arguments (Some names) run
-    → AreNames base names run.steps → IfSome run.new_steps HaveContents → RunLeaves base names arguments run.status run.new_steps
+    → AreNames base names run.steps → IfSome run.new_steps HaveContents
+    → RunLeaves base names arguments run.input.remaining run.status run.new_steps
 run_leaves base names arguments run (RanJob request is lengths ran) are contents =
     output_run_leaves base names arguments request run ran.outcome request.output is refl are ran.done ran.end contents
 run_leaves base names arguments run (Rejected failure why rejection) are contents =
-    failure_leaves base names arguments run.status run.new_steps rejection.status
+    failure_leaves base names arguments run.input.remaining run.status run.new_steps rejection.status
     (kept_is_left base names run.steps run.new_steps are (keeps_same base run.steps run.new_steps rejection.no_steps))
 run_leaves base names arguments run (WroteText kind text answers is) are contents =
     kept run.new_steps (keeps_same base run.steps run.new_steps (text_run_keeps_steps kind text run is))
   where
-    kept : (new : Option (List FileStep)) → KeepsNames base run.steps new → RunLeaves base names arguments run.status new
+    kept : (new : Option (List FileStep)) → KeepsNames base run.steps new
+        → RunLeaves base names arguments run.input.remaining run.status new
     kept None keeps = tt
     kept (Some after) keeps = NothingIsRequested kind answers (names_kept base names run.steps after are keeps)

@@ -92,15 +92,18 @@ names_of_steps false log before is =
     let same : before ≡ map recorded_step log = let e : Some (map recorded_step log) ≡ Some before = is in cc in ap (after_steps no_names) same
 
 -- What a run leaves of files in memory.
-pub memory_run_leaves : (was_lost is_lost : Bool) (old new : List MemoryStep) (arguments : List (List ℕ)) (run : Run) (status : ℕ)
-    → IsRun arguments (Some (recorded_names old)) run → run.status ≡ status → run.steps ≡ recorded_steps was_lost old
+pub memory_run_leaves : (was_lost is_lost : Bool) (old new : List MemoryStep) (arguments : List (List ℕ)) (run : Run)
+    (input : Option (List ℕ)) (status : ℕ) → IsRun arguments (Some (recorded_names old)) run
+    → run.input.remaining ≡ input → run.status ≡ status → run.steps ≡ recorded_steps was_lost old
     → run.new_steps ≡ recorded_steps is_lost new → IsFalse is_lost
-    → LeavesFiles arguments (recorded_names old) (recorded_names new) (map recorded_step new) status
-memory_run_leaves was_lost true old new arguments run status is ends before after not = absurd (let no : true ≡ false = not in cc)
-memory_run_leaves was_lost false old new arguments run status is ends before after not =
+    → LeavesFiles arguments input (recorded_names old) (recorded_names new) (map recorded_step new) status
+memory_run_leaves was_lost true old new arguments run input status is reads ends before after not = absurd (let no : true ≡ false = not in cc)
+memory_run_leaves was_lost false old new arguments run input status is reads ends before after not =
     let leaves =
     run_leaves no_names (recorded_names old) arguments run is (λ l known. names_of_steps was_lost old l (sym before ∙ known))
     (subst (λ s. IfSome s HaveContents) (sym after) (recorded_contents false new))
     in
-    subst (λ s. LeavesFiles arguments (recorded_names old) (recorded_names new) (map recorded_step new) s) ends
-    (subst (λ s. IfSome s (λ l. LeavesFiles arguments (recorded_names old) (after_steps no_names l) l run.status)) after leaves)
+    subst (λ i. LeavesFiles arguments i (recorded_names old) (recorded_names new) (map recorded_step new) status) reads
+    (subst (λ s. LeavesFiles arguments run.input.remaining (recorded_names old) (recorded_names new) (map recorded_step new) s) ends
+    (subst (λ s. IfSome s (λ l. LeavesFiles arguments run.input.remaining (recorded_names old) (after_steps no_names l) l run.status))
+    after leaves))

@@ -1,4 +1,4 @@
-use Rattle.std.specs.Prelude.{◌≡◌, ◌⊎◌, ℕ, List, None, Some, Ok}
+use Rattle.std.specs.Prelude.{◌≡◌, ◌⊎◌, ℕ, List, Option, None, Some, Ok}
 use Rattle.std.specs.Borrow.{Bor}
 use Rattle.clap.specs.declared.error.kind.ErrorKind.{ErrorKind}
 use Rattle.bootimg.specs.declared.command_line.Request.{Request}
@@ -10,23 +10,24 @@ use Rattle.bootimg.specs.Runs.{Inputs, IsHeldWork}
 
 -- What a run leaves of the files (profile of this project).
 
--- What has each name before a run with these arguments and after it, for its exit status. `steps`
--- are those before the run and in it.
-pub data LeavesFiles (arguments : List (List ℕ)) (old new : Names) (steps : List FileStep)
-    (status : ℕ) : Type 0 where
+-- What has each name before a run with these arguments and after it, for its exit status. `input`
+-- is what standard input has, if it is known, and `steps` are those before the run and in it.
+pub data LeavesFiles (arguments : List (List ℕ)) (input : Option (List ℕ)) (old new : Names)
+    (steps : List FileStep) (status : ℕ) : Type 0 where
   -- The file that is named has the output of the job that is requested, and each other name has
   -- what it had.
   OutputIsThere : (request : Request) (name : Bor (List ℕ)) (done : Done) (output : List ℕ)
       (before after : Inputs) → IsRequest arguments request → request.output ≡ Some name
+      → before.input.remaining ≡ input
       → IsHeldWork (Some old) request.job request.limits before after (Ok done) (Some output)
       → status ≡ done.status → HasFile old new name.now output
-      → LeavesFiles arguments old new steps status
+      → LeavesFiles arguments input old new steps status
   -- No output file is named, and each name has what it had.
   NoFileIsNamed : (request : Request) → IsRequest arguments request → request.output ≡ None
-      → AreSameNames old new → LeavesFiles arguments old new steps status
+      → AreSameNames old new → LeavesFiles arguments input old new steps status
   -- The arguments ask for a text or are wrong, and each name has what it had.
   NothingIsRequested : (kind : ErrorKind) → IsTextFor arguments kind → AreSameNames old new
-      → LeavesFiles arguments old new steps status
+      → LeavesFiles arguments input old new steps status
   -- After a failure each name has what it had, or a new file is left that could not be removed.
   HasFailed : status ≡ 2 → AreSameNames old new ⊎ LeavesNewFile old new steps
-      → LeavesFiles arguments old new steps status
+      → LeavesFiles arguments input old new steps status

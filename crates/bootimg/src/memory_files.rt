@@ -326,8 +326,8 @@ pub fn run_in_memory<'a, 'b, R: Read, W: Write, E: Write>(
     errors: &mut E,
 ) -> u8
     ensures { IsFalse files.new.is_lost → LeavesFiles (texts_of arguments.entry.now)
-        (recorded_names files.old.log.items) (recorded_names files.new.log.items)
-        (map recorded_step files.new.log.items) result }
+        (R.remaining reader.old) (recorded_names files.old.log.items)
+        (recorded_names files.new.log.items) (map recorded_step files.new.log.items) result }
 {
     run_with_files(alloc, arguments, files, reader, writer, errors)
 }
