@@ -1,4 +1,5 @@
-use Rattle.std.proofs.Common.{◌≡◌, ◌↔◌, ◌⊎◌, ℕ, false, List, [], ◌∷◌, ◌++◌, Option, Some, None, Contains, IsTrue, inl, inr, sym, subst, ◌∙◌, true≢false}
+use Rattle.std.proofs.Common.{◌≡◌, ◌↔◌, ◌⊎◌, ℕ, false, List, [], ◌∷◌, ◌++◌, Option, Some, None, Contains, IsTrue, inl, inr, sym, subst, ◌∙◌}
+use Rattle.std.proofs.Common.{true≢false}
 use Rattle.std.proofs.lemmas.List.Elements.{Contains-append_left, Contains-append_right, Contains-append_cases}
 use Rattle.bi_base.proofs.ListMembers.{Contains-none, Contains-cases, Contains-first, each-append, each-contains}
 use Rattle.bi_commands.specs.Checking.{kind_word, allows}
@@ -48,13 +49,17 @@ pub one_more_allowed : (words : List (List ℕ)) (word : List ℕ) (kind : Conce
     IsAllowed (words ++ word ∷ []) new
 one_more_allowed words word kind old new is same only more = record {
   known = each-append IsKindWord words (word ∷ []) is.known ((kind, same), tt);
-  allows = λ other. (λ now. is_there other ((more other).0 now), λ has. (more other).1 (was_there other (Contains-append_cases words (word ∷ []) (kind_word other) has)));
+  allows = λ other. (
+    λ now. is_there other ((more other).0 now),
+    λ has. (more other).1 (was_there other (Contains-append_cases words (word ∷ []) (kind_word other) has)),
+  );
 }
   where
     is_there : (other : ConcernKind) → IsTrue (allows old other) ⊎ (other ≡ kind) → Contains (words ++ word ∷ []) (kind_word other)
     is_there other (inl before) = Contains-append_left words (word ∷ []) (kind_word other) ((is.allows other).0 before)
     is_there other (inr it) =
-        Contains-append_right words (word ∷ []) (kind_word other) (subst (λ k. Contains (word ∷ []) (kind_word k)) (sym it) (subst (Contains (word ∷ [])) same (Contains-first word [])))
+        Contains-append_right words (word ∷ []) (kind_word other)
+        (subst (λ k. Contains (word ∷ []) (kind_word k)) (sym it) (subst (Contains (word ∷ [])) same (Contains-first word [])))
 
     was_there : (other : ConcernKind) → Contains words (kind_word other) ⊎ Contains (word ∷ []) (kind_word other) →
         IsTrue (allows old other) ⊎ (other ≡ kind)

@@ -1,4 +1,5 @@
-use Rattle.std.proofs.Common.{◌≡◌, ◌≢◌, ◌++◌, ◌∷◌, [], ◌∙◌, ◌<◌, ℕ, List, None, Result, Ok, Err, IfOk, codes, drop, length, get_or, ap, refl, subst, sym, inl, inr, lit<}
+use Rattle.std.proofs.Common.{◌≡◌, ◌≢◌, ◌++◌, ◌∷◌, [], ◌∙◌, ◌<◌, ℕ, List, None, Result, Ok, Err, IfOk, codes, drop, length, get_or, ap}
+use Rattle.std.proofs.Common.{refl, subst, sym, inl, inr, lit<}
 use Rattle.std.specs.Fmt.{decimal}
 use Rattle.std.specs.Str.Pattern.{RFindsChar, SplitsAroundMatch}
 use Rattle.std.proofs.lemmas.List.{append_assoc, take-append-drop}

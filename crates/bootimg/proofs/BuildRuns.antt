@@ -1,4 +1,5 @@
-use Rattle.std.proofs.Common.{◌≡◌, ◌++◌, ◌+◌, ◌<◌, ◌∙◌, ℕ, Bool, List, [], ◌∷◌, Option, Result, Ok, Err, length, map, take, drop, get_or, ap, inl}
+use Rattle.std.proofs.Common.{◌≡◌, ◌++◌, ◌+◌, ◌<◌, ◌∙◌, ℕ, Bool, List, [], ◌∷◌, Option, Result, Ok, Err, length, map, take, drop, get_or}
+use Rattle.std.proofs.Common.{ap, inl}
 use Rattle.std.proofs.Common.{inr, refl, subst, sym, add-one}
 use Rattle.std.specs.Prelude.{suc}
 use Rattle.std.specs.List.{AllZip, list_any}
@@ -189,7 +190,8 @@ pub was_built : (plan : BuildPlan) (parts : List Part) (limits : Limits) (work :
 was_built plan parts limits work result done same piped ended outcome =
     WasBuilt done
     (subst
-    (λ (r : Result (Unit {0}) Error). IsTracedPipe (build_promise plan parts limits) limits work.input work.new_input work.output work.new_output r)
+    (λ (r : Result (Unit {0}) Error). IsTracedPipe
+    (build_promise plan parts limits) limits work.input work.new_input work.output work.new_output r)
     same piped)
     ended outcome
 
@@ -201,7 +203,8 @@ pub was_not_built : (plan : BuildPlan) (parts : List Part) (limits : Limits) (wo
 was_not_built plan parts limits work result error same piped outcome =
     WasNotBuilt error
     (subst
-    (λ (r : Result (Unit {0}) Error). IsTracedPipe (build_promise plan parts limits) limits work.input work.new_input work.output work.new_output r)
+    (λ (r : Result (Unit {0}) Error). IsTracedPipe
+    (build_promise plan parts limits) limits work.input work.new_input work.output work.new_output r)
     same piped)
     outcome
 

@@ -156,7 +156,8 @@ words_are (Some arguments) (Some entry) none result same is empty = rw (is) (cc)
 pub texts_push : (arguments : List (Bor (List ℕ))) (index : ℕ) (d : Bor (List ℕ)) → index < length arguments →
     texts_of (take (index + 1) arguments) ≡ texts_of (take index arguments) ++ (get_or arguments index d).now ∷ []
 texts_push arguments index d within =
-    ap texts_of (take_more arguments index d within) ∙ map-append (λ (argument : Bor (List ℕ)). argument.now) (take index arguments) (get_or arguments index d ∷ [])
+    ap texts_of (take_more arguments index d within)
+    ∙ map-append (λ (argument : Bor (List ℕ)). argument.now) (take index arguments) (get_or arguments index d ∷ [])
 
 -- An argument that is no part is in no list of parts.
 pub no_parts : (arguments : List (Bor (List ℕ))) (index : ℕ) (d : Bor (List ℕ)) → index < length arguments →
@@ -176,7 +177,10 @@ images_push [] [] (s ∷ payloads) argument image payload are is = absurd are
 images_push [] (i ∷ images) payloads argument image payload are is = absurd are
 images_push (w ∷ arguments) [] payloads argument image payload are is = absurd are
 images_push (w ∷ arguments) (i ∷ images) [] argument image payload are is = absurd are
-images_push (w ∷ arguments) (i ∷ images) (s ∷ payloads) argument image payload are is = (are.0, images_push arguments images payloads argument image payload are.1 is)
+images_push (w ∷ arguments) (i ∷ images) (s ∷ payloads) argument image payload are is = (
+  are.0,
+  images_push arguments images payloads argument image payload are.1 is,
+)
 
 -- Each of arguments that are images is one.
 pub image_at : (arguments : List (List ℕ)) (images : List ImageSpec) (payloads : List PartSource) (index : ℕ) (argument : List ℕ) →
@@ -187,7 +191,8 @@ image_at (w ∷ arguments) [] payloads index argument are is = absurd are
 image_at (w ∷ arguments) (i ∷ images) [] index argument are is = absurd are
 image_at (w ∷ arguments) (i ∷ images) (s ∷ payloads) zero argument are is =
     let same : w ≡ argument = cc in ((i, s), subst (λ text. IsImageText text (i, s)) same are.0)
-image_at (w ∷ arguments) (i ∷ images) (s ∷ payloads) (suc index) argument are is = image_at arguments images payloads index argument are.1 is
+image_at (w ∷ arguments) (i ∷ images) (s ∷ payloads)
+    (suc index) argument are is = image_at arguments images payloads index argument are.1 is
 
 -- As many images as payloads.
 pub images_long : (arguments : List (List ℕ)) (images : List ImageSpec) (payloads : List PartSource) → AreImages arguments images payloads →
@@ -287,7 +292,8 @@ first_bad arguments index d images payloads within are none = record {
   argument = (get_or arguments index d).now;
   is = text_at arguments index d within;
   bad = none;
-  before = λ other text before is. image_at (texts_of (take index arguments)) images payloads other text are (before_taken arguments index other text before is);
+  before = λ other text before is. image_at (texts_of (take index arguments)) images payloads other text are
+      (before_taken arguments index other text before is);
 }
 
 -- The selections that are given, from the results of the calls.
@@ -364,7 +370,8 @@ no_image_name options escaped argument given flag none = record {
     no_select (Part index) is = let other = is.1 in not_both (option_of options (codes "image")) other.image_is given.image_is
     no_select (Image name) is =
         let other = is.1 in
-        none name.items (subst (λ text. IsNameOf escaped text name.items) (same_word (option_of options (codes "image")) other.image_is given.image_is) is.3)
+        none name.items (subst (λ text. IsNameOf escaped text name.items)
+        (same_word (option_of options (codes "image")) other.image_is given.image_is) is.3)
     no_select (Config name key index) is = let other = is.1 in not_both (option_of options (codes "image")) other.image_is given.image_is
     no_select (Default key index) is = let other = is.0 in not_both (option_of options (codes "image")) other.image_is given.image_is
 
@@ -385,7 +392,8 @@ no_config_name options escaped argument given flag none = record {
     no_select (Image name) is = let other = is.1 in not_both (option_of options (codes "config")) other.config_is given.config_is
     no_select (Config name key index) is =
         let other = is.1 in
-        none name.items (subst (λ text. IsNameOf escaped text name.items) (same_word (option_of options (codes "config")) other.config_is given.config_is) is.3)
+        none name.items (subst (λ text. IsNameOf escaped text name.items)
+        (same_word (option_of options (codes "config")) other.config_is given.config_is) is.3)
     no_select (Default key index) is = let other = is.0 in not_both (option_of options (codes "config")) other.config_is given.config_is
 
 -- The key or the index is bad.

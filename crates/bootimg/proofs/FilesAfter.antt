@@ -1,4 +1,5 @@
-use Rattle.std.proofs.Common.{◌≡◌, ◌≢◌, ◌++◌, ◌∷◌, [], ◌∙◌, ◌⊎◌, ℕ, Bool, true, false, List, Option, Some, None, map, ap, inl, inr, sym, subst, refl}
+use Rattle.std.proofs.Common.{◌≡◌, ◌≢◌, ◌++◌, ◌∷◌, [], ◌∙◌, ◌⊎◌, ℕ, Bool, true, false, List, Option, Some, None, map, ap, inl, inr, sym}
+use Rattle.std.proofs.Common.{subst, refl}
 use Rattle.std.specs.Prelude.{if◌then◌else◌, bytes_eq, IfSome, unwrap_or}
 use Rattle.std.specs.Io.KnownBytes.{Appends}
 use Rattle.bi_base.proofs.EqualBytes.{same_bytes, other_bytes}
@@ -9,7 +10,8 @@ use Rattle.bootimg.specs.Files.{Made, NameTaken, NotMade, Closed, NotClosed, Ren
 use Rattle.bootimg.specs.Files.{AreNamesTaken, IsMadeBeside, IsNotMade, NoMemoryForName, AllNamesTaken, MakingFailed, IsNotWrittenFile}
 use Rattle.bootimg.specs.Files.{WritingStopped, ClosingFailed, IsNotPutInPlace, FillingFailed, RenamingFailed, IsSaved, IsNotSaved}
 use Rattle.bootimg.specs.Files.{CannotBeReplaced, NoNewFile, NewFileFailed}
-use Rattle.bootimg.specs.FilesAfter.{with_entry_at, written_file, after_step, after_steps, HasFile, OthersAreSame, AreSameNames, HaveContents}
+use Rattle.bootimg.specs.FilesAfter.{with_entry_at, written_file, after_step, after_steps, HasFile, OthersAreSame, AreSameNames}
+use Rattle.bootimg.specs.FilesAfter.{HaveContents}
 use Rattle.bootimg.specs.FilesAfter.{LeavesNewFile}
 use Rattle.bootimg.proofs.NewFiles.{steps_in_turn}
 
@@ -50,7 +52,8 @@ taken_change_nothing (name ∷ taken) names = taken_change_nothing taken names
 -- Each name but this one has what it had.
 abbrev pub Touches : (base : Names) → (name : List ℕ) → (old new : Option (List FileStep)) → Type 0
 Touches base name old new =
-    IfSome new (λ after. (before : List FileStep) × (old ≡ Some before) × OthersAreSame name (after_steps base before) (after_steps base after))
+    IfSome new (λ after. (before : List FileStep) × (old ≡ Some before)
+    × OthersAreSame name (after_steps base before) (after_steps base after))
 
 touches_in_turn : (base : Names) (name : List ℕ) (old middle new : Option (List FileStep)) → Touches base name old middle
     → Touches base name middle new → Touches base name old new
@@ -120,12 +123,14 @@ made_touches base files name beside file old made is =
 closed_touches : (base : Names) (beside : List ℕ) (file : WriteTrace) (old new : Option (List FileStep))
     → TookSteps old new (Closed beside file ∷ []) → Touches base beside old new
 closed_touches base beside file old new took =
-    touches_with base beside old new (Closed beside file ∷ []) (λ names q apart. with_entry_at-other names beside q (written_file file) apart) took
+    touches_with base beside old new (Closed beside file ∷ [])
+    (λ names q apart. with_entry_at-other names beside q (written_file file) apart) took
 
 not_closed_touches : (base : Names) (beside : List ℕ) (file : WriteTrace) (old new : Option (List FileStep))
     → TookSteps old new (NotClosed beside file ∷ []) → Touches base beside old new
 not_closed_touches base beside file old new took =
-    touches_with base beside old new (NotClosed beside file ∷ []) (λ names q apart. with_entry_at-other names beside q (written_file file) apart)
+    touches_with base beside old new (NotClosed beside file ∷ [])
+    (λ names q apart. with_entry_at-other names beside q (written_file file) apart)
     took
 
 not_written_touches : (base : Names) (beside bytes : List ℕ) (file : WriteTrace) (old new : Option (List FileStep))
@@ -183,11 +188,13 @@ removed_is_left base names beside old (Some between) (Some after) are unused tou
         → after_steps base after q ≡ with_entry_at (after_steps base between) beside NoFile q → after_steps base after q ≡ names q
     at q true is now =
         let same = same_bytes q beside is in
-        now ∙ ap (λ n. with_entry_at (after_steps base between) beside NoFile n) same ∙ with_entry_at-same (after_steps base between) beside NoFile
+        now ∙ ap (λ n. with_entry_at (after_steps base between) beside NoFile n) same
+        ∙ with_entry_at-same (after_steps base between) beside NoFile
         ∙ sym unused ∙ ap (λ n. names n) (sym same)
     at q false is now =
         let apart = other_bytes q beside is in
-        now ∙ with_entry_at-other (after_steps base between) beside q NoFile apart ∙ touches.2 q apart ∙ ap (λ n. n q) (are touches.0 touches.1)
+        now ∙ with_entry_at-other (after_steps base between) beside q NoFile apart ∙ touches.2 q apart
+        ∙ ap (λ n. n q) (are touches.0 touches.1)
 
 not_removed_is_left : (base names : Names) (beside : List ℕ) (old failed new : Option (List FileStep))
     → ((before : List FileStep) → old ≡ Some before → after_steps base before ≡ names) → names beside ≡ NoFile
@@ -298,15 +305,18 @@ saved_leaves base names name bytes old (Some after) are saved contents =
     let one = made_steps name beside saved.file old saved.made made.tried made.number made.are_taken made.made in
     let two = steps_in_turn old saved.made put.closed (map NameTaken taken ++ Made beside saved.file ∷ []) (Closed beside filled ∷ []) one
     put.is_filled.closed in
-    let all : TookSteps old (Some after) (((map NameTaken taken ++ Made beside saved.file ∷ []) ++ Closed beside filled ∷ []) ++ Renamed beside name ∷ [])
+    let all : TookSteps old (Some after)
+    (((map NameTaken taken ++ Made beside saved.file ∷ []) ++ Closed beside filled ∷ []) ++ Renamed beside name ∷ [])
     = steps_in_turn old put.closed (Some after) ((map NameTaken taken ++ Made beside saved.file ∷ []) ++ Closed beside filled ∷ [])
     (Renamed beside name ∷ []) two put.renamed
     in
     let first = map NameTaken taken ++ Made beside saved.file ∷ [] in
-    let have = HaveContents-later all.0 ((first ++ Closed beside filled ∷ []) ++ Renamed beside name ∷ []) (subst HaveContents all.2 contents) in
+    let have = HaveContents-later all.0 ((first ++ Closed beside filled ∷ []) ++ Renamed beside name ∷ [])
+    (subst HaveContents all.2 contents) in
     let known =
     HaveContents-later (map NameTaken taken) (Made beside saved.file ∷ [])
-    (HaveContents-first first (Closed beside filled ∷ []) (HaveContents-first (first ++ Closed beside filled ∷ []) (Renamed beside name ∷ []) have))
+    (HaveContents-first first (Closed beside filled ∷ [])
+    (HaveContents-first (first ++ Closed beside filled ∷ []) (Renamed beside name ∷ []) have))
     in
     let now =
     ap (λ l. after_steps base l) all.2

@@ -27,7 +27,8 @@ use Rattle.bootimg.specs.Runs.{FileNotOpened, IsCompareWork, BothRead, OneNotRea
 use Rattle.bootimg.specs.Runs.{PartNotRead, NoRoom, IsJobWork, IsSavedWork, OutputSaved, OutputNotSaved, NoOutput, IsOutputRun}
 use Rattle.bootimg.specs.Runs.{ToStandardOutput, ToFile, IsEnd, EndsWell, EndsWithFailure, IsTextRun, IsWritten, IsNotWritten}
 use Rattle.bootimg.specs.Runs.{IsUsage, IsRun, RanJob, Rejected, WroteText, inputs_before, inputs_after}
-use Rattle.bootimg.proofs.FilesAfter.{KeepsNames, keeps_same, keeps_in_turn, keeps_with, LeftAfterFailure, kept_is_left, not_saved_leaves, saved_leaves}
+use Rattle.bootimg.proofs.FilesAfter.{KeepsNames, keeps_same, keeps_in_turn, keeps_with, LeftAfterFailure, kept_is_left, not_saved_leaves}
+use Rattle.bootimg.proofs.FilesAfter.{saved_leaves}
 
 -- What a run leaves of the files.
 
@@ -113,7 +114,8 @@ build_work_keeps base files plan limits work old new (NoRoom first is same) =
 
 job_work_keeps_names : (base : Names) (files : KnownFiles) (job : Job) (limits : Limits) (work : Work) (old new : Option (List FileStep))
     → IsJobWork files job limits work old new → KeepsNames base old new
-job_work_keeps_names base files (RunTask task source) limits work old new done = image_work_keeps base files task limits work old new source done
+job_work_keeps_names base files
+    (RunTask task source) limits work old new done = image_work_keeps base files task limits work old new source done
 job_work_keeps_names base files (Compare plan) limits work old new done = compare_work_keeps base files plan limits work old new done
 job_work_keeps_names base files (Explain cause) limits work old new done = keeps_same base old new done.1
 job_work_keeps_names base files (Build plan) limits work old new done = build_work_keeps base files plan limits work old new done
@@ -158,10 +160,12 @@ saved_work_leaves : (base names : Names) (arguments : List (List ℕ)) (request 
     → request.output ≡ Some name → AreNames base names before.steps
     → IsSavedWork (Some names) request.job request.limits name before after outcome → IsEnd errors new_errors status outcome
     → IfSome after.steps HaveContents → RunLeaves base names arguments before.input.remaining status after.steps
-saved_work_leaves base names arguments request name before after errors new_errors status outcome is named are (OutputSaved done output worked held saved ends) end contents =
+saved_work_leaves base names arguments request name before after errors new_errors status outcome is named are
+    (OutputSaved done output worked held saved ends) end contents =
     there after.steps
     (saved_leaves base names name.now output worked after.steps
-    (kept_names base names before.steps worked are (job_work_keeps_names base (Some names) request.job request.limits _ _ _ held.work)) saved
+    (kept_names base names before.steps worked are
+    (job_work_keeps_names base (Some names) request.job request.limits _ _ _ held.work)) saved
     contents)
   where
     there : (new : Option (List FileStep)) → IfSome new (λ l. HasFile names (after_steps base l) name.now output)
@@ -170,12 +174,16 @@ saved_work_leaves base names arguments request name before after errors new_erro
     there (Some l) has =
         OutputIsThere request name done output before (record { input = after.input; steps = worked }) is named refl held
         (status_at_ok errors new_errors status outcome done end ends) has
-saved_work_leaves base names arguments request name before after errors new_errors status outcome is named are (OutputNotSaved done output worked held failure not ends) end contents =
-    failure_leaves base names arguments before.input.remaining status after.steps (status_at_err errors new_errors status outcome _ end ends)
+saved_work_leaves base names arguments request name before after errors new_errors status outcome is named are
+    (OutputNotSaved done output worked held failure not ends) end contents =
+    failure_leaves base names arguments before.input.remaining status after.steps
+    (status_at_err errors new_errors status outcome _ end ends)
     (not_saved_leaves base names name.now output failure worked after.steps
     (kept_names base names before.steps worked are (job_work_keeps_names base (Some names) request.job request.limits _ _ _ held.work)) not)
-saved_work_leaves base names arguments request name before after errors new_errors status outcome is named are (NoOutput failed held ends) end contents =
-    failure_leaves base names arguments before.input.remaining status after.steps (status_at_err errors new_errors status outcome failed end ends)
+saved_work_leaves base names arguments request name before after errors new_errors status outcome is named are
+    (NoOutput failed held ends) end contents =
+    failure_leaves base names arguments before.input.remaining status after.steps
+    (status_at_err errors new_errors status outcome failed end ends)
     (kept_is_left base names before.steps after.steps are
     (job_work_keeps_names base (Some names) request.job request.limits _ _ _ held.work.work))
 

@@ -1,4 +1,5 @@
-use Rattle.std.proofs.Common.{◌≡◌, ◌++◌, ◌∷◌, [], ◌∙◌, ◌<◌, ◌≤◌, ◌+◌, ◌-◌, ℕ, Bool, true, false, List, Option, Some, None, map, length, take, get_or, ap, arith, subst, sym, refl}
+use Rattle.std.proofs.Common.{◌≡◌, ◌++◌, ◌∷◌, [], ◌∙◌, ◌<◌, ◌≤◌, ◌+◌, ◌-◌, ℕ, Bool, true, false, List, Option, Some, None, map, length}
+use Rattle.std.proofs.Common.{take, get_or, ap, arith, subst, sym, refl}
 use Rattle.std.specs.Prelude.{IfSome, IsFalse, IsTrue}
 use Rattle.std.proofs.lemmas.List.{map_push, take_more}
 use Rattle.bootimg.specs.declared.memory_files.MemoryStep.{MemoryStep}
@@ -21,8 +22,12 @@ pub step_recorded : (was_lost is_lost : Bool) (old new : List MemoryStep) (step 
     → TookSteps (recorded_steps was_lost old) (recorded_steps is_lost new) (named_step name step.kind ∷ [])
 step_recorded was_lost true old new step name same is named = tt
 step_recorded true false old new step name same is named = absurd (let no : false ≡ true = same in cc)
-step_recorded false false old new step name same is named =
-    (map recorded_step old, refl, ap (map recorded_step) is ∙ map_push recorded_step old step ∙ ap (λ n. map recorded_step old ++ named_step n step.kind ∷ []) named)
+step_recorded false false old new step name same is named = (
+  map recorded_step old,
+  refl,
+  ap (map recorded_step) is ∙ map_push recorded_step old step
+      ∙ ap (λ n. map recorded_step old ++ named_step n step.kind ∷ []) named,
+)
 
 pub step_lost : (old : Option (List FileStep)) (is_lost : Bool) (log : List MemoryStep) (steps : List FileStep) → IsTrue is_lost
     → TookSteps old (recorded_steps is_lost log) steps
@@ -36,7 +41,8 @@ lost_steps false log is = absurd (let no : false ≡ true = is in cc)
 names_after_one : (log : List MemoryStep) (step : MemoryStep)
     → recorded_names (log ++ step ∷ []) ≡ after_step (recorded_names log) (recorded_step step)
 names_after_one log step =
-    ap (after_steps no_names) (map_push recorded_step log step) ∙ after_steps-append no_names (map recorded_step log) (recorded_step step ∷ [])
+    ap (after_steps no_names) (map_push recorded_step log step)
+    ∙ after_steps-append no_names (map recorded_step log) (recorded_step step ∷ [])
 
 pub names_recorded : (old new : List MemoryStep) (step : MemoryStep) (name : List ℕ) → new ≡ old ++ step ∷ [] → step.name.now ≡ name
     → recorded_names new ≡ after_step (recorded_names old) (named_step name step.kind)
@@ -89,7 +95,8 @@ names_of_steps : (is_lost : Bool) (log : List MemoryStep) (before : List FileSte
     → after_steps no_names before ≡ recorded_names log
 names_of_steps true log before is = absurd (let none : None ≡ Some before = is in cc)
 names_of_steps false log before is =
-    let same : before ≡ map recorded_step log = let e : Some (map recorded_step log) ≡ Some before = is in cc in ap (after_steps no_names) same
+    let same : before ≡ map recorded_step log = let e : Some (map recorded_step log)
+    ≡ Some before = is in cc in ap (after_steps no_names) same
 
 -- What a run leaves of files in memory.
 pub memory_run_leaves : (was_lost is_lost : Bool) (old new : List MemoryStep) (arguments : List (List ℕ)) (run : Run)
@@ -97,7 +104,8 @@ pub memory_run_leaves : (was_lost is_lost : Bool) (old new : List MemoryStep) (a
     → run.input.remaining ≡ input → run.status ≡ status → run.steps ≡ recorded_steps was_lost old
     → run.new_steps ≡ recorded_steps is_lost new → IsFalse is_lost
     → LeavesFiles arguments input (recorded_names old) (recorded_names new) (map recorded_step new) status
-memory_run_leaves was_lost true old new arguments run input status is reads ends before after not = absurd (let no : true ≡ false = not in cc)
+memory_run_leaves was_lost true old new arguments run input status is reads ends before after not = absurd
+    (let no : true ≡ false = not in cc)
 memory_run_leaves was_lost false old new arguments run input status is reads ends before after not =
     let leaves =
     run_leaves no_names (recorded_names old) arguments run is (λ l known. names_of_steps was_lost old l (sym before ∙ known))

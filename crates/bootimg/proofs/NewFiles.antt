@@ -7,7 +7,8 @@ use Rattle.bi_base.specs.declared.fault.Error.{Error}
 use Rattle.bootimg.specs.declared.failure.Failure.{Failure}
 use Rattle.bootimg.specs.declared.failure.Failure.TheVariants.{NotWritten}
 use Rattle.std.proofs.lemmas.List.{append_assoc, append-nil, map_push}
-use Rattle.bootimg.specs.Files.{AreNamesTaken, NoNumbers, OwnName, OneMoreName, Closed, ClosingFailed, KnownFiles, FileStep, NameHas, IsBeside, IsNotWrittenFile}
+use Rattle.bootimg.specs.Files.{AreNamesTaken, NoNumbers, OwnName, OneMoreName, Closed, ClosingFailed, KnownFiles, FileStep, NameHas}
+use Rattle.bootimg.specs.Files.{IsBeside, IsNotWrittenFile}
 use Rattle.bootimg.specs.Files.{IsMadeBeside, IsNewFile, IsNoFile, IsNotMade, Made}
 use Rattle.bootimg.specs.Files.{IsNotPutInPlace, IsNotSaved, MakingFailed, MayBeReplaced, NameTaken, NewFileFailed, NotClosed, NotMade}
 use Rattle.bootimg.specs.Files.{NotRemoved, Removed, SavesNothing, TookSteps, WritingStopped, no_files}
@@ -99,7 +100,8 @@ pub writing_stopped : {T E : Type 0} (beside bytes : List ℕ) (file filled : Wr
     → OnOk closed (TookSteps old new (Closed beside filled ∷ [])) → OnErr closed (TookSteps old new (NotClosed beside filled ∷ []))
     → IsNotWrittenFile beside bytes file old new
 writing_stopped beside bytes file filled old new written error closed is wrote well badly =
-    WritingStopped filled error (subst (λ (r : Result (Unit {0}) Error). Wrote WroteAndFlushed WriteOrFlushStopped file bytes r filled) is wrote)
+    WritingStopped filled error (subst
+    (λ (r : Result (Unit {0}) Error). Wrote WroteAndFlushed WriteOrFlushStopped file bytes r filled) is wrote)
     (either closed well badly)
 
 -- All was written to a new file and flushed, and it could not be closed.

@@ -1,4 +1,5 @@
-use Rattle.std.proofs.Common.{◌≡◌, ◌∙◌, ℕ, true, Bor, List, Option, Some, None, Result, Ok, Err, IfErr, ap, inl, inr, is_some, option_map, refl, subst, sym, []}
+use Rattle.std.proofs.Common.{◌≡◌, ◌∙◌, ℕ, true, Bor, List, Option, Some, None, Result, Ok, Err, IfErr, ap, inl, inr, is_some, option_map}
+use Rattle.std.proofs.Common.{refl, subst, sym, []}
 use Rattle.std.specs.Box.{box_value}
 use Rattle.std.specs.Result.{IsErrAnd}
 use Rattle.clap.specs.Faults.{fault_of, is_simple_and_free}
@@ -9,7 +10,8 @@ use Rattle.clap.specs.Walk.{Row, rows_of}
 use Rattle.clap.specs.declared.error.Error.{Error as ClapError}
 use Rattle.clap.specs.declared.parser.matches.ArgMatches.{ArgMatches}
 use Rattle.clap.specs.declared.parser.matches.ArgMatches.TheViews.{out-ArgMatches, out-SubCommand}
-use Rattle.bootimg.specs.CommandLine.{limit_of, Gives, HasNoText, HasText, IsBadValue, IsFailureOutcome, IsJob, IsLimits, IsNoRequest, IsOutcomeOf}
+use Rattle.bootimg.specs.CommandLine.{limit_of, Gives, HasNoText, HasText, IsBadValue, IsFailureOutcome, IsJob, IsLimits, IsNoRequest}
+use Rattle.bootimg.specs.CommandLine.{IsOutcomeOf}
 use Rattle.bootimg.specs.CommandLine.{IsTaskFailure, NoJob, NoLimits, NoMemory}
 use Rattle.bootimg.specs.Program.{program_app, IsCommandName}
 use Rattle.bootimg.specs.declared.command_line.Job.{Job}

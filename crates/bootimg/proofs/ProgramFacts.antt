@@ -1,4 +1,5 @@
-use Rattle.std.proofs.Common.{◌≡◌, ◌&&◌, ◌||◌, ap, sym, subst, refl, inl, inr, ℕ, Bool, true, false, not, cond, List, [], ◌∷◌, ◌++◌, map, fold, codes, Option, Some, None, IfSome, is_some, find, unwrap_or}
+use Rattle.std.proofs.Common.{◌≡◌, ◌&&◌, ◌||◌, ap, sym, subst, refl, inl, inr, ℕ, Bool, true, false, not, cond, List, [], ◌∷◌, ◌++◌, map}
+use Rattle.std.proofs.Common.{fold, codes, Option, Some, None, IfSome, is_some, find, unwrap_or}
 use Rattle.std.specs.Prelude.{⊤}
 use Rattle.std.specs.List.{list_all, list_any}
 use Rattle.std.specs.Str.{bytes_eq}
@@ -7,11 +8,14 @@ use Rattle.clap.specs.Facts.{explicit_source}
 use Rattle.clap.specs.Takes.{is_given}
 use Rattle.clap.specs.Kinds.{Kinds, check_kinds, or_else}
 use Rattle.clap.specs.Lexer.{long_of, short_of}
-use Rattle.clap.specs.Walk.{Held, Names, Outcome, Row, Rule, Step, Text, Waiting, Walk, after_flag, after_step, answers_to, arg_by_index, done, finished, idle, is_empty, next, option}
-use Rattle.clap.specs.Walk.{long_or_other, nothing_held, plain, plain_word, positional, refused, short_or_plain, stop_after, subcommand, settled, subcommand_met, subcommand_or_other}
+use Rattle.clap.specs.Walk.{Held, Names, Outcome, Row, Rule, Step, Text, Waiting, Walk, after_flag, after_step, answers_to, arg_by_index}
+use Rattle.clap.specs.Walk.{done, finished, idle, is_empty, next, option}
+use Rattle.clap.specs.Walk.{long_or_other, nothing_held, plain, plain_word, positional, refused, short_or_plain, stop_after, subcommand}
+use Rattle.clap.specs.Walk.{settled, subcommand_met, subcommand_or_other}
 use Rattle.clap.specs.Walk.{to_positional, trailing, value, waits, walk, walk_from, walked}
 use Rattle.clap.specs.Simple.{App, Shape, built, entered, is_simple, label_of, names_of, rows_at, subcommand_of}
-use Rattle.clap.specs.Faults.{built_fault, check_fault, entered_fault, fault_of, is_simple_and_free, defaults_fault, other_fault, settle_fault, turn_fault, walk_fault}
+use Rattle.clap.specs.Faults.{built_fault, check_fault, entered_fault, fault_of, is_simple_and_free, defaults_fault, other_fault}
+use Rattle.clap.specs.Faults.{settle_fault, turn_fault, walk_fault}
 use Rattle.clap.proofs.SimpleLemmas.{is_nil}
 use Rattle.clap.proofs.WalkLemmas.{both}
 use Rattle.bootimg.specs.Program.{commands, program_app, IsCommandName, IsAmongNames}
@@ -126,7 +130,8 @@ unfolding walk_fault
 walk_stays shape names walk [] help is none = is
 walk_stays shape names walk (word ∷ words) help is none =
     let faults = neither _ _ none in
-    walk_stays shape names (walked shape.rules names walk word) words help (turn_stays shape names walk walk.stopped word help refl is faults.0)
+    walk_stays shape names (walked shape.rules names walk word) words help
+    (turn_stays shape names walk walk.stopped word help refl is faults.0)
     faults.1
 
 -- Of two tests of which the second fails, the first passes.

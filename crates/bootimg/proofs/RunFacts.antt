@@ -49,23 +49,24 @@ pub plain_run : (arguments : List (List ℕ)) (files : KnownFiles) (steps new_st
     → run.output.contents ≡ contents → run.new_output.contents ≡ new_contents
     → run.errors.contents ≡ errors → run.new_errors.contents ≡ new_errors
     → IsPlainRun arguments files steps new_steps remaining new_remaining contents new_contents errors new_errors run.status
-plain_run arguments files steps new_steps run remaining new_remaining contents new_contents errors new_errors is reads taken writes logs ch nch r nr c nc e ne = record {
-  run = run;
-  is_run = is;
-  is_status = refl;
-  reads_well = reads;
-  none_taken = taken;
-  writes_well = writes;
-  errors_write_well = logs;
-  steps_before = ch;
-  steps_after = nch;
-  remaining_before = r;
-  remaining_after = nr;
-  contents_before = c;
-  contents_after = nc;
-  errors_before = e;
-  errors_after = ne;
-}
+plain_run arguments files steps new_steps run remaining new_remaining contents new_contents errors new_errors is reads taken writes logs
+    ch nch r nr c nc e ne = record {
+      run = run;
+      is_run = is;
+      is_status = refl;
+      reads_well = reads;
+      none_taken = taken;
+      writes_well = writes;
+      errors_write_well = logs;
+      steps_before = ch;
+      steps_after = nch;
+      remaining_before = r;
+      remaining_after = nr;
+      contents_before = c;
+      contents_after = nc;
+      errors_before = e;
+      errors_after = ne;
+    }
 
 -- A failure was reported, and nothing else was done.
 pub run_is_rejected : (source : ImageSource) (failure : Failure) (run : Run) → run.new_input ≡ run.input → run.new_output ≡ run.output

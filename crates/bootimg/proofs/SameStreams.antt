@@ -121,7 +121,10 @@ build_work_keeps : (files : KnownFiles) (plan : BuildPlan) (limits : Limits) (wo
     → IsBuildWork files plan limits work old new → KeepsWork work
 build_work_keeps files plan limits work old new (BuiltWithInput parts are reads built) = built_keeps _ _ _ _ built
 build_work_keeps files plan limits work old new (BuiltOfFiles parts are reads built same) =
-    record { reader = ap (λ trace. trace.reader) same; writer = (built_keeps plan parts limits (with_input work no_input no_input) built).writer }
+    record {
+      reader = ap (λ trace. trace.reader) same;
+      writer = (built_keeps plan parts limits (with_input work no_input no_input) built).writer;
+    }
 build_work_keeps files plan limits work old new (PartNotRead failed not_read is same) =
     record { reader = ap (λ trace. trace.reader) same; writer = ap (λ trace. trace.writer) is.nothing_written }
 build_work_keeps files plan limits work old new (NoRoom first is same) =

@@ -32,13 +32,33 @@ pub same_error : (one other : Select) → ((meaning : Meaning) → choice_of one
     (limits : Limits) (file : List ℕ) (failed : ExtractError) → IsExtractError one limits file failed →
     IsExtractError other limits file failed
 same_error one other same limits file (error.Failed failed) is = is
-same_error one other same limits file error.WrongKind is = record { meaning = is.meaning; means = is.means; holds = sym (same is.meaning) ∙ is.holds }
-same_error one other same limits file error.NoPart is = record { meaning = is.meaning; means = is.means; holds = sym (same is.meaning) ∙ is.holds }
-same_error one other same limits file error.NoImage is = record { meaning = is.meaning; means = is.means; holds = sym (same is.meaning) ∙ is.holds }
+same_error one other same limits file error.WrongKind is = record {
+  meaning = is.meaning;
+  means = is.means;
+  holds = sym (same is.meaning) ∙ is.holds;
+}
+same_error one other same limits file error.NoPart is = record {
+  meaning = is.meaning;
+  means = is.means;
+  holds = sym (same is.meaning) ∙ is.holds;
+}
+same_error one other same limits file error.NoImage is = record {
+  meaning = is.meaning;
+  means = is.means;
+  holds = sym (same is.meaning) ∙ is.holds;
+}
 same_error one other same limits file (error.Config reason) is =
     record { meaning = is.meaning; means = is.means; holds = subst (IsReason (error.Config reason)) (same is.meaning) is.holds }
-same_error one other same limits file error.NoIndex is = record { meaning = is.meaning; means = is.means; holds = sym (same is.meaning) ∙ is.holds }
-same_error one other same limits file error.NoPayload is = record { meaning = is.meaning; means = is.means; holds = sym (same is.meaning) ∙ is.holds }
+same_error one other same limits file error.NoIndex is = record {
+  meaning = is.meaning;
+  means = is.means;
+  holds = sym (same is.meaning) ∙ is.holds;
+}
+same_error one other same limits file error.NoPayload is = record {
+  meaning = is.meaning;
+  means = is.means;
+  holds = sym (same is.meaning) ∙ is.holds;
+}
 
 -- So does a call that failed.
 pub same_failure : {S : Type 0} (fails : S → List ℕ → S → Error → Type 0) (one other : Select) →
@@ -46,6 +66,7 @@ pub same_failure : {S : Type 0} (fails : S → List ℕ → S → Error → Type
     → (limits : Limits) (file : List ℕ) (old new : S) (failed : ExtractError)
     → CommandFailed fails (λ cause. error.Failed cause) (IsChosen one limits file) (IsExtractError one limits file) old new failed
     → CommandFailed fails (λ cause. error.Failed cause) (IsChosen other limits file) (IsExtractError other limits file) old new failed
-same_failure fails one other same limits file old new failed (WasRefused is kept) = WasRefused (same_error one other same limits file failed is) kept
+same_failure fails one other same limits file old new failed (WasRefused is kept) = WasRefused
+    (same_error one other same limits file failed is) kept
 same_failure fails one other same limits file old new failed (SinkFailed text cause is stops wrapped) =
     SinkFailed text cause (same_chosen one other same limits file text is) stops wrapped

@@ -409,7 +409,7 @@ static READING_COMMANDS: [CommandText; 6] = [
         after_help: "\
                  Reads an image, and writes its normal form to standard output. Two images of the\n\
                  same kind have the same normal form if and only if they mean the same thing. A\n\
-                 flattened image tree has one normal form with --external, and another without it.\n\n\
+                 flattened image tree has one normal form with --external, and another without.\n\n\
                  Signature nodes are kept, and not checked: a signature may no longer be valid. A\n\
                  note on standard error has their number, if there are any.\n\n\
                  Example: bootimg normalise kernel.uimage > normal.uimage",
@@ -423,8 +423,8 @@ static READING_COMMANDS: [CommandText; 6] = [
                  Reads an image, and writes to standard output what it holds. Of a legacy image:\n\
                  its fields, the size and offset of each part, and the number of bytes after the\n\
                  last part. Of a flattened image tree: its memory reservations, the size and\n\
-                 offset of each payload, and what each configuration lists, but no load addresses:\n\
-                 describe shows those. Sizes and offsets are in bytes.\n\n\
+                 offset of each payload, and what each configuration lists, but not where a loader\n\
+                 puts it: describe does. Sizes and offsets are in bytes.\n\n\
                  Example: bootimg list kernel.uimage",
         options: &[LIMIT, OUTPUT, FILE],
     },
@@ -434,7 +434,7 @@ static READING_COMMANDS: [CommandText; 6] = [
         usage: "bootimg describe [OPTIONS] [IMAGE]",
         after_help: "\
                  Reads an image, and writes to standard output what it means, in lines for diff.\n\
-                 The lines are the same for images that mean the same thing: they show no offsets,\n\
+                 Images that mean the same thing have the same lines, which show no offsets,\n\
                  padding or versions, and not whether payloads are inside a flattened image tree\n\
                  or after it. Each payload or part has a line with its size and SHA-256. Neither\n\
                  the payloads together nor the description may be longer than the limit.\n\n\

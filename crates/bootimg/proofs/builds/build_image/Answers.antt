@@ -13,7 +13,8 @@ returns-in_err-read-clause-work g c =
     let p = err_from_is_err_and c.from_residual.result c.from_residual.ensures.1 in
     no_parts_read files c.args.plan.now c.args.limits _ c.in_err-read.field-0.0 _ _
     (subst
-    (λ sources. IsReadingProblem files c.args.limits sources c.in_err-read.field-0.0 (steps c.args.files.now) (steps c.read_parts.new.files))
+    (λ sources. IsReadingProblem files c.args.limits sources c.in_err-read.field-0.0 (steps c.args.files.now)
+    (steps c.read_parts.new.files))
     c.sources-sources.ensures c.in_err-read.ensures.failed)
     refl (p.1 ∙ ap (λ e. Err e) p.2) refl
 

@@ -13,4 +13,5 @@ pub returns-in_ok-parse_number-in-None-clause-some :
     goal.returns-in_ok-parse_number-in-None-clause-some
 returns-in_ok-parse_number-in-None-clause-some c =
     number_that_fits _ _ c.try_from.result c.ok.result (IsCode c.args.field c.args.argument.now) c.ok.ensures.value c.try_from.ensures
-    (λ small. Numbered (λ code named. let e = c.in-None.ensures.exactly code named in absurd cc) c.in_ok-parse_number-in-None.ensures.some small)
+    (λ small. Numbered (λ code named. let e = c.in-None.ensures.exactly code named in absurd cc)
+    c.in_ok-parse_number-in-None.ensures.some small)

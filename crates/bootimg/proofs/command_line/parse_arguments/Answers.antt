@@ -19,14 +19,16 @@ unreachable-requires c =
 pub parse_job-requires : goal.parse_job-requires
 parse_job-requires c =
     given_is_command (texts_of c.args.arguments.now) c.in-Some.name.now c.in-Some.options.now
-    (arguments_give (app_of c.in_ok-program.field-0) (texts_of c.args.arguments.now) c.in_ok-matches.matches c.subcommand.result c.in-Some.name
+    (arguments_give (app_of c.in_ok-program.field-0)
+    (texts_of c.args.arguments.now) c.in_ok-matches.matches c.subcommand.result c.in-Some.name
     c.in-Some.options c.in_ok-program.ensures c.in_ok-matches.ensures.kinds c.in_ok-matches.ensures.matches c.in-Some.is
     c.subcommand.ensures.name c.subcommand.ensures.rows)
 
 pub returns-in_err-job-clause-failure : goal.returns-in_err-job-clause-failure
 returns-in_err-job-clause-failure c =
     no_job (texts_of c.args.arguments.now) c.in-Some.name.now c.in-Some.options.now c.from_residual-in_err-job.result c.in_err-job.field-0.0
-    (arguments_give (app_of c.in_ok-program.field-0) (texts_of c.args.arguments.now) c.in_ok-matches.matches c.subcommand.result c.in-Some.name
+    (arguments_give (app_of c.in_ok-program.field-0)
+    (texts_of c.args.arguments.now) c.in_ok-matches.matches c.subcommand.result c.in-Some.name
     c.in-Some.options c.in_ok-program.ensures c.in_ok-matches.ensures.kinds c.in_ok-matches.ensures.matches c.in-Some.is
     c.subcommand.ensures.name c.subcommand.ensures.rows)
     c.from_residual-in_err-job.ensures.1 c.in_err-job.ensures.failure
@@ -35,7 +37,8 @@ pub returns-in_err-limits-clause-failure : goal.returns-in_err-limits-clause-fai
 returns-in_err-limits-clause-failure c =
     no_limits (texts_of c.args.arguments.now) c.in-Some.name.now c.in-Some.options.now c.in_ok-job.job c.from_residual-in_err-limits.result
     c.in_err-limits.field-0.0
-    (arguments_give (app_of c.in_ok-program.field-0) (texts_of c.args.arguments.now) c.in_ok-matches.matches c.subcommand.result c.in-Some.name
+    (arguments_give (app_of c.in_ok-program.field-0)
+    (texts_of c.args.arguments.now) c.in_ok-matches.matches c.subcommand.result c.in-Some.name
     c.in-Some.options c.in_ok-program.ensures c.in_ok-matches.ensures.kinds c.in_ok-matches.ensures.matches c.in-Some.is
     c.subcommand.ensures.name c.subcommand.ensures.rows)
     c.from_residual-in_err-limits.ensures.1 c.in_ok-job.ensures.job c.in_err-limits.ensures.bad

@@ -1,7 +1,9 @@
 use Rattle.std.proofs.Common.{subst, sym}
 use Rattle.bootimg.specs.CommandLine.{IsTask}
 use Rattle.bootimg.proofs.command_line.parse_task.Goals as goal
-use Rattle.bootimg.proofs.command_line.parse_task.Goals.{in-normalise, in-list, in-describe, in-verify, in-check+in_ok-allowed_kinds-in-check, in-update+in_ok-changes-in-update, in-extract+in_ok-selection-in-extract, in-convert}
+use Rattle.bootimg.proofs.command_line.parse_task.Goals.{in-normalise, in-list, in-describe, in-verify}
+use Rattle.bootimg.proofs.command_line.parse_task.Goals.{in-check+in_ok-allowed_kinds-in-check, in-update+in_ok-changes-in-update}
+use Rattle.bootimg.proofs.command_line.parse_task.Goals.{in-extract+in_ok-selection-in-extract, in-convert}
 
 pub returns-clause-task : goal.returns-clause-task
 returns-clause-task c =
@@ -11,8 +13,18 @@ returns-clause-task c =
       | in-list w ↦ subst is_task (sym w.result-is) w.in-list.is
       | in-describe w ↦ subst is_task (sym w.result-is) w.in-describe.is
       | in-verify w ↦ subst is_task (sym w.result-is) w.in-verify.is
-      | in-check+in_ok-allowed_kinds-in-check w ↦ subst is_task (sym w.result-is) (w.in-check.is, w.in_ok-allowed_kinds-in-check.ensures.value)
-      | in-update+in_ok-changes-in-update w ↦ subst is_task (sym w.result-is) (w.in-update.is, w.in_ok-changes-in-update.ensures.changes, w.form-in-update.ensures)
-      | in-extract+in_ok-selection-in-extract w ↦ subst is_task (sym w.result-is) (w.in-extract.is, w.in_ok-selection-in-extract.ensures.selection)
+      | in-check+in_ok-allowed_kinds-in-check w ↦ subst is_task (sym w.result-is) (
+        w.in-check.is,
+        w.in_ok-allowed_kinds-in-check.ensures.value,
+      )
+      | in-update+in_ok-changes-in-update w ↦ subst is_task (sym w.result-is) (
+        w.in-update.is,
+        w.in_ok-changes-in-update.ensures.changes,
+        w.form-in-update.ensures,
+      )
+      | in-extract+in_ok-selection-in-extract w ↦ subst is_task (sym w.result-is) (
+        w.in-extract.is,
+        w.in_ok-selection-in-extract.ensures.selection,
+      )
       | in-convert w ↦ subst is_task (sym w.result-is) w.in-convert.is
     ]

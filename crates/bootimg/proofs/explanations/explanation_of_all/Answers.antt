@@ -6,5 +6,6 @@ use Rattle.bootimg.proofs.explanations.explanation_of_all.Goals as goal
 
 pub loop-cause-preserved : goal.loop-cause-preserved
 loop-cause-preserved c =
-    one_more_cause line_of_cause all_causes Truncated c.loop-cause.cause-index (string_bytes c.loop-cause.text) (string_bytes c.put_cause.new.text)
+    one_more_cause line_of_cause all_causes Truncated c.loop-cause.cause-index (string_bytes c.loop-cause.text)
+    (string_bytes c.put_cause.new.text)
     c.loop-cause-test.true c.loop-cause.invariant c.in_ok-put_cause.ensures

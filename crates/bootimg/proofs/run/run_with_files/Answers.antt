@@ -10,5 +10,6 @@ returns g c =
     let writer = sym c.new-output.ensures.same_writer ∙ sym keeps.writer in
     let log = sym c.new-log.ensures.same_writer ∙ sym keeps.log in
     plain_run _ _ _ _ _ _ _ _ _ _ _ c.run_traced.ensures c.new-input.ensures.well c.new-input.ensures.none_taken
-    c.new-output.ensures.well c.new-log.ensures.well refl refl c.new-input.ensures.remaining (search rules) c.new-output.ensures.contents (search rules)
+    c.new-output.ensures.well c.new-log.ensures.well refl refl c.new-input.ensures.remaining
+    (search rules) c.new-output.ensures.contents (search rules)
     c.new-log.ensures.contents (search rules)

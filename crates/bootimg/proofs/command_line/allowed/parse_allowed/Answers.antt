@@ -17,7 +17,8 @@ loop-word-preserved c =
     let word = c.in-Some.word in
     let kind = c.in_ok-parse_kind.field-0 in
     subst (λ all. IsAllowed all c.allow.new.allowed) (sym (map-append (λ w. w.now) words (word ∷ [])))
-    (one_more_allowed (texts_of words) word.now kind c.loop-word.allowed c.allow.new.allowed c.loop-word.invariant c.in_ok-parse_kind.ensures.some
+    (one_more_allowed (texts_of words) word.now kind c.loop-word.allowed c.allow.new.allowed c.loop-word.invariant
+    c.in_ok-parse_kind.ensures.some
     (only_kind word.now kind c.parse_kind.result c.in_ok-parse_kind.was c.parse_kind.ensures.exactly) c.allow.ensures)
 
 pub returns-in_err-parse_kind-clause-none : goal.returns-in_err-parse_kind-clause-none
@@ -25,7 +26,8 @@ returns-in_err-parse_kind-clause-none c =
     let text = c.args.text.now in
     let split = c.split-word-items.ensures in
     let gives = c.into_iter-word-iterator.ensures.into_iter_gives in
-    let road = YieldsList-from_str_split 44 text (lit< tt) (ap split_text gives ∙ split.text) (ap split_has_more gives ∙ split.has_more) (ap split_pattern gives ∙ split.pattern) in
+    let road = YieldsList-from_str_split 44 text (lit< tt) (ap split_text gives ∙ split.text) (ap split_has_more gives ∙ split.has_more)
+    (ap split_pattern gives ∙ split.pattern) in
     let turn = YieldsList-turn road c.loop-word.yielded _ c.loop-word.yielded_by _ _ c.in-Some.word c.in-Some.is c.next.ensures.steps in
     if_none c.from_residual.result (NoneIs (IsAllowed (listed_words text)))
     (unknown_word (listed_words text) c.in-Some.word.now (length c.loop-word.yielded, turn.0, sym turn.1)
@@ -35,6 +37,7 @@ pub returns-clause-some : goal.returns-clause-some
 returns-clause-some c =
     let split = c.split-word-items.ensures in
     let gives = c.into_iter-word-iterator.ensures.into_iter_gives in
-    let road = YieldsList-from_str_split 44 c.args.text.now (lit< tt) (ap split_text gives ∙ split.text) (ap split_has_more gives ∙ split.has_more) (ap split_pattern gives ∙ split.pattern) in
+    let road = YieldsList-from_str_split 44 c.args.text.now (lit< tt) (ap split_text gives ∙ split.text)
+    (ap split_has_more gives ∙ split.has_more) (ap split_pattern gives ∙ split.pattern) in
     let end = YieldsList-end road c.loop-word.yielded _ c.loop-word.yielded_by _ _ c.in-None.is c.next.ensures.steps in
     subst (λ words. IsAllowed words c.loop-word.allowed) end.0 c.loop-word.invariant

@@ -14,6 +14,10 @@ pub returns-in_err-parts-clause-failure : goal.returns-in_err-parts-clause-failu
 returns-in_err-parts-clause-failure c =
     let options = c.args.options.now in
     let arguments = c.unwrap_or-arguments.result.now in
-    let same : texts_of arguments ≡ values_of options (codes "lengths") = words_are c.get_strs.result _ _ c.unwrap_or-arguments.result c.get_strs.ensures c.unwrap_or-arguments.ensures refl in
-    outcome_weaker (IsBadValue (ArePartSources (texts_of arguments))) (IsBadValue (IsLegacyPlan options)) c.from_residual-in_err-parts.result c.in_err-parts.field-0.0 c.from_residual-in_err-parts.ensures.1 c.in_err-parts.ensures.failure
+    let same : texts_of arguments ≡ values_of options
+    (codes "lengths") = words_are c.get_strs.result _ _ c.unwrap_or-arguments.result c.get_strs.ensures
+    c.unwrap_or-arguments.ensures refl in
+    outcome_weaker (IsBadValue (ArePartSources (texts_of arguments)))
+    (IsBadValue (IsLegacyPlan options)) c.from_residual-in_err-parts.result c.in_err-parts.field-0.0 c.from_residual-in_err-parts.ensures.1
+    c.in_err-parts.ensures.failure
     (λ failure bad. (bad.0, λ plan is. bad.1 plan.parts.items (subst (λ texts. ArePartSources texts plan.parts.items) (sym same) is.parts)))

@@ -9,8 +9,10 @@ returns-in_err-image-clause-failure c =
     let arguments = c.args.arguments.now in
     let index = c.loop-index.index in
     let d : Bor (List ℕ) = record { ref_ptr = (0, 0); now = [] } in
-    let failed = ok_or_failed c.parse_image.result (BadImage index) c.in_err-image.field-0.0 c.ok_or.result c.ok_or.ensures.value c.in_err-image.was in
-    fails_with (IsBadImage (texts_of arguments)) c.from_residual-in_err-image.result c.in_err-image.field-0.0 c.from_residual-in_err-image.ensures.1
+    let failed = ok_or_failed c.parse_image.result
+    (BadImage index) c.in_err-image.field-0.0 c.ok_or.result c.ok_or.ensures.value c.in_err-image.was in
+    fails_with (IsBadImage (texts_of arguments)) c.from_residual-in_err-image.result c.in_err-image.field-0.0
+    c.from_residual-in_err-image.ensures.1
     (subst (IsBadImage (texts_of arguments)) (sym failed.1)
     (first_bad arguments index d c.loop-index.images.items c.loop-index.payloads.items (omega arith) c.loop-index.invariant
     (none_given c.parse_image.result (NoneIs (IsImageText (get_or arguments index d).now)) c.parse_image.ensures.none failed.0)))
@@ -20,9 +22,15 @@ loop-index-preserved c =
     let arguments = c.args.arguments.now in
     let index = c.loop-index.index in
     let d : Bor (List ℕ) = record { ref_ptr = (0, 0); now = [] } in
-    images_next arguments index d c.loop-index.images.items c.push.new.self.items c.loop-index.payloads.items c.push-in-loop-index.new.self.items c.in_ok-image.image c.in_ok-image.payload (omega arith) c.loop-index.invariant c.in_ok-push.ensures.items c.in_ok-push-2.ensures.items
-    (ok_or_is (IsImageText (get_or arguments index d).now) c.parse_image.result (BadImage index) c.ok_or.result (c.in_ok-image.image, c.in_ok-image.payload) c.ok_or.ensures.value c.in_ok-image.was c.parse_image.ensures.some)
+    images_next arguments index d c.loop-index.images.items c.push.new.self.items c.loop-index.payloads.items
+    c.push-in-loop-index.new.self.items c.in_ok-image.image c.in_ok-image.payload
+    (omega arith) c.loop-index.invariant c.in_ok-push.ensures.items c.in_ok-push-2.ensures.items
+    (ok_or_is (IsImageText (get_or arguments index d).now) c.parse_image.result (BadImage index) c.ok_or.result (
+      c.in_ok-image.image,
+      c.in_ok-image.payload,
+    ) c.ok_or.ensures.value c.in_ok-image.was c.parse_image.ensures.some)
 
 pub returns-clause-lengths : goal.returns-clause-lengths
 returns-clause-lengths c =
-    images_long (texts_of (take c.loop-index.index c.args.arguments.now)) c.loop-index.images.items c.loop-index.payloads.items c.loop-index.invariant
+    images_long (texts_of (take c.loop-index.index c.args.arguments.now)) c.loop-index.images.items
+    c.loop-index.payloads.items c.loop-index.invariant

@@ -7,5 +7,7 @@ use Rattle.bootimg.proofs.command_line.extract.entry.Goals as goal
 pub returns-in_err-number-clause-bad : goal.returns-in_err-number-clause-bad
 returns-in_err-number-clause-bad c =
     let options = c.args.options.now in
-    bad_part (IsNumber (value_of options (codes "index") (codes "0"))) (IsEntry options) c.from_residual-in_err-number.result c.in_err-number.field-0.0 c.from_residual-in_err-number.ensures.1 c.in_err-number.ensures.bad
+    bad_part (IsNumber (value_of options (codes "index") (codes "0")))
+    (IsEntry options) c.from_residual-in_err-number.result c.in_err-number.field-0.0
+    c.from_residual-in_err-number.ensures.1 c.in_err-number.ensures.bad
     (λ entry is. (entry.1, is.index))

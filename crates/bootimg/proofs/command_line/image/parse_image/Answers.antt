@@ -6,4 +6,5 @@ pub returns-clause-none : goal.returns-clause-none
 returns-clause-none c =
     let argument = c.args.argument.now in
     let texts = c.in_ok-split_image.field-0 in
-    none_weaker c.parse_fields.result (NoneIs (IsImage texts)) (NoneIs (IsImageText argument)) (no_image_text argument texts c.in_ok-split_image.ensures.some) c.parse_fields.ensures.none
+    none_weaker c.parse_fields.result (NoneIs (IsImage texts)) (NoneIs (IsImageText argument))
+    (no_image_text argument texts c.in_ok-split_image.ensures.some) c.parse_fields.ensures.none

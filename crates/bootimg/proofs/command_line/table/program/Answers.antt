@@ -13,7 +13,8 @@ returns c =
     let unnamed = ap app_of_fields c.no_binary_name.ensures ∙ ap (on_top (λ s. record s { no_binary_name = true })) named in
     let with_version = ap app_of_fields c.version.ensures ∙ ap (on_top (λ s. record s { has_version = true })) unnamed in
     let described = ap app_of_fields c.after_help.ensures ∙ (ap app_of_fields c.about.ensures ∙ with_version) in
-    let empty = ap app_of_fields c.subcommand_required-program.ensures ∙ ap (on_top (λ s. record s { subcommand_required = true })) described in
+    let empty = ap app_of_fields c.subcommand_required-program.ensures
+    ∙ ap (on_top (λ s. record s { subcommand_required = true })) described in
     let reading = c.in_ok-program.ensures ∙ ap (λ app. with_subcommands app reading_commands) empty in
     let changing = c.in_ok-program-2.ensures ∙ ap (λ app. with_subcommands app changing_commands) reading in
     let building = c.in_ok-program-3.ensures ∙ ap (λ app. with_subcommands app building_commands) changing in
