@@ -423,8 +423,8 @@ static READING_COMMANDS: [CommandText; 6] = [
                  Reads an image, and writes to standard output what it holds. Of a legacy image:\n\
                  its fields, the size and offset of each part, and the number of bytes after the\n\
                  last part. Of a flattened image tree: its memory reservations, the size and\n\
-                 offset of each payload, and what each configuration lists, but not where a loader\n\
-                 puts it: describe does. Sizes and offsets are in bytes.\n\n\
+                 offset of each payload, and what each configuration lists, but not where loaders\n\
+                 put it: describe does. Sizes and offsets are in bytes.\n\n\
                  Example: bootimg list kernel.uimage",
         options: &[LIMIT, OUTPUT, FILE],
     },
