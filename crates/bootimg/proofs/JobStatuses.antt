@@ -97,8 +97,8 @@ built_below_2 plan parts limits work done (WasBuilt ends piped ended outcome) ok
     same_done work.outcome ends done outcome ok (ended_below_2 0 ends ended (omega arith))
 built_below_2 plan parts limits work done (WasNotBuilt error piped outcome) ok = not_done work.outcome _ done outcome ok
 
-build_work_below_2 : (files : KnownFiles) (plan : BuildPlan) (limits : Limits) (work : Work) (old new : Option (List FileStep)) (done : Done)
-    → IsBuildWork files plan limits work old new → work.outcome ≡ Ok done → done.status < 2
+build_work_below_2 : (files : KnownFiles) (plan : BuildPlan) (limits : Limits) (work : Work) (old new : Option (List FileStep))
+    (done : Done) → IsBuildWork files plan limits work old new → work.outcome ≡ Ok done → done.status < 2
 build_work_below_2 files plan limits work old new done (BuiltWithInput parts are reads built) ok =
     built_below_2 plan parts limits work done built ok
 build_work_below_2 files plan limits work old new done (BuiltOfFiles parts are reads built same) ok =
