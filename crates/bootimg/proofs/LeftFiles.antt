@@ -1,4 +1,4 @@
-use Rattle.std.proofs.Common.{◌≡◌, ◌∷◌, [], ◌∙◌, ℕ, List, Bor, Option, Some, None, Result, Ok, Err, ap, refl}
+use Rattle.std.proofs.Common.{◌≡◌, ◌<◌, ◌∷◌, [], ◌∙◌, ℕ, List, Bor, Option, Some, None, Result, Ok, Err, ap, refl, subst, sym}
 use Rattle.std.specs.Prelude.{IfSome}
 use Rattle.bi_base.specs.Limits.{Limits}
 use Rattle.bi_base.specs.Traces.{ReadTrace, WriteTrace}
@@ -27,6 +27,7 @@ use Rattle.bootimg.specs.Runs.{FileNotOpened, IsCompareWork, BothRead, OneNotRea
 use Rattle.bootimg.specs.Runs.{PartNotRead, NoRoom, IsJobWork, IsSavedWork, OutputSaved, OutputNotSaved, NoOutput, IsOutputRun}
 use Rattle.bootimg.specs.Runs.{ToStandardOutput, ToFile, IsEnd, EndsWell, EndsWithFailure, IsTextRun, IsWritten, IsNotWritten}
 use Rattle.bootimg.specs.Runs.{IsUsage, IsRun, RanJob, Rejected, WroteText, inputs_before, inputs_after}
+use Rattle.bootimg.proofs.JobStatuses.{job_status_below_2}
 use Rattle.bootimg.proofs.FilesAfter.{KeepsNames, keeps_same, keeps_in_turn, keeps_with, LeftAfterFailure, kept_is_left, not_saved_leaves}
 use Rattle.bootimg.proofs.FilesAfter.{saved_leaves}
 
@@ -172,8 +173,10 @@ saved_work_leaves base names arguments request name before after errors new_erro
         → RunLeaves base names arguments before.input.remaining status new
     there None has = tt
     there (Some l) has =
-        OutputIsThere request name done output before (record { input = after.input; steps = worked }) is named refl held
-        (status_at_ok errors new_errors status outcome done end ends) has
+        let same = status_at_ok errors new_errors status outcome done end ends in
+        OutputIsThere request name done output before (record { input = after.input; steps = worked }) is named refl held same
+        (subst (λ s. s < 2) (sym same)
+        (job_status_below_2 (Some names) request.job request.limits _ before.steps worked done held.work refl)) has
 saved_work_leaves base names arguments request name before after errors new_errors status outcome is named are
     (OutputNotSaved done output worked held failure not ends) end contents =
     failure_leaves base names arguments before.input.remaining status after.steps

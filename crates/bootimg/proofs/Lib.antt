@@ -16,3 +16,4 @@ pub mod CauseLines
 pub mod FilesAfter
 pub mod LeftFiles
 pub mod MemoryLogs
+pub mod JobStatuses

@@ -1,4 +1,4 @@
-use Rattle.std.specs.Prelude.{◌≡◌, ◌⊎◌, ℕ, List, Option, None, Some, Ok}
+use Rattle.std.specs.Prelude.{◌≡◌, ◌⊎◌, ◌<◌, ℕ, List, Option, None, Some, Ok}
 use Rattle.std.specs.Borrow.{Bor}
 use Rattle.clap.specs.declared.error.kind.ErrorKind.{ErrorKind}
 use Rattle.bootimg.specs.declared.command_line.Request.{Request}
@@ -15,12 +15,12 @@ use Rattle.bootimg.specs.Runs.{Inputs, IsHeldWork}
 pub data LeavesFiles (arguments : List (List ℕ)) (input : Option (List ℕ)) (old new : Names)
     (steps : List FileStep) (status : ℕ) : Type 0 where
   -- The file that is named has the output of the job that is requested, and each other name has
-  -- what it had.
+  -- what it had. The status is 0 or 1.
   OutputIsThere : (request : Request) (name : Bor (List ℕ)) (done : Done) (output : List ℕ)
       (before after : Inputs) → IsRequest arguments request → request.output ≡ Some name
       → before.input.remaining ≡ input
       → IsHeldWork (Some old) request.job request.limits before after (Ok done) (Some output)
-      → status ≡ done.status → HasFile old new name.now output
+      → status ≡ done.status → status < 2 → HasFile old new name.now output
       → LeavesFiles arguments input old new steps status
   -- No output file is named, and each name has what it had.
   NoFileIsNamed : (request : Request) → IsRequest arguments request → request.output ≡ None

@@ -30,20 +30,32 @@ pub struct WrittenFile<'a> {
     calls: WriteCalls,
 }
 
-/// What was done with the file of a name. Of a file that was opened, its bytes are here.
+/// What was done with the file of a name, or was tried.
 #[derive(Clone, Copy)]
 pub enum StepKind<'a> {
+    /// It was opened for reading, and has these bytes.
     Opened(&'a [u8]),
+    /// It could not be opened for reading.
     NotOpened,
+    /// Its reader was closed.
     ReaderClosed(ReadFile<'a>),
+    /// It was made.
     Made(WrittenFile<'a>),
+    /// It was not made, since something has the name.
     NameTaken,
+    /// It was not made, for another reason.
     NotMade,
+    /// The new file was closed.
     Closed(WrittenFile<'a>),
+    /// Closing the new file failed.
     NotClosed(WrittenFile<'a>),
+    /// It took this name.
     Renamed(&'a [u8]),
+    /// It did not take this name.
     NotRenamed(&'a [u8]),
+    /// It was removed.
     Removed,
+    /// Removing it failed.
     NotRemoved,
 }
 
@@ -65,12 +77,16 @@ enum Lookup<'a> {
     HadSameName,
 }
 
-/// Files in memory.
+/// Files in memory: the steps that were taken, of which one can be made to fail. What has a name is
+/// what the steps say of it.
 #[derive(Drop)]
 pub struct MemoryFiles<'a> {
     alloc: Global,
+    /// The steps that are recorded, in their order.
     log: Vec<MemoryStep<'a>>,
+    /// Whether memory ran out for a step, so that not all are recorded.
     is_lost: bool,
+    /// The number of the step that fails, from 0, if it is one with a new file.
     failing: usize,
 }
 
@@ -313,8 +329,8 @@ impl<'a> FileSystem for MemoryFiles<'a> {
 
 /// Runs the program over files in memory, as `run_with_files` does.
 ///
-/// If memory sufficed to record the steps, this is what the run leaves: after success the file that
-/// the arguments name for the output has the output, and each other name has what it had. After a
+/// If memory suffices to record the steps, a run leaves this: after success the file that the
+/// arguments name for the output has the output, and each other name has what it had. After a
 /// failure each name has what it had, whichever step failed; only a new file that cannot be removed
 /// is left.
 pub fn run_in_memory<'a, 'b, R: Read, W: Write, E: Write>(
