@@ -130,7 +130,7 @@ images_listed file (node name own children later) (payload ∷ payloads) bytes =
     (image_listed file name (source_of own) payload bytes.0) (images_listed file later payloads bytes.1)
 
 -- The names of nodes.
-names_bytes : {Own : Type 0} (nodes : Nodes Own) → HaveByteNames nodes → AllByRecursion AreBytes (names nodes)
+pub names_bytes : {Own : Type 0} (nodes : Nodes Own) → HaveByteNames nodes → AllByRecursion AreBytes (names nodes)
 names_bytes none bytes = tt
 names_bytes (node name own children later) bytes = (bytes.0, names_bytes later bytes.2)
 
@@ -224,7 +224,7 @@ named_own wanted (node name own children later) found are is =
     where_first false at_name is rest = rest (rw at_name at is)
 
 -- The configurations of a tree.
-configurations_are : (tree : ImageTree) → IsImageTree tree →
+pub configurations_are : (tree : ImageTree) → IsImageTree tree →
     AreNodes ArePropertiesByName (configuration_nodes tree) × HaveByteNames (configuration_nodes tree)
 configurations_are tree is = by (children_of configurations_name tree.root.children) refl
   where
@@ -246,7 +246,7 @@ listed_of_bytes tree is name key = by (node_named (configuration_nodes tree) nam
         key_bytes (images_of tree) configuration.own (key_name key)
         (named_own name (configuration_nodes tree) configuration (configurations_are tree is).0 found)
 
-key_word : (key : Key) → HasAscii (key_name key)
+pub key_word : (key : Key) → HasAscii (key_name key)
 key_word Kernel = by_test (codes "kernel") refl
 key_word Fdt = by_test (codes "fdt") refl
 key_word Ramdisk = by_test (codes "ramdisk") refl
@@ -295,7 +295,7 @@ configuration_listed tree is configuration bytes =
     (λ key. key_listed configuration key (listed_of tree configuration key) bytes (listed_of_bytes tree is configuration key)) all_keys)
 
 -- The name of the default configuration.
-text_bytes : (value : List ℕ) → AreBytes value → IfSome (text_before_nul value) AreBytes
+pub text_bytes : (value : List ℕ) → AreBytes value → IfSome (text_before_nul value) AreBytes
 text_bytes value bytes = by (text_before_nul value) refl
   where
     by : (o : Option (List ℕ)) → text_before_nul value ≡ o → IfSome o AreBytes
@@ -304,7 +304,7 @@ text_bytes value bytes = by (text_before_nul value) refl
         let split = text_then_zero value name is in
         AreBytes-left name (0 ∷ split.0) (subst AreBytes split.1 bytes)
 
-default_bytes : (tree : ImageTree) → IsImageTree tree → IfSome (default_of tree) AreBytes
+pub default_bytes : (tree : ImageTree) → IsImageTree tree → IfSome (default_of tree) AreBytes
 default_bytes tree is = by (node_named tree.root.children configurations_name) refl
   where
     in_node : (own : PropertyMap) → ArePropertiesByName own → (o : Option (List ℕ)) → get own default_name ≡ o →

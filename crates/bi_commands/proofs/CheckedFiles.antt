@@ -1,88 +1,41 @@
-use Rattle.std.proofs.Common.{◌≡◌, ◌<◌, ℕ, ◌-◌, max, List, [], ◌∷◌, ◌++◌, Option, Some, None, Bool, true, false, length, take, drop, map}
-use Rattle.std.proofs.Common.{flat_map, filter, refl, sym, ap, ap₂, subst, ◌∙◌, append_assoc, arith, inl, inr}
+use Rattle.std.proofs.Common.{◌≡◌, ◌<◌, ◌↔◌, ℕ, ◌-◌, max, Bool, IsTrue, Result, Ok, Err, IfOk, IfErr, OnOk, List, [], ◌∷◌, ◌++◌, Option, Some, None, length, drop, map}
+use Rattle.std.proofs.Common.{refl, sym, ap, ap₂, subst, ◌∙◌, append_assoc, arith, inl, inr}
 use Rattle.std.specs.List.{AllZip}
-use Rattle.std.proofs.lemmas.List.{length-map}
-use Rattle.std.proofs.Math.Seq.{take-append_seam, drop-append_seam}
+use Rattle.bi_base.specs.Commands.{Appended, AppendFailed, WasRefused, SinkFailed}
 use Rattle.bi_base.specs.declared.fault.Error.{Error}
 use Rattle.bi_base.specs.declared.fault.Error.TheVariants.{Refused, OutOfMemory, ReadFailed, WriteFailed}
 use Rattle.bi_base.specs.declared.fault.Fault.{Fault}
 use Rattle.bi_base.specs.Limits.{Limits}
 use Rattle.bi_base.specs.Reading.{too_large}
+use Rattle.bi_base.specs.Sinks.{FailsWithin, Wrote}
+use Rattle.bi_base.specs.VecSinks.{Grows, IsOutOfMemory}
 use Rattle.bi_blob.specs.Blob.{totalsize}
-use Rattle.bi_blob.specs.Lookups.{Sibling, siblings}
-use Rattle.bi_blob.specs.Tree.{Nodes, none, node, FileNode, PropertyMap}
+use Rattle.bi_blob.specs.Lookups.{siblings}
+use Rattle.bi_blob.specs.Tree.{Nodes, none, node, FileNode}
 use Rattle.bi_fit.specs.NormalNodes.{payloads_of}
 use Rattle.bi_fit.specs.declared.image.Image.{Image as ImageRead}
 use Rattle.bi_fit.specs.Content.{FitModel, ImageModel, image_model, tree_of, place_of, IsReadImage}
 use Rattle.bi_fit.specs.ImageTree.{image_nodes, nodes_or_none}
-use Rattle.bi_fit.specs.Judgement.{Image, CheckedHash, images_of, images_with, checked_hash, verdicts_of, hash_nodes}
-use Rattle.bi_fit.specs.Names.{is_hash_name}
 use Rattle.bi_fit.specs.HashNodes.{file_images}
 use Rattle.bi_fit.specs.Payloads.{PayloadSource, NoSource, Data, DataOffset, DataPosition, source_of, IsPayload}
 use Rattle.bi_fit.specs.Reading.{IsReadFit}
-use Rattle.bi_fit.proofs.FileNodes.{sibling_by_name, bare_image, siblings-by_name, image_siblings}
 use Rattle.bi_legacy.specs.Reading.{LegacyModel, IsReadLegacy}
 use Rattle.bi_norm.specs.Meaning.{OfLegacy, OfFit}
 use Rattle.bi_norm.specs.Reading.{IsBootImageReadError}
-use Rattle.bi_norm.proofs.NormalForms.{only_legacy, only_tree}
+use Rattle.bi_norm.proofs.NormalForms.{needs_memory, only_legacy, only_tree}
 use Rattle.bi_commands.specs.declared.check.Allowed.{Allowed}
-use Rattle.bi_commands.specs.CheckedFiles.{IsChecked, IsCheckError}
-use Rattle.bi_commands.specs.Checking.{Concern, OfLegacyImage, OfImageTree, concern_lines, content_end, hashed_concerns, hashes_of_image}
-use Rattle.bi_commands.specs.Checking.{image_concerns, payload_end, tree_concerns, trailing_concerns}
+use Rattle.bi_commands.specs.CheckedFiles.{IsChecked, IsCheckError, IsCheckOutput}
+use Rattle.bi_commands.specs.Checking.{Concern, OfLegacyImage, OfImageTree, concern_lines, content_end, payload_end, tree_concerns}
+use Rattle.bi_commands.specs.Checking.{trailing_concerns}
 use Rattle.bi_commands.specs.PayloadBounds.{IsOverPayloadBound, payloads_length}
-use Rattle.bi_commands.specs.ReadChecking.{configurations_concerns, end_at, hash_count, read_concerns, read_default_concerns}
-use Rattle.bi_commands.specs.ReadChecking.{end_of_read_payloads, read_images_concerns}
+use Rattle.bi_commands.specs.ReadChecking.{IsReadCheckError, IsReadCheckText, configurations_concerns, end_at, end_of_read_payloads, images_concerns}
+use Rattle.bi_commands.specs.HashedImages.{images_of_blob}
+use Rattle.bi_commands.specs.ReadChecking.{read_concerns, read_default_concerns}
+use Rattle.bi_commands.proofs.ConcernLines.{lines_append}
+use Rattle.bi_commands.proofs.HashedImages.{concerns_of_images}
+use Rattle.bi_commands.proofs.ImageCalls.{tree_needs_memory}
 
 -- The concerns about what was read from a file are those about the file, and an error of reading the file is one of checking it.
-
--- As many nodes of the tree are hash nodes as nodes of the file.
-same_count : (children : List (Sibling FileNode)) →
-    length (filter (λ (child : Sibling FileNode). is_hash_name child.name) children)
-    ≡ length (filter (λ (child : Sibling PropertyMap). is_hash_name child.name) (map sibling_by_name children))
-same_count [] = refl
-same_count (child ∷ later) = by (is_hash_name child.name) refl (same_count later) where
-  by : (b : Bool) → is_hash_name child.name ≡ b →
-      length (filter (λ (child : Sibling FileNode). is_hash_name child.name) later) ≡
-      length (filter (λ (child : Sibling PropertyMap). is_hash_name child.name) (map sibling_by_name later)) →
-      length (filter (λ (child : Sibling FileNode). is_hash_name child.name) (child ∷ later)) ≡
-      length (filter (λ (child : Sibling PropertyMap). is_hash_name child.name) (map sibling_by_name (child ∷ later)))
-  by true is rest = rw is (omega (arith, rest))
-  by false is rest = rw is rest
-
--- The image of an image node, with this payload.
-abbrev image_of_node : Sibling FileNode → Option (List ℕ) → Image
-image_of_node entry payload = record { entry = bare_image entry; payload = payload }
-
--- It has as many hash nodes as its node.
-count_of_image : (entry : Sibling FileNode) (payload : Option (List ℕ)) →
-    hash_count entry.children ≡ length (hashes_of_image (image_of_node entry payload))
-count_of_image entry payload =
-    same_count (siblings entry.children)
-    ∙ ap (λ (children : List (Sibling PropertyMap)). length (filter (λ (child : Sibling PropertyMap). is_hash_name child.name) children)) (sym (siblings-by_name entry.children))
-    ∙ sym (length-map (hash_nodes (image_of_node entry payload)) (checked_hash (image_of_node entry payload)))
-
--- The images of these nodes, with the payloads that were read.
-abbrev images_of_nodes : Nodes FileNode → List ImageModel → List Image
-images_of_nodes nodes images = images_with (map bare_image (siblings nodes)) (map (λ (image : ImageModel). image.payload) images)
-
--- The concerns about images, by the verdicts on the hash nodes of all of them.
-concerns_of_images : (file : List ℕ) (nodes : Nodes FileNode) (images : List ImageModel) →
-    AllZip (IsReadImage file) (siblings nodes) images →
-    read_images_concerns nodes images (flat_map hashes_of_image (images_of_nodes nodes images))
-    ≡ flat_map image_concerns (images_of_nodes nodes images)
-concerns_of_images file none [] is = refl
-concerns_of_images file none (image ∷ images) is = absurd is
-concerns_of_images file (node name own children later) [] is = absurd is
-concerns_of_images file (node name own children later) (image ∷ images) is =
-    let entry : Sibling FileNode = record { name = name; own = own; children = children; later = later } in
-    let hashes : List CheckedHash = hashes_of_image (image_of_node entry image.payload) in
-    let rest : List CheckedHash = flat_map hashes_of_image (images_of_nodes later images) in
-    let count : hash_count children ≡ length hashes = count_of_image entry image.payload in
-    let first : take (hash_count children) (hashes ++ rest) ≡ hashes = ap (λ n. take n (hashes ++ rest)) count ∙ take-append_seam hashes rest in
-    let after : drop (hash_count children) (hashes ++ rest) ≡ rest = ap (λ n. drop n (hashes ++ rest)) count ∙ drop-append_seam hashes rest in
-    ap₂ (λ (a b : List Concern). a ++ b)
-    (ap₂ (λ (n : List ℕ) (h : List CheckedHash). hashed_concerns n image.payload h) is.0.name first)
-    (ap (read_images_concerns later images) after ∙ concerns_of_images file later images is.1)
 
 -- Where a payload ends, by its source and by where reading found it.
 placed_end : (file : List ℕ) (source : PayloadSource) (payload : Option (List ℕ)) → IsPayload file source payload →
@@ -115,61 +68,125 @@ nodes_found limits file content is =
     ap (λ root. nodes_or_none (image_nodes root)) (sym is.same_root) ∙ ap nodes_or_none is.means.is_file.has_images
 
 -- The concerns about a flattened image tree that was read are those about the file.
-pub concerns_of_file : (limits : Limits) (file : List ℕ) (content : FitModel) (hashes : List CheckedHash)
-    (is : IsReadFit limits file content) → hashes ≡ verdicts_of (tree_of content) →
-    read_concerns file content hashes
+pub concerns_of_file : (limits : Limits) (file : List ℕ) (content : FitModel) (is : IsReadFit limits file content) →
+    read_concerns file content
     ≡ tree_concerns (tree_of content) ++ trailing_concerns (drop (content_end file is.means.is_file.images (tree_of content).payloads) file)
-concerns_of_file limits file content hashes is are =
+concerns_of_file limits file content is =
     let tree = tree_of content in
     let nodes : Nodes FileNode = file_images content.blob in
     let read : AllZip (IsReadImage file) (siblings nodes) content.images =
     subst (λ (f : List ℕ). AllZip (IsReadImage f) (siblings nodes) content.images) is.is_file is.held.images in
-    let images : images_of tree ≡ images_of_nodes nodes content.images = ap (λ entries. images_with entries tree.payloads) (image_siblings content) in
-    let verdicts : hashes ≡ flat_map hashes_of_image (images_of_nodes nodes content.images) = are ∙ ap (flat_map hashes_of_image) images in
-    let of_images : read_images_concerns nodes content.images hashes ≡ flat_map image_concerns (images_of tree) =
-    ap (read_images_concerns nodes content.images) verdicts ∙ concerns_of_images file nodes content.images read ∙ ap (flat_map image_concerns) (sym images) in
     let end : end_of_read_payloads content.blob.total_size content.images ≡ content_end file is.means.is_file.images tree.payloads =
     end_of_content file content.blob.total_size nodes content.images (is.held.total_size ∙ ap totalsize is.is_file) read
     ∙ ap (λ (found : Nodes FileNode). content_end file found tree.payloads) (nodes_found limits file content is) in
     let left : List Concern = configurations_concerns content ++ read_default_concerns content in
-    ap₂ (λ (a b : List Concern). a ++ (configurations_concerns content ++ (read_default_concerns content ++ b))) of_images (ap (λ n. trailing_concerns (drop n file)) end)
+    ap₂ (λ (a b : List Concern). a ++ (configurations_concerns content ++ (read_default_concerns content ++ b))) (concerns_of_images content) (ap (λ n. trailing_concerns (drop n file)) end)
     ∙ simp append_assoc refl
 
 -- A legacy image that was read is checked by the concern about the bytes after it,
-pub legacy_checked : (allowed : Allowed) (limits : Limits) (file text : List ℕ) (parsed : LegacyModel) → IsReadLegacy limits file parsed →
-    text ≡ concern_lines allowed (trailing_concerns (drop (length file - parsed.unused) file)) → IsChecked allowed limits file text
-legacy_checked allowed limits file text parsed opened is = record {
+pub legacy_checked : (allowed : Allowed) (limits : Limits) (file : List ℕ) (parsed : LegacyModel) → IsReadLegacy limits file parsed →
+    IsChecked allowed limits file (concern_lines allowed (trailing_concerns (drop (length file - parsed.unused) file)))
+legacy_checked allowed limits file parsed opened = record {
   meaning = OfLegacy parsed.image;
   means = record { means = opened.means; only = only_legacy limits file parsed opened };
   within = λ over. over;
   concerns = trailing_concerns (drop (length file - parsed.unused) file);
   are_concerns = OfLegacyImage parsed opened refl;
-  is_text = is;
+  is_text = refl;
 }
 
 -- and a flattened image tree by all concerns about it.
-pub tree_checked : (allowed : Allowed) (limits : Limits) (file text : List ℕ) (content : FitModel) (hashes : List CheckedHash) →
-    IsReadFit limits file content →
-    ¬ (IsOverPayloadBound limits (OfFit (tree_of content))) → hashes ≡ verdicts_of (tree_of content) →
-    text ≡ concern_lines allowed (read_concerns file content hashes) →
-    IsChecked allowed limits file text
-tree_checked allowed limits file text content hashes is short are written = record {
+pub tree_checked : (allowed : Allowed) (limits : Limits) (file text : List ℕ) (content : FitModel) → IsReadFit limits file content →
+    IsReadCheckText allowed limits file content text → IsChecked allowed limits file text
+tree_checked allowed limits file text content is of = record {
   meaning = OfFit (tree_of content);
   means = record { means = is.means; only = only_tree limits file content is };
-  within = short;
-  concerns = read_concerns file content hashes;
-  are_concerns = OfImageTree (tree_of content) is.means (concerns_of_file limits file content hashes is are);
-  is_text = written;
+  within = of.within;
+  concerns = read_concerns file content;
+  are_concerns = OfImageTree (tree_of content) is.means (concerns_of_file limits file content is);
+  is_text = of.is_text;
 }
 
+-- An error is one of checking the file.
+pub not_checked : {S : Type 0} (fails : S → List ℕ → S → Error → Type 0) (allowed : Allowed) (limits : Limits) (file : List ℕ)
+    (content : FitModel) (old new : S) (error : Error) → IsReadFit limits file content
+    → AppendFailed fails (IsReadCheckText allowed limits file content) (IsReadCheckError limits content) old new error
+    → AppendFailed fails (IsChecked allowed limits file) (IsCheckError limits file) old new error
+not_checked fails allowed limits file content old new error is (WasRefused (inl refused) kept) =
+    WasRefused (subst (IsCheckError limits file) (sym refused.0)
+    (inr (record { meaning = OfFit (tree_of content); means = is.means; is_over = refused.1 }, refl))) kept
+not_checked fails allowed limits file content old new error is (WasRefused (inr short) kept) =
+    WasRefused (subst (IsCheckError limits file) (sym short) (tree_needs_memory limits file content is)) kept
+not_checked fails allowed limits file content old new error is (SinkFailed text cause is_text failed same) =
+    SinkFailed text cause (tree_checked allowed limits file text content is is_text) failed same
+
+-- So it is if the lines are made in memory.
+pub not_checked_in_memory : (allowed : Allowed) (limits : Limits) (file old new : List ℕ) (error : Error) →
+    AppendFailed (FailsWithin Grows IsOutOfMemory) (IsChecked allowed limits file) (IsCheckError limits file) old new error →
+    IsCheckError limits file error
+not_checked_in_memory allowed limits file old new error (WasRefused is kept) = is
+not_checked_in_memory allowed limits file old new error (SinkFailed text cause is failed same) =
+    subst (IsCheckError limits file) (sym (same ∙ failed.1)) (needs_memory limits file is.meaning is.means.means)
+
+-- What a call on what was read from a file did is what it did with the file.
+pub legacy_appended : {S : Type 0} (appends : S → List ℕ → S → Type 0) (fails : S → List ℕ → S → Error → Type 0) (allowed : Allowed)
+    (limits : Limits) (file : List ℕ) (parsed : LegacyModel) (old new : S) (result : Result Bool Error) → IsReadLegacy limits file parsed →
+    Wrote appends fails old (concern_lines allowed (trailing_concerns (drop (length file - parsed.unused) file))) result new →
+    IfOk result (λ clean. IsTrue clean ↔ (concern_lines allowed (trailing_concerns (drop (length file - parsed.unused) file)) ≡ [])) →
+    IfOk result (λ clean. Appended appends (IsCheckOutput allowed limits clean file) old new)
+legacy_appended appends fails allowed limits file parsed old new (Ok clean) is wrote tested = record {
+  text = concern_lines allowed (trailing_concerns (drop (length file - parsed.unused) file));
+  is_text = record { checked = legacy_checked allowed limits file parsed is; is_empty = tested };
+  appended = wrote;
+}
+legacy_appended appends fails allowed limits file parsed old new (Err error) is wrote tested = tt
+
+pub fit_appended : {S : Type 0} (appends : S → List ℕ → S → Type 0) (allowed : Allowed) (limits : Limits) (file : List ℕ)
+    (content : FitModel) (old new : S) (result : Result Bool Error) → IsReadFit limits file content →
+    OnOk result (appends old (concern_lines allowed (read_concerns file content)) new) →
+    IfOk result (λ clean. IsTrue clean ↔ (concern_lines allowed (read_concerns file content) ≡ [])) →
+    OnOk result (¬ (IsOverPayloadBound limits (OfFit (tree_of content)))) →
+    IfOk result (λ clean. Appended appends (IsCheckOutput allowed limits clean file) old new)
+fit_appended appends allowed limits file content old new (Ok clean) is wrote tested within = record {
+  text = concern_lines allowed (read_concerns file content);
+  is_text = record { checked = tree_checked allowed limits file _ content is (record { within = within; is_text = refl }); is_empty = tested };
+  appended = wrote;
+}
+fit_appended appends allowed limits file content old new (Err error) is wrote tested within = tt
+
+pub fit_not_checked : {S V : Type 0} (fails : S → List ℕ → S → Error → Type 0) (allowed : Allowed) (limits : Limits) (file : List ℕ)
+    (content : FitModel) (old new : S) (result : Result V Error) → IsReadFit limits file content →
+    IfErr result (AppendFailed fails (IsReadCheckText allowed limits file content) (IsReadCheckError limits content) old new) →
+    IfErr result (AppendFailed fails (IsChecked allowed limits file) (IsCheckError limits file) old new)
+fit_not_checked fails allowed limits file content old new (Ok value) is failed = tt
+fit_not_checked fails allowed limits file content old new (Err error) is failed =
+    not_checked fails allowed limits file content old new error is failed
+
+-- The lines of the concerns, part by part.
+pub read_pieces : (allowed : Allowed) (file : List ℕ) (content : FitModel) (bytes : List ℕ) →
+    bytes ≡ drop (end_of_read_payloads content.blob.total_size content.images) file →
+    concern_lines allowed (read_concerns file content)
+    ≡ concern_lines allowed (images_concerns (images_of_blob content))
+    ++ (concern_lines allowed (configurations_concerns content)
+    ++ (concern_lines allowed (read_default_concerns content) ++ concern_lines allowed (trailing_concerns bytes)))
+read_pieces allowed file content bytes is =
+    let images = images_concerns (images_of_blob content) in
+    let lists = configurations_concerns content in
+    let default = read_default_concerns content in
+    let rest = trailing_concerns (drop (end_of_read_payloads content.blob.total_size content.images) file) in
+    lines_append allowed images (lists ++ (default ++ rest))
+    ∙ ap (λ l. concern_lines allowed images ++ l)
+    (lines_append allowed lists (default ++ rest)
+    ∙ ap (λ l. concern_lines allowed lists ++ l)
+    (lines_append allowed default rest ∙ ap (λ b. concern_lines allowed default ++ concern_lines allowed (trailing_concerns b)) (sym is)))
+
 -- Payloads that are too long are refused.
-pub payloads_refused : (limits : Limits) (file : List ℕ) (content : FitModel) (images : List ImageRead) (limit : ℕ) (fault : Fault) →
-    IsReadFit limits file content → limit ≡ limits.file →
-    map image_model images ≡ content.images → fault ≡ too_large limit → limit < payloads_length (payloads_of images) →
-    IsCheckError limits file (Refused fault)
-payloads_refused limits file content images limit fault is same are refused longer =
+pub payloads_refused : (limits : Limits) (content : FitModel) (images : List ImageRead) (limit : ℕ) (fault : Fault) →
+    limit ≡ limits.file → map image_model images ≡ content.images → fault ≡ too_large limit → limit < payloads_length (payloads_of images) →
+    IsReadCheckError limits content (Refused fault)
+payloads_refused limits content images limit fault same are refused longer =
     let payloads : payloads_of images ≡ (tree_of content).payloads = ap (map (λ (image : ImageModel). image.payload)) are in
-    inr (record { meaning = OfFit (tree_of content); means = is.means; is_over = omega (arith, longer, same, ap payloads_length payloads) }, refused ∙ ap too_large same)
+    inl (ap Refused (refused ∙ ap too_large same), omega (arith, longer, same, ap payloads_length payloads))
 
 -- An error of reading a file is one of checking it.
 pub check_error_of_reading : (limits : Limits) (file : List ℕ) (error : Error) → IsBootImageReadError limits file error →

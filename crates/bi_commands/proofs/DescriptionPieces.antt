@@ -4,8 +4,8 @@ use Rattle.std.specs.Result.{is_err}
 use Rattle.std.specs.Borrow.{Bor}
 use Rattle.std.specs.List.{join_with_byte}
 use Rattle.std.proofs.lemmas.List.Folds.{flat_map-map}
-use Rattle.bi_commands.specs.declared.words.Word.{Word}
-use Rattle.bi_commands.specs.declared.words.Word.TheVariants.{Text}
+use Rattle.bi_commands.specs.declared.fields.Field.{Field}
+use Rattle.bi_commands.specs.declared.fields.Field.TheVariants.{Text}
 use Rattle.std.proofs.lemmas.Grind.{flat_map-append}
 use Rattle.std.specs.Fmt.{decimal}
 use Rattle.std.proofs.lemmas.List.{drop_more}
@@ -13,7 +13,7 @@ use Rattle.bi_commands.specs.declared.describe.entries.PayloadDigest as made
 use Rattle.bi_commands.specs.TreeEntries.{digest_made}
 use Rattle.bi_commands.specs.Descriptions.{Words, digest_words, part_words, path}
 use Rattle.bi_commands.specs.Shown.{line, shown_text}
-use Rattle.bi_commands.specs.WrittenWords.{bytes_of_names, word_text, words_of}
+use Rattle.bi_commands.specs.Fields.{bytes_of_names, field_text, words_of}
 use Rattle.bi_commands.proofs.FitLines.{joined_after}
 
 -- The pieces that are written of a description are together the paths of its nodes, the words of its lines and the text of its lines.
@@ -32,11 +32,11 @@ steps_are_path [] some = absurd (omega arith)
 steps_are_path (first ∷ names) some = sym (flat_map-map (λ other. 47 ∷ shown_text other) (λ (name : Bor (List ℕ)). name.now) (first ∷ names))
 
 -- The same for words as the code has them.
-pub words_joined : (first : Word) (later : List Word) →
-    join_with_byte 32 (words_of (first ∷ later)) ≡ word_text first ++ flat_map (λ word. 32 ∷ word_text word) later
+pub words_joined : (first : Field) (later : List Field) →
+    join_with_byte 32 (words_of (first ∷ later)) ≡ field_text first ++ flat_map (λ word. 32 ∷ field_text word) later
 words_joined first later =
-    joined_after (word_text first) (words_of later)
-    ∙ ap (λ bytes. word_text first ++ bytes) (flat_map-map (λ word. 32 ∷ word) word_text later)
+    joined_after (field_text first) (words_of later)
+    ∙ ap (λ bytes. field_text first ++ bytes) (flat_map-map (λ word. 32 ∷ word) field_text later)
 
 -- What holds where a call succeeded.
 pub known_ok : {V E P : Type 0} (result : Result V E) → is_err result ≡ false → OnOk result P → P
@@ -44,13 +44,13 @@ known_ok (Ok value) not_err holds = holds
 known_ok (Err error) not_err holds = absurd cc
 
 -- The same, where the first and the others are taken from a list.
-pub words_split : (words : List Word) → 1 ≤ length words → join_with_byte 32 (words_of words)
-    ≡ word_text (get_or words 0 (Text (record { ref_ptr = (0, 0); now = [] })))
-    ++ flat_map (λ word. 32 ∷ word_text word) (take (length words - 1) (drop 1 words))
+pub words_split : (words : List Field) → 1 ≤ length words → join_with_byte 32 (words_of words)
+    ≡ field_text (get_or words 0 (Text (record { ref_ptr = (0, 0); now = [] })))
+    ++ flat_map (λ word. 32 ∷ field_text word) (take (length words - 1) (drop 1 words))
 words_split [] some = absurd (omega arith)
 words_split (first ∷ later) some =
     words_joined first later
-    ∙ ap (λ words. word_text first ++ flat_map (λ word. 32 ∷ word_text word) words) (sym (take_all (length (first ∷ later) - 1) later (omega arith)))
+    ∙ ap (λ words. field_text first ++ flat_map (λ word. 32 ∷ field_text word) words) (sym (take_all (length (first ∷ later) - 1) later (omega arith)))
 
 -- The text of lines in three parts: the first,
 pub first_of_three : (first second third : List Words) →

@@ -7,7 +7,7 @@ use Rattle.bi_commands.specs.declared.describe.entries.Entry.{Entry}
 use Rattle.bi_commands.specs.declared.describe.entries.Entry.TheVariants.{Begin}
 use Rattle.bi_commands.specs.Shown.{line}
 use Rattle.bi_commands.specs.TreeEntries.{NodeBegins, NodeEnds, PayloadEntry, PropertyEntry}
-use Rattle.bi_commands.specs.WrittenWords.{bytes_of_names}
+use Rattle.bi_commands.specs.Fields.{bytes_of_names}
 use Rattle.bi_commands.specs.TreeEntries.{EntryModel, as_entry, entry_lines, lines_of_entry, open_after, count_after, most_open}
 
 -- The text of the lines of entries is the lines of one entry and then those of the entries after it, and an entry opens at most one node.

@@ -1,22 +1,36 @@
 use Rattle.std.proofs.Common.{◌≡◌, ◌↔◌, ℕ, ◌/◌, ◌%◌, ◌<◌, suc, Bool, true, false, List, [], ◌∷◌, ◌++◌, get_or, map, refl, sym, ap, ap₂}
-use Rattle.std.proofs.Common.{subst, ◌∙◌, arith, IsTrue, ◌&&◌, codes, append_assoc, Result, Ok, Err, OnOk}
-use Rattle.std.specs.Fmt.{decimal, digit_glyph}
+use Rattle.std.proofs.Common.{subst, ◌∙◌, arith, IsTrue, ◌&&◌, append-nil, Result, Ok, Err, IfOk, IfErr, OnOk}
+use Rattle.std.specs.Fmt.{digit_glyph}
 use Rattle.std.specs.List.{flat_map, slice_index, list_all}
-use Rattle.std.proofs.lemmas.List.Folds.{list_all-map}
+use Rattle.std.proofs.lemmas.Grind.{flat_map-append}
+use Rattle.std.proofs.lemmas.List.Folds.{flat_map-map}
 use Rattle.std.proofs.lemmas.List.FromFn.{get_or-map-range_with_len}
+use Rattle.bi_base.specs.Commands.{Appended, AppendFailed, WasRefused, SinkFailed}
+use Rattle.bi_base.specs.declared.fault.Error.{Error}
+use Rattle.bi_base.specs.declared.fault.Error.TheVariants.{OutOfMemory}
 use Rattle.bi_base.specs.Limits.{Limits}
+use Rattle.bi_base.specs.Sinks.{FailsWithin}
+use Rattle.bi_base.specs.VecSinks.{Grows, IsOutOfMemory}
 use Rattle.bi_hash.specs.declared.verdicts.Verdict.{Verdict}
 use Rattle.bi_hash.specs.declared.verdicts.Verdict.TheVariants.{Good, Bad, UnknownAlgo, NoPayload, Malformed}
-use Rattle.bi_fit.specs.declared.hashes.Checked.{Checked}
 use Rattle.bi_fit.specs.Content.{FitModel, tree_of}
 use Rattle.bi_fit.specs.Judgement.{CheckedHash, verdicts_of}
-use Rattle.bi_fit.specs.JudgementCalls.{checked_hash_of}
 use Rattle.bi_fit.specs.Reading.{IsReadFit}
 use Rattle.bi_legacy.specs.Reading.{LegacyModel, IsReadLegacy}
 use Rattle.bi_norm.specs.Meaning.{OfLegacy, OfFit}
+use Rattle.bi_norm.specs.Reading.{IsBootImageReadError}
+use Rattle.bi_norm.proofs.NormalForms.{needs_memory}
 use Rattle.hex.specs.Hex.{encode_lower, encode_with, lower_digits}
-use Rattle.bi_commands.specs.Reports.{is_verdict, count_of, AreGood, IsVerifyOutput, legacy_report, hash_line, summary_line}
-use Rattle.bi_commands.specs.Shown.{line, digits_of_byte}
+use Rattle.bi_commands.specs.declared.verdict_counts.Counts.{Counts}
+use Rattle.bi_commands.specs.HashedImages.{images_of_blob}
+use Rattle.bi_commands.specs.ReadReports.{lines_of_image}
+use Rattle.bi_commands.specs.Reports.{HashVerdict, Summary, AreGood, IsReport, IsVerifyOutput, counts_of, is_verdict, legacy_report}
+use Rattle.bi_commands.specs.Reports.{report_line, report_of}
+use Rattle.bi_commands.specs.Shown.{digits_of_byte}
+use Rattle.bi_commands.specs.VerdictCounts.{are_good}
+use Rattle.bi_commands.proofs.HashedImages.{lines_of_images}
+use Rattle.bi_commands.proofs.ImageCalls.{tree_needs_memory}
+use Rattle.bi_commands.proofs.VerdictCounts.{good_counts}
 
 -- The report on what was read from a file is the report on the file.
 
@@ -63,49 +77,67 @@ all_good (hash ∷ later) = (forth (all_good later).0, back (all_good later).1) 
   back rest good = rw (ap (is_verdict Good) good.0) (rest good.1)
 
 -- The report on a legacy image that was read from a file.
-pub legacy_verified : (limits : Limits) (file text : List ℕ) (parsed : LegacyModel) → IsReadLegacy limits file parsed →
-    text ≡ legacy_report → IsVerifyOutput limits true file text
-legacy_verified limits file text parsed opened is = record {
-  report = record { meaning = OfLegacy parsed.image; means = opened.means; is = is };
+pub legacy_reported : (limits : Limits) (file : List ℕ) (parsed : LegacyModel) → IsReadLegacy limits file parsed →
+    IsVerifyOutput limits true file (flat_map report_line legacy_report)
+legacy_reported limits file parsed opened = record {
+  report = record { meaning = OfLegacy parsed.image; means = opened.means; is = refl };
   all_good = (λ _. tt, λ _. refl);
 }
 
 -- The report on a flattened image tree that was read from a file.
-pub tree_verified : (limits : Limits) (file text : List ℕ) (content : FitModel) (hashes : List Checked) (good : Bool) →
-    IsReadFit limits file content →
-    map checked_hash_of hashes ≡ verdicts_of (tree_of content) →
-    text ≡ flat_map hash_line (map checked_hash_of hashes) ++ summary_line (map checked_hash_of hashes) →
-    good ≡ list_all (λ (hash : Checked). is_verdict Good hash.verdict) hashes → IsVerifyOutput limits good file text
-tree_verified limits file text content hashes good is are written tested =
-    let test = tested ∙ sym (list_all-map (λ (hash : CheckedHash). is_verdict Good hash.verdict) checked_hash_of hashes)
-    ∙ ap (list_all (λ (hash : CheckedHash). is_verdict Good hash.verdict)) are in
-    record {
-      report = record { meaning = OfFit (tree_of content); means = is.means; is = subst (λ (hs : List CheckedHash). text ≡ flat_map hash_line hs ++ summary_line hs) are written };
-      all_good = subst (λ (b : Bool). IsTrue b ↔ AreGood (verdicts_of (tree_of content))) (sym test) (all_good (verdicts_of (tree_of content)));
-    }
+pub tree_reported : (limits : Limits) (file : List ℕ) (content : FitModel) (good : Bool) → IsReadFit limits file content →
+    (IsTrue good ↔ AreGood (verdicts_of (tree_of content))) → IsVerifyOutput limits good file (report_of (OfFit (tree_of content)))
+tree_reported limits file content good is are = record {
+  report = record { meaning = OfFit (tree_of content); means = is.means; is = refl };
+  all_good = are;
+}
 
--- The words of the last line, with a space between each two.
-summary_words : (old new good bad unknown none malformed : List ℕ) →
-    new ≡ old ++ (codes "summary good " ++ (good ++ (codes " bad " ++ (bad ++ (codes " unknown-algorithm " ++ (unknown
-    ++ (codes " no-payload " ++ (none ++ (codes " malformed " ++ (malformed ++ 10 ∷ [])))))))))) →
-    new ≡ old ++ line (codes "summary" ∷ codes "good" ∷ good ∷ codes "bad" ∷ bad ∷ codes "unknown-algorithm" ∷ unknown
-    ∷ codes "no-payload" ∷ none ∷ codes "malformed" ∷ malformed ∷ [])
-summary_words old new good bad unknown none malformed is =
-    let after_none : List ℕ = codes " malformed " ++ malformed in
-    let after_unknown : List ℕ = codes " no-payload " ++ (none ++ after_none) in
-    let after_bad : List ℕ = codes " unknown-algorithm " ++ (unknown ++ after_unknown) in
-    let after_good : List ℕ = codes " bad " ++ (bad ++ after_bad) in
-    rw (append_assoc good after_good (10 ∷ []), append_assoc bad after_bad (10 ∷ []), append_assoc unknown after_unknown (10 ∷ []), append_assoc none after_none (10 ∷ [])) is
+-- All verdicts are good if the counts are those of good verdicts.
+pub good_of_counts : (hashes : List CheckedHash) (counts : Counts) (good : Bool) → counts ≡ counts_of hashes → good ≡ are_good counts →
+    IsTrue good ↔ AreGood hashes
+good_of_counts hashes counts good counted tested =
+    subst (λ (b : Bool). IsTrue b ↔ AreGood hashes) (sym (tested ∙ ap are_good counted ∙ good_counts hashes)) (all_good hashes)
 
--- What is written for the number of each verdict.
-pub summary_line_of : {E : Type 0} (result : Result (Unit {0}) E) (old new : List ℕ) (hashes : List CheckedHash)
-    (good bad unknown none malformed : ℕ) →
-    good ≡ count_of Good hashes → bad ≡ count_of Bad hashes → unknown ≡ count_of UnknownAlgo hashes → none ≡ count_of NoPayload hashes →
-    malformed ≡ count_of Malformed hashes →
-    OnOk result (new ≡ old ++ (codes "summary good "
-    ++ (decimal good ++ (codes " bad " ++ (decimal bad ++ (codes " unknown-algorithm " ++ (decimal unknown
-    ++ (codes " no-payload " ++ (decimal none ++ (codes " malformed " ++ (decimal malformed ++ 10 ∷ []))))))))))) →
-    OnOk result (new ≡ old ++ summary_line hashes)
-summary_line_of (Err e) old new hashes good bad unknown none malformed a b c d f is = tt
-summary_line_of (Ok u) old new hashes good bad unknown none malformed a b c d f is =
-    rw (← a, ← b, ← c, ← d, ← f) (summary_words old new (decimal good) (decimal bad) (decimal unknown) (decimal none) (decimal malformed) is)
+-- The lines of all hash nodes, and the last line.
+pub tree_lines : (content : FitModel) (counts : Counts) → counts ≡ counts_of (verdicts_of (tree_of content)) →
+    report_of (OfFit (tree_of content)) ≡ flat_map lines_of_image (images_of_blob content) ++ report_line (Summary counts)
+tree_lines content counts counted =
+    let hashes = verdicts_of (tree_of content) in
+    flat_map-append report_line (map HashVerdict hashes) (Summary (counts_of hashes) ∷ [])
+    ∙ ap₂ (λ (a b : List ℕ). a ++ b)
+    (flat_map-map report_line HashVerdict hashes ∙ sym (lines_of_images content))
+    (append-nil (report_line (Summary (counts_of hashes))) ∙ ap (λ (numbers : Counts). report_line (Summary numbers)) (sym counted))
+
+-- An error is one of reading the file,
+pub not_verified : {S : Type 0} (fails : S → List ℕ → S → Error → Type 0) (limits : Limits) (file : List ℕ) (content : FitModel) (old new : S)
+    (error : Error) → IsReadFit limits file content
+    → AppendFailed fails (λ text. text ≡ report_of (OfFit (tree_of content))) (λ error. error ≡ OutOfMemory) old new error
+    → AppendFailed fails (IsReport limits file) (IsBootImageReadError limits file) old new error
+not_verified fails limits file content old new error is (WasRefused none kept) =
+    WasRefused (subst (IsBootImageReadError limits file) (sym none) (tree_needs_memory limits file content is)) kept
+not_verified fails limits file content old new error is (SinkFailed text cause is_text failed same) =
+    SinkFailed text cause (record { meaning = OfFit (tree_of content); means = is.means; is = is_text }) failed same
+
+-- also if the report is made in memory.
+pub not_reported : (limits : Limits) (file old new : List ℕ) (error : Error) →
+    AppendFailed (FailsWithin Grows IsOutOfMemory) (IsReport limits file) (IsBootImageReadError limits file) old new error →
+    IsBootImageReadError limits file error
+not_reported limits file old new error (WasRefused is kept) = is
+not_reported limits file old new error (SinkFailed text cause is failed same) =
+    subst (IsBootImageReadError limits file) (sym (same ∙ failed.1)) (needs_memory limits file is.meaning is.means)
+
+-- What a call on what was read from a file did is what it did with the file.
+pub fit_reported : {S : Type 0} (appends : S → List ℕ → S → Type 0) (limits : Limits) (file : List ℕ) (content : FitModel) (old new : S)
+    (result : Result Bool Error) → IsReadFit limits file content → OnOk result (appends old (report_of (OfFit (tree_of content))) new) →
+    IfOk result (λ good. IsTrue good ↔ AreGood (verdicts_of (tree_of content))) →
+    IfOk result (λ good. Appended appends (IsVerifyOutput limits good file) old new)
+fit_reported appends limits file content old new (Ok good) is written are =
+    record { text = report_of (OfFit (tree_of content)); is_text = tree_reported limits file content good is are; appended = written }
+fit_reported appends limits file content old new (Err error) is written are = tt
+
+pub fit_not_reported : {S V : Type 0} (fails : S → List ℕ → S → Error → Type 0) (limits : Limits) (file : List ℕ) (content : FitModel)
+    (old new : S) (result : Result V Error) → IsReadFit limits file content →
+    IfErr result (AppendFailed fails (λ text. text ≡ report_of (OfFit (tree_of content))) (λ error. error ≡ OutOfMemory) old new) →
+    IfErr result (AppendFailed fails (IsReport limits file) (IsBootImageReadError limits file) old new)
+fit_not_reported fails limits file content old new (Ok value) is failed = tt
+fit_not_reported fails limits file content old new (Err error) is failed = not_verified fails limits file content old new error is failed

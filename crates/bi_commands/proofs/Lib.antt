@@ -5,7 +5,6 @@ pub mod TreeLines
 pub mod QuotedValues
 pub mod LineChains
 pub mod DescriptionPieces
-pub mod HashCounts
 pub mod ImageReports
 pub mod FirstWords
 pub mod FitLines
@@ -44,3 +43,8 @@ pub mod UnshownNames
 pub mod AsciiTexts
 pub mod AsciiDescriptions
 pub mod AsciiListings
+pub mod HashedImages
+pub mod VerdictCounts
+pub mod AsciiReports
+pub mod ListedResults
+pub mod LinesLeft

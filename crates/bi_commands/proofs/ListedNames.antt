@@ -1,15 +1,17 @@
-use Rattle.std.proofs.Common.{◌≡◌, ℕ, ◌+◌, List, [], ◌∷◌, ◌++◌, Option, Some, None, option_and_then, slice_get, map, codes, refl, sym, ap}
+use Rattle.std.proofs.Common.{◌≡◌, true, ℕ, ◌+◌, List, [], ◌∷◌, ◌++◌, Option, Some, None, option_and_then, slice_get, map, codes, refl, sym, ap}
 use Rattle.std.proofs.Common.{◌∙◌, append_assoc}
-use Rattle.std.specs.List.{join_with_byte, flat_map}
+use Rattle.std.specs.List.{ends_with, join_with_byte, flat_map}
+use Rattle.std.specs.Prelude.{nat_eq}
 use Rattle.std.proofs.lemmas.List.Folds.{flat_map-map}
 use Rattle.std.proofs.lemmas.Option.{same_Some}
 use Rattle.bi_fit.specs.declared.key.Key.{Key}
 use Rattle.bi_fit.specs.Content.{ImageModel, index_of}
-use Rattle.bi_fit.specs.Judgement.{ListedImage, Missing, ListedImages, with_image}
+use Rattle.bi_fit.specs.Judgement.{ListedImage, ListResult, Missing, ListedImages, listed_names, with_image}
 use Rattle.bi_fit.specs.Names.{key_name}
-use Rattle.bi_fit.specs.HashNodes.{file_list, listed_payload}
+use Rattle.bi_fit.specs.HashNodes.{file_list, file_listed_in, listed_payload}
 use Rattle.bi_fit.proofs.FileLists.{payload_found, payload_named-missing}
 use Rattle.bi_commands.specs.FitListing.{key_line}
+use Rattle.bi_commands.specs.Listed.{AreImages}
 use Rattle.bi_commands.specs.ReadListing.{missing_from, first_missing}
 use Rattle.bi_commands.specs.Shown.{line, shown_text}
 use Rattle.bi_commands.proofs.FitLines.{joined_after}
@@ -65,14 +67,12 @@ shown_names [] = refl
 shown_names (image ∷ later) = ap (λ names. shown_text image.name ∷ names) (shown_names later)
 
 -- The line of a key that lists these names.
-pub images_line : (configuration : List ℕ) (key : Key) (images : List ImageModel) (names : List (List ℕ)) →
-    first_missing images 0 names ≡ None →
-    key_line configuration key (file_list images 0 names)
-    ≡ line (codes "key" ∷ shown_text configuration ∷ key_name key ∷ codes "ok" ∷ map shown_text names)
-images_line configuration key images names is =
-    let (listed, found, named) = names_found images 0 names is in
-    ap (key_line configuration key) found
-    ∙ ap (λ words. line (codes "key" ∷ shown_text configuration ∷ key_name key ∷ codes "ok" ∷ words)) (shown_names listed ∙ ap (map shown_text) named)
+pub images_line : (configuration : List ℕ) (key : Key) (result : ListResult) (names : List (List ℕ)) → AreImages result names →
+    key_line configuration key result ≡ line (codes "key" ∷ shown_text configuration ∷ key_name key ∷ codes "ok" ∷ map shown_text names)
+images_line configuration key result names are =
+    ap (key_line configuration key) are.is_listed
+    ∙ ap (λ words. line (codes "key" ∷ shown_text configuration ∷ key_name key ∷ codes "ok" ∷ words))
+    (shown_names are.images ∙ ap (map shown_text) are.are_names)
 
 -- Words and more of them, with a space before each but the first.
 joined_more : (first : List ℕ) (words more : List (List ℕ)) →
@@ -94,3 +94,15 @@ line_of_names configuration key word names is =
     (joined_more (codes "key") later (map shown_text names)
     ∙ ap (λ more. join_with_byte 32 (codes "key" ∷ later) ++ more) (flat_map-map (λ word. 32 ∷ word) shown_text names))
     ∙ append_assoc (join_with_byte 32 (codes "key" ∷ later)) (flat_map (λ name. 32 ∷ shown_text name) names) (10 ∷ [])
+
+-- What the value of a key lists, if its last byte is zero: a name is missing,
+pub listed_missing : (images : List ImageModel) (value : List ℕ) (index : ℕ) → ends_with nat_eq value (0 ∷ []) ≡ true →
+    first_missing images 0 (listed_names value) ≡ Some index → file_listed_in images value ≡ Missing index
+listed_missing images value index ends is = rw ends (missing_is images 0 index (listed_names value) is)
+
+-- or images are listed.
+pub listed_images : (images : List ImageModel) (value : List ℕ) → ends_with nat_eq value (0 ∷ []) ≡ true →
+    first_missing images 0 (listed_names value) ≡ None → AreImages (file_listed_in images value) (listed_names value)
+listed_images images value ends is =
+    let (listed, found, named) = names_found images 0 (listed_names value) is in
+    record { images = listed; is_listed = rw ends found; are_names = named }

@@ -15,7 +15,7 @@ use Rattle.bi_fit.specs.declared.key.Key.TheVariants.{Kernel, Fdt, Ramdisk, Firm
 use Rattle.bi_fit.specs.KnownJudgements.{configuration_lists, other_lists, default_list, hashed_tree, good_crc, short_crc, other_crc, no_value}
 use Rattle.bi_fit.proofs.JudgementFacts.{lists_are_read, find-properties}
 use Rattle.bi_commands.specs.Extracting.{choice_of_listed}
-use Rattle.bi_commands.specs.Reports.{hash_line, summary_line}
+use Rattle.bi_commands.specs.Reports.{hash_report, report_line}
 use Rattle.bi_commands.specs.KnownConcerns.{ConcernsAreKnown, StrongAlgorithmsAreKnown, TrailingBytesAreKnown, AllowedKindsAreKnown}
 use Rattle.bi_commands.specs.KnownTexts.{first_lists, second_default, second_kernel, NamesAreShown, ChoicesAreKnown, ReportsAreKnown}
 use Rattle.bi_commands.specs.KnownTexts.{LegacyListingsAreKnown, FitListingIsKnown, EachSourceIsListed, ConfigurationLinesAreKnown}
@@ -90,7 +90,7 @@ hashes_are_known =
 
 -- The report on hash nodes.
 abbrev report : List CheckedHash → List ℕ
-report hashes = flat_map hash_line hashes ++ summary_line hashes
+report hashes = flat_map report_line (hash_report hashes)
 
 pub reports_are_known : ReportsAreKnown
 unfolding digits

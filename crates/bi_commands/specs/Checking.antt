@@ -19,15 +19,40 @@ use Rattle.bi_legacy.specs.Reading.{LegacyModel, IsReadLegacy}
 use Rattle.bi_commands.specs.declared.check.Allowed.{Allowed}
 use Rattle.bi_commands.specs.declared.check.ConcernKind.{ConcernKind}
 use Rattle.bi_commands.specs.declared.check.ConcernKind.TheVariants as kind
+use Rattle.bi_commands.specs.Descriptions.{Words}
 use Rattle.bi_commands.specs.Reports.{is_verdict, verdict_word, shown_or_none}
 use Rattle.bi_commands.specs.Shown.{line, shown_text}
 
 -- The concerns about a boot image: what in it is not protected (profile of this project).
 
--- A concern: its kind, and the words that follow the word for the kind in its line.
-pub record Concern : Type 0 where
-  pub kind : ConcernKind
-  pub words : List (List ℕ)
+-- A concern.
+pub data Concern : Type 0 where
+  -- A hash node whose verdict is not Good.
+  BadHash : (hash : CheckedHash) → Concern
+  -- An image with a payload and without a Good verdict.
+  UnhashedImage : (image : List ℕ) → Concern
+  -- An image with a payload, and with Good verdicts on these hash nodes alone, none of which names
+  -- a strong algorithm.
+  WeakHash : (image : List ℕ) → (good : List CheckedHash) → Concern
+  -- A key of a configuration whose value is no list of names.
+  BadKey : (configuration : List ℕ) → Key → Concern
+  -- A key of a configuration that lists at this index, counted from 0, a name that no image has.
+  -- It is the first such name.
+  MissingImage : (configuration : List ℕ) → Key → (index : ℕ) → Concern
+  -- A default that names no configuration, or is not there.
+  BadDefault : (default : Option (List ℕ)) → Concern
+  -- This many bytes follow an image, and one of them is not zero.
+  TrailingBytes : (count : ℕ) → Concern
+
+-- The kind of a concern.
+abbrev pub kind_of : Concern → ConcernKind
+kind_of (BadHash hash) = kind.BadHash
+kind_of (UnhashedImage image) = kind.Unhashed
+kind_of (WeakHash image good) = kind.WeakHash
+kind_of (BadKey configuration key) = kind.BadList
+kind_of (MissingImage configuration key index) = kind.Missing
+kind_of (BadDefault default) = kind.BadDefault
+kind_of (TrailingBytes count) = kind.Trailing
 
 -- The word for a kind: the first word of the line of a concern.
 abbrev pub kind_word : ConcernKind → List ℕ
@@ -39,31 +64,25 @@ kind_word kind.Missing = codes "missing"
 kind_word kind.BadDefault = codes "bad-default"
 kind_word kind.Trailing = codes "trailing"
 
+-- The words after it.
+abbrev pub concern_words : Concern → Words
+concern_words (BadHash hash) =
+    shown_text hash.image ∷ shown_text hash.node_name ∷ shown_or_none hash.algo
+    ∷ verdict_word hash.verdict ∷ []
+concern_words (UnhashedImage image) = shown_text image ∷ []
+concern_words (WeakHash image good) =
+    shown_text image ∷ map (λ hash. shown_or_none hash.algo) good
+concern_words (BadKey configuration key) = shown_text configuration ∷ key_name key ∷ []
+concern_words (MissingImage configuration key index) =
+    shown_text configuration ∷ key_name key ∷ decimal index ∷ []
+concern_words (BadDefault default) = shown_or_none default ∷ []
+concern_words (TrailingBytes count) = decimal count ∷ []
+
 -- The line of a concern.
 abbrev pub concern_line : Concern → List ℕ
-concern_line concern = line (kind_word concern.kind ∷ concern.words)
+concern_line concern = line (kind_word (kind_of concern) ∷ concern_words concern)
 
 -- ---- the hash nodes of an image
-
--- A hash node whose verdict is not Good.
-abbrev pub bad_hash : CheckedHash → Concern
-bad_hash hash = record {
-  kind = kind.BadHash;
-  words = shown_text hash.image ∷ shown_text hash.node_name ∷ shown_or_none hash.algo
-      ∷ verdict_word hash.verdict ∷ [];
-}
-
--- An image with a payload and without a Good verdict.
-abbrev pub unhashed_image : (image : List ℕ) → Concern
-unhashed_image image = record { kind = kind.Unhashed; words = shown_text image ∷ [] }
-
--- An image with a payload, and with Good verdicts on these hash nodes alone, none of which names a
--- strong algorithm.
-abbrev pub weak_hash : (image : List ℕ) → (good : List CheckedHash) → Concern
-weak_hash image good = record {
-  kind = kind.WeakHash;
-  words = shown_text image ∷ map (λ hash. shown_or_none hash.algo) good;
-}
 
 -- Whether the verdict on a hash node is Good.
 abbrev pub is_good : CheckedHash → Bool
@@ -84,14 +103,14 @@ is_strong hash = is_good hash && is_strong_algorithm hash.algo
 
 -- The concern about a hash node, if its verdict is not Good.
 abbrev pub hash_concerns : CheckedHash → List Concern
-hash_concerns hash = if is_good hash then [] else bad_hash hash ∷ []
+hash_concerns hash = if is_good hash then [] else BadHash hash ∷ []
 
 -- The concern about an image with a payload and these hash nodes: that no verdict is Good, or else
 -- that no Good one is of a strong algorithm.
 abbrev pub protection_concerns : (image : List ℕ) → List CheckedHash → List Concern
 protection_concerns image hashes =
-    if not (list_any is_good hashes) then unhashed_image image ∷ [] else
-    if not (list_any is_strong hashes) then weak_hash image (filter is_good hashes) ∷ [] else []
+    if not (list_any is_good hashes) then UnhashedImage image ∷ [] else
+    if not (list_any is_strong hashes) then WeakHash image (filter is_good hashes) ∷ [] else []
 
 -- The concern about an image, which may have no payload, and these hash nodes: there is none
 -- without a payload.
@@ -115,29 +134,12 @@ image_concerns image = hashed_concerns image.entry.name image.payload (hashes_of
 
 -- ---- configurations
 
--- A key of a configuration whose value is no list of names.
-abbrev pub bad_list : (configuration : List ℕ) → Key → Concern
-bad_list configuration key =
-    record { kind = kind.BadList; words = shown_text configuration ∷ key_name key ∷ [] }
-
--- A key of a configuration that lists at this index, counted from 0, a name that no image has. It
--- is the first such name.
-abbrev pub missing : (configuration : List ℕ) → Key → (index : ℕ) → Concern
-missing configuration key index = record {
-  kind = kind.Missing;
-  words = shown_text configuration ∷ key_name key ∷ decimal index ∷ [];
-}
-
--- A default that names no configuration, or is not there.
-abbrev pub bad_default : Option (List ℕ) → Concern
-bad_default default = record { kind = kind.BadDefault; words = shown_or_none default ∷ [] }
-
 -- The concern about what a configuration lists under a key, if that is not images.
 abbrev pub list_concerns : (configuration : List ℕ) → Key → ListResult → List Concern
 list_concerns configuration key NoConfig = []
 list_concerns configuration key NoKey = []
-list_concerns configuration key BadList = bad_list configuration key ∷ []
-list_concerns configuration key (Missing index) = missing configuration key index ∷ []
+list_concerns configuration key BadList = BadKey configuration key ∷ []
+list_concerns configuration key (Missing index) = MissingImage configuration key index ∷ []
 list_concerns configuration key (ListedImages images) = []
 
 -- The concerns about a configuration, key by key.
@@ -154,7 +156,7 @@ names_one_of (Some name) configurations = list_any (bytes_eq name) configuration
 abbrev pub default_concerns : Option (List ℕ) → (configurations : List (List ℕ)) → List Concern
 default_concerns default [] = []
 default_concerns default (first ∷ later) =
-    if names_one_of default (first ∷ later) then [] else bad_default default ∷ []
+    if names_one_of default (first ∷ later) then [] else BadDefault default ∷ []
 
 -- The concerns about what a flattened image tree means.
 abbrev pub tree_concerns : ImageTree → List Concern
@@ -165,14 +167,10 @@ tree_concerns tree =
 
 -- ---- bytes after an image
 
--- This many bytes follow an image, and one of them is not zero.
-abbrev pub trailing : ℕ → Concern
-trailing count = record { kind = kind.Trailing; words = decimal count ∷ [] }
-
 -- The concern about the bytes of a file after its image, if one of them is not zero.
 abbrev pub trailing_concerns : List ℕ → List Concern
 trailing_concerns bytes =
-    if list_all (λ byte. byte == 0) bytes then [] else trailing (length bytes) ∷ []
+    if list_all (λ byte. byte == 0) bytes then [] else TrailingBytes (length bytes) ∷ []
 
 -- Where a payload ends in its file, by its source. One of no bytes ends where it begins.
 abbrev pub payload_end : List ℕ → PayloadSource → Option (List ℕ) → ℕ
@@ -212,4 +210,4 @@ allows allowed kind.Trailing = allowed.trailing
 -- The lines of the concerns that are not allowed.
 abbrev pub concern_lines : Allowed → List Concern → List ℕ
 concern_lines allowed concerns =
-    flat_map concern_line (filter (λ concern. not (allows allowed concern.kind)) concerns)
+    flat_map concern_line (filter (λ concern. not (allows allowed (kind_of concern))) concerns)

@@ -1,4 +1,4 @@
-use Rattle.std.specs.Prelude.{◌≡◌, ℕ, List, [], ◌∷◌, ◌++◌, None, Some, codes, map}
+use Rattle.std.specs.Prelude.{◌≡◌, ℕ, List, [], ◌∷◌, ◌++◌, None, Some, codes, flat_map, map}
 use Rattle.std.specs.Option.{option_map}
 use Rattle.std.specs.Borrow.{Bor}
 use Rattle.std.specs.FinMap.{empty, from_entries}
@@ -27,7 +27,7 @@ use Rattle.bi_commands.specs.Extracting.{HasMissingImage, NoSuchEntry, HasNoPayl
 use Rattle.bi_commands.specs.Extracting.{choice_of}
 use Rattle.bi_commands.specs.FitListing.{configuration_lines, default_line, fit_listing}
 use Rattle.bi_commands.specs.Listing.{legacy_listing}
-use Rattle.bi_commands.specs.Reports.{fit_report, legacy_report, summary_line}
+use Rattle.bi_commands.specs.Reports.{Summary, counts_of, legacy_report, report_line, report_of}
 use Rattle.bi_commands.specs.Shown.{shown_text}
 
 -- Small boot images with what the commands write of them, by which a reader can judge the
@@ -162,12 +162,12 @@ counted_verdicts =
 -- The reports on a legacy image, on a tree without hash nodes, and on a tree with a hash node of
 -- each verdict; and the last line of a report on hash nodes with another number of each.
 pub record ReportsAreKnown : Type 0 where
-  pub legacy : legacy_report
+  pub legacy : flat_map report_line legacy_report
       ≡ lines (codes "header crc32 good" ∷ codes "data crc32 good" ∷ [])
-  pub no_hashes : fit_report (plain_tree [] [])
+  pub no_hashes : report_of (OfFit (plain_tree [] []))
       ≡ lines
       (codes "summary good 0 bad 0 unknown-algorithm 0 no-payload 0 malformed 0" ∷ [])
-  pub hashes : fit_report hashed_tree
+  pub hashes : report_of (OfFit hashed_tree)
       ≡ lines
       (codes "a hash-1 crc32 good 352441c2"
       ∷ codes "a hash crc32 bad 352441"
@@ -176,7 +176,7 @@ pub record ReportsAreKnown : Type 0 where
       ∷ codes "b hash-1 crc32 no-payload 352441c2"
       ∷ codes "summary good 1 bad 1 unknown-algorithm 1 no-payload 1 malformed 1"
       ∷ [])
-  pub counts : summary_line (map hash_with counted_verdicts)
+  pub counts : report_line (Summary (counts_of (map hash_with counted_verdicts)))
       ≡ lines
       (codes "summary good 2 bad 1 unknown-algorithm 0 no-payload 3 malformed 4" ∷ [])
 

@@ -31,4 +31,10 @@ pub mod TreeEntries
 pub mod UpdatedFileLaws
 pub mod UpdatedFiles
 pub mod ValueTexts
-pub mod WrittenWords
+pub mod Fields
+pub mod HashedImages
+pub mod LineValues
+pub mod VerdictCounts
+pub mod ReadReports
+pub mod Children
+pub mod Listed

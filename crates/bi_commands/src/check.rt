@@ -1,18 +1,19 @@
 //! The concerns about a boot image: a text with a line for each thing in it that is not protected.
 
 ghost use Rattle.std.specs.Prelude.{◌≡◌, ⊤, IfOk, IfErr, string_bytes};
+ghost use Rattle.bi_base.specs.Commands.{Appended, AppendFailed};
 ghost use Rattle.bi_base.specs.Pipes.{IsPiped};
-ghost use Rattle.bi_commands.specs.CheckedFiles.{IsChecked, IsCheckError};
+ghost use Rattle.bi_commands.specs.CheckedFiles.{IsChecked, IsCheckError, IsCheckOutput};
 ghost use Rattle.bi_commands.specs.CheckedFiles.{check_promise, check_laws};
 ghost use Rattle.bi_commands.specs.Checking.{kind_word, allows as allows_kind};
 
+pub(crate) mod concern;
 mod configurations;
 mod fit;
-mod hashes;
 mod images;
 mod trailing;
 
-use bi_base::{Command, Error, Limits, Sink, pipe_to};
+use bi_base::{Command, Error, Limits, Sink, VecSink, pipe_to};
 use bi_norm::BootImage;
 use fit::check_fit;
 use std::alloc::Global;
@@ -111,9 +112,31 @@ pub fn check(alloc: Global, file: &[u8], allowed: Allowed, limits: Limits) -> Re
         (string_bytes text)) }
     ensures failed { IfErr result (IsCheckError limits file.now) }
 {
+    let mut sink = VecSink::new(alloc);
+    let _clean = check_into(alloc, file, allowed, limits, &mut sink)?;
+    match String::from_utf8(sink.into_vec()) {
+        Ok(text) => Ok(text),
+        Err(_) => unreachable!(),
+    }
+}
+
+/// Appends the lines that `check` returns, one by one, and returns whether there are none. Each
+/// refusal and each allocation comes before the first byte, and no memory is taken for the lines.
+fn check_into<S: Sink>(
+    alloc: Global,
+    file: &[u8],
+    allowed: Allowed,
+    limits: Limits,
+    sink: &mut S,
+) -> Result<bool, Error>
+    ensures appended { IfOk result (λ clean. Appended S.appends
+        (IsCheckOutput allowed limits clean file.now) sink.old sink.new) }
+    ensures failed { IfErr result (AppendFailed S.fails (IsChecked allowed limits file.now)
+        (IsCheckError limits file.now) sink.old sink.new) }
+{
     match BootImage::read(alloc, file, limits)? {
-        BootImage::Legacy(image) => check_legacy(alloc, file, &image, allowed),
-        BootImage::Fit(image) => check_fit(alloc, file, &image, allowed, limits),
+        BootImage::Legacy(image) => check_legacy(file, &image, allowed, sink),
+        BootImage::Fit(image) => check_fit(alloc, file, &image, allowed, limits, sink),
     }
 }
 
@@ -133,6 +156,7 @@ impl Command for Checker {
 
     ghost promise = { λ checker. check_promise checker.allowed };
 
+    /// Appends the lines one by one. Each refusal and each allocation comes before the first byte.
     fn run<S: Sink>(
         &self,
         alloc: Global,
@@ -140,9 +164,8 @@ impl Command for Checker {
         limits: Limits,
         sink: &mut S,
     ) -> Result<bool, Error> {
-        let text = check(alloc, input, self.allowed, limits)?;
-        sink.put(text.as_bytes())?;
-        Ok(text.is_empty())
+        let clean = check_into(alloc, input, self.allowed, limits, sink)?;
+        Ok(clean)
     }
 
     ghost wraps_from = { λ _ _ _ _ same. same };

@@ -8,9 +8,9 @@ ghost use Rattle.bi_blob.specs.Blob.{Reservation};
 ghost use Rattle.bi_legacy.specs.Meaning.{image_of};
 ghost use Rattle.bi_commands.specs.Descriptions.{code_words, field_words, reservation_words};
 ghost use Rattle.bi_commands.specs.Shown.{line};
-ghost use Rattle.bi_commands.specs.WrittenWords.{word_text};
+ghost use Rattle.bi_commands.specs.Fields.{field_text};
 
-use crate::words::{Word, put_line, put_lines};
+use crate::fields::{Field, put_line, put_lines};
 use bi_base::{Error, Sink};
 use bi_fdt::Blob;
 use bi_legacy::Fields;
@@ -25,11 +25,11 @@ pub(crate) fn put_kind_and_fields<S: Sink>(fields: Fields, sink: &mut S) -> Resu
 {
     put_lines(
         &[
-            [Word::Text(b"kind"), Word::Text(b"legacy")],
-            [Word::Text(b"name"), Word::Shown(fields.name)],
-            [Word::Text(b"time"), Word::Decimal(u64::from(fields.time))],
-            [Word::Text(b"load"), Word::Hexadecimal(fields.load)],
-            [Word::Text(b"entry"), Word::Hexadecimal(fields.entry)],
+            [Field::Text(b"kind"), Field::Text(b"legacy")],
+            [Field::Text(b"name"), Field::Shown(fields.name)],
+            [Field::Text(b"time"), Field::Decimal(u64::from(fields.time))],
+            [Field::Text(b"load"), Field::Hexadecimal(fields.load)],
+            [Field::Text(b"entry"), Field::Hexadecimal(fields.entry)],
         ],
         sink,
     )
@@ -46,23 +46,23 @@ pub(crate) fn put_codes<S: Sink>(fields: Fields, sink: &mut S) -> Result<(), Err
     let compression = code_word(compression_name(fields.compression), fields.compression);
     put_lines(
         &[
-            [Word::Text(b"os"), os],
-            [Word::Text(b"arch"), arch],
-            [Word::Text(b"type"), image_type],
-            [Word::Text(b"compression"), compression],
+            [Field::Text(b"os"), os],
+            [Field::Text(b"arch"), arch],
+            [Field::Text(b"type"), image_type],
+            [Field::Text(b"compression"), compression],
         ],
         sink,
     )
 }
 
 /// Returns the word for a code: its name, or its number if it has none.
-fn code_word(name: Option<&'static str>, code: u8) -> Word<'static, 'static>
-    ensures { word_text result
+fn code_word(name: Option<&'static str>, code: u8) -> Field<'static, 'static>
+    ensures { field_text result
         ≡ unwrap_or (option_map (λ name. name.now) name.entry) (decimal code) }
 {
     match name {
-        Some(name) => Word::Text(name.as_bytes()),
-        None => Word::Decimal(u64::from(code)),
+        Some(name) => Field::Text(name.as_bytes()),
+        None => Field::Decimal(u64::from(code)),
     }
 }
 
@@ -85,9 +85,9 @@ fn put_reservation<S: Sink>(address: u64, size: u64, sink: &mut S) -> Result<(),
         Wrote S.appends S.fails sink.old (line (reservation_words reservation)) result sink.new }
 {
     let words = [
-        Word::Text(b"reservation"),
-        Word::Hexadecimal64(address),
-        Word::Hexadecimal64(size),
+        Field::Text(b"reservation"),
+        Field::Hexadecimal64(address),
+        Field::Hexadecimal64(size),
     ];
     put_line(&words, sink)
 }

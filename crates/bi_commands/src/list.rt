@@ -3,7 +3,6 @@
 mod configurations;
 mod fit;
 mod legacy;
-mod names;
 
 ghost use Rattle.std.specs.Prelude.{⊤, IfOk, OnOk, IfErr, string_bytes};
 ghost use Rattle.bi_base.specs.Commands.{Appended, AppendFailed};

@@ -1,30 +1,31 @@
 //! The report on a boot image: a text with the verdict on each of its checksums and digests.
 
-ghost use Rattle.std.specs.Prelude.{◌≡◌, ◌++◌, ⊤, ℕ, List, IfOk, OnOk, IfErr};
-ghost use Rattle.std.specs.Prelude.{false, flat_map, map, option_map, string_bytes};
-ghost use Rattle.std.specs.List.{list_all};
-ghost use Rattle.bi_base.specs.Limits.{Limits};
-ghost use Rattle.bi_base.specs.Pipes.{IsPiped};
-ghost use Rattle.bi_fit.specs.JudgementCalls.{checked_hash_of};
-ghost use Rattle.bi_hash.specs.declared.verdicts.Verdict.TheVariants.{Good};
-ghost use Rattle.bi_fit.specs.Reading.{IsReadFit};
-ghost use Rattle.bi_legacy.specs.Reading.{IsReadLegacy};
-ghost use Rattle.bi_norm.specs.Reading.{IsBootImageReadError};
-ghost use Rattle.bi_commands.specs.Reports.{IsVerifyOutput, hash_line, summary_line};
-ghost use Rattle.bi_commands.specs.Reports.{verify_promise, verify_laws};
-ghost use Rattle.bi_commands.specs.Reports.{count_of as number_of, verdict_word as word_of};
-ghost use Rattle.bi_commands.specs.Reports.{is_verdict as has_verdict};
-ghost use Rattle.bi_commands.specs.Reports.{value_word as value_text, legacy_report};
-ghost use Rattle.bi_commands.specs.Shown.{digits_of_byte};
+pub(crate) mod report_line;
 
-use crate::shown::shown_name;
-use bi_base::{Command, Error, Limits, Sink, pipe_to};
-use bi_fit::{Checked, Fit};
-use bi_hash::Verdict;
-use bi_legacy::Legacy;
+ghost use Rattle.std.specs.Prelude.{◌≡◌, ◌↔◌, ⊤, IfOk, IfErr, OnOk, IsTrue, flat_map};
+ghost use Rattle.std.specs.Prelude.{string_bytes};
+ghost use Rattle.bi_base.specs.Commands.{Appended, AppendFailed};
+ghost use Rattle.bi_base.specs.declared.fault.Error.TheVariants.{OutOfMemory};
+ghost use Rattle.bi_base.specs.Pipes.{IsPiped};
+ghost use Rattle.bi_base.specs.Sinks.{Wrote};
+ghost use Rattle.bi_fit.specs.Content.{AreAtTheirPlaces, IsHeld, tree_of};
+ghost use Rattle.bi_fit.specs.Judgement.{verdicts_of};
+ghost use Rattle.bi_norm.specs.Meaning.{OfFit};
+ghost use Rattle.bi_norm.specs.Reading.{IsBootImageReadError};
+ghost use Rattle.bi_commands.specs.HashedImages.{hashes_left, images_of_blob};
+ghost use Rattle.bi_commands.specs.Reports.{AreGood, IsReport, IsVerifyOutput, hash_line};
+ghost use Rattle.bi_commands.specs.Reports.{legacy_report, report_line, report_of, verify_promise};
+ghost use Rattle.bi_commands.specs.Reports.{verify_laws};
+ghost use Rattle.bi_commands.specs.ReadReports.{lines_of_image};
+
+use crate::hash_nodes::{HashNodes, HashedImages};
+use crate::verdict_counts::count_verdicts;
+use bi_base::{Command, Error, Limits, Sink, VecSink, pipe_to};
+use bi_fit::Fit;
+use bi_hash::RegionDigests;
 use bi_norm::BootImage;
-use std::alloc::{AllocError, Global};
-use std::fmt::Write as _;
+use report_line::{ReportLine, put_report_line};
+use std::alloc::Global;
 use std::io::{Read, Write};
 
 /// A report on the checksums and digests of a boot image.
@@ -49,9 +50,34 @@ pub fn verify(alloc: Global, file: &[u8], limits: Limits) -> Result<Report, Erro
         (string_bytes report.text)) }
     ensures failed { IfErr result (IsBootImageReadError limits file.now) }
 {
+    let mut sink = VecSink::new(alloc);
+    let all_good = verify_into(alloc, file, limits, &mut sink)?;
+    match String::from_utf8(sink.into_vec()) {
+        Ok(text) => Ok(Report { text, all_good }),
+        Err(_) => unreachable!(),
+    }
+}
+
+/// Appends the report on a boot image, line by line, and returns whether no verdict in it is other
+/// than Good. Each refusal and each allocation comes before the first byte, and no memory is taken
+/// for the report.
+fn verify_into<S: Sink>(
+    alloc: Global,
+    file: &[u8],
+    limits: Limits,
+    sink: &mut S,
+) -> Result<bool, Error>
+    ensures appended { IfOk result (λ good. Appended S.appends
+        (IsVerifyOutput limits good file.now) sink.old sink.new) }
+    ensures failed { IfErr result (AppendFailed S.fails (IsReport limits file.now)
+        (IsBootImageReadError limits file.now) sink.old sink.new) }
+{
     match BootImage::read(alloc, file, limits)? {
-        BootImage::Legacy(image) => verify_legacy(alloc, &image),
-        BootImage::Fit(image) => verify_fit(alloc, &image),
+        BootImage::Legacy(_image) => {
+            put_checksums(sink)?;
+            Ok(true)
+        }
+        BootImage::Fit(image) => verify_fit(alloc, &image, sink),
     }
 }
 
@@ -68,6 +94,8 @@ impl Command for Verifier {
 
     ghost promise = { λ _. verify_promise };
 
+    /// Appends the report line by line. Each refusal and each allocation comes before the first
+    /// byte.
     fn run<S: Sink>(
         &self,
         alloc: Global,
@@ -75,9 +103,8 @@ impl Command for Verifier {
         limits: Limits,
         sink: &mut S,
     ) -> Result<bool, Error> {
-        let report = verify(alloc, input, limits)?;
-        sink.put(report.text.as_bytes())?;
-        Ok(report.all_good)
+        let all_good = verify_into(alloc, input, limits, sink)?;
+        Ok(all_good)
     }
 
     ghost wraps_from = { λ _ _ _ _ same. same };
@@ -101,141 +128,57 @@ pub fn verify_to<R: Read, W: Write>(
     pipe_to(alloc, &Verifier, reader, writer, limits)
 }
 
-/// Returns the report on a legacy image that was read, so its checksums are right.
-fn verify_legacy(alloc: Global, _image: &Legacy) -> Result<Report, Error>
-    ensures verified { (limits : Limits) (file : List ℕ) → IsReadLegacy limits file _image.now →
-        IfOk result (λ report. IsVerifyOutput limits report.all_good file
-        (string_bytes report.text)) }
-    ensures failed { (limits : Limits) (file : List ℕ) → IsReadLegacy limits file _image.now →
-        IfErr result (IsBootImageReadError limits file) }
+/// Appends the report on any legacy image that was read, so that its checksums are right. Fails as
+/// the sink does.
+fn put_checksums<S: Sink>(sink: &mut S) -> Result<(), Error>
+    ensures { Wrote S.appends S.fails sink.old (flat_map report_line legacy_report) result
+        sink.new }
 {
-    let text = legacy_lines(alloc)?;
-    Ok(Report {
-        text,
-        all_good: true,
-    })
+    put_report_line(ReportLine::GoodChecksum(b"header"), sink)?;
+    put_report_line(ReportLine::GoodChecksum(b"data"), sink)
 }
 
-/// Returns the lines of the report on any legacy image.
-fn legacy_lines(alloc: Global) -> Result<String, AllocError>
-    ensures { IfOk result (λ text. string_bytes text ≡ legacy_report) }
+/// Appends the report on a flattened image tree that was read, and returns whether no verdict is
+/// other than Good. Fails with OutOfMemory before the first byte, or as the sink does.
+fn verify_fit<S: Sink>(alloc: Global, fit: &Fit, sink: &mut S) -> Result<bool, Error>
+    requires held { IsHeld fit.now }
+    ensures appended { OnOk result
+        (S.appends sink.old (report_of (OfFit (tree_of fit.now))) sink.new) }
+    ensures good { IfOk result (λ good. IsTrue good ↔ AreGood (verdicts_of (tree_of fit.now))) }
+    ensures failed { IfErr result (AppendFailed S.fails
+        (λ text. text ≡ report_of (OfFit (tree_of fit.now))) (λ error. error ≡ OutOfMemory)
+        sink.old sink.new) }
 {
-    format!(in alloc; "header crc32 good\ndata crc32 good\n")
+    let mut digests = fit.region_digests(alloc);
+    let counts = count_verdicts(fit, &mut digests)?;
+    put_images(fit, &digests, sink)?;
+    put_report_line(ReportLine::Summary(counts), sink)?;
+    Ok(counts.are_good())
 }
 
-/// Returns the report on a flattened image tree that was read.
-fn verify_fit(alloc: Global, fit: &Fit) -> Result<Report, Error>
-    ensures verified { (limits : Limits) (file : List ℕ) → IsReadFit limits file fit.now →
-        IfOk result (λ report. IsVerifyOutput limits report.all_good file
-        (string_bytes report.text)) }
-    ensures failed { (limits : Limits) (file : List ℕ) → IsReadFit limits file fit.now →
-        IfErr result (IsBootImageReadError limits file) }
+/// Appends the line of each hash node of a flattened image tree. Fails as the sink does.
+fn put_images<'a, S: Sink>(
+    fit: &Fit<'a>,
+    digests: &RegionDigests<'a>,
+    sink: &mut S,
+) -> Result<(), Error>
+    requires placed { AreAtTheirPlaces digests.now fit.now.images }
+    ensures { Wrote S.appends S.fails sink.old (flat_map lines_of_image (images_of_blob fit.now))
+        result sink.new }
 {
-    let hashes = fit.verdicts(alloc)?;
-    let text = hash_lines(alloc, &hashes)?;
-    let all_good = are_good(&hashes);
-    Ok(Report { text, all_good })
+    for image in HashedImages::new(fit, digests) {
+        put_hashes(image.hashes, sink)?;
+    }
+    Ok(())
 }
 
-/// Returns whether each of these hash nodes has the verdict Good.
-fn are_good(hashes: &[Checked]) -> bool
-    ensures { result ≡ list_all (λ hash. has_verdict Good hash.verdict) hashes.now }
+/// Appends the line of each hash node of an image. Fails as the sink does.
+fn put_hashes<S: Sink>(hashes: HashNodes, sink: &mut S) -> Result<(), Error>
+    ensures { Wrote S.appends S.fails sink.old
+        (flat_map hash_line (hashes_left hashes.entry)) result sink.new }
 {
-    hashes
-        .iter()
-        .all(|hash| is_verdict(Verdict::Good, hash.verdict))
-}
-
-/// Returns the lines of these hash nodes, and the last line.
-fn hash_lines(alloc: Global, hashes: &[Checked]) -> Result<String, AllocError>
-    ensures { IfOk result (λ text. string_bytes text
-        ≡ flat_map hash_line (map checked_hash_of hashes.now)
-        ++ summary_line (map checked_hash_of hashes.now)) }
-{
-    let mut text = String::new(alloc);
     for hash in hashes {
-        put_hash(alloc, &mut text, hash)?;
+        put_report_line(ReportLine::HashVerdict(hash), sink)?;
     }
-    put_summary(&mut text, hashes)?;
-    Ok(text)
-}
-
-/// Appends the line of a hash node.
-fn put_hash(alloc: Global, text: &mut String, hash: &Checked) -> Result<(), AllocError>
-    ensures { OnOk result (string_bytes text.new ≡ string_bytes text.old
-        ++ hash_line (checked_hash_of hash.now)) }
-{
-    let image = shown_name(alloc, hash.image)?;
-    let node = shown_name(alloc, hash.node)?;
-    // A name that is not there is shown as an empty one.
-    let algo = shown_name(alloc, hash.algo.unwrap_or(b""))?;
-    let verdict = verdict_word(hash.verdict);
-    let value = value_word(alloc, hash.value)?;
-    writeln!(text, "{image} {node} {algo} {verdict} {value}")
-}
-
-/// Returns the hexadecimal digits of a value, or `-` if it is empty or not there.
-fn value_word(alloc: Global, value: Option<&[u8]>) -> Result<String, AllocError>
-    ensures { IfOk result (λ word. string_bytes word
-        ≡ value_text (option_map (λ value. value.now) value.entry)) }
-{
-    match value {
-        None | Some([]) => format!(in alloc; "-"),
-        Some(value) => hex_digits(alloc, value),
-    }
-}
-
-/// Returns the hexadecimal digits of some bytes, in lower case.
-fn hex_digits(alloc: Global, bytes: &[u8]) -> Result<String, AllocError>
-    ensures { IfOk result (λ digits. string_bytes digits
-        ≡ flat_map (digits_of_byte false) bytes.now) }
-{
-    hex::encode(alloc, bytes)
-}
-
-/// Appends the last line: how many of these hash nodes have each verdict.
-fn put_summary(text: &mut String, hashes: &[Checked]) -> Result<(), AllocError>
-    ensures { OnOk result (string_bytes text.new ≡ string_bytes text.old
-        ++ summary_line (map checked_hash_of hashes.now)) }
-{
-    let good = count_of(hashes, Verdict::Good);
-    let bad = count_of(hashes, Verdict::Bad);
-    let unknown = count_of(hashes, Verdict::UnknownAlgo);
-    let missing = count_of(hashes, Verdict::NoPayload);
-    let malformed = count_of(hashes, Verdict::Malformed);
-    writeln!(
-        text,
-        "summary good {good} bad {bad} unknown-algorithm {unknown} no-payload {missing} \
-         malformed {malformed}"
-    )
-}
-
-/// Returns how many of these hash nodes have a verdict.
-fn count_of(hashes: &[Checked], wanted: Verdict) -> usize
-    ensures { result ≡ number_of wanted (map checked_hash_of hashes.now) }
-{
-    hashes
-        .iter()
-        .filter(|hash| is_verdict(wanted, hash.verdict))
-        .count()
-}
-
-/// Returns whether a verdict is the wanted one.
-pub(crate) fn is_verdict(wanted: Verdict, verdict: Verdict) -> bool
-    ensures { result ≡ has_verdict wanted verdict }
-{
-    wanted == verdict
-}
-
-/// Returns the word for a verdict.
-pub(crate) fn verdict_word(verdict: Verdict) -> &'static str
-    ensures { result.now ≡ word_of verdict }
-{
-    match verdict {
-        Verdict::Good => "good",
-        Verdict::Bad => "bad",
-        Verdict::UnknownAlgo => "unknown-algorithm",
-        Verdict::NoPayload => "no-payload",
-        Verdict::Malformed => "malformed",
-    }
+    Ok(())
 }

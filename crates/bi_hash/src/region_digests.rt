@@ -109,6 +109,31 @@ impl<'a> RegionDigests<'a> {
         Ok(())
     }
 
+    /// Judges a hash node, as `verdict` does, but allocates nothing: a digest that was not computed
+    /// before is computed, and not kept. So it takes no longer than a look-up after `verdict` judged
+    /// a node with the same algorithm and the same payload.
+    pub fn judge(
+        &self,
+        algo: Option<&[u8]>,
+        value: Option<&[u8]>,
+        payload: Option<Region>,
+    ) -> Verdict
+        requires within { IfSome payload (IsRegionOf self.now) }
+        ensures { result ≡ verdict_of
+            (option_copied algo.entry)
+            (option_copied value.entry)
+            (option_map (bytes_of_region self.now) payload) }
+    {
+        let stated = match StatedDigest::read(algo, value) {
+            Ok(stated) => stated,
+            Err(verdict) => return verdict,
+        };
+        let Some(payload) = payload else {
+            return Verdict::NoPayload;
+        };
+        stated.judge(&self.kept_or_computed(stated.algo, payload))
+    }
+
     /// Returns the digest of a region by this algorithm, with zeros after it. Reads the region if
     /// the digest was not computed before. Fails if memory runs out.
     pub fn digest(&mut self, algo: Algo, region: Region) -> Result<[u8; 64], AllocError>
@@ -126,5 +151,21 @@ impl<'a> RegionDigests<'a> {
         algo.digest(bytes, &mut digest);
         self.digests.insert(key, digest)?;
         Ok(digest)
+    }
+
+    /// Returns the digest of a region by this algorithm, with zeros after it. Reads the region if
+    /// the digest was not computed before, and does not keep the digest then.
+    fn kept_or_computed(&self, algo: Algo, region: Region) -> [u8; 64]
+        requires within { IsRegionOf self.now region }
+        ensures { result ≡ padded_digest algo (bytes_of_region self.now region) }
+    {
+        let key = (region.begin, region.length, algo.index());
+        if let Some(digest) = self.digests.get(&key) {
+            return *digest;
+        }
+        let bytes = &self.file[region.begin..region.begin + region.length];
+        let mut digest = [0; 64];
+        algo.digest(bytes, &mut digest);
+        digest
     }
 }

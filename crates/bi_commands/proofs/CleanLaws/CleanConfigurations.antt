@@ -8,7 +8,7 @@ use Rattle.bi_fit.specs.ImageTree.{ImageTree}
 use Rattle.bi_fit.specs.Judgement.{ListResult, NoConfig, NoKey, BadList, Missing, ListedImages, listed_of}
 use Rattle.bi_fit.specs.Names.{all_keys}
 use Rattle.bi_commands.specs.declared.check.Allowed.{Allowed}
-use Rattle.bi_commands.specs.Checking.{bad_default, bad_list, configuration_concerns, default_concerns, list_concerns, missing}
+use Rattle.bi_commands.specs.Checking.{BadDefault, BadKey, configuration_concerns, default_concerns, list_concerns, MissingImage}
 use Rattle.bi_commands.specs.Checking.{names_one_of}
 use Rattle.bi_commands.specs.CleanFiles.{HasNoBadList, HasNoMissingImage}
 use Rattle.bi_commands.proofs.ConcernLines.{lines_allowed}
@@ -23,7 +23,7 @@ no_bad_list : (allowed : Allowed) (configuration : List ℕ) (key : Key) (listed
     HaveNoLine allowed (list_concerns configuration key listed) → IsFalse allowed.bad_list → listed ≢ BadList
 no_bad_list allowed configuration key NoConfig none refused is = absurd cc
 no_bad_list allowed configuration key NoKey none refused is = absurd cc
-no_bad_list allowed configuration key BadList none refused is = true≢false (sym (one_is_allowed allowed (bad_list configuration key) none) ∙ refused)
+no_bad_list allowed configuration key BadList none refused is = true≢false (sym (one_is_allowed allowed (BadKey configuration key) none) ∙ refused)
 no_bad_list allowed configuration key (Missing index) none refused is = absurd cc
 no_bad_list allowed configuration key (ListedImages images) none refused is = absurd cc
 
@@ -32,7 +32,7 @@ no_missing_image : (allowed : Allowed) (configuration : List ℕ) (key : Key) (l
 no_missing_image allowed configuration key NoConfig none refused index is = absurd cc
 no_missing_image allowed configuration key NoKey none refused index is = absurd cc
 no_missing_image allowed configuration key BadList none refused index is = absurd cc
-no_missing_image allowed configuration key (Missing other) none refused index is = true≢false (sym (one_is_allowed allowed (missing configuration key other) none) ∙ refused)
+no_missing_image allowed configuration key (Missing other) none refused index is = true≢false (sym (one_is_allowed allowed (MissingImage configuration key other) none) ∙ refused)
 no_missing_image allowed configuration key (ListedImages images) none refused index is = absurd cc
 
 list_has_none : (allowed : Allowed) (configuration : List ℕ) (key : Key) (listed : ListResult) →
@@ -42,11 +42,11 @@ list_has_none allowed configuration key NoConfig good there = refl
 list_has_none allowed configuration key NoKey good there = refl
 list_has_none allowed configuration key BadList good there = by allowed.bad_list refl where
   by : (b : Bool) → allowed.bad_list ≡ b → HaveNoLine allowed (list_concerns configuration key BadList)
-  by true fine = lines_allowed allowed (bad_list configuration key) fine
+  by true fine = lines_allowed allowed (BadKey configuration key) fine
   by false refused = absurd (good refused refl)
 list_has_none allowed configuration key (Missing index) good there = by allowed.missing refl where
   by : (b : Bool) → allowed.missing ≡ b → HaveNoLine allowed (list_concerns configuration key (Missing index))
-  by true fine = lines_allowed allowed (missing configuration key index) fine
+  by true fine = lines_allowed allowed (MissingImage configuration key index) fine
   by false refused = absurd (there refused index refl)
 list_has_none allowed configuration key (ListedImages images) good there = refl
 
@@ -131,11 +131,11 @@ pub default_is_there : (allowed : Allowed) (default : Option (List ℕ)) (config
     configurations ≢ [] → NamesOne default configurations
 default_is_there allowed default [] none refused some = absurd (some refl)
 default_is_there allowed default (first ∷ later) none refused some =
-    names_one default (first ∷ later) (test_is_passed allowed (names_one_of default (first ∷ later)) (bad_default default) none refused)
+    names_one default (first ∷ later) (test_is_passed allowed (names_one_of default (first ∷ later)) (BadDefault default) none refused)
 
 pub default_has_none : (allowed : Allowed) (default : Option (List ℕ)) (configurations : List (List ℕ)) →
     (IsFalse allowed.bad_default → configurations ≢ [] → NamesOne default configurations) →
     HaveNoLine allowed (default_concerns default configurations)
 default_has_none allowed default [] named = refl
 default_has_none allowed default (first ∷ later) named =
-    passed_has_none allowed (names_one_of default (first ∷ later)) (bad_default default) (λ refused. test_of_one default (first ∷ later) (named refused (λ e. absurd cc)))
+    passed_has_none allowed (names_one_of default (first ∷ later)) (BadDefault default) (λ refused. test_of_one default (first ∷ later) (named refused (λ e. absurd cc)))

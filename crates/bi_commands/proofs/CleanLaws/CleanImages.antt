@@ -6,8 +6,8 @@ use Rattle.std.proofs.lemmas.Slice.Eq.{bytes_eq-Decides}
 use Rattle.bi_fit.specs.Judgement.{Image, CheckedHash}
 use Rattle.bi_hash.specs.declared.verdicts.Verdict.TheVariants.{Good}
 use Rattle.bi_commands.specs.declared.check.Allowed.{Allowed}
-use Rattle.bi_commands.specs.Checking.{bad_hash, concern_lines, hash_concerns, hashes_of_image, image_concerns, is_good, is_strong}
-use Rattle.bi_commands.specs.Checking.{is_strong_algorithm, payload_concerns, strong_algorithms, unhashed_image, weak_hash}
+use Rattle.bi_commands.specs.Checking.{BadHash, concern_lines, hash_concerns, hashes_of_image, image_concerns, is_good, is_strong}
+use Rattle.bi_commands.specs.Checking.{is_strong_algorithm, payload_concerns, strong_algorithms, UnhashedImage, WeakHash}
 use Rattle.bi_commands.specs.CleanFiles.{HasGoodHash, HasStrongHash, IsHashed, IsNotWeak}
 use Rattle.bi_commands.specs.Reports.{AreGood, is_verdict}
 use Rattle.bi_commands.proofs.CheckedHashes.{strong_only, unhashed_only, weak_allowed, weak_only}
@@ -24,13 +24,13 @@ hashes_are_good : (allowed : Allowed) (hashes : List CheckedHash) →
     AllByRecursion (λ hash. HaveNoLine allowed (hash_concerns hash)) hashes → IsFalse allowed.bad_hash → AreGood hashes
 hashes_are_good allowed [] each refused = tt
 hashes_are_good allowed (hash ∷ later) each refused =
-    (good_passes hash.verdict (test_is_passed allowed (is_good hash) (bad_hash hash) each.0 refused), hashes_are_good allowed later each.1 refused)
+    (good_passes hash.verdict (test_is_passed allowed (is_good hash) (BadHash hash) each.0 refused), hashes_are_good allowed later each.1 refused)
 
 good_have_none : (allowed : Allowed) (hashes : List CheckedHash) → (IsFalse allowed.bad_hash → AreGood hashes) →
     AllByRecursion (λ hash. HaveNoLine allowed (hash_concerns hash)) hashes
 good_have_none allowed [] good = tt
 good_have_none allowed (hash ∷ later) good =
-    (passed_has_none allowed (is_good hash) (bad_hash hash) (λ refused. ap (is_verdict Good) (good refused).0), good_have_none allowed later (λ refused. (good refused).1))
+    (passed_has_none allowed (is_good hash) (BadHash hash) (λ refused. ap (is_verdict Good) (good refused).0), good_have_none allowed later (λ refused. (good refused).1))
 
 -- A Good verdict, and the test for one.
 good_of_test : (image : Image) → list_any is_good (hashes_of_image image) ≡ true → HasGoodHash image
@@ -92,10 +92,10 @@ module _ (allowed : Allowed) (image : Image) where
     by : (good strong : Bool) → list_any is_good hashes ≡ good → list_any is_strong hashes ≡ strong →
         (IsFalse allowed.unhashed → IsHashed image) × (IsFalse allowed.weak_hash → IsNotWeak image)
     by false strong no_good is_strong =
-        let fine = one_is_allowed allowed (unhashed_image name) (sym (ap (concern_lines allowed) (unhashed_only name hashes no_good)) ∙ none) in
+        let fine = one_is_allowed allowed (UnhashedImage name) (sym (ap (concern_lines allowed) (unhashed_only name hashes no_good)) ∙ none) in
         (λ refused some. absurd (true≢false (sym fine ∙ refused)), λ refused some good. absurd (true≢false (sym (test_of_good image good) ∙ no_good)))
     by true false some_good no_strong =
-        let fine = one_is_allowed allowed (weak_hash name (filter is_good hashes)) (sym (ap (concern_lines allowed) (weak_only name hashes some_good no_strong)) ∙ none) in
+        let fine = one_is_allowed allowed (WeakHash name (filter is_good hashes)) (sym (ap (concern_lines allowed) (weak_only name hashes some_good no_strong)) ∙ none) in
         (λ refused some. good_of_test image some_good, λ refused some good. absurd (true≢false (sym fine ∙ refused)))
     by true true some_good some_strong = (λ refused some. good_of_test image some_good, λ refused some good. strong_of_test image some_strong)
 
@@ -109,7 +109,7 @@ module _ (allowed : Allowed) (image : Image) where
 
     unhashed_one : list_any is_good hashes ≡ false → (b : Bool) → allowed.unhashed ≡ b →
         HaveNoLine allowed (payload_concerns name (Some payload) hashes)
-    unhashed_one no_good true fine = ap (concern_lines allowed) (unhashed_only name hashes no_good) ∙ lines_allowed allowed (unhashed_image name) fine
+    unhashed_one no_good true fine = ap (concern_lines allowed) (unhashed_only name hashes no_good) ∙ lines_allowed allowed (UnhashedImage name) fine
     unhashed_one no_good false refused = absurd (true≢false (sym (test_of_good image (hashed refused there)) ∙ no_good))
 
     weak_one : list_any is_good hashes ≡ true → list_any is_strong hashes ≡ false → (b : Bool) → allowed.weak_hash ≡ b →

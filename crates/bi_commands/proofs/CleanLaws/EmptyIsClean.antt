@@ -16,7 +16,7 @@ use Rattle.bi_legacy.specs.Reading.{LegacyModel, IsReadLegacy}
 use Rattle.bi_norm.proofs.FilesWithoutMeaning.{means_legacy, means_tree}
 use Rattle.bi_commands.specs.declared.check.Allowed.{Allowed}
 use Rattle.bi_commands.specs.Checking.{Concern, AreConcerns, OfLegacyImage, OfImageTree, concern_lines, configuration_concerns, content_end}
-use Rattle.bi_commands.specs.Checking.{default_concerns, image_concerns, trailing, trailing_concerns, tree_concerns}
+use Rattle.bi_commands.specs.Checking.{default_concerns, image_concerns, TrailingBytes, trailing_concerns, tree_concerns}
 use Rattle.bi_commands.specs.CleanFiles.{AreZeros, CleanImageTree, CleanLegacyImage, EmptyIsClean, HasZerosAfter, IsClean, IsCleanTree, NamesConfiguration}
 use Rattle.bi_commands.proofs.CleanLaws.CleanConfigurations.{clean_configurations_have_none, configurations_are_clean, default_has_none}
 use Rattle.bi_commands.proofs.CleanLaws.CleanConfigurations.{default_is_there}
@@ -45,11 +45,11 @@ test_of_zeros (byte ∷ later) are = ap₂ (λ a b. a && b) (ap (λ n. n == 0) a
 -- Bytes after an image without a line.
 end_is_clean : (allowed : Allowed) (bytes : List ℕ) → HaveNoLine allowed (trailing_concerns bytes) → IsFalse allowed.trailing →
     AreZeros bytes
-end_is_clean allowed bytes none refused = zeros_of_test bytes (test_is_passed allowed (list_all (λ byte. byte == 0) bytes) (trailing (length bytes)) none refused)
+end_is_clean allowed bytes none refused = zeros_of_test bytes (test_is_passed allowed (list_all (λ byte. byte == 0) bytes) (TrailingBytes (length bytes)) none refused)
 
 clean_end_has_none : (allowed : Allowed) (bytes : List ℕ) → (IsFalse allowed.trailing → AreZeros bytes) →
     HaveNoLine allowed (trailing_concerns bytes)
-clean_end_has_none allowed bytes are = passed_has_none allowed (list_all (λ byte. byte == 0) bytes) (trailing (length bytes)) (λ refused. test_of_zeros bytes (are refused))
+clean_end_has_none allowed bytes are = passed_has_none allowed (list_all (λ byte. byte == 0) bytes) (TrailingBytes (length bytes)) (λ refused. test_of_zeros bytes (are refused))
 
 module _ (allowed : Allowed) (tree : ImageTree) where
   abbrev configurations : List (List ℕ)

@@ -4,7 +4,7 @@ use Rattle.std.specs.Prelude.{if◌then◌else◌}
 use Rattle.std.specs.List.{AllByRecursion, list_any}
 use Rattle.bi_base.proofs.ListMembers.{Contains-none, Contains-cases, Contains-first, Contains-others}
 use Rattle.bi_commands.specs.declared.check.Allowed.{Allowed}
-use Rattle.bi_commands.specs.Checking.{Concern, allows, concern_lines}
+use Rattle.bi_commands.specs.Checking.{Concern, allows, concern_lines, kind_of}
 use Rattle.bi_commands.proofs.ConcernLines.{lines_allowed, lines_append, lines_one}
 
 -- Concerns have no line exactly if each of them has none, and a concern that comes from a test has none exactly if it is allowed or the
@@ -45,23 +45,23 @@ all_have_none allowed f [] each = refl
 all_have_none allowed f (x ∷ xs) each = both_have_none allowed (f x) (flat_map f xs) each.0 (all_have_none allowed f xs each.1)
 
 -- One concern without a line is allowed.
-pub one_is_allowed : (allowed : Allowed) (concern : Concern) → HaveNoLine allowed (concern ∷ []) → allows allowed concern.kind ≡ true
-one_is_allowed allowed concern none = by (allows allowed concern.kind) refl where
-  by : (b : Bool) → allows allowed concern.kind ≡ b → allows allowed concern.kind ≡ true
+pub one_is_allowed : (allowed : Allowed) (concern : Concern) → HaveNoLine allowed (concern ∷ []) → allows allowed (kind_of concern) ≡ true
+one_is_allowed allowed concern none = by (allows allowed (kind_of concern)) refl where
+  by : (b : Bool) → allows allowed (kind_of concern) ≡ b → allows allowed (kind_of concern) ≡ true
   by true is = is
   by false is = absurd (line_is_not_empty _ (sym (lines_one allowed concern is) ∙ none))
 
 -- So one that comes from a test has none exactly if the test is passed where it is not allowed.
 pub test_is_passed : (allowed : Allowed) (test : Bool) (concern : Concern) → HaveNoLine allowed (if test then [] else concern ∷ []) →
-    IsFalse (allows allowed concern.kind) → test ≡ true
+    IsFalse (allows allowed (kind_of concern)) → test ≡ true
 test_is_passed allowed true concern none refused = refl
 test_is_passed allowed false concern none refused = absurd (true≢false (sym (one_is_allowed allowed concern none) ∙ refused))
 
-pub passed_has_none : (allowed : Allowed) (test : Bool) (concern : Concern) → (IsFalse (allows allowed concern.kind) → test ≡ true) →
+pub passed_has_none : (allowed : Allowed) (test : Bool) (concern : Concern) → (IsFalse (allows allowed (kind_of concern)) → test ≡ true) →
     HaveNoLine allowed (if test then [] else concern ∷ [])
 passed_has_none allowed true concern passed = refl
-passed_has_none allowed false concern passed = by (allows allowed concern.kind) refl where
-  by : (b : Bool) → allows allowed concern.kind ≡ b → HaveNoLine allowed (concern ∷ [])
+passed_has_none allowed false concern passed = by (allows allowed (kind_of concern)) refl where
+  by : (b : Bool) → allows allowed (kind_of concern) ≡ b → HaveNoLine allowed (concern ∷ [])
   by true is = lines_allowed allowed concern is
   by false is = absurd (true≢false (sym (passed is)))
 

@@ -1,144 +1,102 @@
 //! The concerns about the configurations of a flattened image tree.
 
-ghost use Rattle.std.specs.Prelude.{◌≡◌, ◌++◌, OnOk, string_bytes};
+ghost use Rattle.std.specs.Prelude.{◌≡◌};
 ghost use Rattle.std.specs.Option.{option_map};
+ghost use Rattle.bi_base.specs.Sinks.{Wrote};
 ghost use Rattle.bi_blob.specs.Tree.{names};
-ghost use Rattle.bi_fit.specs.Content.{tree_of};
-ghost use Rattle.bi_fit.specs.Judgement.{configuration_nodes, listed_of};
-ghost use Rattle.bi_commands.specs.Checking.{bad_default, bad_list, concern_line, concern_lines};
-ghost use Rattle.bi_commands.specs.Checking.{configuration_concerns, list_concerns, missing};
-ghost use Rattle.bi_commands.specs.Checking.{names_one_of};
-ghost use Rattle.bi_commands.specs.ReadChecking.{configurations_concerns, read_default_concerns};
+ghost use Rattle.bi_fdt.specs.Views.{node_of};
+ghost use Rattle.bi_fit.specs.Content.{IsHeld, tree_of};
+ghost use Rattle.bi_fit.specs.HashNodes.{file_listed};
+ghost use Rattle.bi_fit.specs.Judgement.{configuration_nodes as nodes_of_configurations};
+ghost use Rattle.bi_commands.specs.Checking.{concern_lines, list_concerns, names_one_of};
+ghost use Rattle.bi_commands.specs.ReadChecking.{configurations_concerns, node_lines};
+ghost use Rattle.bi_commands.specs.ReadChecking.{read_default_concerns};
 
 use super::Allowed;
+use super::concern::{Concern, put_concern};
 use crate::list::KEYS;
-use crate::shown::{shown_name, shown_or_none};
-use bi_fit::{ConfigError, Configuration, Fit, Key};
-use std::alloc::{AllocError, Global};
-use std::fmt::Write;
+use crate::listed::{Listed, configuration_nodes, listed_under};
+use bi_base::{Error, Sink};
+use bi_fdt::NodeRef;
+use bi_fit::{Fit, Key};
 
-/// Appends the lines of the concerns about each configuration.
-pub(super) fn put_configurations(
-    alloc: Global,
-    text: &mut String,
-    allowed: Allowed,
+/// Appends the lines of the concerns about each configuration. Fails as the sink does.
+pub(super) fn put_configurations<S: Sink>(
     fit: &Fit,
-) -> Result<(), AllocError>
-    ensures { OnOk result (string_bytes text.new ≡ string_bytes text.old
-        ++ concern_lines allowed (configurations_concerns fit.now)) }
+    allowed: Allowed,
+    sink: &mut S,
+) -> Result<(), Error>
+    requires held { IsHeld fit.now }
+    ensures { Wrote S.appends S.fails sink.old
+        (concern_lines allowed (configurations_concerns fit.now)) result sink.new }
 {
-    for configuration in fit.configurations() {
-        put_configuration(alloc, text, allowed, &configuration)?;
+    for node in configuration_nodes(fit) {
+        put_configuration(fit, node, allowed, sink)?;
     }
     Ok(())
 }
 
-/// Appends the lines of the concerns about a configuration, key by key.
-fn put_configuration(
-    alloc: Global,
-    text: &mut String,
+/// Appends the lines of the concerns about the configuration of a node, key by key. Fails as the
+/// sink does.
+fn put_configuration<'a, S: Sink>(
+    fit: &Fit<'a>,
+    node: NodeRef<'a, '_>,
     allowed: Allowed,
-    configuration: &Configuration,
-) -> Result<(), AllocError>
-    ensures { OnOk result (string_bytes text.new ≡ string_bytes text.old ++ concern_lines allowed
-        (configuration_concerns (tree_of configuration.now.content) configuration.now.name)) }
+    sink: &mut S,
+) -> Result<(), Error>
+    ensures { Wrote S.appends S.fails sink.old
+        (node_lines allowed fit.now.images (node_of node.entry)) result sink.new }
 {
     for key in KEYS {
-        put_key(alloc, text, allowed, configuration, key)?;
+        put_key(fit, node, key, allowed, sink)?;
     }
     Ok(())
 }
 
-/// Appends the line of the concern about what a configuration lists under a key.
-fn put_key(
-    alloc: Global,
-    text: &mut String,
-    allowed: Allowed,
-    configuration: &Configuration,
+/// Appends the line of the concern about what the configuration of a node lists under a key. Fails
+/// as the sink does.
+fn put_key<'a, S: Sink>(
+    fit: &Fit<'a>,
+    node: NodeRef<'a, '_>,
     key: Key,
-) -> Result<(), AllocError>
-    ensures { OnOk result (string_bytes text.new ≡ string_bytes text.old ++ concern_lines allowed
-        (list_concerns configuration.now.name key
-        (listed_of (tree_of configuration.now.content) configuration.now.name key))) }
+    allowed: Allowed,
+    sink: &mut S,
+) -> Result<(), Error>
+    ensures { Wrote S.appends S.fails sink.old (concern_lines allowed (list_concerns
+        (node_of node.entry).name key (file_listed fit.now.images (node_of node.entry) key)))
+        result sink.new }
 {
-    match configuration.payloads(alloc, key) {
-        Ok(_) => Ok(()),
-        Err(ConfigError::NoConfig | ConfigError::NoKey) => Ok(()),
-        Err(ConfigError::BadList) => {
-            if !allowed.bad_list {
-                put_bad_list(alloc, text, configuration.name(), key)?;
-            }
-            Ok(())
+    match listed_under(fit, node, key) {
+        Listed::NoKey => Ok(()),
+        Listed::Images(_names) => Ok(()),
+        Listed::BadList => put_concern(Concern::BadKey(node.name(), key), allowed, sink),
+        Listed::Missing(index) => {
+            put_concern(
+                Concern::MissingImage(node.name(), key, index),
+                allowed,
+                sink,
+            )
         }
-        Err(ConfigError::Missing(index)) => {
-            if !allowed.missing {
-                put_missing(alloc, text, configuration.name(), key, index)?;
-            }
-            Ok(())
-        }
-        Err(ConfigError::OutOfMemory) => Err(AllocError),
     }
 }
 
-/// Appends the line of a key of a configuration of this name, whose value is no list of names.
-fn put_bad_list(
-    alloc: Global,
-    text: &mut String,
-    configuration: &[u8],
-    key: Key,
-) -> Result<(), AllocError>
-    ensures { OnOk result (string_bytes text.new ≡ string_bytes text.old
-        ++ concern_line (bad_list configuration.now key)) }
-{
-    let configuration = shown_name(alloc, configuration)?;
-    let key = key.name();
-    writeln!(text, "bad-list {configuration} {key}")
-}
-
-/// Appends the line of a key of a configuration of this name, which lists at this index a name that
-/// no image has.
-fn put_missing(
-    alloc: Global,
-    text: &mut String,
-    configuration: &[u8],
-    key: Key,
-    index: usize,
-) -> Result<(), AllocError>
-    ensures { OnOk result (string_bytes text.new ≡ string_bytes text.old
-        ++ concern_line (missing configuration.now key index)) }
-{
-    let configuration = shown_name(alloc, configuration)?;
-    let key = key.name();
-    writeln!(text, "missing {configuration} {key} {index}")
-}
-
-/// Appends the line of the concern about the default.
-pub(super) fn put_default(
-    alloc: Global,
-    text: &mut String,
-    allowed: Allowed,
-    fit: &Fit,
-) -> Result<(), AllocError>
-    ensures { OnOk result (string_bytes text.new ≡ string_bytes text.old
-        ++ concern_lines allowed (read_default_concerns fit.now)) }
+/// Appends the line of the concern about the default. Fails as the sink does.
+pub(super) fn put_default<S: Sink>(fit: &Fit, allowed: Allowed, sink: &mut S) -> Result<(), Error>
+    ensures { Wrote S.appends S.fails sink.old
+        (concern_lines allowed (read_default_concerns fit.now)) result sink.new }
 {
     let default = fit.default_config();
-    if allowed.bad_default {
-        return Ok(());
+    if fit.config_count() == 0 || names_configuration(fit, default) {
+        Ok(())
+    } else {
+        put_concern(Concern::BadDefault(default), allowed, sink)
     }
-    if fit.config_count() == 0 {
-        return Ok(());
-    }
-    if names_configuration(fit, default) {
-        return Ok(());
-    }
-    put_bad_default(alloc, text, default)
 }
 
 /// Returns whether the default is the name of a configuration.
 fn names_configuration(fit: &Fit, default: Option<&[u8]>) -> bool
     ensures { result ≡ names_one_of (option_map (λ name. name.now) default.entry)
-        (names (configuration_nodes (tree_of fit.now))) }
+        (names (nodes_of_configurations (tree_of fit.now))) }
 {
     let Some(name) = default else {
         return false;
@@ -149,17 +107,4 @@ fn names_configuration(fit: &Fit, default: Option<&[u8]>) -> bool
         }
     }
     false
-}
-
-/// Appends the line of a default that names no configuration, or is not there.
-fn put_bad_default(
-    alloc: Global,
-    text: &mut String,
-    default: Option<&[u8]>,
-) -> Result<(), AllocError>
-    ensures { OnOk result (string_bytes text.new ≡ string_bytes text.old
-        ++ concern_line (bad_default (option_map (λ name. name.now) default.entry))) }
-{
-    let default = shown_or_none(alloc, default)?;
-    writeln!(text, "bad-default {default}")
 }

@@ -1,73 +1,55 @@
 //! The concern about the bytes of a file after its image.
 
-ghost use Rattle.std.specs.Prelude.{◌≡◌, ◌==◌, ◌-◌, ◌++◌, IfOk, IfErr, OnOk, drop, length};
-ghost use Rattle.std.specs.Prelude.{string_bytes};
+ghost use Rattle.std.specs.Prelude.{◌≡◌, ◌↔◌, ◌==◌, ◌-◌, [], IfOk, IsTrue, drop, length};
 ghost use Rattle.std.specs.List.{list_all};
-ghost use Rattle.bi_base.specs.Limits.{Limits};
+ghost use Rattle.bi_base.specs.Sinks.{Wrote};
 ghost use Rattle.bi_fit.specs.Content.{image_model};
-ghost use Rattle.bi_legacy.specs.Reading.{IsReadLegacy};
-ghost use Rattle.bi_commands.specs.CheckedFiles.{IsChecked, IsCheckError};
 ghost use Rattle.bi_commands.specs.Checking.{concern_lines, trailing_concerns};
 ghost use Rattle.bi_commands.specs.ReadChecking.{end_at, offset_of as offset_at};
 ghost use Rattle.bi_commands.specs.ReadChecking.{end_of_read_payloads};
 
 use super::Allowed;
+use super::concern::{Concern, put_concern};
 use crate::payload_bounds::length_of;
-use bi_base::Error;
+use bi_base::{CountSink, Error, Sink};
 use bi_fit::{Fit, Image, Place};
 use bi_legacy::Legacy;
-use std::alloc::{AllocError, Global};
-use std::fmt::Write;
 
-/// Returns the line of the concern about a legacy image that was read from this file.
-pub(super) fn check_legacy(
-    alloc: Global,
+/// Appends the line of the concern about a legacy image that was read from this file, and returns
+/// whether there is none. Fails as the sink does.
+pub(super) fn check_legacy<S: Sink>(
     file: &[u8],
     image: &Legacy,
     allowed: Allowed,
-) -> Result<String, Error>
-    ensures checked { (limits : Limits) → IsReadLegacy limits file.now image.now →
-        IfOk result (λ text. IsChecked allowed limits file.now (string_bytes text)) }
-    ensures failed { (limits : Limits) → IsReadLegacy limits file.now image.now →
-        IfErr result (IsCheckError limits file.now) }
+    sink: &mut S,
+) -> Result<bool, Error>
+    ensures lines { Wrote S.appends S.fails sink.old (concern_lines allowed
+        (trailing_concerns (drop (length file.now - image.now.unused) file.now))) result
+        sink.new }
+    ensures clean { IfOk result (λ clean. IsTrue clean ↔ (concern_lines allowed
+        (trailing_concerns (drop (length file.now - image.now.unused) file.now)) ≡ [])) }
 {
-    let text = legacy_lines(alloc, file, image.unused(), allowed)?;
-    Ok(text)
+    let bytes = &file[file.len().saturating_sub(image.unused() as usize)..];
+    let mut lines = CountSink::new();
+    put_trailing(bytes, allowed, &mut lines)?;
+    put_trailing(bytes, allowed, sink)?;
+    Ok(lines.count() == 0)
 }
 
-/// Returns the line of the concern about the last bytes of a file.
-fn legacy_lines(
-    alloc: Global,
-    file: &[u8],
-    unused: u32,
-    allowed: Allowed,
-) -> Result<String, AllocError>
-    ensures { IfOk result (λ text. string_bytes text ≡ concern_lines allowed
-        (trailing_concerns (drop (length file.now - unused) file.now))) }
-{
-    let mut text = String::new(alloc);
-    let end = file.len().saturating_sub(unused as usize);
-    put_trailing(&mut text, allowed, &file[end..])?;
-    Ok(text)
-}
-
-/// Appends the line of the concern about these bytes after an image.
-pub(super) fn put_trailing(
-    text: &mut String,
-    allowed: Allowed,
+/// Appends the line of the concern about these bytes after an image. Fails as the sink does.
+pub(super) fn put_trailing<S: Sink>(
     bytes: &[u8],
-) -> Result<(), AllocError>
-    ensures { OnOk result (string_bytes text.new ≡ string_bytes text.old
-        ++ concern_lines allowed (trailing_concerns bytes.now)) }
+    allowed: Allowed,
+    sink: &mut S,
+) -> Result<(), Error>
+    ensures { Wrote S.appends S.fails sink.old
+        (concern_lines allowed (trailing_concerns bytes.now)) result sink.new }
 {
-    if allowed.trailing {
-        return Ok(());
-    }
     if are_zeros(bytes) {
-        return Ok(());
+        Ok(())
+    } else {
+        put_concern(Concern::TrailingBytes(bytes.len()), allowed, sink)
     }
-    let count = bytes.len();
-    writeln!(text, "trailing {count}")
 }
 
 /// Returns whether each of these bytes is zero.

@@ -15,8 +15,8 @@ use super::image_nodes::entries_of;
 use super::limited_sink::LimitedSink;
 use super::lines::{most_open, put_tree};
 use crate::common_lines::put_reservations;
+use crate::fields::{Field, put_lines};
 use crate::payload_bounds::check_payloads;
-use crate::words::{Word, put_lines};
 use bi_base::{Error, Limits, Sink};
 use bi_fdt::Blob;
 use bi_fit::Fit;
@@ -71,8 +71,11 @@ fn put_head<S: Sink>(boot_cpu: u32, sink: &mut S) -> Result<(), Error>
 {
     put_lines(
         &[
-            [Word::Text(b"kind"), Word::Text(b"fit")],
-            [Word::Text(b"boot-cpu"), Word::Decimal(u64::from(boot_cpu))],
+            [Field::Text(b"kind"), Field::Text(b"fit")],
+            [
+                Field::Text(b"boot-cpu"),
+                Field::Decimal(u64::from(boot_cpu)),
+            ],
         ],
         sink,
     )

@@ -16,7 +16,7 @@ use super::digests::digest_of;
 use super::entries::PayloadDigest;
 use super::limited_sink::LimitedSink;
 use crate::common_lines::{put_codes, put_kind_and_fields};
-use crate::words::{Word, put_line};
+use crate::fields::{Field, put_line};
 use bi_base::{Error, Limits, Sink};
 use bi_legacy::{Fields, Legacy};
 use std::alloc::{AllocError, Global};
@@ -81,12 +81,12 @@ fn put_part<S: Sink>(index: usize, part: PayloadDigest, sink: &mut S) -> Result<
         (line (codes "part" ∷ decimal index ∷ digest_words (digest_made part))) result sink.new }
 {
     let words = [
-        Word::Text(b"part"),
-        Word::Decimal(index as u64),
-        Word::Text(b"size"),
-        Word::Decimal(part.size as u64),
-        Word::Text(b"sha256"),
-        Word::Sha256(part.sha256),
+        Field::Text(b"part"),
+        Field::Decimal(index as u64),
+        Field::Text(b"size"),
+        Field::Decimal(part.size as u64),
+        Field::Text(b"sha256"),
+        Field::Sha256(part.sha256),
     ];
     put_line(&words, sink)
 }

@@ -14,10 +14,10 @@ ghost use Rattle.bi_commands.specs.TreeEntries.{as_entry};
 ghost use Rattle.bi_commands.specs.TreeEntries.{count_after as count_after_of};
 ghost use Rattle.bi_commands.specs.TreeEntries.{most_open as most_open_of};
 ghost use Rattle.bi_commands.specs.TreeEntries.{open_after as open_after_of};
-ghost use Rattle.bi_commands.specs.WrittenWords.{bytes_of_names};
+ghost use Rattle.bi_commands.specs.Fields.{bytes_of_names};
 
 use super::entries::{Entry, PayloadDigest};
-use crate::words::{Word, put_line};
+use crate::fields::{Field, put_line};
 use bi_base::{Error, Sink};
 
 /// Returns how many nodes are open at most.
@@ -129,7 +129,7 @@ fn put_node<S: Sink>(names: &[&[u8]], sink: &mut S) -> Result<(), Error>
     ensures { Wrote S.appends S.fails sink.old
         (line (codes "node" ∷ path (bytes_of_names names.now) ∷ [])) result sink.new }
 {
-    put_line(&[Word::Text(b"node"), Word::Path(names)], sink)
+    put_line(&[Field::Text(b"node"), Field::Path(names)], sink)
 }
 
 /// Appends the line of a property. Fails as the sink does.
@@ -144,10 +144,10 @@ fn put_property<'a, S: Sink>(
         property)) result sink.new }
 {
     let words = [
-        Word::Text(b"property"),
-        Word::Path(names),
-        Word::Shown(name),
-        Word::Value(value),
+        Field::Text(b"property"),
+        Field::Path(names),
+        Field::Shown(name),
+        Field::Value(value),
     ];
     match value {
         [] => put_line(&words[..3], sink),
@@ -165,20 +165,20 @@ fn put_payload<S: Sink>(
         Wrote S.appends S.fails sink.old
         (flat_map line (payload_words (path (bytes_of_names names.now)) payload)) result sink.new }
 {
-    let payload = Word::Text(b"payload");
-    let path = Word::Path(names);
+    let payload = Field::Text(b"payload");
+    let path = Field::Path(names);
     match digest {
         Some(digest) => {
             let words = [
                 payload,
                 path,
-                Word::Text(b"size"),
-                Word::Decimal(digest.size as u64),
-                Word::Text(b"sha256"),
-                Word::Sha256(digest.sha256),
+                Field::Text(b"size"),
+                Field::Decimal(digest.size as u64),
+                Field::Text(b"sha256"),
+                Field::Sha256(digest.sha256),
             ];
             put_line(&words, sink)
         }
-        None => put_line(&[payload, path, Word::Text(b"none")], sink),
+        None => put_line(&[payload, path, Field::Text(b"none")], sink),
     }
 }

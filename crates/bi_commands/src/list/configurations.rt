@@ -8,15 +8,15 @@ ghost use Rattle.bi_fdt.specs.Views.{node_of};
 ghost use Rattle.bi_fit.specs.Content.{IsHeld};
 ghost use Rattle.bi_fit.specs.Judgement.{listed_names};
 ghost use Rattle.bi_fit.specs.Names.{key_name};
-ghost use Rattle.bi_fit.specs.HashNodes.{file_list, file_listed, file_listed_in};
+ghost use Rattle.bi_fit.specs.HashNodes.{file_listed};
 ghost use Rattle.bi_commands.specs.FitListing.{key_line};
 ghost use Rattle.bi_commands.specs.ReadListing.{configuration_node_lines, configurations_lines};
 ghost use Rattle.bi_commands.specs.ReadListing.{key_lines};
 ghost use Rattle.bi_commands.specs.Shown.{line, shown_text};
 
 use super::fit::KEYS;
-use super::names::first_missing;
-use crate::words::{Word, put_later_word, put_line, put_words};
+use crate::fields::{Field, put_fields, put_later_field, put_line};
+use crate::listed::{Listed, listed_under};
 use bi_base::{Error, Sink};
 use bi_fdt::NodeRef;
 use bi_fit::{Fit, Key, split_name};
@@ -33,7 +33,11 @@ pub(super) fn put_configurations<S: Sink>(fit: &Fit, sink: &mut S) -> Result<(),
 }
 
 /// Appends the lines of each child of a node, as those of a configuration. Fails as the sink does.
-fn put_children<S: Sink>(fit: &Fit, parent: NodeRef, sink: &mut S) -> Result<(), Error>
+fn put_children<'a, S: Sink>(
+    fit: &Fit<'a>,
+    parent: NodeRef<'a, '_>,
+    sink: &mut S,
+) -> Result<(), Error>
     ensures { Wrote S.appends S.fails sink.old
         (flat_map (configuration_node_lines fit.now.images)
         (siblings (node_of parent.entry).children)) result sink.new }
@@ -48,16 +52,20 @@ fn put_children<S: Sink>(fit: &Fit, parent: NodeRef, sink: &mut S) -> Result<(),
 
 /// Appends the lines of a configuration: its name, and its keys in their order. Fails as the sink
 /// does.
-fn put_configuration<S: Sink>(fit: &Fit, node: NodeRef, sink: &mut S) -> Result<(), Error>
+fn put_configuration<'a, S: Sink>(
+    fit: &Fit<'a>,
+    node: NodeRef<'a, '_>,
+    sink: &mut S,
+) -> Result<(), Error>
     ensures { Wrote S.appends S.fails sink.old
         (configuration_node_lines fit.now.images (node_of node.entry)) result sink.new }
 {
-    put_line(&[Word::Text(b"config"), Word::Shown(node.name())], sink)?;
+    put_line(&[Field::Text(b"config"), Field::Shown(node.name())], sink)?;
     put_keys(fit, node, sink)
 }
 
 /// Appends the lines of the keys of a configuration. Fails as the sink does.
-fn put_keys<S: Sink>(fit: &Fit, node: NodeRef, sink: &mut S) -> Result<(), Error>
+fn put_keys<'a, S: Sink>(fit: &Fit<'a>, node: NodeRef<'a, '_>, sink: &mut S) -> Result<(), Error>
     ensures { Wrote S.appends S.fails sink.old (key_lines fit.now.images (node_of node.entry))
         result sink.new }
 {
@@ -69,66 +77,39 @@ fn put_keys<S: Sink>(fit: &Fit, node: NodeRef, sink: &mut S) -> Result<(), Error
 
 /// Appends the line of a key of a configuration. Appends nothing if the configuration has no such
 /// key. Fails as the sink does.
-fn put_key<S: Sink>(fit: &Fit, node: NodeRef, key: Key, sink: &mut S) -> Result<(), Error>
+fn put_key<'a, S: Sink>(
+    fit: &Fit<'a>,
+    node: NodeRef<'a, '_>,
+    key: Key,
+    sink: &mut S,
+) -> Result<(), Error>
     ensures { Wrote S.appends S.fails sink.old (key_line (node_of node.entry).name key
         (file_listed fit.now.images (node_of node.entry) key)) result sink.new }
 {
-    match node.property(key.name().as_bytes()) {
-        Some(value) => put_value(fit, node.name(), key, value, sink),
-        None => Ok(()),
-    }
-}
-
-/// Appends the line of a key of the configuration of this name: the images that its value lists, or
-/// why it lists none. Fails as the sink does.
-fn put_value<S: Sink>(
-    fit: &Fit,
-    name: &[u8],
-    key: Key,
-    value: &[u8],
-    sink: &mut S,
-) -> Result<(), Error>
-    ensures { Wrote S.appends S.fails sink.old
-        (key_line name.now key (file_listed_in fit.now.images value.now)) result sink.new }
-{
-    let words = [
-        Word::Text(b"key"),
-        Word::Shown(name),
-        Word::Text(key.name().as_bytes()),
-        Word::Text(b"bad-list"),
-    ];
-    if value.ends_with(b"\0") {
-        put_list(fit, name, key, value, sink)
-    } else {
-        put_line(&words, sink)
-    }
-}
-
-/// Appends the line of a key of the configuration of this name, whose value is a list of names.
-/// Fails as the sink does.
-fn put_list<S: Sink>(
-    fit: &Fit,
-    name: &[u8],
-    key: Key,
-    value: &[u8],
-    sink: &mut S,
-) -> Result<(), Error>
-    ensures { Wrote S.appends S.fails sink.old
-        (key_line name.now key (file_list fit.now.images 0 (listed_names value.now))) result
-        sink.new }
-{
-    match first_missing(fit, value) {
-        Some(index) => {
-            let words = [
-                Word::Text(b"key"),
-                Word::Shown(name),
-                Word::Text(key.name().as_bytes()),
-                Word::Text(b"missing"),
-                Word::Decimal(index as u64),
+    let configuration = node.name();
+    let name = key.name().as_bytes();
+    match listed_under(fit, node, key) {
+        Listed::NoKey => Ok(()),
+        Listed::BadList => {
+            let fields = [
+                Field::Text(b"key"),
+                Field::Shown(configuration),
+                Field::Text(name),
+                Field::Text(b"bad-list"),
             ];
-            put_line(&words, sink)
+            put_line(&fields, sink)
         }
-        None => put_images(name, key, value, sink),
+        Listed::Missing(index) => {
+            let fields = [
+                Field::Text(b"key"),
+                Field::Shown(configuration),
+                Field::Text(name),
+                Field::Text(b"missing"),
+                Field::Decimal(index as u64),
+            ];
+            put_line(&fields, sink)
+        }
+        Listed::Images(value) => put_images(configuration, key, value, sink),
     }
 }
 
@@ -140,12 +121,12 @@ fn put_images<S: Sink>(name: &[u8], key: Key, value: &[u8], sink: &mut S) -> Res
         ∷ map shown_text (listed_names value.now))) result sink.new }
 {
     let words = [
-        Word::Text(b"key"),
-        Word::Shown(name),
-        Word::Text(key.name().as_bytes()),
-        Word::Text(b"ok"),
+        Field::Text(b"key"),
+        Field::Shown(name),
+        Field::Text(key.name().as_bytes()),
+        Field::Text(b"ok"),
     ];
-    put_words(&words, sink)?;
+    put_fields(&words, sink)?;
     put_names(value, sink)?;
     sink.put(b"\n")
 }
@@ -157,7 +138,7 @@ fn put_names<S: Sink>(value: &[u8], sink: &mut S) -> Result<(), Error>
 {
     let mut rest = value;
     while let Some((name, later)) = split_name(rest) {
-        put_later_word(Word::Shown(name), sink)?;
+        put_later_field(Field::Shown(name), sink)?;
         rest = later;
     }
     Ok(())

@@ -11,7 +11,7 @@ ghost use Rattle.bi_commands.specs.Shown.{line, shown_text};
 
 use super::configurations::put_configurations;
 use crate::common_lines::put_reservations;
-use crate::words::{Word, put_line, put_lines};
+use crate::fields::{Field, put_line, put_lines};
 use bi_base::{Error, Sink};
 use bi_fdt::Blob;
 use bi_fit::{Fit, Image, Key, Place};
@@ -45,13 +45,13 @@ fn put_head<S: Sink>(blob: &Blob, sink: &mut S) -> Result<(), Error>
     ensures { Wrote S.appends S.fails sink.old (flat_map line (words_of_blob_lines blob.now)) result
         sink.new }
 {
-    let boot_cpu = Word::Decimal(u64::from(blob.boot_cpu()));
-    let total_size = Word::Decimal(u64::from(blob.total_size()));
+    let boot_cpu = Field::Decimal(u64::from(blob.boot_cpu()));
+    let total_size = Field::Decimal(u64::from(blob.total_size()));
     put_lines(
         &[
-            [Word::Text(b"kind"), Word::Text(b"fit")],
-            [Word::Text(b"boot-cpu"), boot_cpu],
-            [Word::Text(b"total-size"), total_size],
+            [Field::Text(b"kind"), Field::Text(b"fit")],
+            [Field::Text(b"boot-cpu"), boot_cpu],
+            [Field::Text(b"total-size"), total_size],
         ],
         sink,
     )
@@ -83,7 +83,11 @@ fn put_image<S: Sink>(image: &Image, sink: &mut S) -> Result<(), Error>
             put_payload(name, payload, "data-position", offset, sink)
         }
         _ => put_line(
-            &[Word::Text(b"image"), Word::Shown(name), Word::Text(b"none")],
+            &[
+                Field::Text(b"image"),
+                Field::Shown(name),
+                Field::Text(b"none"),
+            ],
             sink,
         ),
     }
@@ -102,13 +106,13 @@ fn put_payload<'a, S: Sink>(
         result sink.new }
 {
     let words = [
-        Word::Text(b"image"),
-        Word::Shown(name),
-        Word::Text(b"size"),
-        Word::Decimal(payload.len() as u64),
-        Word::Text(property.as_bytes()),
-        Word::Text(b"at"),
-        Word::Decimal(u64::from(offset)),
+        Field::Text(b"image"),
+        Field::Shown(name),
+        Field::Text(b"size"),
+        Field::Decimal(payload.len() as u64),
+        Field::Text(property.as_bytes()),
+        Field::Text(b"at"),
+        Field::Decimal(u64::from(offset)),
     ];
     put_line(&words, sink)
 }
@@ -119,7 +123,7 @@ fn put_default<S: Sink>(fit: &Fit, sink: &mut S) -> Result<(), Error>
         sink.new }
 {
     match fit.default_config() {
-        Some(name) => put_line(&[Word::Text(b"default"), Word::Shown(name)], sink),
+        Some(name) => put_line(&[Field::Text(b"default"), Field::Shown(name)], sink),
         None => Ok(()),
     }
 }

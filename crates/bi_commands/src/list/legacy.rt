@@ -7,7 +7,7 @@ ghost use Rattle.bi_legacy.specs.PlacedParts.{part_model};
 ghost use Rattle.bi_commands.specs.Listing.{legacy_listing, parts_lines, part_line};
 
 use crate::common_lines::{put_codes, put_kind_and_fields};
-use crate::words::{Word, put_decimal, put_line};
+use crate::fields::{Field, put_decimal, put_line};
 use bi_base::{Error, Sink};
 use bi_legacy::{Legacy, Part};
 
@@ -19,16 +19,16 @@ pub(super) fn list_legacy<S: Sink>(image: &Legacy, sink: &mut S) -> Result<(), E
     put_kind_and_fields(fields, sink)?;
     put_codes(fields, sink)?;
     put_parts(image, sink)?;
-    let unused = Word::Decimal(u64::from(image.unused()));
-    put_line(&[Word::Text(b"unused"), unused], sink)
+    let unused = Field::Decimal(u64::from(image.unused()));
+    put_line(&[Field::Text(b"unused"), unused], sink)
 }
 
 /// Appends the line with the number of parts, and a line for each part. Fails as the sink does.
 fn put_parts<S: Sink>(image: &Legacy, sink: &mut S) -> Result<(), Error>
     ensures { Wrote S.appends S.fails sink.old (parts_lines image.now.image) result sink.new }
 {
-    let count = Word::Decimal(image.part_count() as u64);
-    put_line(&[Word::Text(b"parts"), count], sink)?;
+    let count = Field::Decimal(image.part_count() as u64);
+    put_line(&[Field::Text(b"parts"), count], sink)?;
     for (index, part) in image.parts().enumerate() {
         put_part(index, &part, sink)?;
     }

@@ -1,26 +1,47 @@
-use Rattle.std.proofs.Common.{◌≡◌, ◌++◌, List, map, string_bytes, subst}
-use Rattle.std.specs.List.{flat_map, list_all}
+use Rattle.std.proofs.Common.{flat_map, refl, sym, ap, ◌∙◌, subst}
 use Rattle.std.proofs.lemmas.Result.{err_from_is_err_and}
-use Rattle.bi_fit.specs.declared.hashes.Checked.{Checked}
-use Rattle.bi_fit.specs.JudgementCalls.{checked_hash_of}
-use Rattle.bi_hash.specs.declared.verdicts.Verdict.TheVariants.{Good}
-use Rattle.bi_commands.specs.Reports.{hash_line, summary_line, is_verdict}
-use Rattle.bi_commands.proofs.ImageReports.{tree_verified}
+use Rattle.bi_base.specs.Commands.{SinkFailed}
+use Rattle.bi_fit.specs.Content.{tree_of}
+use Rattle.bi_fit.specs.Judgement.{verdicts_of}
+use Rattle.bi_commands.specs.HashedImages.{images_of_blob}
+use Rattle.bi_commands.specs.ReadReports.{lines_of_image}
+use Rattle.bi_commands.specs.Reports.{Summary, report_line}
+use Rattle.bi_commands.proofs.ImageReports.{good_of_counts, tree_lines}
 use Rattle.bi_commands.proofs.verify.verify_fit.Goals as goal
-use Rattle.bi_commands.proofs.ImageCalls.{tree_needs_memory}
 
-pub returns-clause-verified : goal.returns-clause-verified
-returns-clause-verified c limits file is =
-    tree_verified limits file _ c.args.fit.now c.in_ok-hashes.hashes.items _ is c.in_ok-hashes.ensures.verdicts
-    (subst (λ (hashes : List Checked). string_bytes c.in_ok-text.text ≡ flat_map hash_line (map checked_hash_of hashes) ++ summary_line (map checked_hash_of hashes)) c.deref.ensures.value c.in_ok-text.ensures)
-    (subst (λ (hashes : List Checked). c.are_good-all_good.result ≡ list_all (λ (hash : Checked). is_verdict Good hash.verdict) hashes) c.deref-2.ensures.value c.are_good-all_good.ensures)
+pub returns-in_err-put_images-clause-failed : goal.returns-in_err-put_images-clause-failed
+returns-in_err-put_images-clause-failed g c =
+    let S = g.S.Sink in
+    let laws = g.met.S.Sink in
+    let content = c.args.fit.now in
+    let p = err_from_is_err_and c.from_residual-in_err-put_images.result c.from_residual-in_err-put_images.ensures.1 in
+    let lines = flat_map lines_of_image (images_of_blob content) in
+    let last = report_line (Summary c.in_ok-counts.counts) in
+    rw (p.1, p.2)
+    (SinkFailed _ c.in_err-put_images.field-0.0 refl
+    (subst (λ bytes. S.fails c.args.sink.now bytes c.put_images.new.sink c.in_err-put_images.field-0.0) (sym (tree_lines content c.in_ok-counts.counts c.in_ok-counts.ensures.counts))
+    (laws.fails_before c.args.sink.now c.put_images.new.sink lines last c.in_err-put_images.field-0.0 c.in_err-put_images.ensures)) refl)
 
-pub returns-in_err-hashes-clause-failed : goal.returns-in_err-hashes-clause-failed
-returns-in_err-hashes-clause-failed c limits file is =
-    let p = err_from_is_err_and c.from_residual.result c.from_residual.ensures.1 in
-    rw (p.1, p.2, c.in_err-hashes.ensures.failed) (tree_needs_memory limits file c.args.fit.now is)
+pub returns-in_err-put_report_line-clause-failed : goal.returns-in_err-put_report_line-clause-failed
+returns-in_err-put_report_line-clause-failed g c =
+    let S = g.S.Sink in
+    let laws = g.met.S.Sink in
+    let content = c.args.fit.now in
+    let p = err_from_is_err_and c.from_residual-in_err-put_report_line.result c.from_residual-in_err-put_report_line.ensures.1 in
+    let lines = flat_map lines_of_image (images_of_blob content) in
+    let last = report_line (Summary c.in_ok-counts.counts) in
+    rw (p.1, p.2)
+    (SinkFailed _ c.in_err-put_report_line.field-0.0 refl
+    (subst (λ bytes. S.fails c.args.sink.now bytes c.put_report_line.new.sink c.in_err-put_report_line.field-0.0) (sym (tree_lines content c.in_ok-counts.counts c.in_ok-counts.ensures.counts))
+    (laws.fails_after c.args.sink.now c.put_images.new.sink c.put_report_line.new.sink lines last c.in_err-put_report_line.field-0.0 c.in_ok-put_images.ensures c.in_err-put_report_line.ensures)) refl)
 
-pub returns-in_err-text-clause-failed : goal.returns-in_err-text-clause-failed
-returns-in_err-text-clause-failed c limits file is =
-    let p = err_from_is_err_and c.from_residual-in_err-text.result c.from_residual-in_err-text.ensures.1 in
-    rw (p.1, p.2) (tree_needs_memory limits file c.args.fit.now is)
+pub returns-clause-appended : goal.returns-clause-appended
+returns-clause-appended g c =
+    let S = g.S.Sink in
+    let laws = g.met.S.Sink in
+    let content = c.args.fit.now in
+    subst (λ bytes. S.appends c.args.sink.now bytes c.put_report_line.new.sink) (sym (tree_lines content c.in_ok-counts.counts c.in_ok-counts.ensures.counts))
+    (laws.appends_in_turn c.args.sink.now c.put_images.new.sink c.put_report_line.new.sink (flat_map lines_of_image (images_of_blob content)) (report_line (Summary c.in_ok-counts.counts)) c.in_ok-put_images.ensures c.in_ok-put_report_line.ensures)
+
+pub returns-clause-good : goal.returns-clause-good
+returns-clause-good g c = good_of_counts (verdicts_of (tree_of c.args.fit.now)) c.in_ok-counts.counts _ c.in_ok-counts.ensures.counts c.are_good.ensures

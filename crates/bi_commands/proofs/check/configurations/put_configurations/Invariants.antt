@@ -1,10 +1,10 @@
-use Rattle.std.proofs.Common.{◌≡◌, ◌++◌, string_bytes}
-use Rattle.std.specs.List.{flat_map}
-use Rattle.bi_fit.specs.JudgementCalls.{configurations_of}
-use Rattle.bi_commands.proofs.CheckedConfigurations.{lines_of_configuration}
+use Rattle.bi_commands.specs.Checking.{concern_lines}
+use Rattle.bi_commands.specs.Children.{children_left}
+use Rattle.bi_commands.specs.ReadChecking.{configurations_concerns, node_lines}
+use Rattle.bi_commands.proofs.LinesLeft.{AreLeft}
 use Rattle.bi_commands.proofs.check.configurations.put_configurations.Given as goal
 
-abbrev pub invariant-loop-configuration : goal.invariant-loop-configuration
-invariant-loop-configuration l =
-    string_bytes l.initial.text ++ flat_map (lines_of_configuration l.allowed) (configurations_of l.fit)
-    ≡ string_bytes l.text ++ flat_map (lines_of_configuration l.allowed) l.configuration-iterator
+-- The lines so far and those of the configurations that are left are all.
+abbrev pub invariant-loop-node : goal.invariant-loop-node
+invariant-loop-node g l =
+    AreLeft g.S.Sink.appends l.initial.sink l.sink (node_lines l.allowed l.fit.images) (children_left l.node-iterator) (concern_lines l.allowed (configurations_concerns l.fn.fit))

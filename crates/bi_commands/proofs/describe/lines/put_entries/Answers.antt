@@ -1,7 +1,7 @@
 use Rattle.std.proofs.Common.{◌≤◌, ◌+◌, ◌++◌, drop, take, get_or, length, map, flat_map, ap, sym, subst, ◌∙◌, arith}
 use Rattle.bi_commands.specs.Shown.{line}
 use Rattle.bi_commands.specs.TreeEntries.{as_entry, count_after, most_open, entry_lines, lines_of_entry, open_after}
-use Rattle.bi_commands.specs.WrittenWords.{bytes_of_names}
+use Rattle.bi_commands.specs.Fields.{bytes_of_names}
 use Rattle.bi_commands.proofs.EntryLines.{entries_from, open_at_first, text_after, no_entry}
 use Rattle.bi_commands.proofs.LineChains.{next_fails}
 use Rattle.bi_commands.proofs.describe.lines.put_entries.Goals as goal

@@ -1,7 +1,7 @@
 use Rattle.std.proofs.Common.{◌≡◌, ◌≤◌, ◌++◌, ℕ, List, [], drop, take, flat_map, map, length}
 use Rattle.bi_commands.specs.Shown.{line}
 use Rattle.bi_commands.specs.TreeEntries.{entry_lines, most_open, as_entry}
-use Rattle.bi_commands.specs.WrittenWords.{bytes_of_names}
+use Rattle.bi_commands.specs.Fields.{bytes_of_names}
 use Rattle.bi_commands.proofs.describe.lines.put_entries.Given as goal
 
 -- The lines of the entries before this one were appended, and those of the others follow.

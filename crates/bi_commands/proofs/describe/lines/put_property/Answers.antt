@@ -2,7 +2,7 @@ use Rattle.std.proofs.Common.{◌++◌, ◌∷◌, [], codes, subst}
 use Rattle.bi_base.specs.Sinks.{Wrote}
 use Rattle.bi_commands.specs.Descriptions.{path}
 use Rattle.bi_commands.specs.Shown.{shown_text}
-use Rattle.bi_commands.specs.WrittenWords.{bytes_of_names}
+use Rattle.bi_commands.specs.Fields.{bytes_of_names}
 use Rattle.bi_commands.proofs.QuotedValues.{joined_words}
 use Rattle.bi_commands.proofs.describe.lines.put_property.Goals as goal
 

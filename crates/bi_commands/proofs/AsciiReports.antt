@@ -1,0 +1,315 @@
+use Rattle.std.proofs.Common.{◌≡◌, ℕ, ◌<◌, ◌==◌, Bool, true, false, cond, List, [], ◌∷◌, ◌++◌, map, flat_map, filter, codes, bytes_eq, length, refl, sym, subst}
+use Rattle.std.proofs.Common.{Option, Some, None, not, drop, ◌-◌}
+use Rattle.std.specs.Prelude.{⊤, IfSome, IsAscii, option_and_then, if◌then◌else◌}
+use Rattle.std.specs.List.{AllByRecursion, list_all, list_any}
+use Rattle.std.specs.Option.{option_map}
+use Rattle.std.specs.FinMap.{get}
+use Rattle.bi_base.specs.Cells.{AreBytes}
+use Rattle.bi_base.specs.Limits.{Limits}
+use Rattle.bi_base.specs.Strings.{text_before_nul}
+use Rattle.bi_base.proofs.ListMembers.{each-append}
+use Rattle.bi_blob.specs.Lookups.{Sibling, siblings}
+use Rattle.bi_blob.specs.Tree.{Nodes, none, node, PropertyMap, AreNodes, names}
+use Rattle.bi_fit.specs.declared.key.Key.{Key}
+use Rattle.bi_fit.specs.ImageTree.{ImageTree, ArePropertiesByName, HaveByteNames, IsImageTree, children_of, image_nodes, nodes_or_none}
+use Rattle.bi_fit.specs.Judgement.{Image, CheckedHash, ListResult, NoConfig, NoKey, BadList, Missing, ListedImages, checked_hash}
+use Rattle.bi_fit.specs.Judgement.{configuration_nodes, default_of, hash_nodes, images_of, images_with, listed_of, verdicts_of}
+use Rattle.bi_fit.specs.Names.{algo_name, value_name, all_keys, images_name, is_hash_name}
+use Rattle.bi_fit.proofs.TextLaws.{file_means_image_tree}
+use Rattle.bi_fit.proofs.TreeShapes.{AreNodes-children_of, bytes-children_of}
+use Rattle.bi_hash.specs.declared.verdicts.Verdict.{Verdict}
+use Rattle.bi_hash.specs.declared.verdicts.Verdict.TheVariants.{Good, Bad, UnknownAlgo, NoPayload, Malformed}
+use Rattle.bi_norm.specs.Meaning.{Meaning, OfLegacy, OfFit, Means}
+use Rattle.bi_commands.specs.declared.check.Allowed.{Allowed}
+use Rattle.bi_commands.specs.CheckedFiles.{IsChecked}
+use Rattle.bi_commands.specs.Checking.{Concern, BadHash, UnhashedImage, WeakHash, BadKey, MissingImage, BadDefault, TrailingBytes, allows, kind_of}
+use Rattle.bi_commands.specs.Checking.{AreConcerns, OfLegacyImage, OfImageTree, content_end, concern_line, concern_lines, configuration_concerns, default_concerns}
+use Rattle.bi_commands.specs.Checking.{hash_concerns, hashed_concerns, hashes_of_image, image_concerns, is_good, is_strong, kind_word}
+use Rattle.bi_commands.specs.Checking.{list_concerns, names_one_of, payload_concerns, tree_concerns, trailing_concerns}
+use Rattle.bi_commands.specs.Descriptions.{Words}
+use Rattle.bi_commands.specs.Reports.{IsReport, GoodChecksum, HashVerdict, Summary, ReportLine, counts_of, hash_report, legacy_report, report_line}
+use Rattle.bi_commands.specs.Reports.{report_lines, report_of, shown_or_none, value_word, verdict_word}
+use Rattle.bi_commands.specs.Shown.{shown_text}
+use Rattle.bi_commands.specs.ValueTexts.{hexadecimal_digits}
+use Rattle.bi_commands.proofs.AsciiListings.{configurations_are, default_bytes, key_word, names_bytes, text_bytes}
+use Rattle.bi_commands.proofs.AsciiTexts.{HasAscii, AreAsciiWords, ascii_line, both, by_test, bytes_digits, decimal_shown, each_text, is_ascii}
+use Rattle.bi_commands.proofs.AsciiTexts.{name_shown}
+
+-- Proves that reports and lines of concerns are ASCII: the names and values that they show are bytes.
+
+-- ---- hash nodes
+
+-- What a hash node has is bytes.
+abbrev IsByteHash : CheckedHash → Type 0
+IsByteHash hash = AreBytes hash.image × AreBytes hash.node_name × IfSome hash.algo AreBytes × IfSome hash.value AreBytes
+
+-- The text of a property.
+text_property : (own : PropertyMap) (name : List ℕ) → ArePropertiesByName own → IfSome (option_and_then text_before_nul (get own name)) AreBytes
+text_property own name are = by (get own name) refl
+  where
+    by : (o : Option (List ℕ)) → get own name ≡ o → IfSome (option_and_then text_before_nul o) AreBytes
+    by None there = tt
+    by (Some value) there = text_bytes value (are name value there).value_bytes
+
+value_property : (own : PropertyMap) (name : List ℕ) → ArePropertiesByName own → IfSome (get own name) AreBytes
+value_property own name are = by (get own name) refl
+  where
+    by : (o : Option (List ℕ)) → get own name ≡ o → IfSome o AreBytes
+    by None there = tt
+    by (Some value) there = (are name value there).value_bytes
+
+-- The hash nodes of an image.
+hashes_bytes : (image : Image) → AreBytes image.entry.name → (nodes : Nodes PropertyMap) → AreNodes ArePropertiesByName nodes →
+    HaveByteNames nodes → AllByRecursion IsByteHash (map (checked_hash image) (filter (λ (child : Sibling PropertyMap). is_hash_name child.name) (siblings nodes)))
+hashes_bytes image named none are bytes = tt
+hashes_bytes image named (node name own children later) are bytes =
+    by (is_hash_name name) refl (hashes_bytes image named later are.2 bytes.2)
+  where
+    first : Sibling PropertyMap
+    first = record { name = name; own = own; children = children; later = later }
+
+    by : (b : Bool) → is_hash_name name ≡ b →
+        AllByRecursion IsByteHash (map (checked_hash image) (filter (λ (child : Sibling PropertyMap). is_hash_name child.name) (siblings later))) →
+        AllByRecursion IsByteHash (map (checked_hash image) (filter (λ (child : Sibling PropertyMap). is_hash_name child.name) (first ∷ siblings later)))
+    by true is rest = rw is ((named, bytes.0, text_property own algo_name are.0.is_own, value_property own value_name are.0.is_own), rest)
+    by false is rest = rw is rest
+
+-- An image whose name is bytes, and whose hash nodes are.
+abbrev IsByteImage : Image → Type 0
+IsByteImage image = AreBytes image.entry.name × AllByRecursion IsByteHash (hashes_of_image image)
+
+images_bytes : (nodes : Nodes PropertyMap) (payloads : List (Option (List ℕ))) → AreNodes ArePropertiesByName nodes → HaveByteNames nodes →
+    AllByRecursion IsByteImage (images_with (siblings nodes) payloads)
+images_bytes none payloads are bytes = tt
+images_bytes (node name own children later) [] are bytes = tt
+images_bytes (node name own children later) (payload ∷ payloads) are bytes =
+    let entry : Sibling PropertyMap = record { name = name; own = own; children = children; later = later } in
+    ((bytes.0, hashes_bytes (record { entry = entry; payload = payload }) bytes.0 children are.1 bytes.1), images_bytes later payloads are.2 bytes.2)
+
+-- The images of a tree.
+tree_images : (tree : ImageTree) → IsImageTree tree → AllByRecursion IsByteImage (images_of tree)
+tree_images tree is = by (children_of images_name tree.root.children) refl
+  where
+    by : (o : Option (Nodes PropertyMap)) → children_of images_name tree.root.children ≡ o →
+        AllByRecursion IsByteImage (images_with (siblings (nodes_or_none o)) tree.payloads)
+    by None found = tt
+    by (Some inner) found =
+        images_bytes inner tree.payloads (AreNodes-children_of ArePropertiesByName images_name tree.root.children inner found is.is_tree.children)
+        (bytes-children_of images_name tree.root.children inner found is.name_bytes)
+
+-- ---- reports
+
+verdict_shown : (verdict : Verdict) → HasAscii (verdict_word verdict)
+verdict_shown Good = by_test (codes "good") refl
+verdict_shown Bad = by_test (codes "bad") refl
+verdict_shown UnknownAlgo = by_test (codes "unknown-algorithm") refl
+verdict_shown NoPayload = by_test (codes "no-payload") refl
+verdict_shown Malformed = by_test (codes "malformed") refl
+
+maybe_shown : (name : Option (List ℕ)) → IfSome name AreBytes → HasAscii (shown_or_none name)
+maybe_shown None bytes = by_test (codes "-") refl
+maybe_shown (Some name) bytes = name_shown name bytes
+
+value_shown : (value : Option (List ℕ)) → IfSome value AreBytes → HasAscii (value_word value)
+value_shown None bytes = by_test (codes "-") refl
+value_shown (Some value) bytes = by (bytes_eq value [])
+  where
+    by : (b : Bool) → HasAscii (cond b (codes "-") (hexadecimal_digits value))
+    by true = by_test (codes "-") refl
+    by false = bytes_digits value bytes
+
+hash_shown : (hash : CheckedHash) → IsByteHash hash → HasAscii (report_line (HashVerdict hash))
+hash_shown hash bytes =
+    ascii_line
+    (shown_text hash.image ∷ shown_text hash.node_name ∷ shown_or_none hash.algo ∷ verdict_word hash.verdict ∷ value_word hash.value ∷ [])
+    (name_shown hash.image bytes.0, (name_shown hash.node_name bytes.1, (maybe_shown hash.algo bytes.2, (verdict_shown hash.verdict, (value_shown hash.value bytes.3, tt)))))
+
+hash_lines_shown : (hashes : List CheckedHash) (last : List ReportLine) → AllByRecursion IsByteHash hashes → HasAscii (flat_map report_line last) →
+    HasAscii (flat_map report_line (map HashVerdict hashes ++ last))
+hash_lines_shown [] last bytes rest = rest
+hash_lines_shown (hash ∷ later) last bytes rest =
+    both (report_line (HashVerdict hash)) (flat_map report_line (map HashVerdict later ++ last)) (hash_shown hash bytes.0) (hash_lines_shown later last bytes.1 rest)
+
+all_hashes : (images : List Image) → AllByRecursion IsByteImage images →
+    AllByRecursion IsByteHash (flat_map (λ (image : Image). map (checked_hash image) (hash_nodes image)) images)
+all_hashes [] bytes = tt
+all_hashes (image ∷ later) bytes =
+    each-append IsByteHash (hashes_of_image image) (flat_map (λ (image : Image). map (checked_hash image) (hash_nodes image)) later) bytes.0.1 (all_hashes later bytes.1)
+
+-- A report is ASCII.
+pub report_is_ascii : (limits : Limits) (file text : List ℕ) → IsReport limits file text → IsAscii text
+report_is_ascii limits file text report = by report.meaning report.means report.is
+  where
+    by : (meaning : Meaning) → Means limits file meaning → text ≡ report_of meaning → IsAscii text
+    by (OfLegacy image) means is = subst IsAscii (sym is) (is_ascii (report_of (OfLegacy image)) (by_test (report_of (OfLegacy image)) refl))
+    by (OfFit tree) means is =
+        let hashes = verdicts_of tree in
+        let counts = counts_of hashes in
+        let last : HasAscii (flat_map report_line (Summary counts ∷ [])) =
+        both (report_line (Summary counts)) []
+        (ascii_line
+        (codes "summary" ∷ codes "good" ∷ _ ∷ codes "bad" ∷ _ ∷ codes "unknown-algorithm" ∷ _ ∷ codes "no-payload" ∷ _ ∷ codes "malformed" ∷ _ ∷ []) (
+          by_test (codes "summary") refl,
+          (
+            by_test (codes "good") refl,
+            (
+              decimal_shown counts.good,
+              (
+                by_test (codes "bad") refl,
+                (
+                  decimal_shown counts.bad,
+                  (
+                    by_test (codes "unknown-algorithm") refl,
+                    (
+                      decimal_shown counts.unknown_algorithm,
+                      (
+                        by_test (codes "no-payload") refl,
+                        (
+                          decimal_shown counts.no_payload,
+                          (by_test (codes "malformed") refl, (decimal_shown counts.malformed, tt)),
+                        ),
+                      ),
+                    ),
+                  ),
+                ),
+              ),
+            ),
+          ),
+        )) tt in
+        subst IsAscii (sym is)
+        (is_ascii (report_of (OfFit tree))
+        (hash_lines_shown hashes (Summary counts ∷ []) (all_hashes (images_of tree) (tree_images tree (file_means_image_tree file tree means.is_file))) last))
+
+-- ---- concerns
+
+-- What a concern has is bytes.
+abbrev IsByteConcern : Concern → Type 0
+IsByteConcern (BadHash hash) = IsByteHash hash
+IsByteConcern (UnhashedImage image) = AreBytes image
+IsByteConcern (WeakHash image good) = AreBytes image × AllByRecursion IsByteHash good
+IsByteConcern (BadKey configuration key) = AreBytes configuration
+IsByteConcern (MissingImage configuration key index) = AreBytes configuration
+IsByteConcern (BadDefault default) = IfSome default AreBytes
+IsByteConcern (TrailingBytes count) = ⊤
+
+algorithms_shown : (hashes : List CheckedHash) → AllByRecursion IsByteHash hashes →
+    AreAsciiWords (map (λ (hash : CheckedHash). shown_or_none hash.algo) hashes)
+algorithms_shown [] bytes = tt
+algorithms_shown (hash ∷ later) bytes = (maybe_shown hash.algo bytes.0.2, algorithms_shown later bytes.1)
+
+concern_shown : (concern : Concern) → IsByteConcern concern → HasAscii (concern_line concern)
+concern_shown (BadHash hash) bytes =
+    ascii_line (codes "bad-hash" ∷ shown_text hash.image ∷ shown_text hash.node_name ∷ shown_or_none hash.algo ∷ verdict_word hash.verdict ∷ [])
+    (by_test (codes "bad-hash") refl, (name_shown hash.image bytes.0, (name_shown hash.node_name bytes.1, (maybe_shown hash.algo bytes.2, (verdict_shown hash.verdict, tt)))))
+concern_shown (UnhashedImage image) bytes =
+    ascii_line (codes "unhashed" ∷ shown_text image ∷ []) (by_test (codes "unhashed") refl, (name_shown image bytes, tt))
+concern_shown (WeakHash image good) bytes =
+    ascii_line (codes "weak-hash" ∷ shown_text image ∷ map (λ (hash : CheckedHash). shown_or_none hash.algo) good)
+    (by_test (codes "weak-hash") refl, (name_shown image bytes.0, algorithms_shown good bytes.1))
+concern_shown (BadKey configuration key) bytes =
+    ascii_line (codes "bad-list" ∷ shown_text configuration ∷ _ ∷ []) (by_test (codes "bad-list") refl, (name_shown configuration bytes, (key_word key, tt)))
+concern_shown (MissingImage configuration key index) bytes =
+    ascii_line (codes "missing" ∷ shown_text configuration ∷ _ ∷ _ ∷ [])
+    (by_test (codes "missing") refl, (name_shown configuration bytes, (key_word key, (decimal_shown index, tt))))
+concern_shown (BadDefault default) bytes =
+    ascii_line (codes "bad-default" ∷ shown_or_none default ∷ []) (by_test (codes "bad-default") refl, (maybe_shown default bytes, tt))
+concern_shown (TrailingBytes count) bytes =
+    ascii_line (codes "trailing" ∷ _ ∷ []) (by_test (codes "trailing") refl, (decimal_shown count, tt))
+
+lines_shown : (allowed : Allowed) (concerns : List Concern) → AllByRecursion IsByteConcern concerns → HasAscii (concern_lines allowed concerns)
+lines_shown allowed [] bytes = tt
+lines_shown allowed (concern ∷ later) bytes = by (allows allowed (kind_of concern)) refl (lines_shown allowed later bytes.1)
+  where
+    by : (b : Bool) → allows allowed (kind_of concern) ≡ b → HasAscii (concern_lines allowed later) → HasAscii (concern_lines allowed (concern ∷ later))
+    by true is rest = rw is rest
+    by false is rest = rw is (both (concern_line concern) (concern_lines allowed later) (concern_shown concern bytes.0) rest)
+
+-- The concerns about images.
+if_not : (b : Bool) (concern : Concern) → IsByteConcern concern → AllByRecursion IsByteConcern (cond b [] (concern ∷ []))
+if_not true concern bytes = tt
+if_not false concern bytes = (bytes, tt)
+
+hash_bytes : (hashes : List CheckedHash) → AllByRecursion IsByteHash hashes → AllByRecursion IsByteConcern (flat_map hash_concerns hashes)
+hash_bytes [] bytes = tt
+hash_bytes (hash ∷ later) bytes =
+    each-append IsByteConcern (hash_concerns hash) (flat_map hash_concerns later) (if_not (is_good hash) (BadHash hash) bytes.0) (hash_bytes later bytes.1)
+
+good_bytes : (hashes : List CheckedHash) → AllByRecursion IsByteHash hashes → AllByRecursion IsByteHash (filter is_good hashes)
+good_bytes [] bytes = tt
+good_bytes (hash ∷ later) bytes = by (is_good hash) refl (good_bytes later bytes.1)
+  where
+    by : (b : Bool) → is_good hash ≡ b → AllByRecursion IsByteHash (filter is_good later) → AllByRecursion IsByteHash (filter is_good (hash ∷ later))
+    by true is rest = rw is (bytes.0, rest)
+    by false is rest = rw is rest
+
+payload_bytes : (name : List ℕ) (payload : Option (List ℕ)) (hashes : List CheckedHash) → AreBytes name → AllByRecursion IsByteHash hashes →
+    AllByRecursion IsByteConcern (payload_concerns name payload hashes)
+payload_bytes name None hashes named bytes = tt
+payload_bytes name (Some payload) hashes named bytes = by (not (list_any is_good hashes)) (not (list_any is_strong hashes))
+  where
+    by : (a b : Bool) → AllByRecursion IsByteConcern (cond a (UnhashedImage name ∷ []) (cond b (WeakHash name (filter is_good hashes) ∷ []) []))
+    by true b = (named, tt)
+    by false true = ((named, good_bytes hashes bytes), tt)
+    by false false = tt
+
+images_shown : (images : List Image) → AllByRecursion IsByteImage images → AllByRecursion IsByteConcern (flat_map image_concerns images)
+images_shown [] bytes = tt
+images_shown (image ∷ later) bytes =
+    each-append IsByteConcern (image_concerns image) (flat_map image_concerns later)
+    (each-append IsByteConcern (flat_map hash_concerns (hashes_of_image image)) (payload_concerns image.entry.name image.payload (hashes_of_image image))
+    (hash_bytes (hashes_of_image image) bytes.0.1) (payload_bytes image.entry.name image.payload (hashes_of_image image) bytes.0.0 bytes.0.1))
+    (images_shown later bytes.1)
+
+-- Those about configurations.
+list_bytes : (configuration : List ℕ) (key : Key) (listed : ListResult) → AreBytes configuration →
+    AllByRecursion IsByteConcern (list_concerns configuration key listed)
+list_bytes configuration key NoConfig bytes = tt
+list_bytes configuration key NoKey bytes = tt
+list_bytes configuration key BadList bytes = (bytes, tt)
+list_bytes configuration key (Missing index) bytes = (bytes, tt)
+list_bytes configuration key (ListedImages images) bytes = tt
+
+keys_bytes : (tree : ImageTree) (configuration : List ℕ) → AreBytes configuration → (keys : List Key) →
+    AllByRecursion IsByteConcern (flat_map (λ (key : Key). list_concerns configuration key (listed_of tree configuration key)) keys)
+keys_bytes tree configuration bytes [] = tt
+keys_bytes tree configuration bytes (key ∷ later) =
+    each-append IsByteConcern (list_concerns configuration key (listed_of tree configuration key))
+    (flat_map (λ (key : Key). list_concerns configuration key (listed_of tree configuration key)) later)
+    (list_bytes configuration key (listed_of tree configuration key) bytes) (keys_bytes tree configuration bytes later)
+
+configurations_shown : (tree : ImageTree) (configurations : List (List ℕ)) → AllByRecursion AreBytes configurations →
+    AllByRecursion IsByteConcern (flat_map (configuration_concerns tree) configurations)
+configurations_shown tree [] bytes = tt
+configurations_shown tree (configuration ∷ later) bytes =
+    each-append IsByteConcern (configuration_concerns tree configuration) (flat_map (configuration_concerns tree) later)
+    (keys_bytes tree configuration bytes.0 all_keys) (configurations_shown tree later bytes.1)
+
+default_shown : (default : Option (List ℕ)) (configurations : List (List ℕ)) → IfSome default AreBytes →
+    AllByRecursion IsByteConcern (default_concerns default configurations)
+default_shown default [] bytes = tt
+default_shown default (first ∷ later) bytes = if_not (names_one_of default (first ∷ later)) (BadDefault default) bytes
+
+tree_shown : (tree : ImageTree) → IsImageTree tree → AllByRecursion IsByteConcern (tree_concerns tree)
+tree_shown tree is =
+    let configurations = names (configuration_nodes tree) in
+    each-append IsByteConcern (flat_map image_concerns (images_of tree))
+    (flat_map (configuration_concerns tree) configurations ++ default_concerns (default_of tree) configurations)
+    (images_shown (images_of tree) (tree_images tree is))
+    (each-append IsByteConcern (flat_map (configuration_concerns tree) configurations) (default_concerns (default_of tree) configurations)
+    (configurations_shown tree configurations (names_bytes (configuration_nodes tree) (configurations_are tree is).1))
+    (default_shown (default_of tree) configurations (default_bytes tree is)))
+
+trailing_shown : (bytes : List ℕ) → AllByRecursion IsByteConcern (trailing_concerns bytes)
+trailing_shown bytes = if_not (list_all (λ byte. byte == 0) bytes) (TrailingBytes (length bytes)) tt
+
+-- The lines of the concerns about a file are ASCII.
+pub checked_is_ascii : (allowed : Allowed) (limits : Limits) (file text : List ℕ) → IsChecked allowed limits file text → IsAscii text
+checked_is_ascii allowed limits file text checked =
+    subst IsAscii (sym checked.is_text) (is_ascii (concern_lines allowed checked.concerns) (lines_shown allowed checked.concerns (by checked.are_concerns)))
+  where
+    by : {concerns : List Concern} → AreConcerns limits file concerns → AllByRecursion IsByteConcern concerns
+    by (OfLegacyImage parsed is are) = subst (AllByRecursion IsByteConcern) (sym are) (trailing_shown (drop (length file - parsed.unused) file))
+    by (OfImageTree tree means are) =
+        let rest : List ℕ = drop (content_end file means.is_file.images tree.payloads) file in
+        subst (AllByRecursion IsByteConcern) (sym are)
+        (each-append IsByteConcern (tree_concerns tree) (trailing_concerns rest) (tree_shown tree (file_means_image_tree file tree means.is_file)) (trailing_shown rest))
