@@ -180,14 +180,6 @@ read_pieces allowed file content bytes is =
     ∙ ap (λ l. concern_lines allowed lists ++ l)
     (lines_append allowed default rest ∙ ap (λ b. concern_lines allowed default ++ concern_lines allowed (trailing_concerns b)) (sym is)))
 
--- Payloads that are too long are refused.
-pub payloads_refused : (limits : Limits) (content : FitModel) (images : List ImageRead) (limit : ℕ) (fault : Fault) →
-    limit ≡ limits.file → map image_model images ≡ content.images → fault ≡ too_large limit → limit < payloads_length (payloads_of images) →
-    IsReadCheckError limits content (Refused fault)
-payloads_refused limits content images limit fault same are refused longer =
-    let payloads : payloads_of images ≡ (tree_of content).payloads = ap (map (λ (image : ImageModel). image.payload)) are in
-    inl (ap Refused (refused ∙ ap too_large same), omega (arith, longer, same, ap payloads_length payloads))
-
 -- An error of reading a file is one of checking it.
 pub check_error_of_reading : (limits : Limits) (file : List ℕ) (error : Error) → IsBootImageReadError limits file error →
     IsCheckError limits file error

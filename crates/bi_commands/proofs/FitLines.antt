@@ -1,24 +1,17 @@
-use Rattle.std.proofs.Common.{◌≡◌, ℕ, List, [], ◌∷◌, ◌++◌, map, sym, ap, ◌∙◌, Option, None, Some, ◌+◌, ◌<◌, length, take, get_or, arith}
+use Rattle.std.proofs.Common.{◌≡◌, ℕ, List, [], ◌∷◌, ◌++◌, map, sym, ap, ◌∙◌, Option, None, Some, ◌<◌, length, get_or}
 use Rattle.std.specs.List.{join_with_byte, flat_map, slice_get}
 use Rattle.std.specs.Option.{option_map}
 use Rattle.std.proofs.lemmas.Option.{slice_get-map, slice_get-get_or}
 use Rattle.bi_blob.specs.Blob.{Reservation, end_pair}
-use Rattle.std.proofs.lemmas.Grind.{common_steps}
 use Rattle.std.proofs.lemmas.List.{append-nil}
 
--- The lines of the first elements of a list and those of the next one are those of these elements together, and there is a reservation at
--- each index.
+-- Words with a space between each two, and the reservation at an index.
 
 -- Words after a first one, with a space before each.
 pub joined_after : (first : List ℕ) (words : List (List ℕ)) →
     join_with_byte 32 (first ∷ words) ≡ first ++ flat_map (λ word. 32 ∷ word) words
 joined_after first [] = sym (append-nil first)
 joined_after first (word ∷ words) = ap (λ later. first ++ (32 ∷ later)) (joined_after word words)
-
--- The lines of one more element of a list.
-pub lines_of_one_more : {X : Type 0} (f : X → List ℕ) (xs : List X) (d : X) (i : ℕ) (start now next : List ℕ) → i < length xs →
-    now ≡ start ++ flat_map f (take i xs) → next ≡ now ++ f (get_or xs i d) → next ≡ start ++ flat_map f (take (i + 1) xs)
-lines_of_one_more f xs d i start now next within before more = grind (arith, common_steps)
 
 -- The two numbers of a reservation.
 abbrev pub numbers_of : Reservation → ℕ × ℕ

@@ -49,8 +49,8 @@ fn listed_in<'a>(fit: &Fit<'a>, value: &'a [u8]) -> Listed<'a>
     }
 }
 
-/// Returns the index of the first name that a value lists and that no image has. Returns None
-/// exactly if there is no such name.
+/// Returns the index of the first name that a value lists and that no image has. Returns None if
+/// and only if there is no such name.
 fn first_missing(fit: &Fit, value: &[u8]) -> Option<usize>
     ensures { result ≡ first_missing_of fit.now.images 0 (listed_names value.now) }
 {

@@ -2,8 +2,6 @@
 
 ghost use Rattle.std.specs.Prelude.{◌≡◌, ◌++◌, OnOk, IfOk, string_bytes};
 ghost use Rattle.std.specs.List.{flat_map};
-ghost use Rattle.std.specs.Option.{option_map};
-ghost use Rattle.bi_commands.specs.Reports.{shown_or_none as shown_or_dash};
 ghost use Rattle.bi_commands.specs.Shown.{shown_text, shown_byte, is_plain as is_plain_byte};
 
 use std::alloc::{AllocError, Global};
@@ -24,17 +22,6 @@ pub fn shown_name(alloc: Global, name: &[u8]) -> Result<String, AllocError>
         _ => put_bytes(&mut text, name)?,
     }
     Ok(text)
-}
-
-/// Returns a name as it is printed, `-` if it is not there.
-pub(crate) fn shown_or_none(alloc: Global, name: Option<&[u8]>) -> Result<String, AllocError>
-    ensures { IfOk result (λ text. string_bytes text
-        ≡ shown_or_dash (option_map (λ name. name.now) name.entry)) }
-{
-    match name {
-        Some(name) => shown_name(alloc, name),
-        None => format!(in alloc; "-"),
-    }
 }
 
 /// Appends the bytes of a name as they are printed.

@@ -110,8 +110,8 @@ impl<'a> RegionDigests<'a> {
     }
 
     /// Judges a hash node, as `verdict` does, but allocates nothing: a digest that was not computed
-    /// before is computed, and not kept. So it takes no longer than a look-up after `verdict` judged
-    /// a node with the same algorithm and the same payload.
+    /// before is computed, and not kept. It takes no longer than a look-up if `verdict` judged a
+    /// node with the same algorithm and the same payload before.
     pub fn judge(
         &self,
         algo: Option<&[u8]>,
@@ -128,10 +128,10 @@ impl<'a> RegionDigests<'a> {
             Ok(stated) => stated,
             Err(verdict) => return verdict,
         };
-        let Some(payload) = payload else {
-            return Verdict::NoPayload;
-        };
-        stated.judge(&self.kept_or_computed(stated.algo, payload))
+        match payload {
+            Some(payload) => stated.judge(&self.kept_or_computed(stated.algo, payload)),
+            None => Verdict::NoPayload,
+        }
     }
 
     /// Returns the digest of a region by this algorithm, with zeros after it. Reads the region if
@@ -146,9 +146,7 @@ impl<'a> RegionDigests<'a> {
         if let Some(digest) = self.digests.get(&key) {
             return Ok(*digest);
         }
-        let bytes = &self.file[region.begin..region.begin + region.length];
-        let mut digest = [0; 64];
-        algo.digest(bytes, &mut digest);
+        let digest = self.compute(algo, region);
         self.digests.insert(key, digest)?;
         Ok(digest)
     }
@@ -159,10 +157,18 @@ impl<'a> RegionDigests<'a> {
         requires within { IsRegionOf self.now region }
         ensures { result ≡ padded_digest algo (bytes_of_region self.now region) }
     {
-        let key = (region.begin, region.length, algo.index());
-        if let Some(digest) = self.digests.get(&key) {
-            return *digest;
+        let kept = self.digests.get(&(region.begin, region.length, algo.index()));
+        match kept {
+            Some(digest) => *digest,
+            None => self.compute(algo, region),
         }
+    }
+
+    /// Computes the digest of a region by this algorithm, with zeros after it. Reads the region.
+    fn compute(&self, algo: Algo, region: Region) -> [u8; 64]
+        requires within { IsRegionOf self.now region }
+        ensures { result ≡ padded_digest algo (bytes_of_region self.now region) }
+    {
         let bytes = &self.file[region.begin..region.begin + region.length];
         let mut digest = [0; 64];
         algo.digest(bytes, &mut digest);
