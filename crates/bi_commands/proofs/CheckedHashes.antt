@@ -57,11 +57,11 @@ pub strong_only : (image : List ℕ) (hashes : List CheckedHash) → list_any is
 strong_only image hashes some strong = rw (some, strong) refl
 
 -- A hash node with the verdict Good has no concern, and any other one has one.
-pub good_hash : (hash : CheckedHash) → is_good hash ≡ true → hash_concerns hash ≡ []
-good_hash hash is = rw is refl
+pub good_hash_concerns : (hash : CheckedHash) → is_good hash ≡ true → hash_concerns hash ≡ []
+good_hash_concerns hash is = rw is refl
 
-pub bad_hash : (hash : CheckedHash) → is_good hash ≡ false → hash_concerns hash ≡ BadHash hash ∷ []
-bad_hash hash is = rw is refl
+pub bad_hash_concerns : (hash : CheckedHash) → is_good hash ≡ false → hash_concerns hash ≡ BadHash hash ∷ []
+bad_hash_concerns hash is = rw is refl
 
 -- The lines of an image: those of its hash nodes, and then that of its payload.
 pub image_pieces : (allowed : Allowed) (image : List ℕ) (payload : Option (List ℕ)) (hashes : List CheckedHash) →

@@ -45,8 +45,8 @@ hashes_left hashes =
     (siblings_from (option_map node_of hashes.next))
 
 -- An image as the code has it.
-abbrev pub image_of : Image → HashedImage
-image_of image = record {
+abbrev pub image_value : Image → HashedImage
+image_value image = record {
   name = image.name.now;
   payload = option_map (λ payload. payload.now) image.payload;
   hashes = hashes_left image.hashes;
