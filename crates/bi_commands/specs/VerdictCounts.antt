@@ -32,7 +32,8 @@ hash_counts hashes = record {
 abbrev pub one_more_verdict : Verdict → Counts → Counts
 one_more_verdict Good counts = record counts { good = counts.good + 1 }
 one_more_verdict Bad counts = record counts { bad = counts.bad + 1 }
-one_more_verdict UnknownAlgo counts = record counts { unknown_algorithm = counts.unknown_algorithm + 1 }
+one_more_verdict UnknownAlgo counts =
+    record counts { unknown_algorithm = counts.unknown_algorithm + 1 }
 one_more_verdict NoPayload counts = record counts { no_payload = counts.no_payload + 1 }
 one_more_verdict Malformed counts = record counts { malformed = counts.malformed + 1 }
 

@@ -9,8 +9,8 @@ ghost use Rattle.bi_fit.specs.Content.{IsHeld, tree_of};
 ghost use Rattle.bi_fit.specs.HashNodes.{file_listed};
 ghost use Rattle.bi_fit.specs.Judgement.{configuration_nodes as nodes_of_configurations};
 ghost use Rattle.bi_commands.specs.Checking.{concern_lines, list_concerns, names_one_of};
-ghost use Rattle.bi_commands.specs.ReadChecking.{configurations_concerns, configuration_concern_lines};
-ghost use Rattle.bi_commands.specs.ReadChecking.{read_default_concerns};
+ghost use Rattle.bi_commands.specs.ReadChecking.{configuration_concern_lines};
+ghost use Rattle.bi_commands.specs.ReadChecking.{configurations_concerns, read_default_concerns};
 
 use super::Allowed;
 use super::concern::{Concern, put_concern};

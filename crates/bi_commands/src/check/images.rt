@@ -39,8 +39,8 @@ pub(super) fn put_images<'a, S: Sink>(
 
 /// Appends the lines of the concerns about an image. Fails as the sink does.
 fn put_image<S: Sink>(image: HashedImage, allowed: Allowed, sink: &mut S) -> Result<(), Error>
-    ensures { Wrote S.appends S.fails sink.old (image_concern_lines allowed (image_value image.entry)) result
-        sink.new }
+    ensures { Wrote S.appends S.fails sink.old
+        (image_concern_lines allowed (image_value image.entry)) result sink.new }
 {
     put_hashes(image.hashes, allowed, sink)?;
     match image.payload {
