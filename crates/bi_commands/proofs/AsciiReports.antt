@@ -1,8 +1,7 @@
-use Rattle.std.proofs.Common.{◌≡◌, ℕ, ◌<◌, ◌==◌, Bool, true, false, cond, List, [], ◌∷◌, ◌++◌, map, flat_map, filter, codes, bytes_eq, length, refl, sym, subst}
+use Rattle.std.proofs.Common.{◌≡◌, ℕ, ◌==◌, Bool, true, false, cond, List, [], ◌∷◌, ◌++◌, map, flat_map, filter, codes, bytes_eq, length, refl, sym, subst}
 use Rattle.std.proofs.Common.{Option, Some, None, not, drop, ◌-◌}
-use Rattle.std.specs.Prelude.{⊤, IfSome, IsAscii, option_and_then, if◌then◌else◌}
+use Rattle.std.specs.Prelude.{⊤, IfSome, IsAscii, option_and_then}
 use Rattle.std.specs.List.{AllByRecursion, list_all, list_any}
-use Rattle.std.specs.Option.{option_map}
 use Rattle.std.specs.FinMap.{get}
 use Rattle.bi_base.specs.Cells.{AreBytes}
 use Rattle.bi_base.specs.Limits.{Limits}
@@ -11,7 +10,7 @@ use Rattle.bi_base.proofs.ListMembers.{each-append}
 use Rattle.bi_blob.specs.Lookups.{Sibling, siblings}
 use Rattle.bi_blob.specs.Tree.{Nodes, none, node, PropertyMap, AreNodes, names}
 use Rattle.bi_fit.specs.declared.key.Key.{Key}
-use Rattle.bi_fit.specs.ImageTree.{ImageTree, ArePropertiesByName, HaveByteNames, IsImageTree, children_of, image_nodes, nodes_or_none}
+use Rattle.bi_fit.specs.ImageTree.{ImageTree, ArePropertiesByName, HaveByteNames, IsImageTree, children_of, nodes_or_none}
 use Rattle.bi_fit.specs.Judgement.{Image, CheckedHash, ListResult, NoConfig, NoKey, BadList, Missing, ListedImages, checked_hash}
 use Rattle.bi_fit.specs.Judgement.{configuration_nodes, default_of, hash_nodes, images_of, images_with, listed_of, verdicts_of}
 use Rattle.bi_fit.specs.Names.{algo_name, value_name, all_keys, images_name, is_hash_name}
@@ -24,15 +23,14 @@ use Rattle.bi_commands.specs.declared.check.Allowed.{Allowed}
 use Rattle.bi_commands.specs.CheckedFiles.{IsChecked}
 use Rattle.bi_commands.specs.Checking.{Concern, BadHash, UnhashedImage, WeakHash, BadKey, MissingImage, BadDefault, TrailingBytes, allows, kind_of}
 use Rattle.bi_commands.specs.Checking.{AreConcerns, OfLegacyImage, OfImageTree, content_end, concern_line, concern_lines, configuration_concerns, default_concerns}
-use Rattle.bi_commands.specs.Checking.{hash_concerns, hashed_concerns, hashes_of_image, image_concerns, is_good, is_strong, kind_word}
+use Rattle.bi_commands.specs.Checking.{hash_concerns, hashes_of_image, image_concerns, is_good, is_strong}
 use Rattle.bi_commands.specs.Checking.{list_concerns, names_one_of, payload_concerns, tree_concerns, trailing_concerns}
-use Rattle.bi_commands.specs.Descriptions.{Words}
-use Rattle.bi_commands.specs.Reports.{IsReport, GoodChecksum, HashVerdict, Summary, ReportLine, counts_of, hash_report, legacy_report, report_line}
-use Rattle.bi_commands.specs.Reports.{report_lines, report_of, shown_or_none, value_word, verdict_word}
+use Rattle.bi_commands.specs.Reports.{IsReport, HashVerdict, Summary, ReportLine, counts_of, report_line}
+use Rattle.bi_commands.specs.Reports.{report_of, shown_or_none, value_word, verdict_word}
 use Rattle.bi_commands.specs.Shown.{shown_text}
 use Rattle.bi_commands.specs.ValueTexts.{hexadecimal_digits}
 use Rattle.bi_commands.proofs.AsciiListings.{configurations_are_nodes, default_bytes, key_word, node_names_bytes, before_nul_bytes}
-use Rattle.bi_commands.proofs.AsciiTexts.{HasAscii, AreAsciiWords, ascii_line, both, by_test, bytes_digits, decimal_shown, each_text, is_ascii}
+use Rattle.bi_commands.proofs.AsciiTexts.{HasAscii, AreAsciiWords, ascii_line, both, by_test, bytes_digits, decimal_shown, is_ascii}
 use Rattle.bi_commands.proofs.AsciiTexts.{name_shown}
 
 -- Proves that reports and lines of concerns are ASCII: the names and values that they show are bytes.

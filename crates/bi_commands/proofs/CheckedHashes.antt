@@ -1,12 +1,12 @@
-use Rattle.std.proofs.Common.{◌≡◌, ℕ, Bool, true, false, List, [], ◌∷◌, ◌++◌, map, codes, flat_map, filter, refl, sym, ap, ap₂, ◌∙◌, append_assoc}
+use Rattle.std.proofs.Common.{◌≡◌, ℕ, Bool, true, false, List, [], ◌∷◌, ◌++◌, map, codes, flat_map, filter, refl, sym, ap, ◌∙◌, append_assoc}
 use Rattle.std.proofs.Common.{Option}
 use Rattle.std.specs.List.{join_with_byte, list_any}
 use Rattle.bi_fit.specs.Judgement.{CheckedHash}
 use Rattle.bi_commands.specs.declared.check.Allowed.{Allowed}
-use Rattle.bi_commands.specs.Checking.{Concern, BadHash, UnhashedImage, WeakHash, concern_line, concern_lines, hash_concerns, hashed_concerns, is_good}
+use Rattle.bi_commands.specs.Checking.{BadHash, UnhashedImage, WeakHash, concern_line, concern_lines, hash_concerns, hashed_concerns, is_good}
 use Rattle.bi_commands.specs.Checking.{is_strong, payload_concerns, protection_concerns}
 use Rattle.bi_commands.specs.ReadChecking.{good_algorithm}
-use Rattle.bi_commands.specs.Reports.{is_verdict, shown_or_none}
+use Rattle.bi_commands.specs.Reports.{shown_or_none}
 use Rattle.bi_commands.specs.Shown.{shown_text}
 use Rattle.bi_commands.proofs.ConcernLines.{lines_allowed, lines_append, lines_flat_map}
 use Rattle.bi_commands.proofs.FitLines.{joined_after}

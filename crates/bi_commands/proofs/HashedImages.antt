@@ -1,10 +1,10 @@
-use Rattle.std.proofs.Common.{◌≡◌, ◌≤◌, ◌+◌, ℕ, true, false, List, [], ◌∷◌, ◌++◌, map, filter, length, Option, refl, sym, ap, ap₂}
+use Rattle.std.proofs.Common.{◌≡◌, ◌≤◌, ℕ, true, false, List, [], ◌∷◌, ◌++◌, map, filter, length, Option, refl, sym, ap, ap₂}
 use Rattle.std.proofs.Common.{◌∙◌, ◌-◌, arith, drop, get_or, take, take_all}
 use Rattle.std.specs.List.{flat_map}
 use Rattle.std.specs.Option.{option_map}
 use Rattle.std.proofs.lemmas.Grind.{flat_map-append}
 use Rattle.bi_blob.specs.Lookups.{Sibling, siblings}
-use Rattle.bi_blob.specs.Tree.{none, node, FileNode}
+use Rattle.bi_blob.specs.Tree.{FileNode}
 use Rattle.bi_fit.specs.Content.{FitModel, ImageModel, tree_of}
 use Rattle.bi_fit.specs.HashNodes.{file_hash, file_hashes, file_images, file_verdicts}
 use Rattle.bi_fit.specs.Judgement.{Image, CheckedHash, checked_hash, images_of, images_with, verdicts_of}

@@ -3,9 +3,9 @@ use Rattle.std.specs.List.{AllByRecursion}
 use Rattle.bi_blob.specs.Tree.{FileNode, names}
 use Rattle.bi_blob.specs.Lookups.{Sibling, siblings}
 use Rattle.bi_fit.specs.declared.key.Key.{Key}
-use Rattle.bi_fit.specs.Content.{FitModel, ImageModel, IsHeld, tree_of}
+use Rattle.bi_fit.specs.Content.{FitModel, IsHeld, tree_of}
 use Rattle.bi_fit.specs.HashNodes.{IsConfiguration, file_configurations, file_listed}
-use Rattle.bi_fit.specs.Judgement.{configuration_nodes, listed_of}
+use Rattle.bi_fit.specs.Judgement.{configuration_nodes}
 use Rattle.bi_fit.specs.Names.{all_keys}
 use Rattle.bi_fit.proofs.FileConfigurations.{each_is_found, names_are}
 use Rattle.bi_fit.proofs.FileLists.{listed_is}

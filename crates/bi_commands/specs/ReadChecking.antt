@@ -1,5 +1,5 @@
 use Rattle.std.specs.Prelude.{◌≡◌, ◌⊎◌, ℕ, ◌+◌, max, List, [], ◌∷◌, ◌++◌, Option, flat_map}
-use Rattle.std.specs.Prelude.{length, drop, if◌then◌else◌}
+use Rattle.std.specs.Prelude.{drop, if◌then◌else◌}
 use Rattle.bi_base.specs.declared.fault.Error.{Error}
 use Rattle.bi_base.specs.declared.fault.Error.TheVariants.{OutOfMemory, Refused}
 use Rattle.bi_base.specs.Limits.{Limits}

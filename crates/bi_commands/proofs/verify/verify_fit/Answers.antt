@@ -1,4 +1,4 @@
-use Rattle.std.proofs.Common.{flat_map, refl, sym, ap, ◌∙◌, subst}
+use Rattle.std.proofs.Common.{flat_map, refl, sym, subst}
 use Rattle.std.proofs.lemmas.Result.{err_from_is_err_and}
 use Rattle.bi_base.specs.Commands.{SinkFailed}
 use Rattle.bi_fit.specs.Content.{tree_of}

@@ -1,6 +1,4 @@
 use Rattle.std.proofs.Common.{get_or, length, map, ap, refl, sym, ◌∙◌, rules}
-use Rattle.std.specs.Option.{option_map}
-use Rattle.bi_blob.specs.Lookups.{siblings_from}
 use Rattle.bi_fdt.specs.Views.{node_of}
 use Rattle.bi_fit.specs.Content.{image_model}
 use Rattle.bi_fit.proofs.PayloadEnds.{no_image}

@@ -1,4 +1,4 @@
-use Rattle.std.proofs.Common.{◌≡◌, Some, sym, ap, subst, ◌∙◌}
+use Rattle.std.proofs.Common.{Some, sym, ap, subst, ◌∙◌}
 use Rattle.std.specs.BTreeMap.{get, Updates}
 use Rattle.bi_hash.specs.Digests.{padded_digest}
 use Rattle.bi_hash.specs.Regions.{bytes_of_region}
