@@ -130,16 +130,16 @@ images_listed file (node name own children later) (payload ∷ payloads) bytes =
     (image_listed file name (source_of own) payload bytes.0) (images_listed file later payloads bytes.1)
 
 -- The names of nodes.
-pub names_bytes : {Own : Type 0} (nodes : Nodes Own) → HaveByteNames nodes → AllByRecursion AreBytes (names nodes)
-names_bytes none bytes = tt
-names_bytes (node name own children later) bytes = (bytes.0, names_bytes later bytes.2)
+pub node_names_bytes : {Own : Type 0} (nodes : Nodes Own) → HaveByteNames nodes → AllByRecursion AreBytes (names nodes)
+node_names_bytes none bytes = tt
+node_names_bytes (node name own children later) bytes = (bytes.0, node_names_bytes later bytes.2)
 
 -- The names of the image nodes of a file are bytes.
 image_names : (file : List ℕ) (tree : ImageTree) (is : IsFitFile file tree) → AllByRecursion AreBytes (names is.images)
 image_names file tree is =
     subst (AllByRecursion AreBytes)
     (names-without_payloads by_name ∙ (names-with_each from_entries plain ∙ names-with_each properties_of is.images))
-    (names_bytes (without_payloads by_name)
+    (node_names_bytes (without_payloads by_name)
     (bytes-children_of images_name tree.root.children (without_payloads by_name) found (file_means_image_tree file tree is).name_bytes))
   where
     plain : Nodes (List Property)
@@ -224,9 +224,9 @@ named_own wanted (node name own children later) found are is =
     where_first false at_name is rest = rest (rw at_name at is)
 
 -- The configurations of a tree.
-pub configurations_are : (tree : ImageTree) → IsImageTree tree →
+pub configurations_are_nodes : (tree : ImageTree) → IsImageTree tree →
     AreNodes ArePropertiesByName (configuration_nodes tree) × HaveByteNames (configuration_nodes tree)
-configurations_are tree is = by (children_of configurations_name tree.root.children) refl
+configurations_are_nodes tree is = by (children_of configurations_name tree.root.children) refl
   where
     by : (o : Option (Nodes PropertyMap)) → children_of configurations_name tree.root.children ≡ o →
         AreNodes ArePropertiesByName (nodes_or_none o) × HaveByteNames (nodes_or_none o)
@@ -244,7 +244,7 @@ listed_of_bytes tree is name key = by (node_named (configuration_nodes tree) nam
     by None found = tt
     by (Some configuration) found =
         key_bytes (images_of tree) configuration.own (key_name key)
-        (named_own name (configuration_nodes tree) configuration (configurations_are tree is).0 found)
+        (named_own name (configuration_nodes tree) configuration (configurations_are_nodes tree is).0 found)
 
 pub key_word : (key : Key) → HasAscii (key_name key)
 key_word Kernel = by_test (codes "kernel") refl
@@ -295,8 +295,8 @@ configuration_listed tree is configuration bytes =
     (λ key. key_listed configuration key (listed_of tree configuration key) bytes (listed_of_bytes tree is configuration key)) all_keys)
 
 -- The name of the default configuration.
-pub text_bytes : (value : List ℕ) → AreBytes value → IfSome (text_before_nul value) AreBytes
-text_bytes value bytes = by (text_before_nul value) refl
+pub before_nul_bytes : (value : List ℕ) → AreBytes value → IfSome (text_before_nul value) AreBytes
+before_nul_bytes value bytes = by (text_before_nul value) refl
   where
     by : (o : Option (List ℕ)) → text_before_nul value ≡ o → IfSome o AreBytes
     by None is = tt
@@ -310,7 +310,7 @@ default_bytes tree is = by (node_named tree.root.children configurations_name) r
     in_node : (own : PropertyMap) → ArePropertiesByName own → (o : Option (List ℕ)) → get own default_name ≡ o →
         IfSome (option_and_then text_before_nul o) AreBytes
     in_node own are None there = tt
-    in_node own are (Some value) there = text_bytes value (are default_name value there).value_bytes
+    in_node own are (Some value) there = before_nul_bytes value (are default_name value there).value_bytes
 
     by : (o : Option (Sibling PropertyMap)) → node_named tree.root.children configurations_name ≡ o →
         IfSome
@@ -351,7 +351,7 @@ fit_listed file tree is =
     (both images (configurations ++ last) (images_listed file is.images tree.payloads (image_names file tree is))
     (both configurations last
     (each_text AreBytes (configuration_lines tree) (configuration_listed tree good) (names (configuration_nodes tree))
-    (names_bytes (configuration_nodes tree) (configurations_are tree good).1))
+    (node_names_bytes (configuration_nodes tree) (configurations_are_nodes tree good).1))
     (default_listed (default_of tree) (default_bytes tree good)))))))
 
 -- A listing is ASCII.

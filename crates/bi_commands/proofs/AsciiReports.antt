@@ -1,8 +1,7 @@
-use Rattle.std.proofs.Common.{◌≡◌, ℕ, ◌<◌, ◌==◌, Bool, true, false, cond, List, [], ◌∷◌, ◌++◌, map, flat_map, filter, codes, bytes_eq, length, refl, sym, subst}
+use Rattle.std.proofs.Common.{◌≡◌, ℕ, ◌==◌, Bool, true, false, cond, List, [], ◌∷◌, ◌++◌, map, flat_map, filter, codes, bytes_eq, length, refl, sym, subst}
 use Rattle.std.proofs.Common.{Option, Some, None, not, drop, ◌-◌}
-use Rattle.std.specs.Prelude.{⊤, IfSome, IsAscii, option_and_then, if◌then◌else◌}
+use Rattle.std.specs.Prelude.{⊤, IfSome, IsAscii, option_and_then}
 use Rattle.std.specs.List.{AllByRecursion, list_all, list_any}
-use Rattle.std.specs.Option.{option_map}
 use Rattle.std.specs.FinMap.{get}
 use Rattle.bi_base.specs.Cells.{AreBytes}
 use Rattle.bi_base.specs.Limits.{Limits}
@@ -11,7 +10,7 @@ use Rattle.bi_base.proofs.ListMembers.{each-append}
 use Rattle.bi_blob.specs.Lookups.{Sibling, siblings}
 use Rattle.bi_blob.specs.Tree.{Nodes, none, node, PropertyMap, AreNodes, names}
 use Rattle.bi_fit.specs.declared.key.Key.{Key}
-use Rattle.bi_fit.specs.ImageTree.{ImageTree, ArePropertiesByName, HaveByteNames, IsImageTree, children_of, image_nodes, nodes_or_none}
+use Rattle.bi_fit.specs.ImageTree.{ImageTree, ArePropertiesByName, HaveByteNames, IsImageTree, children_of, nodes_or_none}
 use Rattle.bi_fit.specs.Judgement.{Image, CheckedHash, ListResult, NoConfig, NoKey, BadList, Missing, ListedImages, checked_hash}
 use Rattle.bi_fit.specs.Judgement.{configuration_nodes, default_of, hash_nodes, images_of, images_with, listed_of, verdicts_of}
 use Rattle.bi_fit.specs.Names.{algo_name, value_name, all_keys, images_name, is_hash_name}
@@ -24,15 +23,14 @@ use Rattle.bi_commands.specs.declared.check.Allowed.{Allowed}
 use Rattle.bi_commands.specs.CheckedFiles.{IsChecked}
 use Rattle.bi_commands.specs.Checking.{Concern, BadHash, UnhashedImage, WeakHash, BadKey, MissingImage, BadDefault, TrailingBytes, allows, kind_of}
 use Rattle.bi_commands.specs.Checking.{AreConcerns, OfLegacyImage, OfImageTree, content_end, concern_line, concern_lines, configuration_concerns, default_concerns}
-use Rattle.bi_commands.specs.Checking.{hash_concerns, hashed_concerns, hashes_of_image, image_concerns, is_good, is_strong, kind_word}
+use Rattle.bi_commands.specs.Checking.{hash_concerns, hashes_of_image, image_concerns, is_good, is_strong}
 use Rattle.bi_commands.specs.Checking.{list_concerns, names_one_of, payload_concerns, tree_concerns, trailing_concerns}
-use Rattle.bi_commands.specs.Descriptions.{Words}
-use Rattle.bi_commands.specs.Reports.{IsReport, GoodChecksum, HashVerdict, Summary, ReportLine, counts_of, hash_report, legacy_report, report_line}
-use Rattle.bi_commands.specs.Reports.{report_lines, report_of, shown_or_none, value_word, verdict_word}
+use Rattle.bi_commands.specs.Reports.{IsReport, HashVerdict, Summary, ReportLine, counts_of, report_line}
+use Rattle.bi_commands.specs.Reports.{report_of, shown_or_none, value_word, verdict_word}
 use Rattle.bi_commands.specs.Shown.{shown_text}
 use Rattle.bi_commands.specs.ValueTexts.{hexadecimal_digits}
-use Rattle.bi_commands.proofs.AsciiListings.{configurations_are, default_bytes, key_word, names_bytes, text_bytes}
-use Rattle.bi_commands.proofs.AsciiTexts.{HasAscii, AreAsciiWords, ascii_line, both, by_test, bytes_digits, decimal_shown, each_text, is_ascii}
+use Rattle.bi_commands.proofs.AsciiListings.{configurations_are_nodes, default_bytes, key_word, node_names_bytes, before_nul_bytes}
+use Rattle.bi_commands.proofs.AsciiTexts.{HasAscii, AreAsciiWords, ascii_line, both, by_test, bytes_digits, decimal_shown, is_ascii}
 use Rattle.bi_commands.proofs.AsciiTexts.{name_shown}
 
 -- Proves that reports and lines of concerns are ASCII: the names and values that they show are bytes.
@@ -44,12 +42,13 @@ abbrev IsByteHash : CheckedHash → Type 0
 IsByteHash hash = AreBytes hash.image × AreBytes hash.node_name × IfSome hash.algo AreBytes × IfSome hash.value AreBytes
 
 -- The text of a property.
-text_property : (own : PropertyMap) (name : List ℕ) → ArePropertiesByName own → IfSome (option_and_then text_before_nul (get own name)) AreBytes
+text_property : (own : PropertyMap) (name : List ℕ) → ArePropertiesByName own →
+    IfSome (option_and_then text_before_nul (get own name)) AreBytes
 text_property own name are = by (get own name) refl
   where
     by : (o : Option (List ℕ)) → get own name ≡ o → IfSome (option_and_then text_before_nul o) AreBytes
     by None there = tt
-    by (Some value) there = text_bytes value (are name value there).value_bytes
+    by (Some value) there = before_nul_bytes value (are name value there).value_bytes
 
 value_property : (own : PropertyMap) (name : List ℕ) → ArePropertiesByName own → IfSome (get own name) AreBytes
 value_property own name are = by (get own name) refl
@@ -58,9 +57,13 @@ value_property own name are = by (get own name) refl
     by None there = tt
     by (Some value) there = (are name value there).value_bytes
 
+-- The hash nodes among these children.
+abbrev hash_children : List (Sibling PropertyMap) → List (Sibling PropertyMap)
+hash_children children = filter (λ child. is_hash_name child.name) children
+
 -- The hash nodes of an image.
 hashes_bytes : (image : Image) → AreBytes image.entry.name → (nodes : Nodes PropertyMap) → AreNodes ArePropertiesByName nodes →
-    HaveByteNames nodes → AllByRecursion IsByteHash (map (checked_hash image) (filter (λ (child : Sibling PropertyMap). is_hash_name child.name) (siblings nodes)))
+    HaveByteNames nodes → AllByRecursion IsByteHash (map (checked_hash image) (hash_children (siblings nodes)))
 hashes_bytes image named none are bytes = tt
 hashes_bytes image named (node name own children later) are bytes =
     by (is_hash_name name) refl (hashes_bytes image named later are.2 bytes.2)
@@ -69,8 +72,8 @@ hashes_bytes image named (node name own children later) are bytes =
     first = record { name = name; own = own; children = children; later = later }
 
     by : (b : Bool) → is_hash_name name ≡ b →
-        AllByRecursion IsByteHash (map (checked_hash image) (filter (λ (child : Sibling PropertyMap). is_hash_name child.name) (siblings later))) →
-        AllByRecursion IsByteHash (map (checked_hash image) (filter (λ (child : Sibling PropertyMap). is_hash_name child.name) (first ∷ siblings later)))
+        AllByRecursion IsByteHash (map (checked_hash image) (hash_children (siblings later))) →
+        AllByRecursion IsByteHash (map (checked_hash image) (hash_children (first ∷ siblings later)))
     by true is rest = rw is ((named, bytes.0, text_property own algo_name are.0.is_own, value_property own value_name are.0.is_own), rest)
     by false is rest = rw is rest
 
@@ -124,8 +127,8 @@ hash_shown hash bytes =
     (shown_text hash.image ∷ shown_text hash.node_name ∷ shown_or_none hash.algo ∷ verdict_word hash.verdict ∷ value_word hash.value ∷ [])
     (name_shown hash.image bytes.0, (name_shown hash.node_name bytes.1, (maybe_shown hash.algo bytes.2, (verdict_shown hash.verdict, (value_shown hash.value bytes.3, tt)))))
 
-hash_lines_shown : (hashes : List CheckedHash) (last : List ReportLine) → AllByRecursion IsByteHash hashes → HasAscii (flat_map report_line last) →
-    HasAscii (flat_map report_line (map HashVerdict hashes ++ last))
+hash_lines_shown : (hashes : List CheckedHash) (last : List ReportLine) → AllByRecursion IsByteHash hashes →
+    HasAscii (flat_map report_line last) → HasAscii (flat_map report_line (map HashVerdict hashes ++ last))
 hash_lines_shown [] last bytes rest = rest
 hash_lines_shown (hash ∷ later) last bytes rest =
     both (report_line (HashVerdict hash)) (flat_map report_line (map HashVerdict later ++ last)) (hash_shown hash bytes.0) (hash_lines_shown later last bytes.1 rest)
@@ -216,11 +219,13 @@ concern_shown (BadDefault default) bytes =
 concern_shown (TrailingBytes count) bytes =
     ascii_line (codes "trailing" ∷ _ ∷ []) (by_test (codes "trailing") refl, (decimal_shown count, tt))
 
-lines_shown : (allowed : Allowed) (concerns : List Concern) → AllByRecursion IsByteConcern concerns → HasAscii (concern_lines allowed concerns)
+lines_shown : (allowed : Allowed) (concerns : List Concern) → AllByRecursion IsByteConcern concerns →
+    HasAscii (concern_lines allowed concerns)
 lines_shown allowed [] bytes = tt
 lines_shown allowed (concern ∷ later) bytes = by (allows allowed (kind_of concern)) refl (lines_shown allowed later bytes.1)
   where
-    by : (b : Bool) → allows allowed (kind_of concern) ≡ b → HasAscii (concern_lines allowed later) → HasAscii (concern_lines allowed (concern ∷ later))
+    by : (b : Bool) → allows allowed (kind_of concern) ≡ b → HasAscii (concern_lines allowed later) →
+        HasAscii (concern_lines allowed (concern ∷ later))
     by true is rest = rw is rest
     by false is rest = rw is (both (concern_line concern) (concern_lines allowed later) (concern_shown concern bytes.0) rest)
 
@@ -238,7 +243,8 @@ good_bytes : (hashes : List CheckedHash) → AllByRecursion IsByteHash hashes �
 good_bytes [] bytes = tt
 good_bytes (hash ∷ later) bytes = by (is_good hash) refl (good_bytes later bytes.1)
   where
-    by : (b : Bool) → is_good hash ≡ b → AllByRecursion IsByteHash (filter is_good later) → AllByRecursion IsByteHash (filter is_good (hash ∷ later))
+    by : (b : Bool) → is_good hash ≡ b → AllByRecursion IsByteHash (filter is_good later) →
+        AllByRecursion IsByteHash (filter is_good (hash ∷ later))
     by true is rest = rw is (bytes.0, rest)
     by false is rest = rw is rest
 
@@ -247,7 +253,8 @@ payload_bytes : (name : List ℕ) (payload : Option (List ℕ)) (hashes : List C
 payload_bytes name None hashes named bytes = tt
 payload_bytes name (Some payload) hashes named bytes = by (not (list_any is_good hashes)) (not (list_any is_strong hashes))
   where
-    by : (a b : Bool) → AllByRecursion IsByteConcern (cond a (UnhashedImage name ∷ []) (cond b (WeakHash name (filter is_good hashes) ∷ []) []))
+    by : (a b : Bool) →
+        AllByRecursion IsByteConcern (cond a (UnhashedImage name ∷ []) (cond b (WeakHash name (filter is_good hashes) ∷ []) []))
     by true b = (named, tt)
     by false true = ((named, good_bytes hashes bytes), tt)
     by false false = tt
@@ -296,7 +303,7 @@ tree_shown tree is =
     (flat_map (configuration_concerns tree) configurations ++ default_concerns (default_of tree) configurations)
     (images_shown (images_of tree) (tree_images tree is))
     (each-append IsByteConcern (flat_map (configuration_concerns tree) configurations) (default_concerns (default_of tree) configurations)
-    (configurations_shown tree configurations (names_bytes (configuration_nodes tree) (configurations_are tree is).1))
+    (configurations_shown tree configurations (node_names_bytes (configuration_nodes tree) (configurations_are_nodes tree is).1))
     (default_shown (default_of tree) configurations (default_bytes tree is)))
 
 trailing_shown : (bytes : List ℕ) → AllByRecursion IsByteConcern (trailing_concerns bytes)

@@ -1,20 +1,16 @@
-use Rattle.std.proofs.Common.{◌≡◌, ◌<◌, ◌↔◌, ℕ, ◌-◌, max, Bool, IsTrue, Result, Ok, Err, IfOk, IfErr, OnOk, List, [], ◌∷◌, ◌++◌, Option, Some, None, length, drop, map}
-use Rattle.std.proofs.Common.{refl, sym, ap, ap₂, subst, ◌∙◌, append_assoc, arith, inl, inr}
+use Rattle.std.proofs.Common.{◌≡◌, ◌↔◌, ℕ, ◌-◌, max, Bool, IsTrue, Result, Ok, Err, IfOk, IfErr, OnOk, List, [], ◌∷◌, ◌++◌, Option, Some, None, length, drop, map}
+use Rattle.std.proofs.Common.{refl, sym, ap, ap₂, subst, ◌∙◌, append_assoc, inl, inr}
 use Rattle.std.specs.List.{AllZip}
 use Rattle.bi_base.specs.Commands.{Appended, AppendFailed, WasRefused, SinkFailed}
 use Rattle.bi_base.specs.declared.fault.Error.{Error}
 use Rattle.bi_base.specs.declared.fault.Error.TheVariants.{Refused, OutOfMemory, ReadFailed, WriteFailed}
-use Rattle.bi_base.specs.declared.fault.Fault.{Fault}
 use Rattle.bi_base.specs.Limits.{Limits}
-use Rattle.bi_base.specs.Reading.{too_large}
 use Rattle.bi_base.specs.Sinks.{FailsWithin, Wrote}
 use Rattle.bi_base.specs.VecSinks.{Grows, IsOutOfMemory}
 use Rattle.bi_blob.specs.Blob.{totalsize}
 use Rattle.bi_blob.specs.Lookups.{siblings}
 use Rattle.bi_blob.specs.Tree.{Nodes, none, node, FileNode}
-use Rattle.bi_fit.specs.NormalNodes.{payloads_of}
-use Rattle.bi_fit.specs.declared.image.Image.{Image as ImageRead}
-use Rattle.bi_fit.specs.Content.{FitModel, ImageModel, image_model, tree_of, place_of, IsReadImage}
+use Rattle.bi_fit.specs.Content.{FitModel, ImageModel, tree_of, place_of, IsReadImage}
 use Rattle.bi_fit.specs.ImageTree.{image_nodes, nodes_or_none}
 use Rattle.bi_fit.specs.HashNodes.{file_images}
 use Rattle.bi_fit.specs.Payloads.{PayloadSource, NoSource, Data, DataOffset, DataPosition, source_of, IsPayload}
@@ -27,7 +23,7 @@ use Rattle.bi_commands.specs.declared.check.Allowed.{Allowed}
 use Rattle.bi_commands.specs.CheckedFiles.{IsChecked, IsCheckError, IsCheckOutput}
 use Rattle.bi_commands.specs.Checking.{Concern, OfLegacyImage, OfImageTree, concern_lines, content_end, payload_end, tree_concerns}
 use Rattle.bi_commands.specs.Checking.{trailing_concerns}
-use Rattle.bi_commands.specs.PayloadBounds.{IsOverPayloadBound, payloads_length}
+use Rattle.bi_commands.specs.PayloadBounds.{IsOverPayloadBound}
 use Rattle.bi_commands.specs.ReadChecking.{IsReadCheckError, IsReadCheckText, configurations_concerns, end_at, end_of_read_payloads, images_concerns}
 use Rattle.bi_commands.specs.HashedImages.{images_of_blob}
 use Rattle.bi_commands.specs.ReadChecking.{read_concerns, read_default_concerns}

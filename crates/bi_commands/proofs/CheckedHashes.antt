@@ -1,12 +1,12 @@
-use Rattle.std.proofs.Common.{◌≡◌, ℕ, Bool, true, false, List, [], ◌∷◌, ◌++◌, map, codes, flat_map, filter, refl, sym, ap, ap₂, ◌∙◌, append_assoc}
+use Rattle.std.proofs.Common.{◌≡◌, ℕ, Bool, true, false, List, [], ◌∷◌, ◌++◌, map, codes, flat_map, filter, refl, sym, ap, ◌∙◌, append_assoc}
 use Rattle.std.proofs.Common.{Option}
 use Rattle.std.specs.List.{join_with_byte, list_any}
 use Rattle.bi_fit.specs.Judgement.{CheckedHash}
 use Rattle.bi_commands.specs.declared.check.Allowed.{Allowed}
-use Rattle.bi_commands.specs.Checking.{Concern, BadHash, UnhashedImage, WeakHash, concern_line, concern_lines, hash_concerns, hashed_concerns, is_good}
+use Rattle.bi_commands.specs.Checking.{BadHash, UnhashedImage, WeakHash, concern_line, concern_lines, hash_concerns, hashed_concerns, is_good}
 use Rattle.bi_commands.specs.Checking.{is_strong, payload_concerns, protection_concerns}
 use Rattle.bi_commands.specs.ReadChecking.{good_algorithm}
-use Rattle.bi_commands.specs.Reports.{is_verdict, shown_or_none}
+use Rattle.bi_commands.specs.Reports.{shown_or_none}
 use Rattle.bi_commands.specs.Shown.{shown_text}
 use Rattle.bi_commands.proofs.ConcernLines.{lines_allowed, lines_append, lines_flat_map}
 use Rattle.bi_commands.proofs.FitLines.{joined_after}
@@ -57,11 +57,11 @@ pub strong_only : (image : List ℕ) (hashes : List CheckedHash) → list_any is
 strong_only image hashes some strong = rw (some, strong) refl
 
 -- A hash node with the verdict Good has no concern, and any other one has one.
-pub good_hash : (hash : CheckedHash) → is_good hash ≡ true → hash_concerns hash ≡ []
-good_hash hash is = rw is refl
+pub good_hash_concerns : (hash : CheckedHash) → is_good hash ≡ true → hash_concerns hash ≡ []
+good_hash_concerns hash is = rw is refl
 
-pub bad_hash : (hash : CheckedHash) → is_good hash ≡ false → hash_concerns hash ≡ BadHash hash ∷ []
-bad_hash hash is = rw is refl
+pub bad_hash_concerns : (hash : CheckedHash) → is_good hash ≡ false → hash_concerns hash ≡ BadHash hash ∷ []
+bad_hash_concerns hash is = rw is refl
 
 -- The lines of an image: those of its hash nodes, and then that of its payload.
 pub image_pieces : (allowed : Allowed) (image : List ℕ) (payload : Option (List ℕ)) (hashes : List CheckedHash) →

@@ -1,4 +1,4 @@
-use Rattle.std.proofs.Common.{◌≡◌, ℕ, Bool, true, false, not, List, [], ◌∷◌, ◌++◌, flat_map, filter, refl, ap, ◌∙◌}
+use Rattle.std.proofs.Common.{◌≡◌, Bool, true, false, not, List, [], ◌∷◌, ◌++◌, flat_map, filter, refl, ap, ◌∙◌}
 use Rattle.std.proofs.lemmas.List.{append-nil}
 use Rattle.std.proofs.lemmas.List.Elements.{filter-append}
 use Rattle.std.proofs.lemmas.Grind.{flat_map-append}
@@ -8,7 +8,8 @@ use Rattle.bi_commands.specs.Checking.{Concern, allows, concern_line, concern_li
 -- A concern that is allowed has no line, one that is not allowed has one, and the lines of several concerns are those of each in turn.
 
 -- A concern that is allowed has no line.
-pub lines_allowed : (allowed : Allowed) (concern : Concern) → allows allowed (kind_of concern) ≡ true → concern_lines allowed (concern ∷ []) ≡ []
+pub lines_allowed : (allowed : Allowed) (concern : Concern) → allows allowed (kind_of concern) ≡ true →
+    concern_lines allowed (concern ∷ []) ≡ []
 lines_allowed allowed concern is = rw is refl
 
 -- A concern that is not allowed has its line.

@@ -27,7 +27,7 @@ use Rattle.bi_commands.specs.ReadReports.{lines_of_image}
 use Rattle.bi_commands.specs.Reports.{HashVerdict, Summary, AreGood, IsReport, IsVerifyOutput, counts_of, is_verdict, legacy_report}
 use Rattle.bi_commands.specs.Reports.{report_line, report_of}
 use Rattle.bi_commands.specs.Shown.{digits_of_byte}
-use Rattle.bi_commands.specs.VerdictCounts.{are_good}
+use Rattle.bi_commands.specs.VerdictCounts.{are_good, counts_model, hash_counts}
 use Rattle.bi_commands.proofs.HashedImages.{lines_of_images}
 use Rattle.bi_commands.proofs.ImageCalls.{tree_needs_memory}
 use Rattle.bi_commands.proofs.VerdictCounts.{good_counts}
@@ -93,24 +93,24 @@ tree_reported limits file content good is are = record {
 }
 
 -- All verdicts are good if the counts are those of good verdicts.
-pub good_of_counts : (hashes : List CheckedHash) (counts : Counts) (good : Bool) → counts ≡ counts_of hashes → good ≡ are_good counts →
+pub good_of_counts : (hashes : List CheckedHash) (counts : Counts) (good : Bool) → counts ≡ hash_counts hashes → good ≡ are_good counts →
     IsTrue good ↔ AreGood hashes
 good_of_counts hashes counts good counted tested =
     subst (λ (b : Bool). IsTrue b ↔ AreGood hashes) (sym (tested ∙ ap are_good counted ∙ good_counts hashes)) (all_good hashes)
 
 -- The lines of all hash nodes, and the last line.
-pub tree_lines : (content : FitModel) (counts : Counts) → counts ≡ counts_of (verdicts_of (tree_of content)) →
-    report_of (OfFit (tree_of content)) ≡ flat_map lines_of_image (images_of_blob content) ++ report_line (Summary counts)
-tree_lines content counts counted =
+pub lines_of_report : (content : FitModel) (counts : Counts) → counts ≡ hash_counts (verdicts_of (tree_of content)) →
+    report_of (OfFit (tree_of content)) ≡ flat_map lines_of_image (images_of_blob content) ++ report_line (Summary (counts_model counts))
+lines_of_report content counts counted =
     let hashes = verdicts_of (tree_of content) in
     flat_map-append report_line (map HashVerdict hashes) (Summary (counts_of hashes) ∷ [])
     ∙ ap₂ (λ (a b : List ℕ). a ++ b)
     (flat_map-map report_line HashVerdict hashes ∙ sym (lines_of_images content))
-    (append-nil (report_line (Summary (counts_of hashes))) ∙ ap (λ (numbers : Counts). report_line (Summary numbers)) (sym counted))
+    (append-nil (report_line (Summary (counts_of hashes))) ∙ ap (λ (numbers : Counts). report_line (Summary (counts_model numbers))) (sym counted))
 
 -- An error is one of reading the file,
-pub not_verified : {S : Type 0} (fails : S → List ℕ → S → Error → Type 0) (limits : Limits) (file : List ℕ) (content : FitModel) (old new : S)
-    (error : Error) → IsReadFit limits file content
+pub not_verified : {S : Type 0} (fails : S → List ℕ → S → Error → Type 0) (limits : Limits) (file : List ℕ) (content : FitModel)
+    (old new : S) (error : Error) → IsReadFit limits file content
     → AppendFailed fails (λ text. text ≡ report_of (OfFit (tree_of content))) (λ error. error ≡ OutOfMemory) old new error
     → AppendFailed fails (IsReport limits file) (IsBootImageReadError limits file) old new error
 not_verified fails limits file content old new error is (WasRefused none kept) =

@@ -1,4 +1,4 @@
-use Rattle.std.proofs.Common.{◌≡◌, ℕ, List, [], ◌∷◌, ◌++◌, flat_map, append-nil, append_assoc, refl, sym, ap, ◌∙◌, subst, Result, IsErrAnd}
+use Rattle.std.proofs.Common.{◌≡◌, ℕ, List, [], ◌∷◌, ◌++◌, flat_map, append-nil, append_assoc, sym, ap, ◌∙◌, subst, Result, IsErrAnd}
 use Rattle.bi_base.specs.Sinks.{AppendsInTurn, AppendsNothing, FailsAfter, FailsBefore, Wrote}
 use Rattle.bi_base.specs.declared.fault.Error.{Error}
 use Rattle.bi_commands.proofs.LineChains.{next_fails}

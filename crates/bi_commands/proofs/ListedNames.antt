@@ -11,7 +11,7 @@ use Rattle.bi_fit.specs.Names.{key_name}
 use Rattle.bi_fit.specs.HashNodes.{file_list, file_listed_in, listed_payload}
 use Rattle.bi_fit.proofs.FileLists.{payload_found, payload_named-missing}
 use Rattle.bi_commands.specs.FitListing.{key_line}
-use Rattle.bi_commands.specs.Listed.{AreImages}
+use Rattle.bi_commands.specs.Listed.{AreListedImages}
 use Rattle.bi_commands.specs.ReadListing.{missing_from, first_missing}
 use Rattle.bi_commands.specs.Shown.{line, shown_text}
 use Rattle.bi_commands.proofs.FitLines.{joined_after}
@@ -67,7 +67,7 @@ shown_names [] = refl
 shown_names (image ∷ later) = ap (λ names. shown_text image.name ∷ names) (shown_names later)
 
 -- The line of a key that lists these names.
-pub images_line : (configuration : List ℕ) (key : Key) (result : ListResult) (names : List (List ℕ)) → AreImages result names →
+pub images_line : (configuration : List ℕ) (key : Key) (result : ListResult) (names : List (List ℕ)) → AreListedImages result names →
     key_line configuration key result ≡ line (codes "key" ∷ shown_text configuration ∷ key_name key ∷ codes "ok" ∷ map shown_text names)
 images_line configuration key result names are =
     ap (key_line configuration key) are.is_listed
@@ -102,7 +102,7 @@ listed_missing images value index ends is = rw ends (missing_is images 0 index (
 
 -- or images are listed.
 pub listed_images : (images : List ImageModel) (value : List ℕ) → ends_with nat_eq value (0 ∷ []) ≡ true →
-    first_missing images 0 (listed_names value) ≡ None → AreImages (file_listed_in images value) (listed_names value)
+    first_missing images 0 (listed_names value) ≡ None → AreListedImages (file_listed_in images value) (listed_names value)
 listed_images images value ends is =
     let (listed, found, named) = names_found images 0 (listed_names value) is in
     record { images = listed; is_listed = rw ends found; are_names = named }

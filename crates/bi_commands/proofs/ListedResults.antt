@@ -3,15 +3,15 @@ use Rattle.std.specs.List.{AllByRecursion}
 use Rattle.bi_blob.specs.Tree.{FileNode, names}
 use Rattle.bi_blob.specs.Lookups.{Sibling, siblings}
 use Rattle.bi_fit.specs.declared.key.Key.{Key}
-use Rattle.bi_fit.specs.Content.{FitModel, ImageModel, IsHeld, tree_of}
+use Rattle.bi_fit.specs.Content.{FitModel, IsHeld, tree_of}
 use Rattle.bi_fit.specs.HashNodes.{IsConfiguration, file_configurations, file_listed}
-use Rattle.bi_fit.specs.Judgement.{configuration_nodes, listed_of}
+use Rattle.bi_fit.specs.Judgement.{configuration_nodes}
 use Rattle.bi_fit.specs.Names.{all_keys}
 use Rattle.bi_fit.proofs.FileConfigurations.{each_is_found, names_are}
 use Rattle.bi_fit.proofs.FileLists.{listed_is}
 use Rattle.bi_commands.specs.declared.check.Allowed.{Allowed}
 use Rattle.bi_commands.specs.Checking.{Concern, concern_lines, configuration_concerns, list_concerns}
-use Rattle.bi_commands.specs.ReadChecking.{configurations_concerns, node_lines}
+use Rattle.bi_commands.specs.ReadChecking.{configurations_concerns, configuration_concern_lines}
 use Rattle.bi_commands.proofs.ConcernLines.{lines_flat_map}
 
 -- The concerns about configurations are those about the children of the node of the configurations, one after the other.
@@ -23,7 +23,7 @@ same_concerns f g same (x ∷ xs) = ap₂ (λ first later. first ++ later) (same
 
 -- The lines of the concerns about a configuration.
 lines_of_node : (allowed : Allowed) (content : FitModel) → IsHeld content → (entry : Sibling FileNode) → IsConfiguration content entry →
-    concern_lines allowed (configuration_concerns (tree_of content) entry.name) ≡ node_lines allowed content.images entry
+    concern_lines allowed (configuration_concerns (tree_of content) entry.name) ≡ configuration_concern_lines allowed content.images entry
 lines_of_node allowed content held entry is =
     let concerns : Key → List Concern = λ key. list_concerns entry.name key (file_listed content.images entry key) in
     ap (concern_lines allowed)
@@ -34,7 +34,7 @@ lines_of_node allowed content held entry is =
 lines_of_nodes : (allowed : Allowed) (content : FitModel) → IsHeld content → (entries : List (Sibling FileNode)) →
     AllByRecursion (IsConfiguration content) entries →
     flat_map (λ name. concern_lines allowed (configuration_concerns (tree_of content) name)) (map (λ sibling. sibling.name) entries)
-    ≡ flat_map (node_lines allowed content.images) entries
+    ≡ flat_map (configuration_concern_lines allowed content.images) entries
 lines_of_nodes allowed content held [] are = refl
 lines_of_nodes allowed content held (entry ∷ later) are =
     ap₂ (λ (first rest : List ℕ). first ++ rest) (lines_of_node allowed content held entry are.0) (lines_of_nodes allowed content held later are.1)
@@ -42,7 +42,7 @@ lines_of_nodes allowed content held (entry ∷ later) are =
 -- About all.
 pub lines_of_configurations : (allowed : Allowed) (content : FitModel) → IsHeld content →
     concern_lines allowed (configurations_concerns content)
-    ≡ flat_map (node_lines allowed content.images) (siblings (file_configurations content.blob))
+    ≡ flat_map (configuration_concern_lines allowed content.images) (siblings (file_configurations content.blob))
 lines_of_configurations allowed content held =
     lines_flat_map allowed (configuration_concerns (tree_of content)) (names (configuration_nodes (tree_of content)))
     ∙ ap (flat_map (λ name. concern_lines allowed (configuration_concerns (tree_of content) name))) (names_are content)

@@ -10,8 +10,8 @@ use Rattle.bi_fit.specs.Names.{is_hash_name}
 use Rattle.bi_hash.specs.declared.verdicts.Verdict.{Verdict}
 use Rattle.bi_hash.specs.declared.verdicts.Verdict.TheVariants.{Good, Bad, UnknownAlgo, NoPayload, Malformed}
 use Rattle.bi_commands.specs.declared.verdict_counts.Counts.{Counts}
-use Rattle.bi_commands.specs.Reports.{counts_of, is_verdict}
-use Rattle.bi_commands.specs.VerdictCounts.{are_good, one_more, plus_hashes, total}
+use Rattle.bi_commands.specs.Reports.{is_verdict}
+use Rattle.bi_commands.specs.VerdictCounts.{are_good, hash_counts, one_more_verdict, plus_hashes, total}
 
 -- The verdicts on the first hash nodes and on the later ones are counted one after the other.
 
@@ -22,10 +22,11 @@ same_counts one other a b c d e = rw (a, b, c, d, e) refl
 
 -- A hash node is counted before the later ones.
 pub counted_first : (counts : Counts) (hash : CheckedHash) (later : List CheckedHash) →
-    plus_hashes counts (hash ∷ later) ≡ plus_hashes (one_more hash.verdict counts) later
+    plus_hashes counts (hash ∷ later) ≡ plus_hashes (one_more_verdict hash.verdict counts) later
 counted_first counts hash later = by hash.verdict refl
   where
-    by : (verdict : Verdict) → hash.verdict ≡ verdict → plus_hashes counts (hash ∷ later) ≡ plus_hashes (one_more verdict counts) later
+    by : (verdict : Verdict) → hash.verdict ≡ verdict →
+        plus_hashes counts (hash ∷ later) ≡ plus_hashes (one_more_verdict verdict counts) later
     by Good is = rw is (same_counts _ _ (omega arith) (omega arith) (omega arith) (omega arith) (omega arith))
     by Bad is = rw is (same_counts _ _ (omega arith) (omega arith) (omega arith) (omega arith) (omega arith))
     by UnknownAlgo is = rw is (same_counts _ _ (omega arith) (omega arith) (omega arith) (omega arith) (omega arith))
@@ -33,7 +34,7 @@ counted_first counts hash later = by hash.verdict refl
     by Malformed is = rw is (same_counts _ _ (omega arith) (omega arith) (omega arith) (omega arith) (omega arith))
 
 -- It is one more.
-pub total_first : (verdict : Verdict) (counts : Counts) → total (one_more verdict counts) ≡ total counts + 1
+pub total_first : (verdict : Verdict) (counts : Counts) → total (one_more_verdict verdict counts) ≡ total counts + 1
 total_first Good counts = omega arith
 total_first Bad counts = omega arith
 total_first UnknownAlgo counts = omega arith
@@ -50,11 +51,11 @@ pub counted_before : (counts : Counts) (first later : List CheckedHash) →
 counted_before counts [] later = ap (λ (counts : Counts). plus_hashes counts later) (sym (counted_none counts))
 counted_before counts (hash ∷ first) later =
     counted_first counts hash (first ++ later)
-    ∙ counted_before (one_more hash.verdict counts) first later
+    ∙ counted_before (one_more_verdict hash.verdict counts) first later
     ∙ ap (λ (counts : Counts). plus_hashes counts later) (sym (counted_first counts hash first))
 
 -- All are counted from the beginning.
-pub counted_all : (counts : Counts) (hashes : List CheckedHash) → total counts ≡ 0 → plus_hashes counts hashes ≡ counts_of hashes
+pub counted_all : (counts : Counts) (hashes : List CheckedHash) → total counts ≡ 0 → plus_hashes counts hashes ≡ hash_counts hashes
 counted_all counts hashes no_one =
     same_counts _ _ (omega (arith, no_one)) (omega (arith, no_one)) (omega (arith, no_one)) (omega (arith, no_one)) (omega (arith, no_one))
 
@@ -75,15 +76,15 @@ third_fails a d = ap (λ b. b && d) (last_fails a)
 
 -- The numbers are those of good verdicts if each verdict is.
 pub good_counts : (hashes : List CheckedHash) →
-    are_good (counts_of hashes) ≡ list_all (λ (hash : CheckedHash). is_verdict Good hash.verdict) hashes
+    are_good (hash_counts hashes) ≡ list_all (λ (hash : CheckedHash). is_verdict Good hash.verdict) hashes
 good_counts [] = refl
 good_counts (hash ∷ later) = by hash.verdict refl (good_counts later)
   where
     good : CheckedHash → Bool
     good other = is_verdict Good other.verdict
 
-    by : (verdict : Verdict) → hash.verdict ≡ verdict → are_good (counts_of later) ≡ list_all good later →
-        are_good (counts_of (hash ∷ later)) ≡ list_all good (hash ∷ later)
+    by : (verdict : Verdict) → hash.verdict ≡ verdict → are_good (hash_counts later) ≡ list_all good later →
+        are_good (hash_counts (hash ∷ later)) ≡ list_all good (hash ∷ later)
     by Good is rest = rw is rest
     by Bad is rest = rw (is, not_zero) refl
     by UnknownAlgo is rest = rw (is, not_zero) (second_fails _ _ _)
@@ -93,12 +94,12 @@ good_counts (hash ∷ later) = by hash.verdict refl (good_counts later)
 -- A child of an image node that is a hash node is counted,
 pub node_counted : (image : List ℕ) (payload : Option (List ℕ)) (entry : Sibling FileNode) (counts : Counts) (verdict : Verdict) →
     is_hash_name entry.name ≡ true → verdict ≡ (file_hash image payload entry).verdict →
-    one_more verdict counts ≡ plus_hashes counts (file_hashes image payload (entry ∷ []))
+    one_more_verdict verdict counts ≡ plus_hashes counts (file_hashes image payload (entry ∷ []))
 node_counted image payload entry counts verdict is judged =
     let hash : CheckedHash = file_hash image payload entry in
     let one : file_hashes image payload (entry ∷ []) ≡ hash ∷ [] = rw is refl in
-    ap (λ (v : Verdict). one_more v counts) judged
-    ∙ sym (ap (plus_hashes counts) one ∙ counted_first counts hash [] ∙ counted_none (one_more hash.verdict counts))
+    ap (λ (v : Verdict). one_more_verdict v counts) judged
+    ∙ sym (ap (plus_hashes counts) one ∙ counted_first counts hash [] ∙ counted_none (one_more_verdict hash.verdict counts))
 
 -- and any other is not.
 pub node_passed : (image : List ℕ) (payload : Option (List ℕ)) (entry : Sibling FileNode) (counts : Counts) →
@@ -128,8 +129,9 @@ one_child_counted image payload entry left later counts next all is more so_far 
     ∙ so_far
 
 -- The hash nodes of one more image are counted.
-pub one_image_counted : (entry : Sibling FileNode) (left later : List (Sibling FileNode)) (image : ImageModel) (images others : List ImageModel)
-    (payload : Option (List ℕ)) (counts next all : Counts) → left ≡ entry ∷ later → images ≡ image ∷ others → payload ≡ image.payload →
+pub one_image_counted : (entry : Sibling FileNode) (left later : List (Sibling FileNode)) (image : ImageModel)
+    (images others : List ImageModel) (payload : Option (List ℕ)) (counts next all : Counts) → left ≡ entry ∷ later →
+    images ≡ image ∷ others → payload ≡ image.payload →
     next ≡ plus_hashes counts (file_hashes entry.name payload (siblings entry.children)) →
     plus_hashes counts (file_verdicts left images) ≡ all → plus_hashes next (file_verdicts later others) ≡ all
 one_image_counted entry left later image images others payload counts next all is are same more so_far =

@@ -1,8 +1,8 @@
-use Rattle.std.specs.Prelude.{ℕ, List, [], ◌∷◌, Option, map, option_map}
+use Rattle.std.specs.Prelude.{ℕ, List, [], ◌∷◌, Option, option_map}
 use Rattle.bi_blob.specs.Lookups.{Sibling, siblings, siblings_from}
 use Rattle.bi_blob.specs.Tree.{FileNode}
 use Rattle.bi_fdt.specs.Views.{node_of}
-use Rattle.bi_fit.specs.Content.{FitModel, ImageModel, image_model}
+use Rattle.bi_fit.specs.Content.{FitModel, ImageModel}
 use Rattle.bi_fit.specs.HashNodes.{file_images, file_hashes}
 use Rattle.bi_fit.specs.Judgement.{CheckedHash}
 use Rattle.bi_hash.specs.Regions.{bytes_of_region}
@@ -45,8 +45,8 @@ hashes_left hashes =
     (siblings_from (option_map node_of hashes.next))
 
 -- An image as the code has it.
-abbrev pub image_of : Image → HashedImage
-image_of image = record {
+abbrev pub image_value : Image → HashedImage
+image_value image = record {
   name = image.name.now;
   payload = option_map (λ payload. payload.now) image.payload;
   hashes = hashes_left image.hashes;

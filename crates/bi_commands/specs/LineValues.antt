@@ -9,6 +9,7 @@ use Rattle.bi_commands.specs.Checking.{Concern, BadHash, UnhashedImage, WeakHash
 use Rattle.bi_commands.specs.Checking.{MissingImage, BadDefault, TrailingBytes, is_good}
 use Rattle.bi_commands.specs.HashedImages.{hashes_left}
 use Rattle.bi_commands.specs.Reports.{ReportLine, GoodChecksum, HashVerdict, Summary}
+use Rattle.bi_commands.specs.VerdictCounts.{counts_model}
 
 -- The lines of commands, as the code has them.
 
@@ -16,7 +17,7 @@ use Rattle.bi_commands.specs.Reports.{ReportLine, GoodChecksum, HashVerdict, Sum
 abbrev pub report_value : ReportValue → ReportLine
 report_value (report.GoodChecksum name) = GoodChecksum name.now
 report_value (report.HashVerdict hash) = HashVerdict (checked_hash_of hash)
-report_value (report.Summary counts) = Summary counts
+report_value (report.Summary counts) = Summary (counts_model counts)
 
 -- A concern.
 abbrev pub concern_value : ConcernValue → Concern

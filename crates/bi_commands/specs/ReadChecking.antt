@@ -1,5 +1,5 @@
 use Rattle.std.specs.Prelude.{◌≡◌, ◌⊎◌, ℕ, ◌+◌, max, List, [], ◌∷◌, ◌++◌, Option, flat_map}
-use Rattle.std.specs.Prelude.{length, drop, if◌then◌else◌}
+use Rattle.std.specs.Prelude.{drop, if◌then◌else◌}
 use Rattle.bi_base.specs.declared.fault.Error.{Error}
 use Rattle.bi_base.specs.declared.fault.Error.TheVariants.{OutOfMemory, Refused}
 use Rattle.bi_base.specs.Limits.{Limits}
@@ -45,13 +45,13 @@ end_of_read_payloads total_size (image ∷ later) =
     max (end_at image.place image.payload) (end_of_read_payloads total_size later)
 
 -- The lines of the concerns about an image.
-abbrev pub image_lines : Allowed → HashedImage → List ℕ
-image_lines allowed image =
+abbrev pub image_concern_lines : Allowed → HashedImage → List ℕ
+image_concern_lines allowed image =
     concern_lines allowed (hashed_concerns image.name image.payload image.hashes)
 
 -- The lines of the concerns about a configuration node, of a file with these images, key by key.
-abbrev pub node_lines : Allowed → List ImageModel → Sibling FileNode → List ℕ
-node_lines allowed images entry =
+abbrev pub configuration_concern_lines : Allowed → List ImageModel → Sibling FileNode → List ℕ
+configuration_concern_lines allowed images entry =
     flat_map
     (λ key. concern_lines allowed (list_concerns entry.name key (file_listed images entry key)))
     all_keys

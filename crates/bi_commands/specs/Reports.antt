@@ -7,14 +7,12 @@ use Rattle.std.specs.Fmt.{decimal}
 use Rattle.bi_base.specs.Commands.{CommandPromise, PromiseLaws}
 use Rattle.bi_base.specs.declared.fault.Error.{Error}
 use Rattle.bi_base.specs.Limits.{Limits}
-use Rattle.bi_fit.specs.ImageTree.{ImageTree}
 use Rattle.bi_fit.specs.Judgement.{CheckedHash, verdicts_of}
 use Rattle.bi_hash.specs.declared.verdicts.Verdict.{Verdict}
 use Rattle.bi_hash.specs.declared.verdicts.Verdict.TheVariants.{Good, Bad, UnknownAlgo, NoPayload}
 use Rattle.bi_hash.specs.declared.verdicts.Verdict.TheVariants.{Malformed}
 use Rattle.bi_norm.specs.Meaning.{Meaning, OfLegacy, OfFit, Means}
 use Rattle.bi_norm.specs.Reading.{IsBootImageReadError}
-use Rattle.bi_commands.specs.declared.verdict_counts.Counts.{Counts}
 use Rattle.bi_commands.specs.Descriptions.{Words}
 use Rattle.bi_commands.specs.Shown.{line, shown_text}
 use Rattle.bi_commands.specs.ValueTexts.{hexadecimal_digits}
@@ -24,6 +22,14 @@ use Rattle.bi_commands.specs.ValueTexts.{hexadecimal_digits}
 
 -- ---- the lines
 
+-- How many hash nodes have each verdict.
+pub record CountsModel : Type 0 where
+  pub good : ℕ
+  pub bad : ℕ
+  pub unknown_algorithm : ℕ
+  pub no_payload : ℕ
+  pub malformed : ℕ
+
 -- A line of a report.
 pub data ReportLine : Type 0 where
   -- A checksum of a legacy image, by its name: a wrong one is a refusal, so it is good.
@@ -31,7 +37,7 @@ pub data ReportLine : Type 0 where
   -- A hash node, with its verdict.
   HashVerdict : (hash : CheckedHash) → ReportLine
   -- How many hash nodes have each verdict.
-  Summary : (counts : Counts) → ReportLine
+  Summary : (counts : CountsModel) → ReportLine
 
 -- Whether a verdict is the wanted one.
 abbrev pub is_verdict : (wanted verdict : Verdict) → Bool
@@ -47,7 +53,7 @@ abbrev pub count_of : Verdict → List CheckedHash → ℕ
 count_of wanted hashes = length (filter (λ hash. is_verdict wanted hash.verdict) hashes)
 
 -- How many of these hash nodes have each verdict.
-abbrev pub counts_of : List CheckedHash → Counts
+abbrev pub counts_of : List CheckedHash → CountsModel
 counts_of hashes = record {
   good = count_of Good hashes;
   bad = count_of Bad hashes;

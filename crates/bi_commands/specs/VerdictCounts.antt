@@ -4,17 +4,38 @@ use Rattle.bi_hash.specs.declared.verdicts.Verdict.{Verdict}
 use Rattle.bi_hash.specs.declared.verdicts.Verdict.TheVariants.{Good, Bad, UnknownAlgo, NoPayload}
 use Rattle.bi_hash.specs.declared.verdicts.Verdict.TheVariants.{Malformed}
 use Rattle.bi_commands.specs.declared.verdict_counts.Counts.{Counts}
-use Rattle.bi_commands.specs.Reports.{count_of}
+use Rattle.bi_commands.specs.Reports.{CountsModel, count_of}
 
 -- How verdicts are counted.
 
+-- The numbers, as a report has them.
+abbrev pub counts_model : Counts → CountsModel
+counts_model counts = record {
+  good = counts.good;
+  bad = counts.bad;
+  unknown_algorithm = counts.unknown_algorithm;
+  no_payload = counts.no_payload;
+  malformed = counts.malformed;
+}
+
+-- How many of these hash nodes have each verdict.
+abbrev pub hash_counts : List CheckedHash → Counts
+hash_counts hashes = record {
+  good = count_of Good hashes;
+  bad = count_of Bad hashes;
+  unknown_algorithm = count_of UnknownAlgo hashes;
+  no_payload = count_of NoPayload hashes;
+  malformed = count_of Malformed hashes;
+}
+
 -- The numbers with one more hash node, which has this verdict.
-abbrev pub one_more : Verdict → Counts → Counts
-one_more Good counts = record counts { good = counts.good + 1 }
-one_more Bad counts = record counts { bad = counts.bad + 1 }
-one_more UnknownAlgo counts = record counts { unknown_algorithm = counts.unknown_algorithm + 1 }
-one_more NoPayload counts = record counts { no_payload = counts.no_payload + 1 }
-one_more Malformed counts = record counts { malformed = counts.malformed + 1 }
+abbrev pub one_more_verdict : Verdict → Counts → Counts
+one_more_verdict Good counts = record counts { good = counts.good + 1 }
+one_more_verdict Bad counts = record counts { bad = counts.bad + 1 }
+one_more_verdict UnknownAlgo counts =
+    record counts { unknown_algorithm = counts.unknown_algorithm + 1 }
+one_more_verdict NoPayload counts = record counts { no_payload = counts.no_payload + 1 }
+one_more_verdict Malformed counts = record counts { malformed = counts.malformed + 1 }
 
 -- The numbers with these hash nodes.
 abbrev pub plus_hashes : Counts → List CheckedHash → Counts

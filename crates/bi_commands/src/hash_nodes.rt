@@ -179,11 +179,11 @@ impl<'a, 'b> HashedImages<'a, 'b> {
 
 impl<'a, 'b> Iterator for HashedImages<'a, 'b> {
     ghost use Rattle.std.specs.Iterator.{YieldsFirstBy, item_count};
-    ghost use Rattle.bi_commands.specs.HashedImages.{image_of};
+    ghost use Rattle.bi_commands.specs.HashedImages.{image_value};
 
     type Item = HashedImage<'a, 'b>;
 
-    ghost next_gives = { YieldsFirstBy image_of (λ images. images) };
+    ghost next_gives = { YieldsFirstBy image_value (λ images. images) };
 
     ghost remaining = { item_count (λ images. images) };
 

@@ -15,7 +15,7 @@ use bi_fit::{Fit, Key, split_name};
 
 /// What a configuration lists under a key, or why it lists no images.
 #[derive(Clone, Copy)]
-pub(crate) enum Listed<'a> {
+pub(crate) enum KeyList<'a> {
     /// The configuration has no such key.
     NoKey,
     /// The value of the key is no list of names.
@@ -27,25 +27,25 @@ pub(crate) enum Listed<'a> {
 }
 
 /// Returns what the configuration of a node lists under a key.
-pub(crate) fn listed_under<'a>(fit: &Fit<'a>, node: NodeRef<'a, '_>, key: Key) -> Listed<'a>
+pub(crate) fn listed_under<'a>(fit: &Fit<'a>, node: NodeRef<'a, '_>, key: Key) -> KeyList<'a>
     ensures { IsListed (file_listed fit.now.images (node_of node.entry) key) result }
 {
     match node.property(key.name().as_bytes()) {
         Some(value) => listed_in(fit, value),
-        None => Listed::NoKey,
+        None => KeyList::NoKey,
     }
 }
 
 /// Returns what the value of a key lists.
-fn listed_in<'a>(fit: &Fit<'a>, value: &'a [u8]) -> Listed<'a>
+fn listed_in<'a>(fit: &Fit<'a>, value: &'a [u8]) -> KeyList<'a>
     ensures { IsListed (file_listed_in fit.now.images value.entry.now) result }
 {
     if !value.ends_with(b"\0") {
-        return Listed::BadList;
+        return KeyList::BadList;
     }
     match first_missing(fit, value) {
-        Some(index) => Listed::Missing(index),
-        None => Listed::Images(value),
+        Some(index) => KeyList::Missing(index),
+        None => KeyList::Images(value),
     }
 }
 

@@ -9,9 +9,8 @@ ghost use Rattle.bi_fit.specs.Content.{AreAtTheirPlaces, IsHeld, tree_of};
 ghost use Rattle.bi_fit.specs.HashNodes.{file_hashes};
 ghost use Rattle.bi_fit.specs.Judgement.{verdicts_of};
 ghost use Rattle.bi_hash.specs.Regions.{IsRegionOf, bytes_of_region};
-ghost use Rattle.bi_commands.specs.Reports.{counts_of};
-ghost use Rattle.bi_commands.specs.VerdictCounts.{are_good as are_good_of, one_more, plus_hashes};
-ghost use Rattle.bi_commands.specs.VerdictCounts.{total};
+ghost use Rattle.bi_commands.specs.VerdictCounts.{are_good as are_good_of, hash_counts, total};
+ghost use Rattle.bi_commands.specs.VerdictCounts.{one_more_verdict, plus_hashes};
 
 use crate::hash_nodes::is_hash;
 use bi_fdt::NodeRef;
@@ -33,7 +32,7 @@ impl Counts {
     /// Adds a hash node with this verdict.
     pub(crate) fn add(&mut self, verdict: Verdict)
         requires { total self.old < 2 ^ 31 }
-        ensures { self.new ≡ one_more verdict self.old }
+        ensures { self.new ≡ one_more_verdict verdict self.old }
     {
         match verdict {
             Verdict::Good => self.good += 1,
@@ -60,7 +59,7 @@ pub(crate) fn count_verdicts<'a>(
 ) -> Result<Counts, AllocError>
     requires held { IsHeld fit.now }
     requires placed { AreAtTheirPlaces digests.old fit.now.images }
-    ensures counts { IfOk result (λ counts. counts ≡ counts_of (verdicts_of (tree_of fit.now))) }
+    ensures counts { IfOk result (λ counts. counts ≡ hash_counts (verdicts_of (tree_of fit.now))) }
     ensures same { digests.new ≡ digests.old }
 {
     let mut counts = Counts::default();

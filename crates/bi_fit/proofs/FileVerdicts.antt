@@ -25,7 +25,7 @@ hash_is image hash =
     }) (get-by_name (properties_of hash.own) algo_name) (get-by_name (properties_of hash.own) value_name)
 
 -- So have hash nodes among children.
-hashes_are : (image : Image) (children : List (Sibling FileNode)) →
+pub hashes_are : (image : Image) (children : List (Sibling FileNode)) →
     map (checked_hash image) (filter (λ child. is_hash_name child.name) (map sibling_by_name children))
     ≡ file_hashes image.entry.name image.payload children
 hashes_are image [] = refl

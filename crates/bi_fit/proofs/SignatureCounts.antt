@@ -10,7 +10,7 @@ use Rattle.bi_fit.specs.ImageTree.{children_of, nodes_or_none}
 use Rattle.bi_fit.specs.Content.{FitModel, ImageModel, IsReadImage, IsHeld, tree_of}
 use Rattle.bi_fit.specs.Judgement.{images_with, signatures_in, signature_count}
 use Rattle.bi_fit.specs.HashNodes.{file_images, file_configurations, file_signatures}
-use Rattle.bi_fit.specs.Siblings.{children_of_each}
+use Rattle.bi_fit.specs.ChildNodes.{children_of_each}
 use Rattle.bi_fit.proofs.FileNodes.{bare_image, sibling_by_name, siblings-by_name, image_siblings, configuration_nodes_are}
 use Rattle.bi_fit.specs.NormalNodes.{nodes_by_name}
 

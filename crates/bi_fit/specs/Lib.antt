@@ -20,6 +20,7 @@ pub mod RegionPairs
 pub mod HashNodes
 pub mod JudgementCalls
 pub mod Siblings
+pub mod ChildNodes
 pub mod TakenDigests
 pub mod NormalNodes
 pub mod CommonNumbers

@@ -1,6 +1,6 @@
-use Rattle.std.specs.Prelude.{List, flat_map, option_map}
+use Rattle.std.specs.Prelude.{List, option_map}
 use Rattle.bi_blob.specs.Tree.{FileNode}
-use Rattle.bi_blob.specs.Lookups.{Sibling, siblings, siblings_from}
+use Rattle.bi_blob.specs.Lookups.{Sibling, siblings_from}
 use Rattle.bi_fdt.specs.Views.{node_of}
 use Rattle.bi_fit.specs.declared.nodes.Siblings.{Siblings}
 
@@ -9,7 +9,3 @@ use Rattle.bi_fit.specs.declared.nodes.Siblings.{Siblings}
 -- The nodes that are left.
 abbrev pub siblings_left : Siblings → List (Sibling FileNode)
 siblings_left left = siblings_from (option_map node_of left.next)
-
--- The children of these nodes.
-abbrev pub children_of_each : List (Sibling FileNode) → List (Sibling FileNode)
-children_of_each nodes = flat_map (λ sibling. siblings sibling.children) nodes

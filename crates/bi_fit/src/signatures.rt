@@ -6,7 +6,8 @@ ghost use Rattle.bi_fdt.specs.Views.{node_of};
 ghost use Rattle.bi_fit.specs.Content.{tree_of};
 ghost use Rattle.bi_fit.specs.Judgement.{signature_count};
 ghost use Rattle.bi_fit.specs.HashNodes.{file_signatures};
-ghost use Rattle.bi_fit.specs.Siblings.{siblings_left, children_of_each};
+ghost use Rattle.bi_fit.specs.ChildNodes.{children_of_each};
+ghost use Rattle.bi_fit.specs.Siblings.{siblings_left};
 
 use crate::fit::Fit;
 use crate::nodes::Siblings;

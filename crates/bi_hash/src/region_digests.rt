@@ -157,7 +157,9 @@ impl<'a> RegionDigests<'a> {
         requires within { IsRegionOf self.now region }
         ensures { result ≡ padded_digest algo (bytes_of_region self.now region) }
     {
-        let kept = self.digests.get(&(region.begin, region.length, algo.index()));
+        let kept = self
+            .digests
+            .get(&(region.begin, region.length, algo.index()));
         match kept {
             Some(digest) => *digest,
             None => self.compute(algo, region),

@@ -9,13 +9,13 @@ ghost use Rattle.bi_fit.specs.Content.{IsHeld, tree_of};
 ghost use Rattle.bi_fit.specs.HashNodes.{file_listed};
 ghost use Rattle.bi_fit.specs.Judgement.{configuration_nodes as nodes_of_configurations};
 ghost use Rattle.bi_commands.specs.Checking.{concern_lines, list_concerns, names_one_of};
-ghost use Rattle.bi_commands.specs.ReadChecking.{configurations_concerns, node_lines};
-ghost use Rattle.bi_commands.specs.ReadChecking.{read_default_concerns};
+ghost use Rattle.bi_commands.specs.ReadChecking.{configuration_concern_lines};
+ghost use Rattle.bi_commands.specs.ReadChecking.{configurations_concerns, read_default_concerns};
 
 use super::Allowed;
 use super::concern::{Concern, put_concern};
 use crate::list::KEYS;
-use crate::listed::{Listed, configuration_nodes, listed_under};
+use crate::listed::{KeyList, configuration_nodes, listed_under};
 use bi_base::{Error, Sink};
 use bi_fdt::NodeRef;
 use bi_fit::{Fit, Key};
@@ -45,7 +45,7 @@ fn put_configuration<'a, S: Sink>(
     sink: &mut S,
 ) -> Result<(), Error>
     ensures { Wrote S.appends S.fails sink.old
-        (node_lines allowed fit.now.images (node_of node.entry)) result sink.new }
+        (configuration_concern_lines allowed fit.now.images (node_of node.entry)) result sink.new }
 {
     for key in KEYS {
         put_key(fit, node, key, allowed, sink)?;
@@ -67,10 +67,10 @@ fn put_key<'a, S: Sink>(
         result sink.new }
 {
     match listed_under(fit, node, key) {
-        Listed::NoKey => Ok(()),
-        Listed::Images(_names) => Ok(()),
-        Listed::BadList => put_concern(Concern::BadKey(node.name(), key), allowed, sink),
-        Listed::Missing(index) => {
+        KeyList::NoKey => Ok(()),
+        KeyList::Images(_names) => Ok(()),
+        KeyList::BadList => put_concern(Concern::BadKey(node.name(), key), allowed, sink),
+        KeyList::Missing(index) => {
             put_concern(
                 Concern::MissingImage(node.name(), key, index),
                 allowed,

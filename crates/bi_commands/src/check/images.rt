@@ -10,8 +10,8 @@ ghost use Rattle.bi_fit.specs.JudgementCalls.{checked_hash_of};
 ghost use Rattle.bi_commands.specs.Checking.{concern_lines, hash_concerns, hashed_concerns};
 ghost use Rattle.bi_commands.specs.Checking.{is_good as is_good_hash, is_strong as is_strong_hash};
 ghost use Rattle.bi_commands.specs.Checking.{is_strong_algorithm, protection_concerns};
-ghost use Rattle.bi_commands.specs.HashedImages.{hashes_left, image_of, images_of_blob};
-ghost use Rattle.bi_commands.specs.ReadChecking.{image_lines, images_concerns};
+ghost use Rattle.bi_commands.specs.HashedImages.{hashes_left, image_value, images_of_blob};
+ghost use Rattle.bi_commands.specs.ReadChecking.{image_concern_lines, images_concerns};
 
 use super::Allowed;
 use super::concern::{Concern, is_good, put_concern};
@@ -39,8 +39,8 @@ pub(super) fn put_images<'a, S: Sink>(
 
 /// Appends the lines of the concerns about an image. Fails as the sink does.
 fn put_image<S: Sink>(image: HashedImage, allowed: Allowed, sink: &mut S) -> Result<(), Error>
-    ensures { Wrote S.appends S.fails sink.old (image_lines allowed (image_of image.entry)) result
-        sink.new }
+    ensures { Wrote S.appends S.fails sink.old
+        (image_concern_lines allowed (image_value image.entry)) result sink.new }
 {
     put_hashes(image.hashes, allowed, sink)?;
     match image.payload {

@@ -16,7 +16,7 @@ ghost use Rattle.bi_commands.specs.Shown.{line, shown_text};
 
 use super::fit::KEYS;
 use crate::fields::{Field, put_fields, put_later_field, put_line};
-use crate::listed::{Listed, listed_under};
+use crate::listed::{KeyList, listed_under};
 use bi_base::{Error, Sink};
 use bi_fdt::NodeRef;
 use bi_fit::{Fit, Key, split_name};
@@ -89,8 +89,8 @@ fn put_key<'a, S: Sink>(
     let configuration = node.name();
     let name = key.name().as_bytes();
     match listed_under(fit, node, key) {
-        Listed::NoKey => Ok(()),
-        Listed::BadList => {
+        KeyList::NoKey => Ok(()),
+        KeyList::BadList => {
             let fields = [
                 Field::Text(b"key"),
                 Field::Shown(configuration),
@@ -99,7 +99,7 @@ fn put_key<'a, S: Sink>(
             ];
             put_line(&fields, sink)
         }
-        Listed::Missing(index) => {
+        KeyList::Missing(index) => {
             let fields = [
                 Field::Text(b"key"),
                 Field::Shown(configuration),
@@ -109,7 +109,7 @@ fn put_key<'a, S: Sink>(
             ];
             put_line(&fields, sink)
         }
-        Listed::Images(value) => put_images(configuration, key, value, sink),
+        KeyList::Images(value) => put_images(configuration, key, value, sink),
     }
 }
 

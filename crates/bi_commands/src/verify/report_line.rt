@@ -6,6 +6,7 @@ ghost use Rattle.bi_fit.specs.JudgementCalls.{checked_hash_of};
 ghost use Rattle.bi_commands.specs.LineValues.{report_value};
 ghost use Rattle.bi_commands.specs.Reports.{GoodChecksum, HashVerdict, Summary, report_line};
 ghost use Rattle.bi_commands.specs.Reports.{verdict_word as word_of};
+ghost use Rattle.bi_commands.specs.VerdictCounts.{counts_model};
 
 use crate::fields::{Field, digits_or_none, name_or_none, put_line};
 use crate::verdict_counts::Counts;
@@ -68,7 +69,8 @@ fn put_hash<S: Sink>(hash: &Checked, sink: &mut S) -> Result<(), Error>
 
 /// Appends the last line. Fails as the sink does.
 fn put_summary<S: Sink>(counts: Counts, sink: &mut S) -> Result<(), Error>
-    ensures { Wrote S.appends S.fails sink.old (report_line (Summary counts)) result sink.new }
+    ensures { Wrote S.appends S.fails sink.old (report_line (Summary (counts_model counts))) result
+        sink.new }
 {
     let fields = [
         Field::Text(b"summary"),

@@ -1,6 +1,5 @@
-use Rattle.std.proofs.Common.{length, ap, sym, ◌∙◌, arith, refl, ◌∷◌, []}
+use Rattle.std.proofs.Common.{length, ap, ◌∙◌, arith, refl, ◌∷◌, []}
 use Rattle.std.specs.Option.{option_map}
-use Rattle.bi_blob.specs.Lookups.{siblings_from}
 use Rattle.bi_fdt.specs.Views.{node_of}
 use Rattle.bi_fit.specs.HashNodes.{file_hashes}
 use Rattle.bi_fit.proofs.Siblings.{from_first, from_next}

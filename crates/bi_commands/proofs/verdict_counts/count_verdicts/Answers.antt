@@ -3,14 +3,15 @@ use Rattle.std.specs.Option.{option_map}
 use Rattle.std.proofs.lemmas.List.{drop_all}
 use Rattle.bi_blob.specs.Lookups.{siblings, siblings_from}
 use Rattle.bi_fdt.specs.Views.{node_of}
+use Rattle.bi_fit.specs.ChildNodes.{children_of_each}
 use Rattle.bi_fit.specs.Content.{AreAtTheirPlaces, ImageModel, image_model}
 use Rattle.bi_fit.specs.HashNodes.{file_verdicts}
 use Rattle.bi_fit.specs.ImageTree.{nodes_or_none}
 use Rattle.bi_fit.proofs.FileVerdicts.{verdicts_are}
 use Rattle.bi_fit.proofs.PayloadEnds.{no_image}
+use Rattle.bi_fit.proofs.SignatureCounts.{image_children_few}
 use Rattle.bi_fit.proofs.Siblings.{from_first, from_next}
-use Rattle.bi_commands.specs.Reports.{counts_of}
-use Rattle.bi_commands.proofs.HashedImages.{children_of_each, few_children}
+use Rattle.bi_commands.specs.VerdictCounts.{hash_counts}
 use Rattle.bi_commands.proofs.VerdictCounts.{all_counted, counted_all, no_images_left, one_image_counted}
 use Rattle.bi_commands.proofs.verdict_counts.count_verdicts.Goals as goal
 
@@ -23,8 +24,8 @@ loop-image-init c =
       same_file = refl;
       placed = subst (AreAtTheirPlaces c.args.digests.now) (sym c.images-image-items.ensures) c.requires.placed;
       counted = counted_all c.default-counts.result (file_verdicts (siblings_from (option_map node_of c.first_child-next.result)) (map image_model c.images-image-items.result.now)) (omega (arith, c.default-counts.ensures))
-          ∙ ap counts_of (ap₂ file_verdicts nodes c.images-image-items.ensures ∙ sym (verdicts_are content));
-      few = omega (arith, c.default-counts.ensures, ap (λ entries. length (children_of_each entries)) nodes, few_children content c.requires.held);
+          ∙ ap hash_counts (ap₂ file_verdicts nodes c.images-image-items.ensures ∙ sym (verdicts_are content));
+      few = omega (arith, c.default-counts.ensures, ap (λ entries. length (children_of_each entries)) nodes, image_children_few content c.requires.held);
     }
 
 pub loop-image-preserved : goal.loop-image-preserved

@@ -1,5 +1,5 @@
 use Rattle.std.proofs.Common.{refl, ◌∙◌}
-use Rattle.bi_commands.specs.HashedImages.{image_of, images_of_blob}
+use Rattle.bi_commands.specs.HashedImages.{image_value, images_of_blob}
 use Rattle.bi_commands.specs.ReadReports.{lines_of_image}
 use Rattle.bi_commands.proofs.LinesLeft.{all_left, next_left, next_left_fails, none_left}
 use Rattle.bi_commands.proofs.verify.put_images.Goals as goal
@@ -9,13 +9,13 @@ loop-image-init g c = all_left g.S.Sink.appends g.met.S.Sink.appends_nothing c.a
 
 pub loop-image-preserved : goal.loop-image-preserved
 loop-image-preserved g c =
-    next_left g.S.Sink.appends g.met.S.Sink.appends_in_turn c.args.sink.now c.loop-image.sink c.put_hashes.new.sink lines_of_image (image_of c.in-Some.image) _ _ _
+    next_left g.S.Sink.appends g.met.S.Sink.appends_in_turn c.args.sink.now c.loop-image.sink c.put_hashes.new.sink lines_of_image (image_value c.in-Some.image) _ _ _
     c.loop-image.invariant c.in-Some.ensures.steps c.in_ok-put_hashes.ensures
 
 pub returns-in_err-put_hashes : goal.returns-in_err-put_hashes
 returns-in_err-put_hashes g c =
     let laws = g.met.S.Sink in
-    next_left_fails g.S.Sink.appends g.S.Sink.fails laws.fails_after laws.fails_before c.args.sink.now c.loop-image.sink c.put_hashes.new.sink lines_of_image (image_of c.in-Some.image) _ _ _ _ c.from_residual.result
+    next_left_fails g.S.Sink.appends g.S.Sink.fails laws.fails_after laws.fails_before c.args.sink.now c.loop-image.sink c.put_hashes.new.sink lines_of_image (image_value c.in-Some.image) _ _ _ _ c.from_residual.result
     c.loop-image.invariant c.in-Some.ensures.steps c.from_residual.ensures.1 c.in_err-put_hashes.ensures
 
 pub returns : goal.returns

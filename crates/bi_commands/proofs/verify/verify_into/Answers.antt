@@ -1,8 +1,8 @@
-use Rattle.std.proofs.Common.{flat_map, refl, rules, subst, sym}
+use Rattle.std.proofs.Common.{flat_map, refl, rules}
 use Rattle.std.proofs.lemmas.Result.{err_from_is_err_and}
 use Rattle.bi_base.specs.Commands.{SinkFailed}
 use Rattle.bi_commands.specs.Reports.{legacy_report, report_line}
-use Rattle.bi_commands.proofs.ImageReports.{legacy_reported, not_verified, tree_reported, fit_reported, fit_not_reported}
+use Rattle.bi_commands.proofs.ImageReports.{legacy_reported, fit_reported, fit_not_reported}
 use Rattle.bi_commands.proofs.verify.verify_into.Goals as goal
 
 pub returns-in_err-put_checksums-in-Legacy-clause-failed : goal.returns-in_err-put_checksums-in-Legacy-clause-failed

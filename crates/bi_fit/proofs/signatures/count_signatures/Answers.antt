@@ -1,7 +1,8 @@
 use Rattle.std.proofs.Common.{◌≡◌, ◌+◌, ◌<◌, ◌≤◌, ◌^◌, length, flat_map, ap, ◌∙◌, arith, length-append}
 use Rattle.bi_fdt.specs.Views.{node_of}
 use Rattle.bi_fit.specs.HashNodes.{file_signatures}
-use Rattle.bi_fit.specs.Siblings.{siblings_left, children_of_each}
+use Rattle.bi_fit.specs.ChildNodes.{children_of_each}
+use Rattle.bi_fit.specs.Siblings.{siblings_left}
 use Rattle.bi_fit.proofs.SignatureCounts.{few_signatures}
 use Rattle.bi_fit.proofs.signatures.count_signatures.Goals as goal
 

@@ -1,7 +1,6 @@
-use Rattle.std.proofs.Common.{sym, ap, ◌∙◌, ◌||◌}
+use Rattle.std.proofs.Common.{sym, ap, ◌∙◌}
 use Rattle.std.specs.List.{list_any}
 use Rattle.bi_commands.specs.Checking.{is_good}
-use Rattle.bi_commands.specs.HashedImages.{hashes_left}
 use Rattle.bi_commands.proofs.check.images.has_good.Goals as goal
 
 pub returns : goal.returns

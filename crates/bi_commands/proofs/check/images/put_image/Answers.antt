@@ -1,4 +1,4 @@
-use Rattle.std.proofs.Common.{◌≡◌, ◌++◌, List, ℕ, Option, Bor, flat_map, ap, sym, subst, ◌∙◌, append-nil}
+use Rattle.std.proofs.Common.{◌++◌, List, ℕ, Option, Bor, flat_map, ap, sym, subst, ◌∙◌, append-nil}
 use Rattle.std.specs.Option.{option_map}
 use Rattle.bi_base.specs.Sinks.{Wrote}
 use Rattle.bi_commands.specs.Checking.{concern_lines, hash_concerns, payload_concerns}

@@ -2,7 +2,6 @@ use Rattle.std.proofs.Common.{sym, ap, subst, ◌∙◌}
 use Rattle.bi_blob.specs.Tree.{AreDistinct, AreProperties, EachOwn, names, properties_of}
 use Rattle.bi_blob.specs.Lookups.{root_node}
 use Rattle.bi_fdt.specs.Content.{Blob, root_of}
-use Rattle.bi_fdt.specs.Views.{node_of}
 use Rattle.bi_fit.specs.NormalNodes.{HasDistinctNames}
 use Rattle.bi_fit.proofs.FileConfigurations.{names_are_distinct}
 use Rattle.bi_fit.proofs.NormalTrees.{held_distinct, held_nodes}
