@@ -4,11 +4,11 @@ use Rattle.bi_base.specs.Limits.{Limits}
 use Rattle.bi_fit.specs.Judgement.{CheckedHash, verdicts_of}
 use Rattle.bi_hash.specs.declared.verdicts.Verdict.TheVariants.{Good}
 use Rattle.bi_norm.specs.Meaning.{Meaning, OfLegacy, OfFit, Means}
-use Rattle.bi_commands.specs.declared.verdict_counts.Counts.{Counts}
 use Rattle.bi_commands.specs.Json.{Json, Member, json_string, json_number, string_or_null}
 use Rattle.bi_commands.specs.Json.{json_array, json_object, json_text}
 use Rattle.bi_commands.specs.ListingJson.{name_member}
-use Rattle.bi_commands.specs.Reports.{AreGood, counts_of, hashes_of, verdict_word}
+use Rattle.bi_commands.specs.Reports.{AreGood, CountsModel, counts_of, hashes_of}
+use Rattle.bi_commands.specs.Reports.{verdict_word}
 use Rattle.bi_commands.specs.Shown.{shown_text}
 use Rattle.bi_commands.specs.ValueTexts.{hexadecimal_digits}
 
@@ -34,7 +34,7 @@ hash_object hash =
     ∷ (codes "value", string_or_null (option_map hexadecimal_digits hash.value)) ∷ [])
 
 -- How many hash nodes have each verdict.
-abbrev pub summary_object : Counts → Json
+abbrev pub summary_object : CountsModel → Json
 summary_object counts =
     json_object
     ((codes "good", json_number counts.good)
