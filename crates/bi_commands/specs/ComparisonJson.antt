@@ -3,7 +3,7 @@ use Rattle.std.specs.Prelude.{if◌then◌else◌}
 use Rattle.bi_base.specs.Limits.{Limits}
 use Rattle.bi_commands.specs.Comparing.{IsComparison}
 use Rattle.bi_commands.specs.Json.{Json, json_string, json_bool, json_array, json_object}
-use Rattle.bi_commands.specs.Json.{json_text}
+use Rattle.bi_commands.specs.Json.{json_line}
 
 -- The JSON that `compare` writes (profile of this project).
 
@@ -45,4 +45,4 @@ pub record IsComparisonJson (limits : Limits) (one other : List ℕ) (same : Boo
   where
     pub differences : List ℕ
     pub compared : IsComparison limits one other same differences
-    pub is_text : text ≡ json_text (comparison_object same differences)
+    pub is_text : text ≡ json_line (comparison_object same differences)

@@ -10,7 +10,7 @@ use Rattle.bi_commands.specs.Checking.{Concern, BadHash, UnhashedImage, WeakHash
 use Rattle.bi_commands.specs.Checking.{MissingImage, BadDefault, TrailingBytes, AreConcerns}
 use Rattle.bi_commands.specs.Checking.{allows, kind_of, kind_word}
 use Rattle.bi_commands.specs.Json.{Json, Member, json_string, json_number, string_or_null}
-use Rattle.bi_commands.specs.Json.{json_array, json_object, json_text}
+use Rattle.bi_commands.specs.Json.{json_array, json_object, json_line}
 use Rattle.bi_commands.specs.ListingJson.{name_member}
 use Rattle.bi_commands.specs.PayloadBounds.{IsOverPayloadBound}
 use Rattle.bi_commands.specs.ReportJson.{algorithm_member, verdict_member}
@@ -61,7 +61,7 @@ pub record IsCheckedJson (allowed : Allowed) (limits : Limits) (file text : List
   pub within : ¬ (IsOverPayloadBound limits meaning)
   pub concerns : List Concern
   pub are_concerns : AreConcerns limits file concerns
-  pub is_text : text ≡ json_text (concerns_object allowed concerns)
+  pub is_text : text ≡ json_line (concerns_object allowed concerns)
 
 -- The text is the JSON of the concerns about the file that are not allowed, and this is whether
 -- there are none.

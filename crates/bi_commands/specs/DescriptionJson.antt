@@ -17,7 +17,7 @@ use Rattle.bi_commands.specs.Descriptions.{PayloadDigest, digest_of_payload, Nod
 use Rattle.bi_commands.specs.Descriptions.{NotAnImage, OfImage, DescribedNode, plain_node}
 use Rattle.bi_commands.specs.Descriptions.{described_nodes}
 use Rattle.bi_commands.specs.Json.{Json, Member, json_string, json_number, json_null}
-use Rattle.bi_commands.specs.Json.{json_array, json_object, json_text}
+use Rattle.bi_commands.specs.Json.{json_array, json_object, json_line}
 use Rattle.bi_commands.specs.ListingJson.{header_members, name_member, reservations_member}
 use Rattle.bi_commands.specs.PayloadBounds.{IsOverPayloadBound}
 use Rattle.bi_commands.specs.ValueTexts.{are_quotable_texts, hexadecimal_digits}
@@ -95,7 +95,7 @@ meaning_object (OfFit tree) = fit_object tree
 
 -- The text of the description of a meaning in JSON.
 abbrev pub description_json : Meaning → List ℕ
-description_json meaning = json_text (meaning_object meaning)
+description_json meaning = json_line (meaning_object meaning)
 
 -- A meaning can be described in JSON within limits: its payloads are within the payload bound, and
 -- the text is no longer than the limit.

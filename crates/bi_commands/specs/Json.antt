@@ -1,49 +1,53 @@
-use Rattle.std.specs.Prelude.{ℕ, Bool, List, [], ◌∷◌, ◌++◌, Option, None, Some, flat_map}
+use Rattle.std.specs.Prelude.{ℕ, Bool, true, false, List, [], ◌∷◌, ◌++◌, Option, None, Some, map}
+use Rattle.std.specs.Prelude.{codes}
 use Rattle.std.specs.Fmt.{decimal}
-use Rattle.json.specs.Print.{print}
-use Rattle.json.specs.Token.{Token, begin_object, end_object, begin_array, end_array, key, string}
-use Rattle.json.specs.Token.{number, boolean, null}
+use Rattle.std.specs.List.{join_with_byte}
+use Rattle.bi_commands.specs.ValueTexts.{quoted_text}
 
--- Texts of JSON (RFC 8259), by their tokens.
+-- Texts of JSON (RFC 8259), without spaces.
 
--- A value of JSON, as its tokens.
+-- A text of a value.
 abbrev pub Json : Type 0
-Json = List Token
+Json = List ℕ
 
--- A member of an object: its name and its value.
+-- A member of an object: its name, and the text of its value.
 abbrev pub Member : Type 0
 Member = List ℕ × Json
 
--- A string of these bytes.
+-- A string of printable characters (RFC 8259, 7): only `"` and a backslash need an escape.
 abbrev pub json_string : List ℕ → Json
-json_string bytes = string bytes ∷ []
+json_string bytes = quoted_text bytes
 
--- A number in decimal digits.
+-- A number (RFC 8259, 6).
 abbrev pub json_number : ℕ → Json
-json_number value = number (decimal value) ∷ []
+json_number value = decimal value
 
--- `true` or `false`.
+-- `true` or `false` (RFC 8259, 3).
 abbrev pub json_bool : Bool → Json
-json_bool value = boolean value ∷ []
+json_bool true = codes "true"
+json_bool false = codes "false"
 
--- `null`.
+-- `null` (RFC 8259, 3).
 abbrev pub json_null : Json
-json_null = null ∷ []
+json_null = codes "null"
 
 -- A string of these bytes, or `null` if there are none.
 abbrev pub string_or_null : Option (List ℕ) → Json
 string_or_null None = json_null
 string_or_null (Some bytes) = json_string bytes
 
--- An array of these values.
+-- An array of these values (RFC 8259, 5).
 abbrev pub json_array : List Json → Json
-json_array values = begin_array ∷ (flat_map (λ value. value) values ++ end_array ∷ [])
+json_array values = 91 ∷ (join_with_byte 44 values ++ 93 ∷ [])
 
--- An object of these members.
+-- A member of an object (RFC 8259, 4).
+abbrev pub member_text : Member → List ℕ
+member_text member = json_string member.0 ++ 58 ∷ member.1
+
+-- An object of these members (RFC 8259, 4).
 abbrev pub json_object : List Member → Json
-json_object members =
-    begin_object ∷ (flat_map (λ member. key member.0 ∷ member.1) members ++ end_object ∷ [])
+json_object members = 123 ∷ (join_with_byte 44 (map member_text members) ++ 125 ∷ [])
 
--- The text that a command writes for a value: the value without spaces, and a newline.
-abbrev pub json_text : Json → List ℕ
-json_text value = print value ++ 10 ∷ []
+-- The text that a command writes for a value: the value and a newline.
+abbrev pub json_line : Json → List ℕ
+json_line value = value ++ 10 ∷ []

@@ -17,7 +17,7 @@ use Rattle.bi_legacy.specs.PlacedParts.{PartModel, placed_parts}
 use Rattle.bi_legacy.specs.Reading.{LegacyModel, IsReadLegacy}
 use Rattle.bi_commands.specs.FitListing.{hexadecimal_64, source_word}
 use Rattle.bi_commands.specs.Json.{Json, Member, json_string, json_number, json_bool, json_null}
-use Rattle.bi_commands.specs.Json.{string_or_null, json_array, json_object, json_text}
+use Rattle.bi_commands.specs.Json.{string_or_null, json_array, json_object, json_line}
 use Rattle.bi_commands.specs.Shown.{shown_text}
 
 -- The JSON that `list` writes (profile of this project).
@@ -144,11 +144,11 @@ fit_listing_object file images tree =
 pub record IsFitListingJson (limits : Limits) (file text : List ℕ) : Type 0 where
   pub tree : ImageTree
   pub means : FitMeans limits file tree
-  pub is : text ≡ json_text (fit_listing_object file means.is_file.images tree)
+  pub is : text ≡ json_line (fit_listing_object file means.is_file.images tree)
 
 -- The text is the JSON of the listing of the file, which is a legacy image or a flattened image
 -- tree.
 pub data IsListingJson (limits : Limits) (file text : List ℕ) : Type 0 where
   OfLegacyImage : (parsed : LegacyModel) → IsReadLegacy limits file parsed
-      → text ≡ json_text (legacy_listing_object parsed) → IsListingJson limits file text
+      → text ≡ json_line (legacy_listing_object parsed) → IsListingJson limits file text
   OfImageTree : IsFitListingJson limits file text → IsListingJson limits file text

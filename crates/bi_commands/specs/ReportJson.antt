@@ -5,7 +5,7 @@ use Rattle.bi_fit.specs.Judgement.{CheckedHash, verdicts_of}
 use Rattle.bi_hash.specs.declared.verdicts.Verdict.TheVariants.{Good}
 use Rattle.bi_norm.specs.Meaning.{Meaning, OfLegacy, OfFit, Means}
 use Rattle.bi_commands.specs.Json.{Json, Member, json_string, json_number, string_or_null}
-use Rattle.bi_commands.specs.Json.{json_array, json_object, json_text}
+use Rattle.bi_commands.specs.Json.{json_array, json_object, json_line}
 use Rattle.bi_commands.specs.ListingJson.{name_member}
 use Rattle.bi_commands.specs.Reports.{AreGood, CountsModel, counts_of, hashes_of}
 use Rattle.bi_commands.specs.Reports.{verdict_word}
@@ -68,7 +68,7 @@ report_object (OfFit tree) = hash_report_object (verdicts_of tree)
 pub record IsReportJson (limits : Limits) (file text : List ℕ) : Type 0 where
   pub meaning : Meaning
   pub means : Means limits file meaning
-  pub is : text ≡ json_text (report_object meaning)
+  pub is : text ≡ json_line (report_object meaning)
 
 -- The text is the JSON of the report on the file, and this is whether no verdict in it is other
 -- than Good.
