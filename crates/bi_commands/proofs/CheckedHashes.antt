@@ -37,7 +37,7 @@ weak_pieces image hashes =
     let algorithms : List (List ℕ) = map algorithm_word (filter is_good hashes) in
     let printed : List ℕ = flat_map good_algorithm hashes in
     let words : join_with_byte 32 (shown_text image ∷ algorithms) ≡ shown_text image ++ printed =
-    joined_after (shown_text image) algorithms ∙ ap (λ l. shown_text image ++ l) (sym (good_algorithms hashes)) in
+    joined_after 32 (shown_text image) algorithms ∙ ap (λ l. shown_text image ++ l) (sym (good_algorithms hashes)) in
     ap (λ l. codes "weak-hash " ++ (l ++ 10 ∷ [])) words
     ∙ simp append_assoc refl
 

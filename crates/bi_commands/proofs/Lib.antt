@@ -48,3 +48,4 @@ pub mod VerdictCounts
 pub mod AsciiReports
 pub mod ListedResults
 pub mod LinesLeft
+pub mod JsonTexts

@@ -9,7 +9,7 @@ use Rattle.bi_commands.specs.declared.check.Allowed.{Allowed}
 use Rattle.bi_commands.specs.Checking.{Concern, BadHash, UnhashedImage, WeakHash, BadKey}
 use Rattle.bi_commands.specs.Checking.{MissingImage, BadDefault, TrailingBytes, AreConcerns}
 use Rattle.bi_commands.specs.Checking.{allows, kind_of, kind_word}
-use Rattle.bi_commands.specs.Json.{Json, Member, json_string, json_number, string_or_null}
+use Rattle.bi_commands.specs.Json.{JsonText, Member, json_string, json_number, string_or_null}
 use Rattle.bi_commands.specs.Json.{json_array, json_object, json_line}
 use Rattle.bi_commands.specs.ListingJson.{name_member}
 use Rattle.bi_commands.specs.PayloadBounds.{IsOverPayloadBound}
@@ -40,13 +40,13 @@ concern_members (BadDefault default) =
 concern_members (TrailingBytes count) = (codes "size", json_number count) ∷ []
 
 -- A concern.
-abbrev pub concern_object : Concern → Json
+abbrev pub concern_object : Concern → JsonText
 concern_object concern =
     json_object
     ((codes "concern", json_string (kind_word (kind_of concern))) ∷ concern_members concern)
 
 -- The concerns that are not allowed.
-abbrev pub concerns_object : Allowed → List Concern → Json
+abbrev pub concerns_object : Allowed → List Concern → JsonText
 concerns_object allowed concerns =
     json_object
     ((codes "concerns", json_array

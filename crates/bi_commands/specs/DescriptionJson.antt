@@ -16,7 +16,7 @@ use Rattle.bi_commands.specs.DescriptionLaws.{AreSimilar}
 use Rattle.bi_commands.specs.Descriptions.{PayloadDigest, digest_of_payload, NodePayload}
 use Rattle.bi_commands.specs.Descriptions.{NotAnImage, OfImage, DescribedNode, plain_node}
 use Rattle.bi_commands.specs.Descriptions.{described_nodes}
-use Rattle.bi_commands.specs.Json.{Json, Member, json_string, json_number, json_null}
+use Rattle.bi_commands.specs.Json.{JsonText, Member, json_string, json_number, json_null}
 use Rattle.bi_commands.specs.Json.{json_array, json_object, json_line}
 use Rattle.bi_commands.specs.ListingJson.{header_members, name_member, reservations_member}
 use Rattle.bi_commands.specs.PayloadBounds.{IsOverPayloadBound}
@@ -25,14 +25,14 @@ use Rattle.bi_commands.specs.ValueTexts.{are_quotable_texts, hexadecimal_digits}
 -- The JSON that `describe` writes: it depends on the meaning alone (profile of this project).
 
 -- A payload, or a part of a legacy image: its size and its SHA-256.
-abbrev pub digest_object : PayloadDigest → Json
+abbrev pub digest_object : PayloadDigest → JsonText
 digest_object digest =
     json_object
     ((codes "size", json_number digest.size)
     ∷ (codes "sha256", json_string (hexadecimal_digits digest.sha256)) ∷ [])
 
 -- A legacy image.
-abbrev pub legacy_object : LegacyImage → Json
+abbrev pub legacy_object : LegacyImage → JsonText
 legacy_object image =
     json_object
     (header_members image
@@ -48,12 +48,12 @@ value_member value =
     else (codes "hex", json_string (hexadecimal_digits value))
 
 -- A property.
-abbrev pub property_object : Property → Json
+abbrev pub property_object : Property → JsonText
 property_object property =
     json_object (name_member (codes "name") property.0 ∷ value_member property.1 ∷ [])
 
 -- The payload of an image, if it has one.
-abbrev pub payload_or_null : Option PayloadDigest → Json
+abbrev pub payload_or_null : Option PayloadDigest → JsonText
 payload_or_null None = json_null
 payload_or_null (Some digest) = digest_object digest
 
@@ -64,21 +64,21 @@ payload_members (OfImage payload) = (codes "payload", payload_or_null payload) �
 
 -- The members of a node after its name, if it has children with these values. Its properties are in
 -- byte order of their names.
-abbrev pub node_members : DescribedNode → (children : List Json) → List Member
+abbrev pub node_members : DescribedNode → (children : List JsonText) → List Member
 node_members own children =
     payload_members own.payload
     ++ (codes "properties", json_array (map property_object (entries own.properties)))
     ∷ (codes "children", json_array children) ∷ []
 
 -- These nodes, each with those below it.
-abbrev pub node_objects : Nodes DescribedNode → List Json
+abbrev pub node_objects : Nodes DescribedNode → List JsonText
 node_objects none = []
 node_objects (node name own children later) =
     json_object (name_member (codes "name") name ∷ node_members own (node_objects children))
     ∷ node_objects later
 
 -- A flattened image tree.
-abbrev pub fit_object : ImageTree → Json
+abbrev pub fit_object : ImageTree → JsonText
 fit_object tree =
     json_object
     ((codes "kind", json_string (codes "fit"))
@@ -89,7 +89,7 @@ fit_object tree =
     (node_objects (described_nodes tree.root.children tree.payloads)))) ∷ [])
 
 -- What a boot image means.
-abbrev pub meaning_object : Meaning → Json
+abbrev pub meaning_object : Meaning → JsonText
 meaning_object (OfLegacy image) = legacy_object image
 meaning_object (OfFit tree) = fit_object tree
 

@@ -7,47 +7,53 @@ use Rattle.bi_commands.specs.ValueTexts.{quoted_text}
 -- Texts of JSON (RFC 8259), without spaces.
 
 -- A text of a value.
-abbrev pub Json : Type 0
-Json = List ℕ
+abbrev pub JsonText : Type 0
+JsonText = List ℕ
 
 -- A member of an object: its name, and the text of its value.
 abbrev pub Member : Type 0
-Member = List ℕ × Json
+Member = List ℕ × JsonText
 
 -- A string of printable characters (RFC 8259, 7): only `"` and a backslash need an escape.
-abbrev pub json_string : List ℕ → Json
+abbrev pub json_string : List ℕ → JsonText
 json_string bytes = quoted_text bytes
 
 -- A number (RFC 8259, 6).
-abbrev pub json_number : ℕ → Json
+abbrev pub json_number : ℕ → JsonText
 json_number value = decimal value
 
 -- `true` or `false` (RFC 8259, 3).
-abbrev pub json_bool : Bool → Json
+abbrev pub json_bool : Bool → JsonText
 json_bool true = codes "true"
 json_bool false = codes "false"
 
 -- `null` (RFC 8259, 3).
-abbrev pub json_null : Json
+abbrev pub json_null : JsonText
 json_null = codes "null"
 
 -- A string of these bytes, or `null` if there are none.
-abbrev pub string_or_null : Option (List ℕ) → Json
+abbrev pub string_or_null : Option (List ℕ) → JsonText
 string_or_null None = json_null
 string_or_null (Some bytes) = json_string bytes
 
 -- An array of these values (RFC 8259, 5).
-abbrev pub json_array : List Json → Json
+abbrev pub json_array : List JsonText → JsonText
 json_array values = 91 ∷ (join_with_byte 44 values ++ 93 ∷ [])
+
+-- Values with a comma before each, but the first if it is the first of its array.
+abbrev pub separated : (is_later : Bool) → List JsonText → List ℕ
+separated is_later [] = []
+separated false (value ∷ later) = value ++ separated true later
+separated true (value ∷ later) = 44 ∷ (value ++ separated true later)
 
 -- A member of an object (RFC 8259, 4).
 abbrev pub member_text : Member → List ℕ
 member_text member = json_string member.0 ++ 58 ∷ member.1
 
 -- An object of these members (RFC 8259, 4).
-abbrev pub json_object : List Member → Json
+abbrev pub json_object : List Member → JsonText
 json_object members = 123 ∷ (join_with_byte 44 (map member_text members) ++ 125 ∷ [])
 
 -- The text that a command writes for a value: the value and a newline.
-abbrev pub json_line : Json → List ℕ
+abbrev pub json_line : JsonText → List ℕ
 json_line value = value ++ 10 ∷ []

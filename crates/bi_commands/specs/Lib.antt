@@ -44,3 +44,5 @@ pub mod ReportJson
 pub mod ConcernJson
 pub mod DescriptionJson
 pub mod ComparisonJson
+pub mod Formats
+pub mod JsonValues

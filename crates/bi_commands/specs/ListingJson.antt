@@ -16,7 +16,7 @@ use Rattle.bi_legacy.specs.Meaning.{LegacyImage}
 use Rattle.bi_legacy.specs.PlacedParts.{PartModel, placed_parts}
 use Rattle.bi_legacy.specs.Reading.{LegacyModel, IsReadLegacy}
 use Rattle.bi_commands.specs.FitListing.{hexadecimal_64, source_word}
-use Rattle.bi_commands.specs.Json.{Json, Member, json_string, json_number, json_bool, json_null}
+use Rattle.bi_commands.specs.Json.{JsonText, Member, json_string, json_number, json_bool, json_null}
 use Rattle.bi_commands.specs.Json.{string_or_null, json_array, json_object, json_line}
 use Rattle.bi_commands.specs.Shown.{shown_text}
 
@@ -29,7 +29,7 @@ name_member member name = (member, json_string (shown_text name))
 -- ---- legacy images
 
 -- A code by its name, or by its number if it has none.
-abbrev pub named_code : Option (List ℕ) → (code : ℕ) → Json
+abbrev pub named_code : Option (List ℕ) → (code : ℕ) → JsonText
 named_code None code = json_number code
 named_code (Some name) code = json_string name
 
@@ -51,14 +51,14 @@ header_members image =
     ∷ code_member (codes "compression") compression_names image.compression ∷ []
 
 -- A part, by the offset of its first byte in the file.
-abbrev pub part_object : PartModel → Json
+abbrev pub part_object : PartModel → JsonText
 part_object part =
     json_object
     ((codes "offset", json_number part.place)
     ∷ (codes "size", json_number (length part.bytes)) ∷ [])
 
 -- A legacy image.
-abbrev pub legacy_listing_object : LegacyModel → Json
+abbrev pub legacy_listing_object : LegacyModel → JsonText
 legacy_listing_object parsed =
     json_object
     (header_members parsed.image
@@ -68,7 +68,7 @@ legacy_listing_object parsed =
 -- ---- flattened image trees
 
 -- A memory reservation.
-abbrev pub reservation_object : Reservation → Json
+abbrev pub reservation_object : Reservation → JsonText
 reservation_object reservation =
     json_object
     ((codes "address", json_string (hexadecimal_64 reservation.address))
@@ -80,7 +80,7 @@ reservations_member reservations =
     (codes "reservations", json_array (map reservation_object reservations))
 
 -- A payload: the property that gives it, its offset in the file and its size. There may be none.
-abbrev pub payload_object : (file : List ℕ) → PayloadSource → Option (List ℕ) → Json
+abbrev pub payload_object : (file : List ℕ) → PayloadSource → Option (List ℕ) → JsonText
 payload_object file payload_source None = json_null
 payload_object file payload_source (Some payload) =
     json_object
@@ -89,26 +89,26 @@ payload_object file payload_source (Some payload) =
     ∷ (codes "size", json_number (length payload)) ∷ [])
 
 -- An image.
-abbrev pub image_object : (file name : List ℕ) → PayloadSource → Option (List ℕ) → Json
+abbrev pub image_object : (file name : List ℕ) → PayloadSource → Option (List ℕ) → JsonText
 image_object file name payload_source payload =
     json_object
     (name_member (codes "name") name
     ∷ (codes "payload", payload_object file payload_source payload) ∷ [])
 
 -- Image nodes with these payloads.
-abbrev pub image_objects : (file : List ℕ) → Nodes FileNode → List (Option (List ℕ)) → List Json
+abbrev pub image_objects : (file : List ℕ) → Nodes FileNode → List (Option (List ℕ)) → List JsonText
 image_objects file (node name own children later) (payload ∷ payloads) =
     image_object file name (source_of own) payload ∷ image_objects file later payloads
 image_objects file nodes payloads = []
 
 -- The object of a key, with one more member.
-abbrev pub key_object : Key → Member → Json
+abbrev pub key_object : Key → Member → JsonText
 key_object key member =
     json_object ((codes "key", json_string (key_name key)) ∷ member ∷ [])
 
 -- What a configuration lists under a key, or why it lists nothing. There is no object if the
 -- configuration has no such key.
-abbrev pub key_objects : Key → ListResult → List Json
+abbrev pub key_objects : Key → ListResult → List JsonText
 key_objects key NoConfig = []
 key_objects key NoKey = []
 key_objects key BadList = key_object key (codes "bad_list", json_bool true) ∷ []
@@ -118,7 +118,7 @@ key_objects key (ListedImages images) =
     (codes "images", json_array (map (λ image. json_string (shown_text image.name)) images)) ∷ []
 
 -- A configuration, with its keys in their order.
-abbrev pub configuration_object : ImageTree → (configuration : List ℕ) → Json
+abbrev pub configuration_object : ImageTree → (configuration : List ℕ) → JsonText
 configuration_object tree configuration =
     json_object
     (name_member (codes "name") configuration
@@ -126,7 +126,7 @@ configuration_object tree configuration =
     (flat_map (λ key. key_objects key (listed_of tree configuration key)) all_keys)) ∷ [])
 
 -- A flattened image tree that a file with these image nodes means.
-abbrev pub fit_listing_object : (file : List ℕ) → Nodes FileNode → ImageTree → Json
+abbrev pub fit_listing_object : (file : List ℕ) → Nodes FileNode → ImageTree → JsonText
 fit_listing_object file images tree =
     json_object
     ((codes "kind", json_string (codes "fit"))

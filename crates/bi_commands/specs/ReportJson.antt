@@ -4,7 +4,7 @@ use Rattle.bi_base.specs.Limits.{Limits}
 use Rattle.bi_fit.specs.Judgement.{CheckedHash, verdicts_of}
 use Rattle.bi_hash.specs.declared.verdicts.Verdict.TheVariants.{Good}
 use Rattle.bi_norm.specs.Meaning.{Meaning, OfLegacy, OfFit, Means}
-use Rattle.bi_commands.specs.Json.{Json, Member, json_string, json_number, string_or_null}
+use Rattle.bi_commands.specs.Json.{JsonText, Member, json_string, json_number, string_or_null}
 use Rattle.bi_commands.specs.Json.{json_array, json_object, json_line}
 use Rattle.bi_commands.specs.ListingJson.{name_member}
 use Rattle.bi_commands.specs.Reports.{AreGood, CountsModel, counts_of, hashes_of}
@@ -24,7 +24,7 @@ abbrev pub verdict_member : CheckedHash → Member
 verdict_member hash = (codes "verdict", json_string (verdict_word hash.verdict))
 
 -- A hash node, with the verdict on it.
-abbrev pub hash_object : CheckedHash → Json
+abbrev pub hash_object : CheckedHash → JsonText
 hash_object hash =
     json_object
     (name_member (codes "image") hash.image
@@ -34,7 +34,7 @@ hash_object hash =
     ∷ (codes "value", string_or_null (option_map hexadecimal_digits hash.value)) ∷ [])
 
 -- How many hash nodes have each verdict.
-abbrev pub summary_object : CountsModel → Json
+abbrev pub summary_object : CountsModel → JsonText
 summary_object counts =
     json_object
     ((codes "good", json_number counts.good)
@@ -44,7 +44,7 @@ summary_object counts =
     ∷ (codes "malformed", json_number counts.malformed) ∷ [])
 
 -- The report on these hash nodes.
-abbrev pub hash_report_object : List CheckedHash → Json
+abbrev pub hash_report_object : List CheckedHash → JsonText
 hash_report_object hashes =
     json_object
     ((codes "kind", json_string (codes "fit"))
@@ -52,7 +52,7 @@ hash_report_object hashes =
     ∷ (codes "summary", summary_object (counts_of hashes)) ∷ [])
 
 -- The report on any legacy image: both checksums are good.
-abbrev pub legacy_report_object : Json
+abbrev pub legacy_report_object : JsonText
 legacy_report_object =
     json_object
     ((codes "kind", json_string (codes "legacy"))
@@ -60,7 +60,7 @@ legacy_report_object =
     ∷ (codes "data_crc32", json_string (verdict_word Good)) ∷ [])
 
 -- The report on what a file means.
-abbrev pub report_object : Meaning → Json
+abbrev pub report_object : Meaning → JsonText
 report_object (OfLegacy image) = legacy_report_object
 report_object (OfFit tree) = hash_report_object (verdicts_of tree)
 
