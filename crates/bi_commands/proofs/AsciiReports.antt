@@ -25,10 +25,16 @@ use Rattle.bi_commands.specs.Checking.{Concern, BadHash, UnhashedImage, WeakHash
 use Rattle.bi_commands.specs.Checking.{AreConcerns, OfLegacyImage, OfImageTree, content_end, concern_line, concern_lines, configuration_concerns, default_concerns}
 use Rattle.bi_commands.specs.Checking.{hash_concerns, hashes_of_image, image_concerns, is_good, is_strong}
 use Rattle.bi_commands.specs.Checking.{list_concerns, names_one_of, payload_concerns, tree_concerns, trailing_concerns}
-use Rattle.bi_commands.specs.Reports.{IsReport, HashVerdict, Summary, ReportLine, counts_of, report_line}
+use Rattle.bi_commands.specs.declared.format.Format.{Format}
+use Rattle.bi_commands.specs.declared.format.Format.TheVariants.{Lines, Json}
+use Rattle.bi_commands.specs.Json.{json_array, json_string}
+use Rattle.bi_commands.specs.ReportJson.{hash_members, hash_object, report_object, summary_members, summary_object}
+use Rattle.bi_commands.specs.Reports.{CountsModel, HashVerdict, Summary, ReportLine, counts_of, report_line}
 use Rattle.bi_commands.specs.Reports.{report_of, shown_or_none, value_word, verdict_word}
 use Rattle.bi_commands.specs.Shown.{shown_text}
 use Rattle.bi_commands.specs.ValueTexts.{hexadecimal_digits}
+use Rattle.bi_commands.specs.VerifiedFiles.{IsReport, report_text}
+use Rattle.bi_commands.proofs.AsciiJson.{array_ascii, line_ascii, maybe_digits_ascii, maybe_name_ascii, name_ascii, object_ascii, string_ascii}
 use Rattle.bi_commands.proofs.AsciiListings.{configurations_are_nodes, default_bytes, key_word, node_names_bytes, before_nul_bytes}
 use Rattle.bi_commands.proofs.AsciiTexts.{HasAscii, AreAsciiWords, ascii_line, both, by_test, bytes_digits, decimal_shown, is_ascii}
 use Rattle.bi_commands.proofs.AsciiTexts.{name_shown}
@@ -139,49 +145,106 @@ all_hashes [] bytes = tt
 all_hashes (image ∷ later) bytes =
     each-append IsByteHash (hashes_of_image image) (flat_map (λ (image : Image). map (checked_hash image) (hash_nodes image)) later) bytes.0.1 (all_hashes later bytes.1)
 
--- A report is ASCII.
-pub report_is_ascii : (limits : Limits) (file text : List ℕ) → IsReport limits file text → IsAscii text
-report_is_ascii limits file text report = by report.meaning report.means report.is
-  where
-    by : (meaning : Meaning) → Means limits file meaning → text ≡ report_of meaning → IsAscii text
-    by (OfLegacy image) means is = subst IsAscii (sym is) (is_ascii (report_of (OfLegacy image)) (by_test (report_of (OfLegacy image)) refl))
-    by (OfFit tree) means is =
-        let hashes = verdicts_of tree in
-        let counts = counts_of hashes in
-        let last : HasAscii (flat_map report_line (Summary counts ∷ [])) =
-        both (report_line (Summary counts)) []
-        (ascii_line
-        (codes "summary" ∷ codes "good" ∷ _ ∷ codes "bad" ∷ _ ∷ codes "unknown-algorithm" ∷ _ ∷ codes "no-payload" ∷ _ ∷ codes "malformed" ∷ _ ∷ []) (
-          by_test (codes "summary") refl,
+-- The lines of a report.
+lines_ascii : (tree : ImageTree) → AllByRecursion IsByteHash (verdicts_of tree) → HasAscii (report_of (OfFit tree))
+lines_ascii tree bytes =
+    let hashes = verdicts_of tree in
+    let counts = counts_of hashes in
+    let last : HasAscii (flat_map report_line (Summary counts ∷ [])) =
+    both (report_line (Summary counts)) []
+    (ascii_line
+    (codes "summary" ∷ codes "good" ∷ _ ∷ codes "bad" ∷ _ ∷ codes "unknown-algorithm" ∷ _ ∷ codes "no-payload" ∷ _ ∷ codes "malformed" ∷ _ ∷ []) (
+      by_test (codes "summary") refl,
+      (
+        by_test (codes "good") refl,
+        (
+          decimal_shown counts.good,
           (
-            by_test (codes "good") refl,
+            by_test (codes "bad") refl,
             (
-              decimal_shown counts.good,
+              decimal_shown counts.bad,
               (
-                by_test (codes "bad") refl,
+                by_test (codes "unknown-algorithm") refl,
                 (
-                  decimal_shown counts.bad,
+                  decimal_shown counts.unknown_algorithm,
                   (
-                    by_test (codes "unknown-algorithm") refl,
+                    by_test (codes "no-payload") refl,
                     (
-                      decimal_shown counts.unknown_algorithm,
-                      (
-                        by_test (codes "no-payload") refl,
-                        (
-                          decimal_shown counts.no_payload,
-                          (by_test (codes "malformed") refl, (decimal_shown counts.malformed, tt)),
-                        ),
-                      ),
+                      decimal_shown counts.no_payload,
+                      (by_test (codes "malformed") refl, (decimal_shown counts.malformed, tt)),
                     ),
                   ),
                 ),
               ),
             ),
           ),
-        )) tt in
-        subst IsAscii (sym is)
-        (is_ascii (report_of (OfFit tree))
-        (hash_lines_shown hashes (Summary counts ∷ []) (all_hashes (images_of tree) (tree_images tree (file_means_image_tree file tree means.is_file))) last))
+        ),
+      ),
+    )) tt in
+    hash_lines_shown hashes (Summary counts ∷ []) bytes last
+
+-- The report in JSON.
+hash_ascii : (hash : CheckedHash) → IsByteHash hash → HasAscii (hash_object hash)
+hash_ascii hash bytes =
+    object_ascii (hash_members hash) (
+      (by_test (codes "image") refl, name_ascii hash.image bytes.0),
+      (
+        (by_test (codes "node") refl, name_ascii hash.node_name bytes.1),
+        (
+          (by_test (codes "algorithm") refl, maybe_name_ascii hash.algo bytes.2),
+          (
+            (by_test (codes "verdict") refl, string_ascii (verdict_word hash.verdict) (verdict_shown hash.verdict)),
+            ((by_test (codes "value") refl, maybe_digits_ascii hash.value bytes.3), tt),
+          ),
+        ),
+      ),
+    )
+
+hashes_ascii : (hashes : List CheckedHash) → AllByRecursion IsByteHash hashes → AllByRecursion HasAscii (map hash_object hashes)
+hashes_ascii [] bytes = tt
+hashes_ascii (hash ∷ later) bytes = (hash_ascii hash bytes.0, hashes_ascii later bytes.1)
+
+summary_ascii : (counts : CountsModel) → HasAscii (summary_object counts)
+summary_ascii counts =
+    object_ascii (summary_members counts) (
+      (by_test (codes "good") refl, decimal_shown counts.good),
+      (
+        (by_test (codes "bad") refl, decimal_shown counts.bad),
+        (
+          (by_test (codes "unknown_algorithm") refl, decimal_shown counts.unknown_algorithm),
+          (
+            (by_test (codes "no_payload") refl, decimal_shown counts.no_payload),
+            ((by_test (codes "malformed") refl, decimal_shown counts.malformed), tt),
+          ),
+        ),
+      ),
+    )
+
+object_is_ascii : (tree : ImageTree) → AllByRecursion IsByteHash (verdicts_of tree) → HasAscii (report_object (OfFit tree))
+object_is_ascii tree bytes =
+    let hashes = verdicts_of tree in
+    object_ascii
+    ((codes "kind", json_string (codes "fit"))
+    ∷ (codes "hashes", json_array (map hash_object hashes)) ∷ (codes "summary", summary_object (counts_of hashes)) ∷ []) (
+      (by_test (codes "kind") refl, by_test (json_string (codes "fit")) refl),
+      (
+        (by_test (codes "hashes") refl, array_ascii (map hash_object hashes) (hashes_ascii hashes bytes)),
+        ((by_test (codes "summary") refl, summary_ascii (counts_of hashes)), tt),
+      ),
+    )
+
+-- A report is ASCII, in any form.
+pub report_is_ascii : (format : Format) (limits : Limits) (file text : List ℕ) → IsReport format limits file text → IsAscii text
+report_is_ascii format limits file text report =
+    subst IsAscii (sym report.is) (is_ascii (report_text format report.meaning) (by format report.meaning report.means))
+  where
+    by : (form : Format) (meaning : Meaning) → Means limits file meaning → HasAscii (report_text form meaning)
+    by Lines (OfLegacy image) means = by_test (report_of (OfLegacy image)) refl
+    by Json (OfLegacy image) means = by_test (report_text Json (OfLegacy image)) refl
+    by Lines (OfFit tree) means = lines_ascii tree (all_hashes (images_of tree) (tree_images tree (file_means_image_tree file tree means.is_file)))
+    by Json (OfFit tree) means =
+        line_ascii (report_object (OfFit tree))
+        (object_is_ascii tree (all_hashes (images_of tree) (tree_images tree (file_means_image_tree file tree means.is_file))))
 
 -- ---- concerns
 

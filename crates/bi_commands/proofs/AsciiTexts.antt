@@ -67,15 +67,16 @@ text_of_bytes f holds [] are = tt
 text_of_bytes f holds (byte ∷ later) are =
     both (f byte) (flat_map f later) (holds byte (are.each 0)) (text_of_bytes f holds later (AreBytes-right (byte ∷ []) later are))
 
--- Words with spaces between them.
-joined : (words : Words) → AreAsciiWords words → HasAscii (join_with_byte 32 words)
-joined [] are = tt
-joined (word ∷ []) are = are.0
-joined (word ∷ next ∷ later) are = both word (32 ∷ join_with_byte 32 (next ∷ later)) are.0 (omega arith, joined (next ∷ later) are.1)
+-- Words with a byte between each two.
+pub joined : (byte : ℕ) → byte < 128 → (words : Words) → AreAsciiWords words → HasAscii (join_with_byte byte words)
+joined byte small [] are = tt
+joined byte small (word ∷ []) are = are.0
+joined byte small (word ∷ next ∷ later) are =
+    both word (byte ∷ join_with_byte byte (next ∷ later)) are.0 (small, joined byte small (next ∷ later) are.1)
 
 -- A line.
 pub ascii_line : (words : Words) → AreAsciiWords words → HasAscii (line words)
-ascii_line words are = both (join_with_byte 32 words) (10 ∷ []) (joined words are) (omega arith, tt)
+ascii_line words are = both (join_with_byte 32 words) (10 ∷ []) (joined 32 (omega arith) words are) (omega arith, tt)
 
 -- Lines.
 pub ascii_lines : (lines : List Words) → AreAsciiLines lines → HasAscii (flat_map line lines)
@@ -137,7 +138,7 @@ name_shown name are = by (bytes_eq name []) (bytes_eq name (codes "-"))
     by false false = text_of_bytes shown_byte (λ byte. name_byte byte (is_plain byte) refl) name are
 
 -- Texts that are printed in quotes.
-escaped : (byte : ℕ) → byte < 128 → HasAscii (escaped_byte byte)
+pub escaped : (byte : ℕ) → byte < 128 → HasAscii (escaped_byte byte)
 escaped byte small = by (byte == 34 || byte == 92)
   where
     by : (b : Bool) → HasAscii (cond b (92 ∷ byte ∷ []) (byte ∷ []))

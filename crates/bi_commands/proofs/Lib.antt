@@ -49,3 +49,5 @@ pub mod AsciiReports
 pub mod ListedResults
 pub mod LinesLeft
 pub mod JsonTexts
+pub mod TextsInTurn
+pub mod AsciiJson

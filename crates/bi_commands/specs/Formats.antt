@@ -1,12 +1,12 @@
-use Rattle.std.specs.Prelude.{ℕ, Bool, true, false, ◌||◌, List, [], ◌∷◌, ◌++◌, flat_map}
+use Rattle.std.specs.Prelude.{ℕ, Bool, true, List, [], ◌∷◌, flat_map}
 use Rattle.bi_commands.specs.declared.format.Format.{Format}
 use Rattle.bi_commands.specs.declared.format.Format.TheVariants.{Lines, Json}
 use Rattle.bi_commands.specs.Json.{separated}
 
 -- The forms of what a command writes.
 
--- Texts of values in turn: in JSON they are the values of an array, in part or as a whole.
--- `is_later` is whether there is a value before them.
+-- Texts of values in turn. In JSON they are values of an array, and `is_later` is whether there is
+-- a value before the first of them.
 abbrev pub in_turn : Format → (is_later : Bool) → List (List ℕ) → List ℕ
 in_turn Lines is_later texts = flat_map (λ text. text) texts
 in_turn Json is_later texts = separated is_later texts

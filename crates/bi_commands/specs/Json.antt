@@ -40,11 +40,16 @@ string_or_null (Some bytes) = json_string bytes
 abbrev pub json_array : List JsonText → JsonText
 json_array values = 91 ∷ (join_with_byte 44 values ++ 93 ∷ [])
 
--- Values with a comma before each, but the first if it is the first of its array.
+-- What comes before a value of an array: a comma, if it is not the first.
+abbrev pub comma : (is_later : Bool) → List ℕ
+comma false = []
+comma true = 44 ∷ []
+
+-- Values of an array, each with what comes before it. `is_later` is whether there is a value before
+-- the first of them.
 abbrev pub separated : (is_later : Bool) → List JsonText → List ℕ
 separated is_later [] = []
-separated false (value ∷ later) = value ++ separated true later
-separated true (value ∷ later) = 44 ∷ (value ++ separated true later)
+separated is_later (value ∷ later) = comma is_later ++ (value ++ separated true later)
 
 -- A member of an object (RFC 8259, 4).
 abbrev pub member_text : Member → List ℕ

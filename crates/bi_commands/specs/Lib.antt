@@ -46,3 +46,4 @@ pub mod DescriptionJson
 pub mod ComparisonJson
 pub mod Formats
 pub mod JsonValues
+pub mod VerifiedFiles

@@ -1,14 +1,12 @@
-use Rattle.std.specs.Prelude.{◌≡◌, ◌↔◌, ℕ, Bool, IsTrue, List, [], ◌∷◌, ◌++◌, Option, map, codes}
+use Rattle.std.specs.Prelude.{List, [], ◌∷◌, map, codes}
 use Rattle.std.specs.Option.{option_map}
-use Rattle.bi_base.specs.Limits.{Limits}
 use Rattle.bi_fit.specs.Judgement.{CheckedHash, verdicts_of}
 use Rattle.bi_hash.specs.declared.verdicts.Verdict.TheVariants.{Good}
-use Rattle.bi_norm.specs.Meaning.{Meaning, OfLegacy, OfFit, Means}
+use Rattle.bi_norm.specs.Meaning.{Meaning, OfLegacy, OfFit}
 use Rattle.bi_commands.specs.Json.{JsonText, Member, json_string, json_number, string_or_null}
-use Rattle.bi_commands.specs.Json.{json_array, json_object, json_line}
+use Rattle.bi_commands.specs.Json.{json_array, json_object}
 use Rattle.bi_commands.specs.ListingJson.{name_member}
-use Rattle.bi_commands.specs.Reports.{AreGood, CountsModel, counts_of, hashes_of}
-use Rattle.bi_commands.specs.Reports.{verdict_word}
+use Rattle.bi_commands.specs.Reports.{CountsModel, counts_of, verdict_word}
 use Rattle.bi_commands.specs.Shown.{shown_text}
 use Rattle.bi_commands.specs.ValueTexts.{hexadecimal_digits}
 
@@ -23,25 +21,31 @@ algorithm_member hash = (codes "algorithm", string_or_null (option_map shown_tex
 abbrev pub verdict_member : CheckedHash → Member
 verdict_member hash = (codes "verdict", json_string (verdict_word hash.verdict))
 
--- A hash node, with the verdict on it.
-abbrev pub hash_object : CheckedHash → JsonText
-hash_object hash =
-    json_object
-    (name_member (codes "image") hash.image
+-- The members of a hash node, with the verdict on it.
+abbrev pub hash_members : CheckedHash → List Member
+hash_members hash =
+    name_member (codes "image") hash.image
     ∷ name_member (codes "node") hash.node_name
     ∷ algorithm_member hash
     ∷ verdict_member hash
-    ∷ (codes "value", string_or_null (option_map hexadecimal_digits hash.value)) ∷ [])
+    ∷ (codes "value", string_or_null (option_map hexadecimal_digits hash.value)) ∷ []
 
--- How many hash nodes have each verdict.
-abbrev pub summary_object : CountsModel → JsonText
-summary_object counts =
-    json_object
-    ((codes "good", json_number counts.good)
+-- A hash node.
+abbrev pub hash_object : CheckedHash → JsonText
+hash_object hash = json_object (hash_members hash)
+
+-- The members for the number of hash nodes with each verdict.
+abbrev pub summary_members : CountsModel → List Member
+summary_members counts =
+    (codes "good", json_number counts.good)
     ∷ (codes "bad", json_number counts.bad)
     ∷ (codes "unknown_algorithm", json_number counts.unknown_algorithm)
     ∷ (codes "no_payload", json_number counts.no_payload)
-    ∷ (codes "malformed", json_number counts.malformed) ∷ [])
+    ∷ (codes "malformed", json_number counts.malformed) ∷ []
+
+-- How many hash nodes have each verdict.
+abbrev pub summary_object : CountsModel → JsonText
+summary_object counts = json_object (summary_members counts)
 
 -- The report on these hash nodes.
 abbrev pub hash_report_object : List CheckedHash → JsonText
@@ -63,15 +67,3 @@ legacy_report_object =
 abbrev pub report_object : Meaning → JsonText
 report_object (OfLegacy image) = legacy_report_object
 report_object (OfFit tree) = hash_report_object (verdicts_of tree)
-
--- The text is the JSON of the report on the file.
-pub record IsReportJson (limits : Limits) (file text : List ℕ) : Type 0 where
-  pub meaning : Meaning
-  pub means : Means limits file meaning
-  pub is : text ≡ json_line (report_object meaning)
-
--- The text is the JSON of the report on the file, and this is whether no verdict in it is other
--- than Good.
-pub record IsVerifyJson (limits : Limits) (good : Bool) (file text : List ℕ) : Type 0 where
-  pub report : IsReportJson limits file text
-  pub all_good : IsTrue good ↔ AreGood (hashes_of report.meaning)

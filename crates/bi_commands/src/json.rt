@@ -5,7 +5,7 @@ ghost use Rattle.std.specs.Option.{option_map};
 ghost use Rattle.std.specs.List.{join_with_byte, list_any};
 ghost use Rattle.bi_base.specs.Sinks.{Wrote};
 ghost use Rattle.bi_commands.specs.FitListing.{hexadecimal_64};
-ghost use Rattle.bi_commands.specs.Json.{json_bool, json_object, json_string, member_text};
+ghost use Rattle.bi_commands.specs.Json.{comma, json_bool, json_object, json_string, member_text};
 ghost use Rattle.bi_commands.specs.Json.{string_or_null};
 ghost use Rattle.bi_commands.specs.JsonValues.{member_of, value_json};
 ghost use Rattle.bi_commands.specs.Shown.{shown_byte, shown_text};
@@ -56,6 +56,14 @@ pub(crate) fn digits_or_null(bytes: Option<&[u8]>) -> JsonValue
         Some(bytes) => JsonValue::Digits(bytes),
         None => JsonValue::Null,
     }
+}
+
+/// Appends what comes before a value of an array: a comma, if it is not the first. Fails as the
+/// sink does.
+pub(crate) fn put_comma<S: Sink>(is_later: bool, sink: &mut S) -> Result<(), Error>
+    ensures { Wrote S.appends S.fails sink.old (comma is_later) result sink.new }
+{
+    if is_later { sink.put(b",") } else { Ok(()) }
 }
 
 /// Appends an object of these members. Fails as the sink does.
