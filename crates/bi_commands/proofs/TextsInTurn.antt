@@ -1,13 +1,12 @@
 use Rattle.std.proofs.Common.{◌≡◌, ℕ, Bool, true, List, [], ◌∷◌, ◌++◌, flat_map, map, append-nil, append_assoc, refl, sym, ap, ap₂, ◌∙◌}
-use Rattle.std.proofs.Common.{subst, Result, IsErrAnd}
+use Rattle.std.proofs.Common.{subst, Result, Ok, Err, IsErrAnd}
 use Rattle.std.proofs.lemmas.Grind.{flat_map-append}
-use Rattle.bi_base.specs.Sinks.{AppendsInTurn, AppendsNothing, FailsAfter, FailsBefore, Wrote}
+use Rattle.bi_base.specs.Sinks.{AppendsInTurn, AppendsNothing, FailsAfter, FailsBefore}
 use Rattle.bi_base.specs.declared.fault.Error.{Error}
 use Rattle.bi_commands.specs.declared.format.Format.{Format}
 use Rattle.bi_commands.specs.declared.format.Format.TheVariants.{Lines, Json}
-use Rattle.bi_commands.specs.Formats.{in_turn, is_later_after}
+use Rattle.bi_commands.specs.Formats.{WroteInTurn, in_turn, is_later_after}
 use Rattle.bi_commands.specs.Json.{comma, separated}
-use Rattle.bi_commands.proofs.LineChains.{next_fails}
 
 -- Texts of values in turn, in any form, that are appended part by part.
 
@@ -73,19 +72,6 @@ turn_goes_on appends together old mid new format first now next more later left 
   later = ap (λ (b : Bool). is_later_after b later) then ∙ sym (later_after_both now more later) ∙ ap (is_later_after now) (sym is) ∙ so_far.later;
 }
 
--- More of them are not appended.
-pub turn_fails : {S V : Type 0} (appends : S → List ℕ → S → Type 0) (fails : S → List ℕ → S → Error → Type 0)
-    (after : FailsAfter appends fails) (before : FailsBefore fails) (old mid new : S) (format : Format) (first now : Bool)
-    (more later left all : List (List ℕ)) (error : Error) (result : Result V Error) → AreInTurn appends old mid format first now left all →
-    left ≡ more ++ later → IsErrAnd result (λ e. e ≡ error) → fails mid (in_turn format now more) new error →
-    Wrote appends fails old (in_turn format first all) result new
-turn_fails appends fails after before old mid new format first now more later left all error result so_far is passed failed =
-    let rest = in_turn format (is_later_after now more) later in
-    next_fails appends fails after before old mid new so_far.done (in_turn format now more) rest _ error result
-    (sym (append_assoc so_far.done (in_turn format now more) rest
-    ∙ ap (λ (l : List ℕ). so_far.done ++ l) (sym (in_two_parts format now more later) ∙ ap (in_turn format now) (sym is))
-    ∙ so_far.texts)) passed so_far.written failed
-
 -- None is left at last.
 pub turn_ends : {S : Type 0} (appends : S → List ℕ → S → Type 0) (old new : S) (format : Format) (first now : Bool)
     (left all : List (List ℕ)) → AreInTurn appends old new format first now left all → left ≡ [] →
@@ -100,3 +86,74 @@ turn_ends appends old new format first now left all so_far none = (
     nothing : (format : Format) (now : Bool) → in_turn format now [] ≡ []
     nothing Lines now = refl
     nothing Json now = refl
+
+-- More of them are not appended.
+pub turn_fails : {S : Type 0} (appends : S → List ℕ → S → Type 0) (fails : S → List ℕ → S → Error → Type 0)
+    (after : FailsAfter appends fails) (before : FailsBefore fails) (old mid new : S) (format : Format) (first now : Bool)
+    (more later left all : List (List ℕ)) (error : Error) → AreInTurn appends old mid format first now left all → left ≡ more ++ later →
+    fails mid (in_turn format now more) new error → fails old (in_turn format first all) new error
+turn_fails appends fails after before old mid new format first now more later left all error so_far is failed =
+    let rest = in_turn format (is_later_after now more) later in
+    let done = so_far.done in
+    subst (λ (bytes : List ℕ). fails old bytes new error)
+    (append_assoc done (in_turn format now more) rest
+    ∙ ap (λ (l : List ℕ). done ++ l) (sym (in_two_parts format now more later) ∙ ap (in_turn format now) (sym is))
+    ∙ so_far.texts)
+    (before old new (done ++ in_turn format now more) rest error (after old mid new done (in_turn format now more) error so_far.written failed))
+
+-- This failure is passed on by `?`.
+pub turn_passed : {S : Type 0} (appends : S → List ℕ → S → Type 0) (fails : S → List ℕ → S → Error → Type 0) (old : S) (format : Format)
+    (first : Bool) (all : List (List ℕ)) (error : Error) (result : Result Bool Error) (new : S) → IsErrAnd result (λ e. e ≡ error) →
+    fails old (in_turn format first all) new error → WroteInTurn appends fails old format first all result new
+turn_passed appends fails old format first all error (Ok value) new is failed = absurd is
+turn_passed appends fails old format first all error (Err e) new is failed =
+    subst (λ (other : Error). fails old (in_turn format first all) new other) (sym is) failed
+
+-- There is nothing to append,
+pub nothing_in_turn : {S : Type 0} (appends : S → List ℕ → S → Type 0) (nothing : AppendsNothing appends) (old : S) (format : Format)
+    (first : Bool) (all : List (List ℕ)) → all ≡ [] → appends old (in_turn format first all) old × (first ≡ is_later_after first all)
+nothing_in_turn appends nothing old format first all none =
+    turn_ends appends old old format first first all all (turn_begins appends nothing old format first all all refl) none
+
+-- one text,
+pub one_in_turn : {S : Type 0} (appends : S → List ℕ → S → Type 0) (old new : S) (format : Format) (first : Bool) (text : List ℕ)
+    (all : List (List ℕ)) → all ≡ text ∷ [] → appends old (in_turn format first (text ∷ [])) new →
+    appends old (in_turn format first all) new × (true ≡ is_later_after first all)
+one_in_turn appends old new format first text all is wrote =
+    (subst (λ (texts : List (List ℕ)). appends old (in_turn format first texts) new) (sym is) wrote, ap (is_later_after first) (sym is))
+
+-- or two parts, the first of which
+abbrev two_parts : (format : Format) (first now : Bool) (some later all : List (List ℕ)) → all ≡ some ++ later →
+    now ≡ is_later_after first some → in_turn format first all ≡ in_turn format first some ++ in_turn format now later
+two_parts format first now some later all is then =
+    ap (in_turn format first) is
+    ∙ in_two_parts format first some later
+    ∙ ap (λ (b : Bool). in_turn format first some ++ in_turn format b later) (sym then)
+
+-- fails,
+pub first_part_fails : {S : Type 0} (appends : S → List ℕ → S → Type 0) (fails : S → List ℕ → S → Error → Type 0)
+    (before : FailsBefore fails) (old new : S) (format : Format) (first : Bool) (some later all : List (List ℕ)) (error : Error)
+    (result : Result Bool Error) → all ≡ some ++ later → IsErrAnd result (λ e. e ≡ error) →
+    fails old (in_turn format first some) new error → WroteInTurn appends fails old format first all result new
+first_part_fails appends fails before old new format first some later all error result is passed failed =
+    turn_passed appends fails old format first all error result new passed
+    (subst (λ (bytes : List ℕ). fails old bytes new error) (sym (two_parts format first _ some later all is refl))
+    (before old new (in_turn format first some) (in_turn format (is_later_after first some) later) error failed))
+
+-- or is followed by the second.
+pub next_part : {S : Type 0} (appends : S → List ℕ → S → Type 0) (fails : S → List ℕ → S → Error → Type 0)
+    (together : AppendsInTurn appends) (after : FailsAfter appends fails) (old mid new : S) (format : Format) (first now : Bool)
+    (some later all : List (List ℕ)) (result : Result Bool Error) → all ≡ some ++ later →
+    appends old (in_turn format first some) mid × (now ≡ is_later_after first some) →
+    WroteInTurn appends fails mid format now later result new → WroteInTurn appends fails old format first all result new
+next_part appends fails together after old mid new format first now some later all (Ok value) is so_far wrote = (
+  subst (λ (bytes : List ℕ). appends old bytes new) (sym (two_parts format first now some later all is so_far.1))
+      (together old mid new (in_turn format first some) (in_turn format now later) so_far.0 wrote.0),
+  wrote.1
+      ∙ ap (λ (b : Bool). is_later_after b later) so_far.1
+      ∙ sym (later_after_both first some later)
+      ∙ ap (is_later_after first) (sym is),
+)
+next_part appends fails together after old mid new format first now some later all (Err error) is so_far wrote =
+    subst (λ (bytes : List ℕ). fails old bytes new error) (sym (two_parts format first now some later all is so_far.1))
+    (after old mid new (in_turn format first some) (in_turn format now later) error so_far.0 wrote)

@@ -16,7 +16,7 @@ ghost use Rattle.bi_norm.specs.Meaning.{OfFit};
 ghost use Rattle.bi_norm.specs.Reading.{IsBootImageReadError};
 ghost use Rattle.bi_commands.specs.HashedImages.{hashes_left, images_of_blob};
 ghost use Rattle.bi_commands.specs.declared.format.Format.TheVariants.{Lines, Json};
-ghost use Rattle.bi_commands.specs.Formats.{in_turn, is_later_after};
+ghost use Rattle.bi_commands.specs.Formats.{WroteInTurn, in_turn};
 ghost use Rattle.bi_commands.specs.ReadReports.{after_hashes, before_hashes, hash_text, hash_texts};
 ghost use Rattle.bi_commands.specs.ReadReports.{legacy_report_text};
 ghost use Rattle.bi_commands.specs.Reports.{AreGood};
@@ -32,7 +32,7 @@ use bi_base::{Command, Error, Limits, Sink, VecSink, pipe_to};
 use bi_fit::{Checked, Fit};
 use bi_hash::RegionDigests;
 use bi_norm::BootImage;
-use report_json::{put_checksums_object, put_hash_object, put_summary_object};
+use report_json::{put_checksums_object, put_hash_object, put_summary_member};
 use report_line::{ReportLine, put_report_line};
 use std::alloc::Global;
 use std::io::{Read, Write};
@@ -192,12 +192,17 @@ fn put_checksums<S: Sink>(format: Format, sink: &mut S) -> Result<(), Error>
     ensures { Wrote S.appends S.fails sink.old (legacy_report_text format) result sink.new }
 {
     match format {
-        Format::Lines => {
-            put_report_line(ReportLine::GoodChecksum(b"header"), sink)?;
-            put_report_line(ReportLine::GoodChecksum(b"data"), sink)
-        }
+        Format::Lines => put_checksum_lines(sink),
         Format::Json => put_checksums_object(sink),
     }
+}
+
+/// Appends the lines of the two checksums, which are good. Fails as the sink does.
+fn put_checksum_lines<S: Sink>(sink: &mut S) -> Result<(), Error>
+    ensures { Wrote S.appends S.fails sink.old (legacy_report_text Lines) result sink.new }
+{
+    put_report_line(ReportLine::GoodChecksum(b"header"), sink)?;
+    put_report_line(ReportLine::GoodChecksum(b"data"), sink)
 }
 
 /// Appends the report on a flattened image tree that was read, and returns whether no verdict is
@@ -258,11 +263,7 @@ fn put_after_hashes<S: Sink>(counts: Counts, format: Format, sink: &mut S) -> Re
 {
     match format {
         Format::Lines => put_report_line(ReportLine::Summary(counts), sink),
-        Format::Json => {
-            sink.put(b"],\"summary\":")?;
-            put_summary_object(counts, sink)?;
-            sink.put(b"}\n")
-        }
+        Format::Json => put_summary_member(counts, sink),
     }
 }
 
@@ -292,11 +293,8 @@ fn put_hashes<S: Sink>(
     is_later: bool,
     sink: &mut S,
 ) -> Result<bool, Error>
-    ensures texts { Wrote S.appends S.fails sink.old
-        (in_turn format is_later (map (hash_text format) (hashes_left hashes.entry))) result
-        sink.new }
-    ensures later { IfOk result (λ later. later
-        ≡ is_later_after is_later (map (hash_text format) (hashes_left hashes.entry))) }
+    ensures { WroteInTurn S.appends S.fails sink.old format is_later
+        (map (hash_text format) (hashes_left hashes.entry)) result sink.new }
 {
     let mut later = is_later;
     for hash in hashes {

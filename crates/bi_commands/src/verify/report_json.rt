@@ -2,7 +2,9 @@
 
 ghost use Rattle.bi_base.specs.Sinks.{Wrote};
 ghost use Rattle.bi_fit.specs.JudgementCalls.{checked_hash_of};
+ghost use Rattle.bi_commands.specs.declared.format.Format.TheVariants.{Json};
 ghost use Rattle.bi_commands.specs.Json.{json_line};
+ghost use Rattle.bi_commands.specs.ReadReports.{after_hashes};
 ghost use Rattle.bi_commands.specs.ReportJson.{hash_object, legacy_report_object, summary_object};
 ghost use Rattle.bi_commands.specs.VerdictCounts.{counts_model};
 
@@ -41,8 +43,19 @@ pub(super) fn put_hash_object<S: Sink>(hash: &Checked, sink: &mut S) -> Result<(
     put_object(&members, sink)
 }
 
+/// Appends what comes after the hash nodes: the member with the number of each verdict, and the end
+/// of the text. Fails as the sink does.
+pub(super) fn put_summary_member<S: Sink>(counts: Counts, sink: &mut S) -> Result<(), Error>
+    ensures { Wrote S.appends S.fails sink.old (after_hashes Json (counts_model counts)) result
+        sink.new }
+{
+    sink.put(b"],\"summary\":")?;
+    put_summary_object(counts, sink)?;
+    sink.put(b"}\n")
+}
+
 /// Appends the object with the number of each verdict. Fails as the sink does.
-pub(super) fn put_summary_object<S: Sink>(counts: Counts, sink: &mut S) -> Result<(), Error>
+fn put_summary_object<S: Sink>(counts: Counts, sink: &mut S) -> Result<(), Error>
     ensures { Wrote S.appends S.fails sink.old (summary_object (counts_model counts)) result
         sink.new }
 {
