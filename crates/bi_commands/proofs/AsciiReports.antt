@@ -3,6 +3,7 @@ use Rattle.std.proofs.Common.{Option, Some, None, not, drop, ◌-◌}
 use Rattle.std.specs.Prelude.{⊤, IfSome, IsAscii, option_and_then}
 use Rattle.std.specs.List.{AllByRecursion, list_all, list_any}
 use Rattle.std.specs.FinMap.{get}
+use Rattle.std.specs.Option.{option_map}
 use Rattle.bi_base.specs.Cells.{AreBytes}
 use Rattle.bi_base.specs.Limits.{Limits}
 use Rattle.bi_base.specs.Strings.{text_before_nul}
@@ -13,28 +14,31 @@ use Rattle.bi_fit.specs.declared.key.Key.{Key}
 use Rattle.bi_fit.specs.ImageTree.{ImageTree, ArePropertiesByName, HaveByteNames, IsImageTree, children_of, nodes_or_none}
 use Rattle.bi_fit.specs.Judgement.{Image, CheckedHash, ListResult, NoConfig, NoKey, BadList, Missing, ListedImages, checked_hash}
 use Rattle.bi_fit.specs.Judgement.{configuration_nodes, default_of, hash_nodes, images_of, images_with, listed_of, verdicts_of}
-use Rattle.bi_fit.specs.Names.{algo_name, value_name, all_keys, images_name, is_hash_name}
+use Rattle.bi_fit.specs.Names.{algo_name, value_name, all_keys, images_name, is_hash_name, key_name}
 use Rattle.bi_fit.proofs.TextLaws.{file_means_image_tree}
 use Rattle.bi_fit.proofs.TreeShapes.{AreNodes-children_of, bytes-children_of}
 use Rattle.bi_hash.specs.declared.verdicts.Verdict.{Verdict}
 use Rattle.bi_hash.specs.declared.verdicts.Verdict.TheVariants.{Good, Bad, UnknownAlgo, NoPayload, Malformed}
 use Rattle.bi_norm.specs.Meaning.{Meaning, OfLegacy, OfFit, Means}
 use Rattle.bi_commands.specs.declared.check.Allowed.{Allowed}
-use Rattle.bi_commands.specs.CheckedFiles.{IsChecked}
+use Rattle.bi_commands.specs.declared.check.ConcernKind.{ConcernKind}
+use Rattle.bi_commands.specs.declared.check.ConcernKind.TheVariants as kind
+use Rattle.bi_commands.specs.CheckedFiles.{IsChecked, concerns_text}
 use Rattle.bi_commands.specs.Checking.{Concern, BadHash, UnhashedImage, WeakHash, BadKey, MissingImage, BadDefault, TrailingBytes, allows, kind_of}
 use Rattle.bi_commands.specs.Checking.{AreConcerns, OfLegacyImage, OfImageTree, content_end, concern_line, concern_lines, configuration_concerns, default_concerns}
-use Rattle.bi_commands.specs.Checking.{hash_concerns, hashes_of_image, image_concerns, is_good, is_strong}
+use Rattle.bi_commands.specs.Checking.{hash_concerns, hashes_of_image, image_concerns, is_good, is_strong, kept_concerns, kind_word}
 use Rattle.bi_commands.specs.Checking.{list_concerns, names_one_of, payload_concerns, tree_concerns, trailing_concerns}
 use Rattle.bi_commands.specs.declared.format.Format.{Format}
 use Rattle.bi_commands.specs.declared.format.Format.TheVariants.{Lines, Json}
-use Rattle.bi_commands.specs.Json.{json_array, json_string}
+use Rattle.bi_commands.specs.ConcernJson.{concern_members, concern_object, concerns_object}
+use Rattle.bi_commands.specs.Json.{Member, json_array, json_string, string_or_null}
 use Rattle.bi_commands.specs.ReportJson.{hash_members, hash_object, report_object, summary_members, summary_object}
 use Rattle.bi_commands.specs.Reports.{CountsModel, HashVerdict, Summary, ReportLine, counts_of, report_line}
 use Rattle.bi_commands.specs.Reports.{report_of, shown_or_none, value_word, verdict_word}
 use Rattle.bi_commands.specs.Shown.{shown_text}
 use Rattle.bi_commands.specs.ValueTexts.{hexadecimal_digits}
 use Rattle.bi_commands.specs.VerifiedFiles.{IsReport, report_text}
-use Rattle.bi_commands.proofs.AsciiJson.{array_ascii, line_ascii, maybe_digits_ascii, maybe_name_ascii, name_ascii, object_ascii, string_ascii}
+use Rattle.bi_commands.proofs.AsciiJson.{IsAsciiMember, array_ascii, line_ascii, maybe_digits_ascii, maybe_name_ascii, name_ascii, object_ascii, string_ascii}
 use Rattle.bi_commands.proofs.AsciiListings.{configurations_are_nodes, default_bytes, key_word, node_names_bytes, before_nul_bytes}
 use Rattle.bi_commands.proofs.AsciiTexts.{HasAscii, AreAsciiWords, ascii_line, both, by_test, bytes_digits, decimal_shown, is_ascii}
 use Rattle.bi_commands.proofs.AsciiTexts.{name_shown}
@@ -282,6 +286,77 @@ concern_shown (BadDefault default) bytes =
 concern_shown (TrailingBytes count) bytes =
     ascii_line (codes "trailing" ∷ _ ∷ []) (by_test (codes "trailing") refl, (decimal_shown count, tt))
 
+-- The object of a concern.
+abbrev members_of_concern : Concern → List Member
+members_of_concern concern = (codes "concern", json_string (kind_word (kind_of concern))) ∷ concern_members concern
+
+strings_ascii : (hashes : List CheckedHash) → AllByRecursion IsByteHash hashes →
+    AllByRecursion HasAscii (map (λ (hash : CheckedHash). string_or_null (option_map shown_text hash.algo)) hashes)
+strings_ascii [] bytes = tt
+strings_ascii (hash ∷ later) bytes = (maybe_name_ascii hash.algo bytes.0.2, strings_ascii later bytes.1)
+
+kind_ascii : (kind : ConcernKind) → HasAscii (json_string (kind_word kind))
+kind_ascii kind.BadHash = by_test (json_string (codes "bad-hash")) refl
+kind_ascii kind.Unhashed = by_test (json_string (codes "unhashed")) refl
+kind_ascii kind.WeakHash = by_test (json_string (codes "weak-hash")) refl
+kind_ascii kind.BadList = by_test (json_string (codes "bad-list")) refl
+kind_ascii kind.Missing = by_test (json_string (codes "missing")) refl
+kind_ascii kind.BadDefault = by_test (json_string (codes "bad-default")) refl
+kind_ascii kind.Trailing = by_test (json_string (codes "trailing")) refl
+
+rest_ascii : (concern : Concern) → IsByteConcern concern → AllByRecursion IsAsciiMember (concern_members concern)
+rest_ascii (BadHash hash) bytes = (
+  (by_test (codes "image") refl, name_ascii hash.image bytes.0),
+  (
+    (by_test (codes "node") refl, name_ascii hash.node_name bytes.1),
+    (
+      (by_test (codes "algorithm") refl, maybe_name_ascii hash.algo bytes.2),
+      ((by_test (codes "verdict") refl, string_ascii (verdict_word hash.verdict) (verdict_shown hash.verdict)), tt),
+    ),
+  ),
+)
+rest_ascii (UnhashedImage image) bytes = ((by_test (codes "image") refl, name_ascii image bytes), tt)
+rest_ascii (WeakHash image good) bytes = (
+  (by_test (codes "image") refl, name_ascii image bytes.0),
+  (
+    (
+      by_test (codes "algorithms") refl,
+      array_ascii (map (λ (hash : CheckedHash). string_or_null (option_map shown_text hash.algo)) good) (strings_ascii good bytes.1),
+    ),
+    tt,
+  ),
+)
+rest_ascii (BadKey configuration key) bytes = (
+  (by_test (codes "configuration") refl, name_ascii configuration bytes),
+  ((by_test (codes "key") refl, string_ascii (key_name key) (key_word key)), tt),
+)
+rest_ascii (MissingImage configuration key index) bytes = (
+  (by_test (codes "configuration") refl, name_ascii configuration bytes),
+  (
+    (by_test (codes "key") refl, string_ascii (key_name key) (key_word key)),
+    ((by_test (codes "index") refl, decimal_shown index), tt),
+  ),
+)
+rest_ascii (BadDefault default) bytes = ((by_test (codes "default") refl, maybe_name_ascii default bytes), tt)
+rest_ascii (TrailingBytes count) bytes = ((by_test (codes "size") refl, decimal_shown count), tt)
+
+objects_ascii : (concerns : List Concern) → AllByRecursion IsByteConcern concerns → AllByRecursion HasAscii (map concern_object concerns)
+objects_ascii [] bytes = tt
+objects_ascii (concern ∷ later) bytes = (
+  object_ascii (members_of_concern concern) ((by_test (codes "concern") refl, kind_ascii (kind_of concern)), rest_ascii concern bytes.0),
+  objects_ascii later bytes.1,
+)
+
+kept_bytes : (allowed : Allowed) (concerns : List Concern) → AllByRecursion IsByteConcern concerns →
+    AllByRecursion IsByteConcern (kept_concerns allowed concerns)
+kept_bytes allowed [] bytes = tt
+kept_bytes allowed (concern ∷ later) bytes = by (allows allowed (kind_of concern)) refl (kept_bytes allowed later bytes.1)
+  where
+    by : (b : Bool) → allows allowed (kind_of concern) ≡ b → AllByRecursion IsByteConcern (kept_concerns allowed later) →
+        AllByRecursion IsByteConcern (kept_concerns allowed (concern ∷ later))
+    by true is rest = rw is rest
+    by false is rest = rw is (bytes.0, rest)
+
 lines_shown : (allowed : Allowed) (concerns : List Concern) → AllByRecursion IsByteConcern concerns →
     HasAscii (concern_lines allowed concerns)
 lines_shown allowed [] bytes = tt
@@ -372,10 +447,22 @@ tree_shown tree is =
 trailing_shown : (bytes : List ℕ) → AllByRecursion IsByteConcern (trailing_concerns bytes)
 trailing_shown bytes = if_not (list_all (λ byte. byte == 0) bytes) (TrailingBytes (length bytes)) tt
 
--- The lines of the concerns about a file are ASCII.
-pub checked_is_ascii : (allowed : Allowed) (limits : Limits) (file text : List ℕ) → IsChecked allowed limits file text → IsAscii text
-checked_is_ascii allowed limits file text checked =
-    subst IsAscii (sym checked.is_text) (is_ascii (concern_lines allowed checked.concerns) (lines_shown allowed checked.concerns (by checked.are_concerns)))
+-- The text of concerns.
+text_shown : (format : Format) (allowed : Allowed) (concerns : List Concern) → AllByRecursion IsByteConcern concerns →
+    HasAscii (concerns_text format allowed concerns)
+text_shown Lines allowed concerns bytes = lines_shown allowed concerns bytes
+text_shown Json allowed concerns bytes =
+    let values = map concern_object (kept_concerns allowed concerns) in
+    line_ascii (concerns_object (kept_concerns allowed concerns))
+    (object_ascii ((codes "concerns", json_array values) ∷ [])
+    ((by_test (codes "concerns") refl, array_ascii values (objects_ascii (kept_concerns allowed concerns) (kept_bytes allowed concerns bytes))), tt))
+
+-- The text of the concerns about a file is ASCII, in any form.
+pub checked_is_ascii : (format : Format) (allowed : Allowed) (limits : Limits) (file text : List ℕ) →
+    IsChecked format allowed limits file text → IsAscii text
+checked_is_ascii format allowed limits file text checked =
+    subst IsAscii (sym checked.is_text)
+    (is_ascii (concerns_text format allowed checked.concerns) (text_shown format allowed checked.concerns (by checked.are_concerns)))
   where
     by : {concerns : List Concern} → AreConcerns limits file concerns → AllByRecursion IsByteConcern concerns
     by (OfLegacyImage parsed is are) = subst (AllByRecursion IsByteConcern) (sym are) (trailing_shown (drop (length file - parsed.unused) file))

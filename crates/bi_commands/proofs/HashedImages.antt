@@ -17,13 +17,9 @@ use Rattle.bi_commands.specs.Checking.{Concern, hashed_concerns, hashes_of_image
 use Rattle.bi_commands.specs.HashedImages.{HashedImage, hashed_image, hashed_images, hashes_left, image_value, images_of_blob}
 use Rattle.bi_commands.specs.ReadChecking.{images_concerns}
 use Rattle.bi_commands.specs.ReadReports.{hash_text, hash_texts}
+use Rattle.bi_commands.proofs.TextsInTurn.{map_append}
 
 -- The images that were read of a file, with their hash nodes, are the images of its tree.
-
--- Texts of two lists.
-map_append : {X Y : Type 0} (f : X → Y) (xs ys : List X) → map f (xs ++ ys) ≡ map f xs ++ map f ys
-map_append f [] ys = refl
-map_append f (x ∷ xs) ys = ap (λ (l : List _). f x ∷ l) (map_append f xs ys)
 
 -- The hash nodes image by image.
 texts_by_image : (format : Format) (entries : List (Sibling FileNode)) (images : List ImageModel) →

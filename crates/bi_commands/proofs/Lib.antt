@@ -51,3 +51,4 @@ pub mod LinesLeft
 pub mod JsonTexts
 pub mod TextsInTurn
 pub mod AsciiJson
+pub mod ConcernTexts

@@ -10,6 +10,11 @@ use Rattle.bi_commands.specs.Json.{comma, separated}
 
 -- Texts of values in turn, in any form, that are appended part by part.
 
+-- Values for the elements of two lists.
+pub map_append : {X Y : Type 0} (f : X → Y) (xs ys : List X) → map f (xs ++ ys) ≡ map f xs ++ map f ys
+map_append f [] ys = refl
+map_append f (x ∷ xs) ys = ap (λ (l : List _). f x ∷ l) (map_append f xs ys)
+
 -- Values of an array in two parts.
 separated_parts : (is_later : Bool) (xs ys : List (List ℕ)) →
     separated is_later (xs ++ ys) ≡ separated is_later xs ++ separated (is_later_after is_later xs) ys

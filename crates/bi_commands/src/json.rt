@@ -1,12 +1,12 @@
 //! JSON (RFC 8259), appended to a sink value by value. There is no space or newline between tokens.
 
-ghost use Rattle.std.specs.Prelude.{◌≡◌, ◌∷◌, ◌<◌, flat_map, map};
+ghost use Rattle.std.specs.Prelude.{◌≡◌, [], ◌∷◌, flat_map, map};
 ghost use Rattle.std.specs.Option.{option_map};
 ghost use Rattle.std.specs.List.{join_with_byte, list_any};
 ghost use Rattle.bi_base.specs.Sinks.{Wrote};
 ghost use Rattle.bi_commands.specs.FitListing.{hexadecimal_64};
 ghost use Rattle.bi_commands.specs.Json.{comma, json_bool, json_object, json_string, member_text};
-ghost use Rattle.bi_commands.specs.Json.{string_or_null};
+ghost use Rattle.bi_commands.specs.Json.{separated, string_or_null};
 ghost use Rattle.bi_commands.specs.JsonValues.{member_of, value_json};
 ghost use Rattle.bi_commands.specs.Shown.{shown_byte, shown_text};
 ghost use Rattle.bi_commands.specs.ValueTexts.{escaped_byte, hexadecimal_digits, needs_backslash};
@@ -64,6 +64,19 @@ pub(crate) fn put_comma<S: Sink>(is_later: bool, sink: &mut S) -> Result<(), Err
     ensures { Wrote S.appends S.fails sink.old (comma is_later) result sink.new }
 {
     if is_later { sink.put(b",") } else { Ok(()) }
+}
+
+/// Appends a value of an array, after a comma if it is not the first. Fails as the sink does.
+pub(crate) fn put_next<S: Sink>(
+    value: JsonValue,
+    is_later: bool,
+    sink: &mut S,
+) -> Result<(), Error>
+    ensures { Wrote S.appends S.fails sink.old (separated is_later (value_json value.entry ∷ []))
+        result sink.new }
+{
+    put_comma(is_later, sink)?;
+    put_json(value, sink)
 }
 
 /// Appends an object of these members. Fails as the sink does.

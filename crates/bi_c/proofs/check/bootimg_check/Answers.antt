@@ -2,7 +2,9 @@ use Rattle.std.proofs.Common.{◌≡◌, List, ℕ, refl, subst, sym, string_byt
 use Rattle.std.specs.String.{string_len}
 use Rattle.bi_base.specs.Limits.{Limits}
 use Rattle.bi_commands.specs.declared.check.Allowed.{Allowed}
+use Rattle.bi_commands.specs.declared.format.Format.TheVariants.{Lines}
 use Rattle.bi_commands.specs.CheckedFiles.{IsChecked, IsCheckError}
+use Rattle.bi_commands.proofs.CleanLaws.NoLines.{empty_if_none_left}
 use Rattle.bi_c.specs.declared.failure.Failure.TheVariants.{WrongArgument}
 use Rattle.bi_c.specs.Answers.{FilledNothing}
 use Rattle.bi_c.specs.Arguments.{bounds, allowed_of}
@@ -22,17 +24,18 @@ pub returns-in-Ok : goal.returns-in-Ok
 returns-in-Ok c =
     let file = c.args.file.now in
     let limits = bounds c.args.limit c.args.depth in
-    let checked : IsChecked (allowed_of c.args.kinds) limits file c.as_bytes.result.now =
-    subst (λ (l : List ℕ). IsChecked (allowed_of c.args.kinds) limits file l) (sym c.as_bytes.ensures.value)
-    (subst (λ (a : Allowed). IsChecked a limits file (string_bytes c.in-Ok.text)) c.in-Some-allowed_of.ensures.value
-    (subst (λ (l : Limits). IsChecked c.in-Some-allowed_of.allowed l file (string_bytes c.in-Ok.text)) c.in-Some.ensures.value c.in-Ok.ensures.checked)) in
+    let checked : IsChecked Lines (allowed_of c.args.kinds) limits file c.as_bytes.result.now =
+    subst (λ (l : List ℕ). IsChecked Lines (allowed_of c.args.kinds) limits file l) (sym c.as_bytes.ensures.value)
+    (subst (λ (a : Allowed). IsChecked Lines a limits file (string_bytes c.in-Ok.text)) c.in-Some-allowed_of.ensures.value
+    (subst (λ (l : Limits). IsChecked Lines c.in-Some-allowed_of.allowed l file (string_bytes c.in-Ok.text)) c.in-Some.ensures.value c.in-Ok.ensures.checked)) in
     let is_empty = clean_by_length c.as_bytes.result.now (string_len c.in-Ok.text) c.is_empty.result c.as_bytes.ensures.len c.is_empty.ensures in
+    let none_left = empty_if_none_left (allowed_of c.args.kinds) limits file c.as_bytes.result.now checked in
     buffer_is_filled _ _ c.as_bytes.result.now _ _ c.from.result _ _
     (record {
       arguments = record { limits = is_so _ c.in-Some.ensures.in_range; are_kinds = is_so _ c.in-Some-allowed_of.ensures.in_range };
       clean = c.is_empty.result;
       number = subst (λ (n : ℕ). c.from.result ≡ n) (byte_is_flag c.is_empty.result) c.from.ensures;
-      is = record { checked = checked; is_empty = is_empty };
+      is = record { checked = checked; is_empty = (λ clean. none_left.0 (is_empty.0 clean), λ none. is_empty.1 (none_left.1 none)) };
     }) c.fill.ensures.answer c.fill.ensures.filled
 
 pub returns-in-Err : goal.returns-in-Err
