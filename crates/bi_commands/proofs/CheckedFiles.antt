@@ -119,7 +119,8 @@ not_checked fails checker limits file content old new error is (SinkFailed text 
 
 -- So it is if the lines are made in memory.
 pub not_checked_in_memory : (checker : Checker) (limits : Limits) (file old new : List ℕ) (error : Error) →
-    AppendFailed (FailsWithin Grows IsOutOfMemory) (IsChecked checker.format checker.allowed limits file) (IsCheckError limits file) old new error →
+    AppendFailed (FailsWithin Grows IsOutOfMemory) (IsChecked checker.format checker.allowed limits file)
+    (IsCheckError limits file) old new error →
     IsCheckError limits file error
 not_checked_in_memory checker limits file old new error (WasRefused is kept) = is
 not_checked_in_memory checker limits file old new error (SinkFailed text cause is failed same) =
@@ -128,9 +129,12 @@ not_checked_in_memory checker limits file old new error (SinkFailed text cause i
 -- What a call on what was read from a file did is what it did with the file.
 pub legacy_appended : {S : Type 0} (appends : S → List ℕ → S → Type 0) (fails : S → List ℕ → S → Error → Type 0) (checker : Checker)
     (limits : Limits) (file : List ℕ) (parsed : LegacyModel) (old new : S) (result : Result Bool Error) → IsReadLegacy limits file parsed →
-    Wrote appends fails old (concerns_text checker.format checker.allowed (trailing_concerns (drop (length file - parsed.unused) file))) result new →
-    IfOk result (λ clean. IsTrue clean ↔ (kept_concerns checker.allowed (trailing_concerns (drop (length file - parsed.unused) file)) ≡ [])) →
+    Wrote appends fails old
+    (concerns_text checker.format checker.allowed (trailing_concerns (drop (length file - parsed.unused) file))) result new →
+    IfOk result (λ clean. IsTrue clean
+    ↔ (kept_concerns checker.allowed (trailing_concerns (drop (length file - parsed.unused) file)) ≡ [])) →
     IfOk result (λ clean. Appended appends (IsCheckOutput checker.format checker.allowed limits clean file) old new)
+unfolding legacy_checked
 legacy_appended appends fails checker limits file parsed old new (Ok clean) is wrote tested = record {
   text = concerns_text checker.format checker.allowed (trailing_concerns (drop (length file - parsed.unused) file));
   is_text = record { checked = legacy_checked checker limits file parsed is; is_empty = tested };
@@ -144,6 +148,7 @@ pub fit_appended : {S : Type 0} (appends : S → List ℕ → S → Type 0) (che
     IfOk result (λ clean. IsTrue clean ↔ (kept_concerns checker.allowed (read_concerns file content) ≡ [])) →
     OnOk result (¬ (IsOverPayloadBound limits (OfFit (tree_of content)))) →
     IfOk result (λ clean. Appended appends (IsCheckOutput checker.format checker.allowed limits clean file) old new)
+unfolding tree_checked
 fit_appended appends checker limits file content old new (Ok clean) is wrote tested within = record {
   text = concerns_text checker.format checker.allowed (read_concerns file content);
   is_text = record { checked = tree_checked checker limits file _ content is (record { within = within; is_text = refl }); is_empty = tested };

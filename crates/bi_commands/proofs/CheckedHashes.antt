@@ -8,14 +8,14 @@ use Rattle.bi_commands.specs.Checking.{BadHash, UnhashedImage, WeakHash, concern
 use Rattle.bi_commands.specs.Checking.{is_strong, payload_concerns, protection_concerns}
 use Rattle.bi_commands.specs.declared.check.Checker.{Checker}
 use Rattle.bi_commands.specs.ConcernJson.{concern_object}
-use Rattle.bi_commands.specs.Json.{json_string, member_text, separated, string_or_null}
+use Rattle.bi_commands.specs.Json.{json_string, member_text, with_commas, string_or_null}
 use Rattle.bi_commands.specs.ReadChecking.{concern_texts, good_algorithm, good_algorithm_json}
 use Rattle.bi_commands.specs.Reports.{shown_or_none}
 use Rattle.bi_commands.specs.Shown.{shown_text}
 use Rattle.bi_commands.proofs.ConcernLines.{lines_allowed}
 use Rattle.bi_commands.proofs.ConcernTexts.{texts_append}
 use Rattle.bi_commands.proofs.FitLines.{joined_after}
-use Rattle.bi_commands.proofs.JsonTexts.{separated_joined}
+use Rattle.bi_commands.proofs.JsonTexts.{commas_between}
 
 -- A payload without a Good verdict has one concern, so has one whose Good verdicts are of no strong algorithm, and one with a Good verdict
 -- of a strong algorithm has none.
@@ -83,16 +83,18 @@ good_string hash is = rw is refl
 pub no_string : (hash : CheckedHash) → is_good hash ≡ false → good_algorithm_json hash ≡ []
 no_string hash is = rw is refl
 
--- The algorithms of the Good ones.
+-- The algorithm of a hash node as a string, and those of the Good ones.
+abbrev algorithm_string : CheckedHash → List ℕ
+algorithm_string hash = string_or_null (option_map shown_text hash.algo)
+
 good_strings : (hashes : List CheckedHash) →
-    flat_map good_algorithm_json hashes ≡ map (λ (hash : CheckedHash). string_or_null (option_map shown_text hash.algo)) (filter is_good hashes)
+    flat_map good_algorithm_json hashes ≡ map algorithm_string (filter is_good hashes)
 good_strings [] = refl
 good_strings (hash ∷ later) = by (is_good hash) refl (good_strings later) where
   by : (b : Bool) → is_good hash ≡ b →
-      flat_map good_algorithm_json later ≡ map (λ (other : CheckedHash). string_or_null (option_map shown_text other.algo)) (filter is_good later) →
-      flat_map good_algorithm_json (hash ∷ later)
-      ≡ map (λ (other : CheckedHash). string_or_null (option_map shown_text other.algo)) (filter is_good (hash ∷ later))
-  by true is rest = rw is (ap (λ (l : List (List ℕ)). string_or_null (option_map shown_text hash.algo) ∷ l) rest)
+      flat_map good_algorithm_json later ≡ map algorithm_string (filter is_good later) →
+      flat_map good_algorithm_json (hash ∷ later) ≡ map algorithm_string (filter is_good (hash ∷ later))
+  by true is rest = rw is (ap (λ (l : List (List ℕ)). algorithm_string hash ∷ l) rest)
   by false is rest = rw is rest
 
 -- The end of an object after a list, and what comes before it.
@@ -106,14 +108,14 @@ pub weak_in_parts : (image : List ℕ) (hashes : List CheckedHash) →
     concern_object (WeakHash image (filter is_good hashes))
     ≡ 123 ∷ (join_with_byte 44
     (map member_text ((codes "concern", json_string (codes "weak-hash")) ∷ (codes "image", json_string (shown_text image)) ∷ []))
-    ++ (codes ",\"algorithms\":[" ++ (separated false (flat_map good_algorithm_json hashes) ++ codes "]}")))
+    ++ (codes ",\"algorithms\":[" ++ (with_commas false (flat_map good_algorithm_json hashes) ++ codes "]}")))
 weak_in_parts image hashes =
-    let values = map (λ (hash : CheckedHash). string_or_null (option_map shown_text hash.algo)) (filter is_good hashes) in
+    let values = map algorithm_string (filter is_good hashes) in
     let first = member_text (codes "concern", json_string (codes "weak-hash")) in
     let second = member_text (codes "image", json_string (shown_text image)) in
     around_list first second (codes "\"algorithms\":[") (join_with_byte 44 values)
     ∙ ap (λ (l : List ℕ). 123 ∷ ((first ++ (44 ∷ second)) ++ (codes ",\"algorithms\":[" ++ (l ++ codes "]}"))))
-    (sym (separated_joined values) ∙ ap (separated false) (sym (good_strings hashes)))
+    (sym (commas_between values) ∙ ap (with_commas false) (sym (good_strings hashes)))
 
 -- The algorithm of a hash node with the verdict Good is printed, and no other one.
 pub good_text : (hash : CheckedHash) → is_good hash ≡ true → good_algorithm hash ≡ 32 ∷ shown_or_none hash.algo

@@ -11,9 +11,9 @@ use Rattle.bi_commands.specs.CheckedFiles.{concerns_text}
 use Rattle.bi_commands.specs.Checking.{Concern, allows, concern_line, kept_concerns, kind_of}
 use Rattle.bi_commands.specs.ConcernJson.{concern_object}
 use Rattle.bi_commands.specs.Formats.{in_turn, is_later_after}
-use Rattle.bi_commands.specs.Json.{separated}
+use Rattle.bi_commands.specs.Json.{with_commas}
 use Rattle.bi_commands.specs.ReadChecking.{after_concerns, before_concerns, concern_text, concern_texts}
-use Rattle.bi_commands.proofs.JsonTexts.{separated_joined}
+use Rattle.bi_commands.proofs.JsonTexts.{commas_between}
 use Rattle.bi_commands.proofs.TextsInTurn.{map_append}
 
 -- The texts of concerns: a concern that is allowed has none, and those of several concerns are those of each in turn.
@@ -58,7 +58,7 @@ text_in_parts Lines allowed concerns =
 text_in_parts Json allowed concerns =
     let values = map concern_object (kept_concerns allowed concerns) in
     ap (λ (l : List ℕ). before_concerns Json ++ l) (end_of_list (join_with_byte 44 values))
-    ∙ ap (λ (l : List ℕ). before_concerns Json ++ (l ++ after_concerns Json)) (sym (separated_joined values))
+    ∙ ap (λ (l : List ℕ). before_concerns Json ++ (l ++ after_concerns Json)) (sym (commas_between values))
 
 -- No text was appended if and only if there is no concern.
 pub none_appended : (f : Concern → List ℕ) (kept : List Concern) (any : Bool) → any ≡ is_later_after false (map f kept) →

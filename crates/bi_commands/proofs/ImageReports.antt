@@ -26,7 +26,7 @@ use Rattle.bi_commands.specs.declared.format.Format.TheVariants.{Lines, Json}
 use Rattle.bi_commands.specs.declared.verdict_counts.Counts.{Counts}
 use Rattle.bi_commands.specs.HashedImages.{images_of_blob}
 use Rattle.bi_commands.specs.Formats.{in_turn}
-use Rattle.bi_commands.specs.Json.{separated}
+use Rattle.bi_commands.specs.Json.{with_commas}
 use Rattle.bi_commands.specs.ReadReports.{after_hashes, before_hashes, hash_texts, legacy_report_text}
 use Rattle.bi_commands.specs.ReportJson.{hash_object, summary_object}
 use Rattle.bi_commands.specs.Reports.{HashVerdict, Summary, AreGood, counts_of, hash_line, is_verdict, report_line}
@@ -35,7 +35,7 @@ use Rattle.bi_commands.specs.VerdictCounts.{are_good, counts_model, hash_counts}
 use Rattle.bi_commands.specs.VerifiedFiles.{IsReport, IsVerifyOutput, report_text}
 use Rattle.bi_commands.proofs.HashedImages.{texts_of_images}
 use Rattle.bi_commands.proofs.ImageCalls.{tree_needs_memory}
-use Rattle.bi_commands.proofs.JsonTexts.{separated_joined}
+use Rattle.bi_commands.proofs.JsonTexts.{commas_between}
 use Rattle.bi_commands.proofs.VerdictCounts.{good_counts}
 
 -- The report on what was read from a file is the report on the file.
@@ -95,8 +95,9 @@ legacy_reported format limits file parsed opened = record {
     same Json = refl
 
 -- The report on a flattened image tree that was read from a file.
-pub tree_reported : (format : Format) (limits : Limits) (file : List ℕ) (content : FitModel) (good : Bool) → IsReadFit limits file content →
-    (IsTrue good ↔ AreGood (verdicts_of (tree_of content))) → IsVerifyOutput format limits good file (report_text format (OfFit (tree_of content)))
+pub tree_reported : (format : Format) (limits : Limits) (file : List ℕ) (content : FitModel) (good : Bool) →
+    IsReadFit limits file content → (IsTrue good ↔ AreGood (verdicts_of (tree_of content))) →
+    IsVerifyOutput format limits good file (report_text format (OfFit (tree_of content)))
 tree_reported format limits file content good is are = record {
   report = record { meaning = OfFit (tree_of content); means = is.means; is = refl };
   all_good = are;
@@ -131,12 +132,12 @@ report_in_parts Json content counts counted =
     let values = join_with_byte 44 (map hash_object hashes) in
     ap (λ (l : List ℕ). before_hashes Json ++ l) (end_of_object values (codes "\"summary\":") (summary_object (counts_of hashes)))
     ∙ ap₂ (λ (a : List ℕ) (numbers : Counts). before_hashes Json ++ (a ++ after_hashes Json (counts_model numbers)))
-    (sym (separated_joined (map hash_object hashes)) ∙ ap (separated false) (sym (texts_of_images Json content)))
+    (sym (commas_between (map hash_object hashes)) ∙ ap (with_commas false) (sym (texts_of_images Json content)))
     (sym counted)
 
 -- An error is one of reading the file,
-pub not_verified : {S : Type 0} (fails : S → List ℕ → S → Error → Type 0) (format : Format) (limits : Limits) (file : List ℕ) (content : FitModel)
-    (old new : S) (error : Error) → IsReadFit limits file content
+pub not_verified : {S : Type 0} (fails : S → List ℕ → S → Error → Type 0) (format : Format) (limits : Limits) (file : List ℕ)
+    (content : FitModel) (old new : S) (error : Error) → IsReadFit limits file content
     → AppendFailed fails (λ text. text ≡ report_text format (OfFit (tree_of content))) (λ error. error ≡ OutOfMemory) old new error
     → AppendFailed fails (IsReport format limits file) (IsBootImageReadError limits file) old new error
 not_verified fails format limits file content old new error is (WasRefused none kept) =
@@ -153,16 +154,17 @@ not_reported format limits file old new error (SinkFailed text cause is failed s
     subst (IsBootImageReadError limits file) (sym (same ∙ failed.1)) (needs_memory limits file is.meaning is.means)
 
 -- What a call on what was read from a file did is what it did with the file.
-pub fit_reported : {S : Type 0} (appends : S → List ℕ → S → Type 0) (format : Format) (limits : Limits) (file : List ℕ) (content : FitModel) (old new : S)
-    (result : Result Bool Error) → IsReadFit limits file content → OnOk result (appends old (report_text format (OfFit (tree_of content))) new) →
+pub fit_reported : {S : Type 0} (appends : S → List ℕ → S → Type 0) (format : Format) (limits : Limits) (file : List ℕ)
+    (content : FitModel) (old new : S) (result : Result Bool Error) → IsReadFit limits file content →
+    OnOk result (appends old (report_text format (OfFit (tree_of content))) new) →
     IfOk result (λ good. IsTrue good ↔ AreGood (verdicts_of (tree_of content))) →
     IfOk result (λ good. Appended appends (IsVerifyOutput format limits good file) old new)
 fit_reported appends format limits file content old new (Ok good) is written are =
     record { text = report_text format (OfFit (tree_of content)); is_text = tree_reported format limits file content good is are; appended = written }
 fit_reported appends format limits file content old new (Err error) is written are = tt
 
-pub fit_not_reported : {S V : Type 0} (fails : S → List ℕ → S → Error → Type 0) (format : Format) (limits : Limits) (file : List ℕ) (content : FitModel)
-    (old new : S) (result : Result V Error) → IsReadFit limits file content →
+pub fit_not_reported : {S V : Type 0} (fails : S → List ℕ → S → Error → Type 0) (format : Format) (limits : Limits) (file : List ℕ)
+    (content : FitModel) (old new : S) (result : Result V Error) → IsReadFit limits file content →
     IfErr result (AppendFailed fails (λ text. text ≡ report_text format (OfFit (tree_of content))) (λ error. error ≡ OutOfMemory) old new) →
     IfErr result (AppendFailed fails (IsReport format limits file) (IsBootImageReadError limits file) old new)
 fit_not_reported fails format limits file content old new (Ok value) is failed = tt

@@ -9,7 +9,7 @@ use Rattle.std.proofs.lemmas.List.Folds.{flat_map-map}
 use Rattle.bi_base.specs.Cells.{cell8}
 use Rattle.bi_commands.specs.declared.json.JsonValue.{JsonValue}
 use Rattle.bi_commands.specs.FitListing.{hexadecimal_64}
-use Rattle.bi_commands.specs.Json.{JsonText, Member, member_text, separated}
+use Rattle.bi_commands.specs.Json.{JsonText, Member, member_text, with_commas}
 use Rattle.bi_commands.specs.JsonValues.{member_of}
 use Rattle.bi_commands.specs.Shown.{shown_byte}
 use Rattle.bi_commands.specs.ValueTexts.{escaped_byte, hexadecimal_digits, needs_backslash}
@@ -83,11 +83,11 @@ members_split (first ∷ later) d some =
     ∙ ap (flat_map later_member) (sym (take_all (length (first ∷ later) - 1) later (omega arith))))
 
 -- Values after another one.
-separated_later : (values : List JsonText) → separated true values ≡ flat_map (λ value. 44 ∷ value) values
-separated_later [] = refl
-separated_later (value ∷ later) = ap (λ (l : List ℕ). 44 ∷ (value ++ l)) (separated_later later)
+commas_later : (values : List JsonText) → with_commas true values ≡ flat_map (λ value. 44 ∷ value) values
+commas_later [] = refl
+commas_later (value ∷ later) = ap (λ (l : List ℕ). 44 ∷ (value ++ l)) (commas_later later)
 
 -- All values of an array.
-pub separated_joined : (values : List JsonText) → separated false values ≡ join_with_byte 44 values
-separated_joined [] = refl
-separated_joined (value ∷ later) = ap (λ (l : List ℕ). value ++ l) (separated_later later) ∙ sym (joined_after 44 value later)
+pub commas_between : (values : List JsonText) → with_commas false values ≡ join_with_byte 44 values
+commas_between [] = refl
+commas_between (value ∷ later) = ap (λ (l : List ℕ). value ++ l) (commas_later later) ∙ sym (joined_after 44 value later)

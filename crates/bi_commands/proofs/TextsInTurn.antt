@@ -6,7 +6,7 @@ use Rattle.bi_base.specs.declared.fault.Error.{Error}
 use Rattle.bi_commands.specs.declared.format.Format.{Format}
 use Rattle.bi_commands.specs.declared.format.Format.TheVariants.{Lines, Json}
 use Rattle.bi_commands.specs.Formats.{WroteInTurn, in_turn, is_later_after}
-use Rattle.bi_commands.specs.Json.{comma, separated}
+use Rattle.bi_commands.specs.Json.{comma, with_commas}
 
 -- Texts of values in turn, in any form, that are appended part by part.
 
@@ -16,13 +16,13 @@ map_append f [] ys = refl
 map_append f (x ∷ xs) ys = ap (λ (l : List _). f x ∷ l) (map_append f xs ys)
 
 -- Values of an array in two parts.
-separated_parts : (is_later : Bool) (xs ys : List (List ℕ)) →
-    separated is_later (xs ++ ys) ≡ separated is_later xs ++ separated (is_later_after is_later xs) ys
-separated_parts is_later [] ys = refl
-separated_parts is_later (x ∷ xs) ys =
-    ap (λ (l : List ℕ). comma is_later ++ (x ++ l)) (separated_parts true xs ys ∙ ap (λ b. separated true xs ++ separated b ys) (after_true xs))
-    ∙ ap (λ (l : List ℕ). comma is_later ++ l) (sym (append_assoc x (separated true xs) (separated true ys)))
-    ∙ sym (append_assoc (comma is_later) (x ++ separated true xs) (separated true ys))
+commas_in_parts : (is_later : Bool) (xs ys : List (List ℕ)) →
+    with_commas is_later (xs ++ ys) ≡ with_commas is_later xs ++ with_commas (is_later_after is_later xs) ys
+commas_in_parts is_later [] ys = refl
+commas_in_parts is_later (x ∷ xs) ys =
+    ap (λ (l : List ℕ). comma is_later ++ (x ++ l)) (commas_in_parts true xs ys ∙ ap (λ b. with_commas true xs ++ with_commas b ys) (after_true xs))
+    ∙ ap (λ (l : List ℕ). comma is_later ++ l) (sym (append_assoc x (with_commas true xs) (with_commas true ys)))
+    ∙ sym (append_assoc (comma is_later) (x ++ with_commas true xs) (with_commas true ys))
   where
     after_true : (values : List (List ℕ)) → is_later_after true values ≡ true
     after_true [] = refl
@@ -32,7 +32,7 @@ separated_parts is_later (x ∷ xs) ys =
 in_two_parts : (format : Format) (is_later : Bool) (xs ys : List (List ℕ)) →
     in_turn format is_later (xs ++ ys) ≡ in_turn format is_later xs ++ in_turn format (is_later_after is_later xs) ys
 in_two_parts Lines is_later xs ys = flat_map-append (λ text. text) xs ys
-in_two_parts Json is_later xs ys = separated_parts is_later xs ys
+in_two_parts Json is_later xs ys = commas_in_parts is_later xs ys
 
 later_after_both : (is_later : Bool) (xs ys : List (List ℕ)) →
     is_later_after is_later (xs ++ ys) ≡ is_later_after (is_later_after is_later xs) ys

@@ -2,7 +2,7 @@ use Rattle.std.specs.Prelude.{◌≡◌, ℕ, Bool, true, List, [], ◌∷◌, f
 use Rattle.bi_base.specs.declared.fault.Error.{Error}
 use Rattle.bi_commands.specs.declared.format.Format.{Format}
 use Rattle.bi_commands.specs.declared.format.Format.TheVariants.{Lines, Json}
-use Rattle.bi_commands.specs.Json.{separated}
+use Rattle.bi_commands.specs.Json.{with_commas}
 
 -- The forms of what a command writes.
 
@@ -10,7 +10,7 @@ use Rattle.bi_commands.specs.Json.{separated}
 -- a value before the first of them.
 abbrev pub in_turn : Format → (is_later : Bool) → List (List ℕ) → List ℕ
 in_turn Lines is_later texts = flat_map (λ text. text) texts
-in_turn Json is_later texts = separated is_later texts
+in_turn Json is_later texts = with_commas is_later texts
 
 -- Whether there is a value before what follows these values.
 abbrev pub is_later_after : {X : Type 0} → (is_later : Bool) → List X → Bool

@@ -47,9 +47,9 @@ comma true = 44 ∷ []
 
 -- Values of an array, each with what comes before it. `is_later` is whether there is a value before
 -- the first of them.
-abbrev pub separated : (is_later : Bool) → List JsonText → List ℕ
-separated is_later [] = []
-separated is_later (value ∷ later) = comma is_later ++ (value ++ separated true later)
+abbrev pub with_commas : (is_later : Bool) → List JsonText → List ℕ
+with_commas is_later [] = []
+with_commas is_later (value ∷ later) = comma is_later ++ (value ++ with_commas true later)
 
 -- A member of an object (RFC 8259, 4).
 abbrev pub member_text : Member → List ℕ

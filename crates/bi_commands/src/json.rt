@@ -6,7 +6,7 @@ ghost use Rattle.std.specs.List.{join_with_byte, list_any};
 ghost use Rattle.bi_base.specs.Sinks.{Wrote};
 ghost use Rattle.bi_commands.specs.FitListing.{hexadecimal_64};
 ghost use Rattle.bi_commands.specs.Json.{comma, json_bool, json_object, json_string, member_text};
-ghost use Rattle.bi_commands.specs.Json.{separated, string_or_null};
+ghost use Rattle.bi_commands.specs.Json.{with_commas, string_or_null};
 ghost use Rattle.bi_commands.specs.JsonValues.{member_of, value_json};
 ghost use Rattle.bi_commands.specs.Shown.{shown_byte, shown_text};
 ghost use Rattle.bi_commands.specs.ValueTexts.{escaped_byte, hexadecimal_digits, needs_backslash};
@@ -72,7 +72,7 @@ pub(crate) fn put_next<S: Sink>(
     is_later: bool,
     sink: &mut S,
 ) -> Result<(), Error>
-    ensures { Wrote S.appends S.fails sink.old (separated is_later (value_json value.entry ∷ []))
+    ensures { Wrote S.appends S.fails sink.old (with_commas is_later (value_json value.entry ∷ []))
         result sink.new }
 {
     put_comma(is_later, sink)?;

@@ -44,12 +44,13 @@ fn put_bad_hash_object<S: Sink>(hash: &Checked, sink: &mut S) -> Result<(), Erro
     ensures { Wrote S.appends S.fails sink.old
         (concern_object (BadHash (checked_hash_of hash.now))) result sink.new }
 {
+    let verdict = verdict_word(hash.verdict);
     let members = [
         ("concern", JsonValue::Text(b"bad-hash")),
         ("image", JsonValue::Shown(hash.image)),
         ("node", JsonValue::Shown(hash.node)),
         ("algorithm", shown_or_null(hash.algo)),
-        ("verdict", JsonValue::Text(verdict_word(hash.verdict).as_bytes())),
+        ("verdict", JsonValue::Text(verdict.as_bytes())),
     ];
     put_object(&members, sink)
 }

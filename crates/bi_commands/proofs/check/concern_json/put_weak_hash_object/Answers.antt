@@ -1,7 +1,7 @@
 use Rattle.std.proofs.Common.{◌≡◌, ℕ, List, [], ◌∷◌, ◌++◌, refl, codes, map, false, flat_map}
 use Rattle.std.specs.List.{join_with_byte}
 use Rattle.bi_commands.specs.HashedImages.{hashes_left}
-use Rattle.bi_commands.specs.Json.{json_string, member_text, separated}
+use Rattle.bi_commands.specs.Json.{json_string, member_text, with_commas}
 use Rattle.bi_commands.specs.ReadChecking.{good_algorithm_json}
 use Rattle.bi_commands.specs.Shown.{shown_text}
 use Rattle.bi_commands.proofs.CheckedHashes.{weak_in_parts}
@@ -16,7 +16,7 @@ returns-in_err-put g c =
     let one : List ℕ = 123 ∷ [] in
     let two : List ℕ = join_with_byte 44 (map member_text ((codes "concern", json_string (codes "weak-hash")) ∷ (codes "image", json_string (shown_text c.args.image.now)) ∷ [])) in
     let three : List ℕ = codes ",\"algorithms\":[" in
-    let four : List ℕ = separated false (flat_map good_algorithm_json (hashes_left c.args.hashes)) in
+    let four : List ℕ = with_commas false (flat_map good_algorithm_json (hashes_left c.args.hashes)) in
     let five : List ℕ = codes "]}" in
     first_of_all_fails S.appends S.fails laws.fails_before c.args.sink.now c.put.new.self one (two ++ (three ++ (four ++ five))) _ _ c.from_residual.result
     (weak_in_parts c.args.image.now (hashes_left c.args.hashes)) c.from_residual.ensures.1 c.in_err-put.ensures
@@ -28,7 +28,7 @@ returns-in_err-put_members g c =
     let one : List ℕ = 123 ∷ [] in
     let two : List ℕ = join_with_byte 44 (map member_text ((codes "concern", json_string (codes "weak-hash")) ∷ (codes "image", json_string (shown_text c.args.image.now)) ∷ [])) in
     let three : List ℕ = codes ",\"algorithms\":[" in
-    let four : List ℕ = separated false (flat_map good_algorithm_json (hashes_left c.args.hashes)) in
+    let four : List ℕ = with_commas false (flat_map good_algorithm_json (hashes_left c.args.hashes)) in
     let five : List ℕ = codes "]}" in
     next_fails S.appends S.fails laws.fails_after laws.fails_before c.args.sink.now c.put.new.self c.put_members.new.sink one two (three ++ (four ++ five)) _ _ c.from_residual-in_err-put_members.result
     (one_more_piece one two (three ++ (four ++ five)) _ (weak_in_parts c.args.image.now (hashes_left c.args.hashes))) c.from_residual-in_err-put_members.ensures.1 c.in_ok-put.ensures c.in_err-put_members.ensures
@@ -40,7 +40,7 @@ returns-in_err-put-2 g c =
     let one : List ℕ = 123 ∷ [] in
     let two : List ℕ = join_with_byte 44 (map member_text ((codes "concern", json_string (codes "weak-hash")) ∷ (codes "image", json_string (shown_text c.args.image.now)) ∷ [])) in
     let three : List ℕ = codes ",\"algorithms\":[" in
-    let four : List ℕ = separated false (flat_map good_algorithm_json (hashes_left c.args.hashes)) in
+    let four : List ℕ = with_commas false (flat_map good_algorithm_json (hashes_left c.args.hashes)) in
     let five : List ℕ = codes "]}" in
     next_fails S.appends S.fails laws.fails_after laws.fails_before c.args.sink.now c.put_members.new.sink c.put-2.new.self (one ++ two) three (four ++ five) _ _ c.from_residual-in_err-put-2.result
     (one_more_piece (one ++ two) three (four ++ five) _ (one_more_piece one two (three ++ (four ++ five)) _ (weak_in_parts c.args.image.now (hashes_left c.args.hashes)))) c.from_residual-in_err-put-2.ensures.1 (laws.appends_in_turn c.args.sink.now c.put.new.self c.put_members.new.sink one two c.in_ok-put.ensures c.in_ok-put_members.ensures) c.in_err-put-2.ensures
@@ -52,7 +52,7 @@ returns-in_err-put_algorithm_strings g c =
     let one : List ℕ = 123 ∷ [] in
     let two : List ℕ = join_with_byte 44 (map member_text ((codes "concern", json_string (codes "weak-hash")) ∷ (codes "image", json_string (shown_text c.args.image.now)) ∷ [])) in
     let three : List ℕ = codes ",\"algorithms\":[" in
-    let four : List ℕ = separated false (flat_map good_algorithm_json (hashes_left c.args.hashes)) in
+    let four : List ℕ = with_commas false (flat_map good_algorithm_json (hashes_left c.args.hashes)) in
     let five : List ℕ = codes "]}" in
     next_fails S.appends S.fails laws.fails_after laws.fails_before c.args.sink.now c.put-2.new.self c.put_algorithm_strings.new.sink ((one ++ two) ++ three) four five _ _ c.from_residual-in_err-put_algorithm_strings.result
     (one_more_piece ((one ++ two) ++ three) four five _ (one_more_piece (one ++ two) three (four ++ five) _ (one_more_piece one two (three ++ (four ++ five)) _ (weak_in_parts c.args.image.now (hashes_left c.args.hashes))))) c.from_residual-in_err-put_algorithm_strings.ensures.1 (laws.appends_in_turn c.args.sink.now c.put_members.new.sink c.put-2.new.self (one ++ two) three (laws.appends_in_turn c.args.sink.now c.put.new.self c.put_members.new.sink one two c.in_ok-put.ensures c.in_ok-put_members.ensures) c.in_ok-put-2.ensures) c.in_err-put_algorithm_strings.ensures
@@ -64,7 +64,7 @@ returns g c =
     let one : List ℕ = 123 ∷ [] in
     let two : List ℕ = join_with_byte 44 (map member_text ((codes "concern", json_string (codes "weak-hash")) ∷ (codes "image", json_string (shown_text c.args.image.now)) ∷ [])) in
     let three : List ℕ = codes ",\"algorithms\":[" in
-    let four : List ℕ = separated false (flat_map good_algorithm_json (hashes_left c.args.hashes)) in
+    let four : List ℕ = with_commas false (flat_map good_algorithm_json (hashes_left c.args.hashes)) in
     let five : List ℕ = codes "]}" in
     last_writes S.appends S.fails laws.appends_in_turn laws.fails_after c.args.sink.now c.put_algorithm_strings.new.sink c.put-3.new.self (((one ++ two) ++ three) ++ four) five _ c.put-3.result
     (one_more_piece ((one ++ two) ++ three) four five _ (one_more_piece (one ++ two) three (four ++ five) _ (one_more_piece one two (three ++ (four ++ five)) _ (weak_in_parts c.args.image.now (hashes_left c.args.hashes))))) (laws.appends_in_turn c.args.sink.now c.put-2.new.self c.put_algorithm_strings.new.sink ((one ++ two) ++ three) four (laws.appends_in_turn c.args.sink.now c.put_members.new.sink c.put-2.new.self (one ++ two) three (laws.appends_in_turn c.args.sink.now c.put.new.self c.put_members.new.sink one two c.in_ok-put.ensures c.in_ok-put_members.ensures) c.in_ok-put-2.ensures) c.in_ok-put_algorithm_strings.ensures) c.put-3.ensures
