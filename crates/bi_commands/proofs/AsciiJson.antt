@@ -1,4 +1,4 @@
-use Rattle.std.proofs.Common.{ℕ, List, [], ◌∷◌, ◌++◌, flat_map, map, Option, None, Some, refl, arith}
+use Rattle.std.proofs.Common.{ℕ, List, [], ◌∷◌, flat_map, map, Option, None, Some, refl, arith}
 use Rattle.std.specs.Prelude.{IfSome}
 use Rattle.std.specs.List.{AllByRecursion, join_with_byte}
 use Rattle.std.specs.Option.{option_map}

@@ -11,7 +11,6 @@ use Rattle.bi_commands.specs.CheckedFiles.{concerns_text}
 use Rattle.bi_commands.specs.Checking.{Concern, allows, concern_line, kept_concerns, kind_of}
 use Rattle.bi_commands.specs.ConcernJson.{concern_object}
 use Rattle.bi_commands.specs.Formats.{in_turn, is_later_after}
-use Rattle.bi_commands.specs.Json.{with_commas}
 use Rattle.bi_commands.specs.ReadChecking.{after_concerns, before_concerns, concern_text, concern_texts}
 use Rattle.bi_commands.proofs.JsonTexts.{commas_between}
 use Rattle.bi_commands.proofs.TextsInTurn.{map_append}

@@ -2,7 +2,6 @@ use Rattle.std.proofs.Common.{◌≡◌, ◌≤◌, ℕ, true, false, List, [], 
 use Rattle.std.proofs.Common.{◌∙◌, ◌-◌, arith, drop, get_or, take, take_all}
 use Rattle.std.specs.List.{flat_map}
 use Rattle.std.specs.Option.{option_map}
-use Rattle.std.proofs.lemmas.Grind.{flat_map-append}
 use Rattle.bi_blob.specs.Lookups.{Sibling, siblings}
 use Rattle.bi_blob.specs.Tree.{FileNode}
 use Rattle.bi_fit.specs.Content.{FitModel, ImageModel, tree_of}

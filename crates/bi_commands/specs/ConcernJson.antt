@@ -20,8 +20,11 @@ concern_members (BadHash hash) =
 concern_members (UnhashedImage image) = name_member (codes "image") image ∷ []
 concern_members (WeakHash image good) =
     name_member (codes "image") image
-    ∷ (codes "algorithms", json_array
-    (map (λ hash. string_or_null (option_map shown_text hash.algo)) good)) ∷ []
+    ∷ (
+      codes "algorithms",
+      json_array
+          (map (λ hash. string_or_null (option_map shown_text hash.algo)) good),
+    ) ∷ []
 concern_members (BadKey configuration key) =
     name_member (codes "configuration") configuration
     ∷ (codes "key", json_string (key_name key)) ∷ []

@@ -1,9 +1,7 @@
 use Rattle.std.specs.Prelude.{◌≡◌, ◌⊎◌, ◌<◌, ◌≤◌, ℕ, List, [], ◌∷◌, ◌++◌, Option, None, Some}
 use Rattle.std.specs.Prelude.{length, map, codes, if◌then◌else◌}
 use Rattle.std.specs.FinMap.{entries}
-use Rattle.bi_base.specs.Errors.{IsFaultOrNoMemory}
 use Rattle.bi_base.specs.Limits.{Limits}
-use Rattle.bi_base.specs.Reading.{too_large}
 use Rattle.bi_base.specs.declared.fault.Error.{Error}
 use Rattle.bi_blob.specs.Tree.{Nodes, none, node, Property}
 use Rattle.bi_fit.specs.ImageTree.{ImageTree}
@@ -36,8 +34,11 @@ abbrev pub legacy_object : LegacyImage → JsonText
 legacy_object image =
     json_object
     (header_members image
-    ++ (codes "parts", json_array
-    (map (λ part. digest_object (digest_of_payload part)) image.parts)) ∷ [])
+    ++ (
+      codes "parts",
+      json_array
+          (map (λ part. digest_object (digest_of_payload part)) image.parts),
+    ) ∷ [])
 
 -- The member for the value of a property: its texts, if it is one or more texts, or else its
 -- bytes.
@@ -84,9 +85,12 @@ fit_object tree =
     ((codes "kind", json_string (codes "fit"))
     ∷ (codes "boot_cpu", json_number tree.cpu)
     ∷ reservations_member tree.reservations
-    ∷ (codes "root", json_object
-    (node_members (plain_node tree.root.own)
-    (node_objects (described_nodes tree.root.children tree.payloads)))) ∷ [])
+    ∷ (
+      codes "root",
+      json_object
+          (node_members (plain_node tree.root.own)
+          (node_objects (described_nodes tree.root.children tree.payloads))),
+    ) ∷ [])
 
 -- What a boot image means.
 abbrev pub meaning_object : Meaning → JsonText

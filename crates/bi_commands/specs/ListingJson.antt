@@ -122,8 +122,11 @@ abbrev pub configuration_object : ImageTree → (configuration : List ℕ) → J
 configuration_object tree configuration =
     json_object
     (name_member (codes "name") configuration
-    ∷ (codes "keys", json_array
-    (flat_map (λ key. key_objects key (listed_of tree configuration key)) all_keys)) ∷ [])
+    ∷ (
+      codes "keys",
+      json_array
+          (flat_map (λ key. key_objects key (listed_of tree configuration key)) all_keys),
+    ) ∷ [])
 
 -- A flattened image tree that a file with these image nodes means.
 abbrev pub fit_listing_object : (file : List ℕ) → Nodes FileNode → ImageTree → JsonText
@@ -134,8 +137,11 @@ fit_listing_object file images tree =
     ∷ (codes "total_size", json_number (totalsize file))
     ∷ reservations_member tree.reservations
     ∷ (codes "images", json_array (image_objects file images tree.payloads))
-    ∷ (codes "configurations", json_array
-    (map (configuration_object tree) (names (configuration_nodes tree))))
+    ∷ (
+      codes "configurations",
+      json_array
+          (map (configuration_object tree) (names (configuration_nodes tree))),
+    )
     ∷ (codes "default", string_or_null (option_map shown_text (default_of tree))) ∷ [])
 
 -- ---- files

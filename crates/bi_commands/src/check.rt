@@ -142,12 +142,7 @@ pub fn check_json(
 }
 
 /// Returns the text of the concerns about a boot image that are not allowed.
-fn check_as(
-    alloc: Global,
-    file: &[u8],
-    checker: Checker,
-    limits: Limits,
-) -> Result<String, Error>
+fn check_as(alloc: Global, file: &[u8], checker: Checker, limits: Limits) -> Result<String, Error>
     ensures checked { IfOk result (λ text. IsChecked checker.format checker.allowed limits file.now
         (string_bytes text)) }
     ensures failed { IfErr result (IsCheckError limits file.now) }
@@ -182,8 +177,8 @@ fn check_into<S: Sink>(
     }
 }
 
-/// Checking, as a command: `check`, or `check_json`. Its value is whether there is no concern that is
-/// not allowed.
+/// Checking, as a command: `check`, or `check_json`. Its value is whether no concern is left after
+/// those that are allowed.
 #[derive(Clone, Copy, Debug, PartialEq, Eq)]
 pub struct Checker {
     /// The kinds of concerns that are left out.

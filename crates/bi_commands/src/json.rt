@@ -50,7 +50,8 @@ pub(crate) fn shown_or_null(name: Option<&[u8]>) -> JsonValue
 /// Returns the value for the digits of bytes that may not be there: `null` if they are not.
 pub(crate) fn digits_or_null(bytes: Option<&[u8]>) -> JsonValue
     ensures { value_json result
-        ≡ string_or_null (option_map hexadecimal_digits (option_map (λ bytes. bytes.now) bytes.entry)) }
+        ≡ string_or_null
+        (option_map hexadecimal_digits (option_map (λ bytes. bytes.now) bytes.entry)) }
 {
     match bytes {
         Some(bytes) => JsonValue::Digits(bytes),
@@ -67,11 +68,7 @@ pub(crate) fn put_comma<S: Sink>(is_later: bool, sink: &mut S) -> Result<(), Err
 }
 
 /// Appends a value of an array, after a comma if it is not the first. Fails as the sink does.
-pub(crate) fn put_next<S: Sink>(
-    value: JsonValue,
-    is_later: bool,
-    sink: &mut S,
-) -> Result<(), Error>
+pub(crate) fn put_next<S: Sink>(value: JsonValue, is_later: bool, sink: &mut S) -> Result<(), Error>
     ensures { Wrote S.appends S.fails sink.old (with_commas is_later (value_json value.entry ∷ []))
         result sink.new }
 {
@@ -80,10 +77,7 @@ pub(crate) fn put_next<S: Sink>(
 }
 
 /// Appends an object of these members. Fails as the sink does.
-pub(crate) fn put_object<S: Sink>(
-    members: &[(&str, JsonValue)],
-    sink: &mut S,
-) -> Result<(), Error>
+pub(crate) fn put_object<S: Sink>(members: &[(&str, JsonValue)], sink: &mut S) -> Result<(), Error>
     ensures { Wrote S.appends S.fails sink.old (json_object (map member_of members.now)) result
         sink.new }
 {
@@ -93,10 +87,7 @@ pub(crate) fn put_object<S: Sink>(
 }
 
 /// Appends members, with a comma between each two. Fails as the sink does.
-pub(crate) fn put_members<S: Sink>(
-    members: &[(&str, JsonValue)],
-    sink: &mut S,
-) -> Result<(), Error>
+pub(crate) fn put_members<S: Sink>(members: &[(&str, JsonValue)], sink: &mut S) -> Result<(), Error>
     ensures { Wrote S.appends S.fails sink.old
         (join_with_byte 44 (map member_text (map member_of members.now))) result sink.new }
 {

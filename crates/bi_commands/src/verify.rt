@@ -73,12 +73,7 @@ pub fn verify_json(alloc: Global, file: &[u8], limits: Limits) -> Result<Report,
 }
 
 /// Returns the report on a boot image, in a form.
-fn verify_as(
-    alloc: Global,
-    file: &[u8],
-    limits: Limits,
-    format: Format,
-) -> Result<Report, Error>
+fn verify_as(alloc: Global, file: &[u8], limits: Limits, format: Format) -> Result<Report, Error>
     ensures verified { IfOk result (λ report. IsVerifyOutput format limits report.all_good file.now
         (string_bytes report.text)) }
     ensures failed { IfErr result (IsBootImageReadError limits file.now) }

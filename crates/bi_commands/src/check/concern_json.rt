@@ -68,11 +68,7 @@ fn put_unhashed_object<S: Sink>(image: &[u8], sink: &mut S) -> Result<(), Error>
 }
 
 /// Appends the object of a key of a configuration whose value is no list. Fails as the sink does.
-fn put_bad_key_object<S: Sink>(
-    configuration: &[u8],
-    key: Key,
-    sink: &mut S,
-) -> Result<(), Error>
+fn put_bad_key_object<S: Sink>(configuration: &[u8], key: Key, sink: &mut S) -> Result<(), Error>
     ensures { Wrote S.appends S.fails sink.old (concern_object (BadKey configuration.now key))
         result sink.new }
 {
@@ -131,11 +127,7 @@ fn put_trailing_object<S: Sink>(count: usize, sink: &mut S) -> Result<(), Error>
 
 /// Appends the object of an image of this name with these hash nodes, no Good one of which is
 /// strong. Fails as the sink does.
-fn put_weak_hash_object<S: Sink>(
-    image: &[u8],
-    hashes: HashNodes,
-    sink: &mut S,
-) -> Result<(), Error>
+fn put_weak_hash_object<S: Sink>(image: &[u8], hashes: HashNodes, sink: &mut S) -> Result<(), Error>
     ensures { Wrote S.appends S.fails sink.old (concern_object
         (WeakHash image.now (filter is_good_hash (hashes_left hashes.entry)))) result sink.new }
 {

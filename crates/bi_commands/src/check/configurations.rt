@@ -77,7 +77,12 @@ fn put_key<'a, S: Sink>(
         KeyList::Images(_names) => Ok(is_later),
         KeyList::BadList => put_concern(Concern::BadKey(name, key), checker, is_later, sink),
         KeyList::Missing(index) => {
-            put_concern(Concern::MissingImage(name, key, index), checker, is_later, sink)
+            put_concern(
+                Concern::MissingImage(name, key, index),
+                checker,
+                is_later,
+                sink,
+            )
         }
     }
 }

@@ -62,7 +62,10 @@ fn put_summary_object<S: Sink>(counts: Counts, sink: &mut S) -> Result<(), Error
     let members = [
         ("good", JsonValue::Number(counts.good)),
         ("bad", JsonValue::Number(counts.bad)),
-        ("unknown_algorithm", JsonValue::Number(counts.unknown_algorithm)),
+        (
+            "unknown_algorithm",
+            JsonValue::Number(counts.unknown_algorithm),
+        ),
         ("no_payload", JsonValue::Number(counts.no_payload)),
         ("malformed", JsonValue::Number(counts.malformed)),
     ];

@@ -1,4 +1,4 @@
-use Rattle.std.proofs.Common.{take, flat_map, ◌∷◌}
+use Rattle.std.proofs.Common.{take, flat_map}
 use Rattle.bi_commands.specs.ValueTexts.{escaped_byte}
 use Rattle.bi_commands.proofs.json.put_escaped_bytes.Given as goal
 

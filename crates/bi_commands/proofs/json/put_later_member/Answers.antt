@@ -1,7 +1,7 @@
-use Rattle.std.proofs.Common.{◌≡◌, ℕ, List, [], ◌∷◌, ◌++◌, flat_map, refl, ap, codes}
+use Rattle.std.proofs.Common.{ℕ, List, [], ◌∷◌, refl}
 use Rattle.bi_commands.specs.Json.{member_text}
 use Rattle.bi_commands.specs.JsonValues.{member_of}
-use Rattle.bi_commands.proofs.LineChains.{first_of_all_fails, next_fails, last_writes}
+use Rattle.bi_commands.proofs.LineChains.{first_of_all_fails, last_writes}
 use Rattle.bi_commands.proofs.json.put_later_member.Goals as goal
 
 pub returns-in_err-put : goal.returns-in_err-put

@@ -1,4 +1,4 @@
-use Rattle.std.proofs.Common.{flat_map, ◌∷◌, [], arith}
+use Rattle.std.proofs.Common.{[], arith}
 use Rattle.bi_base.proofs.SinkLaws.{failed_within, passed_on}
 use Rattle.bi_commands.specs.declared.json.JsonValue.TheVariants.{Text}
 use Rattle.bi_commands.proofs.JsonTexts.{later_member}

@@ -1,4 +1,4 @@
-use Rattle.std.proofs.Common.{take, flat_map, ◌∷◌}
+use Rattle.std.proofs.Common.{take, flat_map}
 use Rattle.bi_commands.proofs.JsonTexts.{later_member}
 use Rattle.bi_commands.proofs.json.put_later_members.Given as goal
 

@@ -1,4 +1,4 @@
-use Rattle.std.proofs.Common.{◌≡◌, ℕ, List, [], ◌∷◌, ◌++◌, refl, ap, sym}
+use Rattle.std.proofs.Common.{ℕ, List, [], ◌∷◌, ◌++◌, ap, sym}
 use Rattle.bi_commands.specs.Json.{json_string}
 use Rattle.bi_commands.specs.JsonValues.{value_json}
 use Rattle.bi_commands.proofs.LineChains.{first_of_all_fails, next_fails, last_writes}

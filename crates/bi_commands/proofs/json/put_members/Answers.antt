@@ -1,4 +1,4 @@
-use Rattle.std.proofs.Common.{◌-◌, [], ◌++◌, flat_map, get_or, drop, take, length}
+use Rattle.std.proofs.Common.{◌-◌, [], flat_map, get_or, drop, take, length}
 use Rattle.bi_commands.specs.declared.json.JsonValue.TheVariants.{Text}
 use Rattle.bi_commands.specs.Json.{member_text}
 use Rattle.bi_commands.specs.JsonValues.{member_of}

@@ -1,4 +1,4 @@
-use Rattle.std.proofs.Common.{◌≡◌, ℕ, List, [], ◌∷◌, ◌++◌, flat_map, refl, ap, map}
+use Rattle.std.proofs.Common.{ℕ, List, [], ◌∷◌, ◌++◌, refl, map}
 use Rattle.std.specs.List.{join_with_byte}
 use Rattle.bi_commands.specs.Json.{member_text}
 use Rattle.bi_commands.specs.JsonValues.{member_of}

@@ -1,6 +1,6 @@
-use Rattle.std.proofs.Common.{◌≡◌, ℕ, List, [], ◌∷◌, ◌++◌, flat_map, refl, ap, codes}
+use Rattle.std.proofs.Common.{ℕ, List, [], ◌∷◌, ◌++◌, flat_map, refl}
 use Rattle.bi_commands.specs.Shown.{shown_text}
-use Rattle.bi_commands.specs.ValueTexts.{escaped_byte, hexadecimal_digits}
+use Rattle.bi_commands.specs.ValueTexts.{escaped_byte}
 use Rattle.bi_commands.proofs.LineChains.{first_of_all_fails, next_fails, last_writes}
 use Rattle.bi_commands.proofs.ListedFiles.{one_more_piece}
 use Rattle.bi_commands.proofs.json.put_shown_string.Goals as goal

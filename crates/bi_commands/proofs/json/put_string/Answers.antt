@@ -1,5 +1,5 @@
-use Rattle.std.proofs.Common.{◌≡◌, ℕ, List, [], ◌∷◌, ◌++◌, flat_map, refl, ap, codes}
-use Rattle.bi_commands.specs.ValueTexts.{escaped_byte, hexadecimal_digits}
+use Rattle.std.proofs.Common.{ℕ, List, [], ◌∷◌, ◌++◌, flat_map, refl}
+use Rattle.bi_commands.specs.ValueTexts.{escaped_byte}
 use Rattle.bi_commands.proofs.LineChains.{first_of_all_fails, next_fails, last_writes}
 use Rattle.bi_commands.proofs.ListedFiles.{one_more_piece}
 use Rattle.bi_commands.proofs.json.put_string.Goals as goal

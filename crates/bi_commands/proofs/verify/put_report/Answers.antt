@@ -1,4 +1,4 @@
-use Rattle.std.proofs.Common.{◌≡◌, ℕ, List, [], ◌∷◌, ◌++◌, refl, false}
+use Rattle.std.proofs.Common.{ℕ, List, ◌++◌, false}
 use Rattle.bi_commands.specs.Formats.{in_turn}
 use Rattle.bi_commands.specs.HashedImages.{images_of_blob}
 use Rattle.bi_commands.specs.ReadReports.{after_hashes, before_hashes, hash_texts}

@@ -1,4 +1,4 @@
-use Rattle.std.proofs.Common.{◌≡◌, ℕ, List, [], ◌∷◌, ◌++◌, refl, codes, map, false, flat_map}
+use Rattle.std.proofs.Common.{ℕ, List, [], ◌∷◌, ◌++◌, codes, map, false, flat_map}
 use Rattle.std.specs.List.{join_with_byte}
 use Rattle.bi_commands.specs.HashedImages.{hashes_left}
 use Rattle.bi_commands.specs.Json.{json_string, member_text, with_commas}

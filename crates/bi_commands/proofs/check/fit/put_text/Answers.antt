@@ -1,4 +1,4 @@
-use Rattle.std.proofs.Common.{◌≡◌, ℕ, List, ◌++◌, false}
+use Rattle.std.proofs.Common.{ℕ, List, ◌++◌, false}
 use Rattle.bi_base.proofs.SinkLaws.{passed_on}
 use Rattle.bi_commands.specs.Checking.{kept_concerns}
 use Rattle.bi_commands.specs.Formats.{in_turn}

@@ -1,4 +1,4 @@
-use Rattle.std.proofs.Common.{◌≡◌, ℕ, List, [], ◌∷◌, ◌++◌, refl}
+use Rattle.std.proofs.Common.{ℕ, List, [], ◌∷◌, refl}
 use Rattle.bi_commands.specs.ReportJson.{legacy_report_object}
 use Rattle.bi_commands.proofs.LineChains.{first_of_all_fails, last_writes}
 use Rattle.bi_commands.proofs.verify.report_json.put_checksums_object.Goals as goal

@@ -1,4 +1,4 @@
-use Rattle.std.proofs.Common.{◌≡◌, ℕ, List, [], ◌∷◌, ◌++◌, refl, codes}
+use Rattle.std.proofs.Common.{ℕ, List, ◌++◌, refl, codes}
 use Rattle.bi_commands.specs.ReportJson.{summary_object}
 use Rattle.bi_commands.specs.VerdictCounts.{counts_model}
 use Rattle.bi_commands.proofs.LineChains.{first_of_all_fails, next_fails, last_writes}
