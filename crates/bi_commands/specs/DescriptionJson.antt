@@ -124,7 +124,8 @@ pub record MeansTooMuchForJson (limits : Limits) (file : List ℕ) : Type 0 wher
 
 -- The error that describing a file in JSON can have: one of reading it, or TooLarge at the limit.
 abbrev pub IsDescribeJsonError : Limits → List ℕ → Error → Type 0
-IsDescribeJsonError limits file = IsReadErrorOrTooLarge limits file (MeansTooMuchForJson limits file)
+IsDescribeJsonError limits file =
+    IsReadErrorOrTooLarge limits file (MeansTooMuchForJson limits file)
 
 -- Files with one description in JSON have meanings that are the same once each payload is replaced
 -- by its length and its SHA-256, whatever the limits.

@@ -156,8 +156,8 @@ fn put_algorithm_strings<S: Sink>(hashes: HashNodes, sink: &mut S) -> Result<(),
     Ok(())
 }
 
-/// Appends the algorithm of a hash node, if the verdict on it is Good, and returns whether it did or
-/// there is one before it. Fails as the sink does.
+/// Appends the algorithm of a hash node, if the verdict on it is Good, and returns whether it did
+/// or there is one before it. Fails as the sink does.
 fn put_good_algorithm_string<S: Sink>(
     hash: Checked,
     is_later: bool,

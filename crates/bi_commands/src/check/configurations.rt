@@ -58,8 +58,8 @@ fn put_configuration<'a, S: Sink>(
     Ok(later)
 }
 
-/// Appends the concern about what the configuration of a node lists under a key, and returns whether
-/// there is one, or there are any before it. Fails as the sink does.
+/// Appends the concern about what the configuration of a node lists under a key, and returns
+/// whether there is one, or there are any before it. Fails as the sink does.
 fn put_key<'a, S: Sink>(
     fit: &Fit<'a>,
     node: NodeRef<'a, '_>,

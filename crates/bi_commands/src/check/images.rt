@@ -11,7 +11,8 @@ ghost use Rattle.bi_commands.specs.Checking.{is_good as is_good_hash, is_strong 
 ghost use Rattle.bi_commands.specs.Checking.{is_strong_algorithm, protection_concerns};
 ghost use Rattle.bi_commands.specs.Formats.{WroteInTurn};
 ghost use Rattle.bi_commands.specs.HashedImages.{hashes_left, image_value, images_of_blob};
-ghost use Rattle.bi_commands.specs.ReadChecking.{concern_texts, image_concern_texts, images_concerns};
+ghost use Rattle.bi_commands.specs.ReadChecking.{concern_texts, image_concern_texts};
+ghost use Rattle.bi_commands.specs.ReadChecking.{images_concerns};
 
 use super::Checker;
 use super::concern::{Concern, is_good, put_concern};
@@ -58,8 +59,8 @@ fn put_image<S: Sink>(
     }
 }
 
-/// Appends the concerns about the hash nodes of an image, and returns whether there is one, or there
-/// are any before them. Fails as the sink does.
+/// Appends the concerns about the hash nodes of an image, and returns whether there is one, or
+/// there are any before them. Fails as the sink does.
 fn put_hashes<S: Sink>(
     hashes: HashNodes,
     checker: Checker,
