@@ -47,3 +47,4 @@ pub mod ComparisonJson
 pub mod Formats
 pub mod JsonValues
 pub mod VerifiedFiles
+pub mod ListedFiles

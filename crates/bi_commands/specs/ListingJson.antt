@@ -1,10 +1,8 @@
-use Rattle.std.specs.Prelude.{◌≡◌, ℕ, List, [], ◌∷◌, ◌++◌, Option, None, Some, length, map}
+use Rattle.std.specs.Prelude.{ℕ, List, [], ◌∷◌, ◌++◌, Option, None, Some, length, map}
 use Rattle.std.specs.Prelude.{flat_map, codes, true, unwrap_or, option_map}
-use Rattle.bi_base.specs.Limits.{Limits}
 use Rattle.bi_blob.specs.Blob.{Reservation, totalsize}
 use Rattle.bi_blob.specs.Tree.{Nodes, node, FileNode, names}
 use Rattle.bi_fit.specs.declared.key.Key.{Key}
-use Rattle.bi_fit.specs.File.{FitMeans}
 use Rattle.bi_fit.specs.ImageTree.{ImageTree}
 use Rattle.bi_fit.specs.Judgement.{ListResult, NoConfig, NoKey, BadList, Missing}
 use Rattle.bi_fit.specs.Judgement.{ListedImages, configuration_nodes, listed_of, default_of}
@@ -14,10 +12,10 @@ use Rattle.bi_legacy.specs.Codes.{CodeName, os_names, arch_names, type_names, co
 use Rattle.bi_legacy.specs.Codes.{name_of_code}
 use Rattle.bi_legacy.specs.Meaning.{LegacyImage}
 use Rattle.bi_legacy.specs.PlacedParts.{PartModel, placed_parts}
-use Rattle.bi_legacy.specs.Reading.{LegacyModel, IsReadLegacy}
+use Rattle.bi_legacy.specs.Reading.{LegacyModel}
 use Rattle.bi_commands.specs.FitListing.{hexadecimal_64, source_word}
 use Rattle.bi_commands.specs.Json.{JsonText, Member, json_string, json_number, json_bool, json_null}
-use Rattle.bi_commands.specs.Json.{string_or_null, json_array, json_object, json_line}
+use Rattle.bi_commands.specs.Json.{string_or_null, json_array, json_object}
 use Rattle.bi_commands.specs.Shown.{shown_text}
 
 -- The JSON that `list` writes (profile of this project).
@@ -106,6 +104,11 @@ abbrev pub key_object : Key → Member → JsonText
 key_object key member =
     json_object ((codes "key", json_string (key_name key)) ∷ member ∷ [])
 
+-- The images of these names that a configuration lists under a key.
+abbrev pub listed_object : Key → (names : List (List ℕ)) → JsonText
+listed_object key names =
+    key_object key (codes "images", json_array (map (λ name. json_string (shown_text name)) names))
+
 -- What a configuration lists under a key, or why it lists nothing. There is no object if the
 -- configuration has no such key.
 abbrev pub key_objects : Key → ListResult → List JsonText
@@ -113,9 +116,7 @@ key_objects key NoConfig = []
 key_objects key NoKey = []
 key_objects key BadList = key_object key (codes "bad_list", json_bool true) ∷ []
 key_objects key (Missing index) = key_object key (codes "missing", json_number index) ∷ []
-key_objects key (ListedImages images) =
-    key_object key
-    (codes "images", json_array (map (λ image. json_string (shown_text image.name)) images)) ∷ []
+key_objects key (ListedImages images) = listed_object key (map (λ image. image.name) images) ∷ []
 
 -- A configuration, with its keys in their order.
 abbrev pub configuration_object : ImageTree → (configuration : List ℕ) → JsonText
@@ -143,18 +144,3 @@ fit_listing_object file images tree =
           (map (configuration_object tree) (names (configuration_nodes tree))),
     )
     ∷ (codes "default", string_or_null (option_map shown_text (default_of tree))) ∷ [])
-
--- ---- files
-
--- The text is the JSON of the listing of a flattened image tree.
-pub record IsFitListingJson (limits : Limits) (file text : List ℕ) : Type 0 where
-  pub tree : ImageTree
-  pub means : FitMeans limits file tree
-  pub is : text ≡ json_line (fit_listing_object file means.is_file.images tree)
-
--- The text is the JSON of the listing of the file, which is a legacy image or a flattened image
--- tree.
-pub data IsListingJson (limits : Limits) (file text : List ℕ) : Type 0 where
-  OfLegacyImage : (parsed : LegacyModel) → IsReadLegacy limits file parsed
-      → text ≡ json_line (legacy_listing_object parsed) → IsListingJson limits file text
-  OfImageTree : IsFitListingJson limits file text → IsListingJson limits file text
