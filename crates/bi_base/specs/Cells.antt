@@ -1,4 +1,4 @@
-use Rattle.std.specs.Prelude.{ℕ, ◌+◌, ◌*◌, ◌/◌, ◌^◌, ◌<◌, List, take, drop, slice_index}
+use Rattle.std.specs.Prelude.{ℕ, ◌+◌, ◌-◌, ◌*◌, ◌/◌, ◌^◌, ◌<◌, List, take, drop, slice_index}
 use Rattle.std.specs.Int.{to_be_bytes, from_be_bytes, w32, w64}
 
 -- A cell: the four big-endian bytes of a number, modulo 2^32 (Devicetree Specification, 2.2.4.2:
@@ -28,6 +28,10 @@ u64_at file at = from_be_bytes w64 (slice file at 8)
 pub record AreBytes (bytes : List ℕ) : Type 0 where
   pub each : (i : ℕ) → slice_index bytes i < 2 ^ 8
 
+-- The least multiple of `align`, which is not 0, that is at least `n`.
+abbrev pub next_multiple : (align n : ℕ) → ℕ
+next_multiple align n = align * ((n + (align - 1)) / align)
+
 -- The least multiple of four that is at least `n`: where what is aligned to a cell begins.
 abbrev pub up4 : ℕ → ℕ
-up4 n = 4 * ((n + 3) / 4)
+up4 n = next_multiple 4 n

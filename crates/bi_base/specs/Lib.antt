@@ -3,6 +3,7 @@ pub mod Causes
 pub mod Errors
 pub mod Checks
 pub mod Limits
+pub mod Alignments
 pub mod Traces
 pub mod Reading
 pub mod Writing

@@ -2,6 +2,7 @@ use Rattle.std.specs.Prelude.{◌≡◌, ℕ, List, [], ◌∷◌, map, Option, 
 use Rattle.std.specs.Ordering.{nat_cmp}
 use Rattle.std.specs.Cmp.Lexicographic.{slice_cmp}
 use Rattle.std.specs.FinMap.{entries, from_entries}
+use Rattle.bi_base.specs.Alignments.{cell_alignment}
 use Rattle.bi_base.specs.Cells.{cell}
 use Rattle.bi_blob.specs.Tree.{Nodes, none, node, Property, with_each}
 use Rattle.bi_blob.specs.Layout.{strings_of}
@@ -45,15 +46,16 @@ abbrev pub hash_node_with : (digest : List ℕ) → Nodes (List Property)
 hash_node_with digest = node hash_node_name (in_order (sha256_properties digest)) none none
 
 -- Image nodes, where the payloads before theirs end at `end`.
-abbrev pub built_image_nodes : Form → (end : ℕ) → HeadModel → List ImageSpecModel
+abbrev pub built_image_nodes : (align : ℕ) → Form → (end : ℕ) → HeadModel → List ImageSpecModel
     → Nodes (List Property)
-built_image_nodes form end head images =
-    with_each entries (with_payloads form end (built_payloads images) (built_images head images))
+built_image_nodes align form end head images =
+    with_each entries
+    (with_payloads align form end (built_payloads images) (built_images head images))
 
 -- The node `images`, without its siblings.
 abbrev pub built_images_node : Form → HeadModel → List ImageSpecModel → Nodes (List Property)
 built_images_node form head images =
-    node images_name (in_order []) (built_image_nodes form 0 head images) none
+    node images_name (in_order []) (built_image_nodes cell_alignment form 0 head images) none
 
 -- The node of the one configuration, below `configurations`.
 abbrev pub built_configuration_node : HeadModel → List ImageSpecModel → Nodes (List Property)

@@ -1,4 +1,5 @@
 use Rattle.std.specs.Prelude.{◌≡◌, ℕ, ◌≤◌, List, length}
+use Rattle.bi_base.specs.Alignments.{cell_alignment}
 use Rattle.bi_blob.specs.Layout.{longest_text}
 use Rattle.bi_fit.specs.declared.text.FitText.TheInside.{Inside as Fields}
 use Rattle.bi_fit.specs.Documents.{whole_text}
@@ -8,10 +9,10 @@ use Rattle.bi_fit.specs.NormalNodes.{AreWithin, payloads_of}
 
 -- The blob and what follows it.
 abbrev pub fit_text_model : Fields → List ℕ
-fit_text_model text = whole_text text.form text.blob (payloads_of text.images.now)
+fit_text_model text = whole_text cell_alignment text.form text.blob (payloads_of text.images.now)
 
 -- The payloads end within the longest text, the text has this size, and it is no longer.
 pub record IsConsistentText (text : Fields) : Type 0 where
-  pub within : AreWithin text.form 0 (payloads_of text.images.now)
+  pub within : AreWithin cell_alignment text.form 0 (payloads_of text.images.now)
   pub is_size : text.size ≡ length (fit_text_model text)
   pub small : text.size ≤ longest_text

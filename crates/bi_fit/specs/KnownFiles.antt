@@ -1,6 +1,7 @@
 use Rattle.std.specs.Prelude.{◌≡◌, ℕ, List, [], ◌∷◌, ◌++◌, length, map, replicate, codes}
 use Rattle.std.specs.Prelude.{Option, Some, None}
 use Rattle.std.specs.FinMap.{empty, insert}
+use Rattle.bi_base.specs.Alignments.{cell_alignment}
 use Rattle.bi_base.specs.Cells.{cell}
 use Rattle.bi_blob.specs.Tree.{Nodes, none, node, Root, Property, PropertyMap}
 use Rattle.bi_blob.specs.Layout.{text_of_tree}
@@ -64,7 +65,7 @@ pub record OffsetIsFromAlignedEnd : Type 0 where
   pub means : IsFitFile offset_file offset_tree
   pub is_length : length offset_file ≡ 163
   pub embedded_length : length (fit_text Embedded offset_tree) ≡ 124
-  pub external_blob : length (blob_of External offset_tree) ≡ 156
+  pub external_blob : length (blob_of cell_alignment External offset_tree) ≡ 156
   pub external_length : length (fit_text External offset_tree) ≡ 159
 
 -- A file whose image `a` has `data`, `data-position` 180 and `data-size` 3. Its blob ends at 180.
@@ -163,9 +164,9 @@ pub record ThreeImagesHaveTexts : Type 0 where
   pub embedded : fit_text Embedded three_tree ≡ three_embedded
   pub external : fit_text External three_tree ≡ three_external
   pub embedded_length : length three_embedded ≡ 180
-  pub external_blob : length (blob_of External three_tree) ≡ 244
+  pub external_blob : length (blob_of cell_alignment External three_tree) ≡ 244
   pub external_length : length three_external ≡ 253
-  pub places : payload_places 244 0 three_tree.payloads ≡ Some 244 ∷ Some 252 ∷ Some 252 ∷ []
+  pub places : payload_places 4 244 0 three_tree.payloads ≡ Some 244 ∷ Some 252 ∷ Some 252 ∷ []
 
 -- Three images with the payload `x`, an empty one, and `y`, in the form External: the offsets are
 -- 0, 4 and 4, and three zeros follow `x`.
@@ -190,8 +191,8 @@ pub record PayloadsAreAligned : Type 0 where
   pub means : IsFitFile aligned_external aligned_tree
   pub external : fit_text External aligned_tree ≡ aligned_external
   pub external_length : length aligned_external ≡ 249
-  pub places : payload_places 244 0 aligned_tree.payloads ≡ Some 244 ∷ Some 248 ∷ Some 248 ∷ []
-  pub areas : map (payload_area 0)
+  pub places : payload_places 4 244 0 aligned_tree.payloads ≡ Some 244 ∷ Some 248 ∷ Some 248 ∷ []
+  pub areas : map (payload_area 4 0)
       ((Some (codes "x") ∷ Some (codes "y") ∷ [])
       ∷ (Some (codes "x") ∷ Some [] ∷ [])
       ∷ (Some (codes "x") ∷ None ∷ [])

@@ -1,15 +1,16 @@
 use Rattle.std.specs.Prelude.{◌≡◌, ◌⊎◌, ◌↔◌, ℕ, ◌+◌, ◌%◌, ◌≤◌, List, ◌++◌, Option, Some, length}
-use Rattle.std.specs.Prelude.{map, [], ◌∷◌, nat_eq, IsTrue, filter}
+use Rattle.std.specs.Prelude.{map, [], ◌∷◌, None, nat_eq, IsTrue, filter}
 use Rattle.std.specs.List.{AllByRecursion, AllZip, ends_with}
 use Rattle.bi_base.specs.declared.fault.Fault.{Fault}
+use Rattle.bi_base.specs.Alignments.{IsAlignment, AreMultiplesOf}
 use Rattle.bi_base.specs.Cells.{AreBytes}
 use Rattle.bi_base.specs.Limits.{Limits}
 use Rattle.bi_hash.specs.declared.algo.Algo.TheVariants.{Sha256}
 use Rattle.bi_hash.specs.declared.verdicts.Verdict.TheVariants.{Good}
 use Rattle.bi_hash.specs.Algos.{algorithm_name}
 use Rattle.bi_hash.specs.Digests.{digest_of}
-use Rattle.bi_blob.specs.Tree.{HasNoZero, depth_of}
-use Rattle.bi_blob.specs.Blob.{magic, blob_magic}
+use Rattle.bi_blob.specs.Tree.{FileNode, HasNoZero, depth_of}
+use Rattle.bi_blob.specs.Blob.{magic, blob_magic, totalsize}
 use Rattle.bi_blob.specs.Layout.{strings_of, longest_text}
 use Rattle.bi_fit.specs.declared.key.Key.{Key}
 use Rattle.bi_fit.specs.declared.form.Form.{Form}
@@ -18,7 +19,7 @@ use Rattle.bi_fit.specs.ImageTree.{ImageTree, IsImageTree, each_own}
 use Rattle.bi_fit.specs.Payloads.{source_of, payload_place, IsAtPlace}
 use Rattle.bi_fit.specs.File.{IsFitFile, FitMeans}
 use Rattle.bi_fit.specs.Faults.{IsFitFault}
-use Rattle.bi_fit.specs.Text.{blob_of, payloads_end, payload_places, fit_text}
+use Rattle.bi_fit.specs.Text.{blob_of, payloads_end, payload_places, fit_text, aligned_fit_text}
 use Rattle.bi_fit.specs.Judgement.{judgement, CheckedHash, verdicts_of, ListResult, NoKey}
 use Rattle.bi_fit.specs.Judgement.{ListedImages, listed_names, listed_of, default_of}
 use Rattle.bi_fit.specs.Building.{HeadModel, ImageSpecModel, CanBeBuilt, hash_node_name, built_tree}
@@ -82,21 +83,24 @@ pub record IsAcceptedAs (bounds : Limits) (file : List ℕ) (tree : ImageTree) :
   pub means : FitMeans bounds file tree
   pub no_fault : (fault : Fault) → ¬ (IsFitFault bounds file fault)
 
--- The text of an image tree is accepted under limits that hold it, and means the tree.
+-- The text of an image tree, with any alignment, is accepted under limits that hold it, and means
+-- the tree.
 abbrev pub FitTextIsAccepted : Type 0
 FitTextIsAccepted =
-    (bounds : Limits) (form : Form) (tree : ImageTree) → IsImageTree tree
-    → depth_of tree.root ≤ bounds.depth → length (fit_text form tree) ≤ bounds.file
-    → bounds.file ≤ longest_text
-    → IsAcceptedAs bounds (fit_text form tree) tree
+    (bounds : Limits) (align : ℕ) (form : Form) (tree : ImageTree)
+    → IsAlignment align → IsImageTree tree
+    → depth_of tree.root ≤ bounds.depth
+    → length (aligned_fit_text align form tree) ≤ bounds.file → bounds.file ≤ longest_text
+    → IsAcceptedAs bounds (aligned_fit_text align form tree) tree
 
--- The normal text of a file is accepted under the same limits and means the same, if it is no
--- longer than the limit.
+-- The text of what a file means, with any alignment, is accepted under the same limits and means
+-- the same, if it is no longer than the limit.
 abbrev pub NormalFitTextIsAccepted : Type 0
 NormalFitTextIsAccepted =
-    (bounds : Limits) (form : Form) (file : List ℕ) (tree : ImageTree) → FitMeans bounds file tree
-    → length (fit_text form tree) ≤ bounds.file → bounds.file ≤ longest_text
-    → IsAcceptedAs bounds (fit_text form tree) tree
+    (bounds : Limits) (align : ℕ) (form : Form) (file : List ℕ) (tree : ImageTree)
+    → IsAlignment align → FitMeans bounds file tree
+    → length (aligned_fit_text align form tree) ≤ bounds.file → bounds.file ≤ longest_text
+    → IsAcceptedAs bounds (aligned_fit_text align form tree) tree
 
 -- Two image trees have the same text in one form exactly where they are the same, if one of the
 -- texts is not too long.
@@ -122,40 +126,90 @@ SameTextSameJudgement =
     → judgement tree ≡ judgement other
 
 -- The length of an external text follows from the length of its blob and the sizes of its
--- payloads. The blob ends at a multiple of four.
-pub record HasExternalLength (tree : ImageTree) : Type 0 where
-  pub is_length : length (fit_text External tree)
-      ≡ length (blob_of External tree) + payloads_end 0 tree.payloads
-  pub blob_is_whole : length (blob_of External tree) % 4 ≡ 0
+-- payloads. The blob ends at a multiple of the alignment.
+pub record HasExternalLength (align : ℕ) (tree : ImageTree) : Type 0 where
+  pub is_length : length (aligned_fit_text align External tree)
+      ≡ length (blob_of align External tree) + payloads_end align 0 tree.payloads
+  pub blob_is_whole : length (blob_of align External tree) % align ≡ 0
 
 -- Each external text is that long.
 abbrev pub EachExternalTextHasItsLength : Type 0
-EachExternalTextHasItsLength = (tree : ImageTree) → HasExternalLength tree
+EachExternalTextHasItsLength =
+    (align : ℕ) (tree : ImageTree) → IsAlignment align → HasExternalLength align tree
 
 -- Payloads end where some of the first of them do or after: a text is too long as soon as some of
 -- its payloads are.
 abbrev pub PayloadsEndLater : Type 0
 PayloadsEndLater =
-    (first later : List (Option (List ℕ))) → payloads_end 0 first ≤ payloads_end 0 (first ++ later)
+    (align : ℕ) (first later : List (Option (List ℕ))) → IsAlignment align
+    → payloads_end align 0 first ≤ payloads_end align 0 (first ++ later)
 
 -- The payloads of an external text are where the layout has them.
 abbrev pub ExternalPayloadsArePlaced : Type 0
 ExternalPayloadsArePlaced =
-    (tree : ImageTree) → length (fit_text External tree) ≤ longest_text
-    → (is : IsFitFile (fit_text External tree) tree)
+    (align : ℕ) (tree : ImageTree) → IsAlignment align
+    → length (aligned_fit_text align External tree) ≤ longest_text
+    → (is : IsFitFile (aligned_fit_text align External tree) tree)
     → AllZip
-    (λ own place. payload_place (fit_text External tree) (source_of own) ≡ place)
-    (each_own is.images) (payload_places (length (blob_of External tree)) 0 tree.payloads)
+    (λ own place. payload_place (aligned_fit_text align External tree) (source_of own) ≡ place)
+    (each_own is.images)
+    (payload_places align (length (blob_of align External tree)) 0 tree.payloads)
 
--- The text of a built tree, in either form, is accepted under limits that hold it and four open
--- nodes, and means the tree.
+-- An offset as a list, or none.
+abbrev pub offset_or_none : Option ℕ → List ℕ
+offset_or_none None = []
+offset_or_none (Some offset) = offset ∷ []
+
+-- The offsets in a file of the payloads of these image nodes.
+abbrev pub offsets_of_payloads : List ℕ → List FileNode → List ℕ
+offsets_of_payloads file [] = []
+offsets_of_payloads file (own ∷ later) =
+    offset_or_none (payload_place file (source_of own)) ++ offsets_of_payloads file later
+
+-- In a file that means this, the blob ends at a multiple of the alignment, and each payload, even
+-- an empty one, begins at one.
+pub record IsAligned (align : ℕ) (file : List ℕ) (tree : ImageTree) (is : IsFitFile file tree)
+    : Type 0 where
+  pub blob_end : totalsize file % align ≡ 0
+  pub payloads : AreMultiplesOf align (offsets_of_payloads file (each_own is.images))
+
+-- An external text has its alignment, and its blob is all that its total size has.
+abbrev pub ExternalTextIsAligned : Type 0
+ExternalTextIsAligned =
+    (align : ℕ) (tree : ImageTree) → IsAlignment align
+    → length (aligned_fit_text align External tree) ≤ longest_text
+    → (is : IsFitFile (aligned_fit_text align External tree) tree)
+    → IsAligned align (aligned_fit_text align External tree) tree is
+    × (totalsize (aligned_fit_text align External tree) ≡ length (blob_of align External tree))
+
+-- Two image trees have the same text with one alignment exactly where they are the same, if one of
+-- the texts is not too long. So texts of one alignment tell meanings apart as normal texts do.
+abbrev pub SameAlignedTextSameTree : Type 0
+SameAlignedTextSameTree =
+    (align : ℕ) (form : Form) (one other : ImageTree) → IsAlignment align
+    → IsImageTree one → IsImageTree other
+    → length (aligned_fit_text align form one) ≤ longest_text
+    → (aligned_fit_text align form one ≡ aligned_fit_text align form other) ↔ (one ≡ other)
+
+-- A text with a smaller alignment is no longer.
+abbrev pub SmallerAlignmentIsShorter : Type 0
+SmallerAlignmentIsShorter =
+    (align other : ℕ) (tree : ImageTree) → IsAlignment align → IsAlignment other
+    → align ≤ other
+    → length (aligned_fit_text align External tree)
+    ≤ length (aligned_fit_text other External tree)
+
+-- The text of a built tree, in either form and with any alignment, is accepted under limits that
+-- hold it and four open nodes, and means the tree.
 abbrev pub BuiltIsAccepted : Type 0
 BuiltIsAccepted =
-    (bounds : Limits) (form : Form) (head : HeadModel) (images : List ImageSpecModel)
-    → CanBeBuilt head images
-    → 4 ≤ bounds.depth → length (fit_text form (built_tree head images)) ≤ bounds.file
+    (bounds : Limits) (align : ℕ) (form : Form) (head : HeadModel) (images : List ImageSpecModel)
+    → IsAlignment align → CanBeBuilt head images
+    → 4 ≤ bounds.depth
+    → length (aligned_fit_text align form (built_tree head images)) ≤ bounds.file
     → bounds.file ≤ longest_text
-    → IsAcceptedAs bounds (fit_text form (built_tree head images)) (built_tree head images)
+    → IsAcceptedAs bounds (aligned_fit_text align form (built_tree head images))
+    (built_tree head images)
 
 -- The hash node of a built image: it has the SHA-256 of the payload, and its verdict is Good.
 abbrev pub good_hash : ImageSpecModel → CheckedHash

@@ -4,6 +4,7 @@ pub mod Payloads
 pub mod File
 pub mod Faults
 pub mod Text
+pub mod KeptPlaces
 pub mod Judgement
 pub mod Updating
 pub mod NewDigests
@@ -40,3 +41,4 @@ pub mod KnownFaults
 pub mod KnownJudgements
 pub mod KnownBuilds
 pub mod KnownUpdates
+pub mod KnownAlignments

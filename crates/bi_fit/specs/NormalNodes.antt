@@ -75,19 +75,19 @@ sorted_image_children hashed digests nodes =
     with_each entries (with_digests_from hashed digests (nodes_by_name nodes))
 
 -- Image nodes with the properties of each in byte order.
-abbrev pub sorted_images : (hashes : Bool) → Form → (end : ℕ) → List (Option (List ℕ))
-    → (digests : List ℕ) → Nodes FileNode → Nodes (List Property)
-sorted_images hashes form end payloads digests nodes =
+abbrev pub sorted_images : (hashes : Bool) → (align : ℕ) → Form → (end : ℕ)
+    → List (Option (List ℕ)) → (digests : List ℕ) → Nodes FileNode → Nodes (List Property)
+sorted_images hashes align form end payloads digests nodes =
     with_each entries
-    (with_payloads form end payloads
+    (with_payloads align form end payloads
     (images_with_digests_from hashes payloads digests (without_payloads (nodes_by_name nodes))))
 
 -- The node whose children are the image nodes, without its siblings.
-abbrev pub sorted_images_node : (hashes : Bool) → Form → List (Option (List ℕ))
+abbrev pub sorted_images_node : (hashes : Bool) → (align : ℕ) → Form → List (Option (List ℕ))
     → (digests : List ℕ) → Sibling FileNode → Nodes (List Property)
-sorted_images_node hashes form payloads digests sibling =
+sorted_images_node hashes align form payloads digests sibling =
     node sibling.name (entries (properties_by_name sibling.own))
-    (sorted_images hashes form 0 payloads digests sibling.children) none
+    (sorted_images hashes align form 0 payloads digests sibling.children) none
 
 -- The size of a payload fits a cell, if the form has it in one.
 abbrev pub HasCellSize : Form → Option (List ℕ) → Type 0
@@ -96,14 +96,14 @@ HasCellSize form payload = ⊤
 
 -- Where the payloads end once there is one more, if they ended at `end` before it. That counts only
 -- for external ones.
-abbrev pub next_end : Form → (end : ℕ) → Option (List ℕ) → ℕ
-next_end Embedded end payload = end
-next_end External end payload = end_after end payload
+abbrev pub next_end : (align : ℕ) → Form → (end : ℕ) → Option (List ℕ) → ℕ
+next_end align Embedded end payload = end
+next_end align External end payload = end_after align end payload
 
 -- The payloads end within the longest text, if the form has them after the blob.
-abbrev pub AreWithin : Form → (end : ℕ) → List (Option (List ℕ)) → Type 0
-AreWithin Embedded end payloads = ⊤
-AreWithin External end payloads = payloads_end end payloads ≤ longest_text
+abbrev pub AreWithin : (align : ℕ) → Form → (end : ℕ) → List (Option (List ℕ)) → Type 0
+AreWithin align Embedded end payloads = ⊤
+AreWithin align External end payloads = payloads_end align end payloads ≤ longest_text
 
 -- These are the nodes of these images, and the bytes hold the digests of their hash nodes.
 pub record AreImageNodes (hashes : Bool) (images : List Image) (digests : List ℕ)
@@ -119,27 +119,28 @@ HaveImageNodes AreImages (node name own children later) =
 
 -- The children of a child of the root, with the properties of each in byte order: they are image
 -- nodes, if the child has the name `images`.
-abbrev pub sorted_below : (hashes : Bool) → Form → List (Option (List ℕ)) → (digests : List ℕ)
-    → (name : List ℕ) → Nodes FileNode → Nodes (List Property)
-sorted_below hashes form payloads digests name children =
-    if bytes_eq name images_name then sorted_images hashes form 0 payloads digests children
+abbrev pub sorted_below : (hashes : Bool) → (align : ℕ) → Form → List (Option (List ℕ))
+    → (digests : List ℕ) → (name : List ℕ) → Nodes FileNode → Nodes (List Property)
+sorted_below hashes align form payloads digests name children =
+    if bytes_eq name images_name then
+    sorted_images hashes align form 0 payloads digests children
     else sorted_nodes children
 
 -- The children of the root with the properties of each in byte order.
-abbrev pub sorted_root_children : (hashes : Bool) → Form → List (Option (List ℕ))
+abbrev pub sorted_root_children : (hashes : Bool) → (align : ℕ) → Form → List (Option (List ℕ))
     → (digests : List ℕ) → Nodes FileNode → Nodes (List Property)
-sorted_root_children hashes form payloads digests none = none
-sorted_root_children hashes form payloads digests (node name own children later) =
+sorted_root_children hashes align form payloads digests none = none
+sorted_root_children hashes align form payloads digests (node name own children later) =
     node name (entries (properties_by_name own))
-    (sorted_below hashes form payloads digests name children)
-    (sorted_root_children hashes form payloads digests later)
+    (sorted_below hashes align form payloads digests name children)
+    (sorted_root_children hashes align form payloads digests later)
 
 -- The root as a list of one node, with the properties of each node in byte order.
-abbrev pub sorted_root : Changes → Form → List (Option (List ℕ)) → (digests : List ℕ)
-    → Sibling FileNode → Nodes (List Property)
-sorted_root changes form payloads digests root =
+abbrev pub sorted_root : Changes → (align : ℕ) → Form → List (Option (List ℕ))
+    → (digests : List ℕ) → Sibling FileNode → Nodes (List Property)
+sorted_root changes align form payloads digests root =
     node root.name (entries (with_time changes.time (properties_by_name root.own)))
-    (sorted_root_children changes.hashes form payloads digests root.children) none
+    (sorted_root_children changes.hashes align form payloads digests root.children) none
 
 -- A document with more memory reservations.
 abbrev pub with_reservations : Doc → List Reservation → Doc

@@ -1,5 +1,6 @@
 use Rattle.std.specs.Prelude.{◌≡◌, ℕ, ◌-◌, ⊤, Bool, false, List, Option, Some, None, bytes_eq}
 use Rattle.std.specs.Prelude.{◌==◌, if◌then◌else◌}
+use Rattle.bi_base.specs.Alignments.{cell_alignment}
 use Rattle.bi_blob.specs.Tree.{Nodes, none, node, Property, FileNode}
 use Rattle.bi_blob.specs.Lookups.{Sibling}
 use Rattle.bi_fit.specs.declared.document.text_parts.TextParts.{TextParts}
@@ -16,7 +17,7 @@ text_payloads parts = payloads_of parts.images.now
 
 -- The payloads end within the longest text, if the form has them after the blob.
 abbrev pub HasRoom : TextParts → Type 0
-HasRoom parts = AreWithin parts.form 0 (text_payloads parts)
+HasRoom parts = AreWithin cell_alignment parts.form 0 (text_payloads parts)
 
 -- These are the nodes of the images, and the digests are those of their hash nodes.
 abbrev pub AreTextImages : TextParts → Nodes FileNode → Type 0
@@ -30,24 +31,25 @@ HaveTextImages parts nodes = HaveImageNodes (AreTextImages parts) nodes
 -- The image nodes of the text.
 abbrev pub text_image_nodes : TextParts → Nodes FileNode → Nodes (List Property)
 text_image_nodes parts nodes =
-    sorted_images parts.changes.hashes parts.form 0 (text_payloads parts) parts.digests.now nodes
+    sorted_images parts.changes.hashes cell_alignment parts.form 0 (text_payloads parts)
+    parts.digests.now nodes
 
 -- The node whose children they are, without its siblings.
 abbrev pub text_images_node : TextParts → Sibling FileNode → Nodes (List Property)
 text_images_node parts sibling =
-    sorted_images_node parts.changes.hashes parts.form (text_payloads parts) parts.digests.now
-    sibling
+    sorted_images_node parts.changes.hashes cell_alignment parts.form (text_payloads parts)
+    parts.digests.now sibling
 
 -- The children of the root.
 abbrev pub text_root_children : TextParts → Nodes FileNode → Nodes (List Property)
 text_root_children parts nodes =
-    sorted_root_children parts.changes.hashes parts.form (text_payloads parts) parts.digests.now
-    nodes
+    sorted_root_children parts.changes.hashes cell_alignment parts.form (text_payloads parts)
+    parts.digests.now nodes
 
 -- The root as a list of one node.
 abbrev pub text_root : TextParts → Sibling FileNode → Nodes (List Property)
 text_root parts root =
-    sorted_root parts.changes parts.form (text_payloads parts) parts.digests.now root
+    sorted_root parts.changes cell_alignment parts.form (text_payloads parts) parts.digests.now root
 
 -- Whether the number is 0. Without a number it is false.
 abbrev pub are_none_before : Option ℕ → Bool

@@ -1,6 +1,7 @@
 use Rattle.std.specs.Prelude.{◌≡◌, ◌≢◌, ℕ, ◌≤◌, Bool, true, false, List, Option, None, Some, length}
 use Rattle.std.specs.FinMap.{get}
 use Rattle.std.specs.List.{AllZip}
+use Rattle.bi_base.specs.Alignments.{IsAlignment}
 use Rattle.bi_base.specs.Cells.{cell}
 use Rattle.bi_base.specs.Limits.{Limits}
 use Rattle.bi_blob.specs.Tree.{Nodes, PropertyMap, depth_of}
@@ -15,7 +16,7 @@ use Rattle.bi_fit.specs.Judgement.{Image, images_of}
 use Rattle.bi_fit.specs.Laws.{IsAcceptedAs}
 use Rattle.bi_fit.specs.Names.{images_name, timestamp_name, value_name}
 use Rattle.bi_fit.specs.NewDigests.{hash_algorithm}
-use Rattle.bi_fit.specs.Text.{fit_text}
+use Rattle.bi_fit.specs.Text.{aligned_fit_text}
 use Rattle.bi_fit.specs.Updating.{with_changes, HasUpdatedJudgement}
 
 -- Laws of updates of flattened image trees (profile of this project). Each is the contract of a
@@ -35,14 +36,16 @@ abbrev pub UpdatedIsImageTree : Type 0
 UpdatedIsImageTree =
     (changes : Changes) (tree : ImageTree) → IsImageTree tree → IsStillImageTree changes tree
 
--- The text of an updated image tree is accepted under limits that hold it, and means the updated
--- tree.
+-- The text of an updated image tree, with any alignment, is accepted under limits that hold it, and
+-- means the updated tree.
 abbrev pub UpdatedIsAccepted : Type 0
 UpdatedIsAccepted =
-    (bounds : Limits) (form : Form) (changes : Changes) (tree : ImageTree) → IsImageTree tree
-    → depth_of tree.root ≤ bounds.depth
-    → length (fit_text form (with_changes changes tree)) ≤ bounds.file → bounds.file ≤ longest_text
-    → IsAcceptedAs bounds (fit_text form (with_changes changes tree)) (with_changes changes tree)
+    (bounds : Limits) (align : ℕ) (form : Form) (changes : Changes) (tree : ImageTree)
+    → IsAlignment align → IsImageTree tree → depth_of tree.root ≤ bounds.depth
+    → length (aligned_fit_text align form (with_changes changes tree)) ≤ bounds.file
+    → bounds.file ≤ longest_text
+    → IsAcceptedAs bounds (aligned_fit_text align form (with_changes changes tree))
+    (with_changes changes tree)
 
 -- After an update of the digests each verdict on a known algorithm is Good, and all else that
 -- follows from a tree stays.

@@ -1,7 +1,8 @@
 use Rattle.std.specs.Prelude.{◌≡◌, ℕ, List, [], ◌∷◌, ◌++◌, slice_index_or}
+use Rattle.bi_base.specs.Alignments.{cell_alignment}
 use Rattle.bi_blob.specs.Blob.{Reservation}
 use Rattle.bi_blob.specs.Events.{Event}
-use Rattle.bi_blob.specs.Layout.{text_of_events}
+use Rattle.bi_blob.specs.Layout.{aligned_text_of_events}
 
 -- What a document holds.
 
@@ -30,9 +31,14 @@ empty_content boot_cpu = empty_with_names boot_cpu []
 abbrev pub name_numbered : List (List ℕ) → ℕ → List ℕ
 name_numbered names number = slice_index_or names number []
 
--- The text of a document, as this project lays it out.
+-- The aligned text of a document, as this project lays it out.
+abbrev pub aligned_text_of : (align : ℕ) → Doc → List ℕ
+aligned_text_of align content =
+    aligned_text_of_events align content.boot_cpu content.reservations content.events
+
+-- The text of a document, with the alignment of a cell.
 abbrev pub text_of : Doc → List ℕ
-text_of content = text_of_events content.boot_cpu content.reservations content.events
+text_of content = aligned_text_of cell_alignment content
 
 -- One more reservation.
 abbrev pub with_reservation : Doc → (address size : ℕ) → Doc
