@@ -1,4 +1,5 @@
 use Rattle.std.specs.Prelude.{ℕ, ◌<◌, ◌≡◌, ◌⊎◌, ⊤, true, List, length, unwrap_or}
+use Rattle.bi_base.specs.Alignments.{cell_alignment}
 use Rattle.bi_base.specs.Errors.{IsFaultOrNoMemory}
 use Rattle.bi_base.specs.Commands.{CommandPromise, PromiseLaws}
 use Rattle.bi_base.specs.declared.fault.Error.{Error}
@@ -7,12 +8,17 @@ use Rattle.bi_base.specs.Reading.{too_large}
 use Rattle.bi_fit.specs.declared.changes.Changes.{Changes}
 use Rattle.bi_fit.specs.declared.form.Form.{Form}
 use Rattle.bi_fit.specs.ImageTree.{ImageTree}
+use Rattle.bi_fit.specs.declared.form.Form.TheVariants.{External}
+use Rattle.bi_fit.specs.File.{IsFitFile}
+use Rattle.bi_fit.specs.KeptPlaces.{KeptModel}
+use Rattle.bi_fit.specs.Laws.{IsAligned}
 use Rattle.bi_fit.specs.NewDigests.{new_digests}
 use Rattle.bi_fit.specs.Updating.{with_changes, HasUpdatedJudgement}
 use Rattle.bi_legacy.specs.Meaning.{with_new_time}
 use Rattle.bi_norm.specs.Comparing.{MeansOnly}
-use Rattle.bi_norm.specs.Meaning.{Meaning, OfLegacy, OfFit, Means, normal_text}
+use Rattle.bi_norm.specs.Meaning.{Meaning, OfLegacy, OfFit, Means, aligned_text}
 use Rattle.bi_norm.specs.Meaning.{meaning_signature_count}
+use Rattle.bi_norm.specs.NormalForm.{IsKeptOf}
 use Rattle.bi_norm.specs.Reading.{IsReadErrorOrTooLarge}
 use Rattle.bi_commands.specs.PayloadBounds.{IsOverPayloadBound}
 
@@ -35,17 +41,32 @@ abbrev pub UpdatesJudgement : Changes → Meaning → Type 0
 UpdatesJudgement changes (OfLegacy image) = ⊤
 UpdatesJudgement changes (OfFit tree) = HasUpdatedJudgement changes tree
 
--- The text is that of the updated file.
-pub record IsUpdated (changes : Changes) (limits : Limits) (form : Form) (file text : List ℕ)
-    : Type 0 where
+-- The text is that of the updated file in a form, with an alignment.
+pub record IsAlignedUpdate (changes : Changes) (limits : Limits) (align : ℕ) (form : Form)
+    (file text : List ℕ) : Type 0 where
   -- The file means this, and nothing else.
   pub meaning : Meaning
   pub means : MeansOnly limits file meaning
   pub within : ¬ (HashesTooMuch changes limits meaning)
-  -- The text is the normal text of the updated meaning, and means it within the same limits.
-  pub is_text : text ≡ normal_text form (updated_meaning changes meaning)
+  -- The text is that of the updated meaning, and means it within the same limits.
+  pub is_text : text ≡ aligned_text align form (updated_meaning changes meaning)
   pub text_means : Means limits text (updated_meaning changes meaning)
   pub judgement : UpdatesJudgement changes meaning
+  -- In the form External the blob and the payloads of a flattened image tree are aligned.
+  pub is_aligned : form ≡ External → (tree : ImageTree) → (is : IsFitFile text tree)
+      → IsAligned align text tree is
+
+-- The text is the normal text of the updated file.
+abbrev pub IsUpdated : Changes → Limits → Form → (file text : List ℕ) → Type 0
+IsUpdated changes limits form file text =
+    IsAlignedUpdate changes limits cell_alignment form file text
+
+-- The text is that of the updated file in a form, with an alignment, and this is what it keeps.
+pub record IsAlignedUpdateOutput (changes : Changes) (limits : Limits) (align : ℕ) (form : Form)
+    (kept : KeptModel) (file text : List ℕ) : Type 0 where
+  pub updated : IsAlignedUpdate changes limits align form file text
+  pub is_kept : IsKeptOf align form file kept updated.meaning
+      (updated_meaning changes updated.meaning)
 
 -- The text is that of the updated file, and this is the number of its signature nodes.
 pub record IsUpdateOutput (changes : Changes) (limits : Limits) (form : Form) (count : ℕ)
@@ -54,18 +75,24 @@ pub record IsUpdateOutput (changes : Changes) (limits : Limits) (form : Form) (c
   pub signatures : count ≡ meaning_signature_count (updated_meaning changes is.meaning)
 
 -- The file means something whose payloads are over the payload bound, if the update computes
--- digests, or whose updated normal text is longer than the limit.
-pub record IsTooLongToUpdate (changes : Changes) (limits : Limits) (form : Form) (file : List ℕ)
-    : Type 0 where
+-- digests, or whose updated text in this form, with this alignment, is longer than the limit.
+pub record IsTooLongToUpdate (changes : Changes) (limits : Limits) (align : ℕ) (form : Form)
+    (file : List ℕ) : Type 0 where
   pub meaning : Meaning
   pub means : Means limits file meaning
   pub is_too_long : HashesTooMuch changes limits meaning
-      ⊎ (limits.file < length (normal_text form (updated_meaning changes meaning)))
+      ⊎ (limits.file < length (aligned_text align form (updated_meaning changes meaning)))
 
--- The error that updating a file in memory can have: one of reading it, or TooLarge at the limit.
+-- The error that updating a file in memory, with an alignment, can have: one of reading it, or
+-- TooLarge at the limit.
+abbrev pub IsAlignedUpdateError : Changes → Limits → (align : ℕ) → Form → List ℕ → Error → Type 0
+IsAlignedUpdateError changes limits align form file =
+    IsReadErrorOrTooLarge limits file (IsTooLongToUpdate changes limits align form file)
+
+-- The error that updating a file in memory can have.
 abbrev pub IsUpdateError : Changes → Limits → Form → List ℕ → Error → Type 0
 IsUpdateError changes limits form file =
-    IsReadErrorOrTooLarge limits file (IsTooLongToUpdate changes limits form file)
+    IsAlignedUpdateError changes limits cell_alignment form file
 
 -- These are the digests that the hash nodes get, one after another. If there are any, the payloads
 -- are within the payload bound.
@@ -93,6 +120,25 @@ pub update_laws : (changes : Changes) (form : Form) (limits : Limits)
     → PromiseLaws (update_promise changes form limits)
 update_laws changes form limits = record {
   is_text = λ count file text with_changes. with_changes.is;
+  wraps_once = λ a b same. same;
+  no_read_error = λ file is. is;
+  no_write_error = λ file is. is;
+}
+
+-- What updating with an alignment promises as a command.
+abbrev pub aligned_update_promise : Changes → (align : ℕ) → Form → Limits
+    → CommandPromise KeptModel Error
+aligned_update_promise changes align form limits = record {
+  is_output = λ kept file text. IsAlignedUpdateOutput changes limits align form kept file text;
+  is_text = IsAlignedUpdate changes limits align form;
+  has_error = IsAlignedUpdateError changes limits align form;
+  wraps = λ error. error;
+}
+
+pub aligned_update_laws : (changes : Changes) (align : ℕ) (form : Form) (limits : Limits)
+    → PromiseLaws (aligned_update_promise changes align form limits)
+aligned_update_laws changes align form limits = record {
+  is_text = λ kept file text output. output.updated;
   wraps_once = λ a b same. same;
   no_read_error = λ file is. is;
   no_write_error = λ file is. is;

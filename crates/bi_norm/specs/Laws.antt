@@ -1,5 +1,6 @@
 use Rattle.std.specs.Prelude.{◌≡◌, ◌⊎◌, ◌↔◌, ℕ, ◌≤◌, ◌<◌, List, length}
 use Rattle.bi_base.specs.declared.fault.Fault.{Fault}
+use Rattle.bi_base.specs.Alignments.{IsAlignment}
 use Rattle.bi_base.specs.Cells.{AreBytes}
 use Rattle.bi_base.specs.Limits.{Limits}
 use Rattle.bi_base.specs.Reading.{too_large}
@@ -13,7 +14,7 @@ use Rattle.bi_legacy.specs.Meaning.{LegacyImage}
 use Rattle.bi_legacy.specs.Text.{legacy_text}
 use Rattle.bi_norm.specs.Converting.{IsFileConvertFault}
 use Rattle.bi_norm.specs.Faults.{IsFileFault}
-use Rattle.bi_norm.specs.Meaning.{Meaning, Means, MeansNothing, normal_text}
+use Rattle.bi_norm.specs.Meaning.{Meaning, Means, MeansNothing, aligned_text}
 
 -- Laws of boot images of both kinds. Each is the contract of a function in `laws`.
 
@@ -60,14 +61,16 @@ TextsOfKindsDiffer =
     (form : Form) (image : LegacyImage) (tree : ImageTree)
     → ¬ (legacy_text image ≡ fit_text form tree)
 
--- Two files, each within limits of its own, have the same normal text in one form exactly where
--- they mean the same, if one of the texts is not too long.
+-- Two files, each within limits of its own, have the same text in one form with one alignment
+-- exactly where they mean the same, if one of the texts is not too long. So it is for normal
+-- texts.
 abbrev pub NormalTextsDiffer : Type 0
 NormalTextsDiffer =
-    (form : Form) (limits other_limits : Limits) (file other_file : List ℕ) (one other : Meaning)
-    → Means limits file one → Means other_limits other_file other
-    → length (normal_text form one) ≤ longest_text
-    → (normal_text form one ≡ normal_text form other) ↔ (one ≡ other)
+    (align : ℕ) (form : Form) (limits other_limits : Limits) (file other_file : List ℕ)
+    (one other : Meaning)
+    → IsAlignment align → Means limits file one → Means other_limits other_file other
+    → length (aligned_text align form one) ≤ longest_text
+    → (aligned_text align form one ≡ aligned_text align form other) ↔ (one ≡ other)
 
 -- A file that is longer than the limit has the fault TooLarge at the limit and means nothing. A
 -- conversion of the file has the same fault.

@@ -1,4 +1,5 @@
 use Rattle.std.specs.Prelude.{ℕ, List}
+use Rattle.bi_base.specs.Alignments.{cell_alignment}
 use Rattle.bi_base.specs.Limits.{Limits}
 use Rattle.bi_legacy.specs.File.{LegacyMeans}
 use Rattle.bi_legacy.specs.Meaning.{LegacyImage}
@@ -7,7 +8,7 @@ use Rattle.bi_fit.specs.declared.form.Form.{Form}
 use Rattle.bi_fit.specs.File.{FitMeans}
 use Rattle.bi_fit.specs.ImageTree.{ImageTree}
 use Rattle.bi_fit.specs.Judgement.{signature_count as signatures_of_tree}
-use Rattle.bi_fit.specs.Text.{fit_text}
+use Rattle.bi_fit.specs.Text.{aligned_fit_text}
 
 -- What a boot image of any kind means.
 
@@ -25,11 +26,15 @@ Means limits file (OfFit tree) = FitMeans limits file tree
 abbrev pub MeansNothing : Limits → List ℕ → Type 0
 MeansNothing limits file = (meaning : Meaning) → ¬ (Means limits file meaning)
 
--- The normal text of a meaning in a form, which has no effect on a legacy image (profile of this
--- project).
+-- The text of a meaning in a form, with an alignment. Neither has an effect on a legacy image
+-- (profile of this project).
+abbrev pub aligned_text : (align : ℕ) → Form → Meaning → List ℕ
+aligned_text align form (OfLegacy image) = legacy_text image
+aligned_text align form (OfFit tree) = aligned_fit_text align form tree
+
+-- The normal text of a meaning in a form: that with the alignment of a cell.
 abbrev pub normal_text : Form → Meaning → List ℕ
-normal_text form (OfLegacy image) = legacy_text image
-normal_text form (OfFit tree) = fit_text form tree
+normal_text form meaning = aligned_text cell_alignment form meaning
 
 -- How many signature nodes there are: none in a legacy image.
 abbrev pub meaning_signature_count : Meaning → ℕ
