@@ -10,6 +10,7 @@ pub mod Differences
 pub mod LineSets
 pub mod Comparing
 pub mod Extracting
+pub mod ExtractingAll
 pub mod LimitedSinks
 pub mod Listing
 pub mod ImagePayloads
@@ -27,6 +28,7 @@ pub mod KnownConcerns
 pub mod KnownDescriptions
 pub mod KnownDifferences
 pub mod KnownTexts
+pub mod KnownPayloadFiles
 pub mod TreeEntries
 pub mod UpdatedFileLaws
 pub mod UpdatedFiles

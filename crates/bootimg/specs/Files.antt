@@ -1,14 +1,17 @@
 use Rattle.std.specs.Prelude.{◌≡◌, ◌≢◌, ◌⊎◌, ◌<◌, ◌+◌, ⊤, ℕ, List, [], ◌∷◌, ◌++◌, length, get_or}
 use Rattle.std.specs.Prelude.{Option, None, Some, codes, map, option_map}
 use Rattle.std.specs.Fmt.{decimal}
+use Rattle.std.specs.List.{AllByRecursion}
 use Rattle.bi_base.specs.Traces.{ReadTrace, WriteTrace, ReadsWell, WritesWell}
 use Rattle.bi_base.specs.Writing.{WroteAndFlushed, WriteOrFlushStopped}
 use Rattle.bi_base.specs.declared.fault.Error.{Error}
 use Rattle.bi_base.specs.declared.fault.Error.TheVariants.{OutOfMemory}
+use Rattle.bi_commands.specs.ExtractingAll.{PayloadFile}
 use Rattle.bootimg.specs.declared.failure.Failure.{Failure}
 use Rattle.bootimg.specs.declared.failure.Failure.TheVariants.{Call, NotWritten}
 
--- The files that the program opens by name, and those that it makes (profile of this project).
+-- The files that the program opens by name, and the files and directories that it makes (profile
+-- of this project).
 
 -- What a file system promises of the file of each name.
 pub record FilePromise : Type 1 where
@@ -20,6 +23,10 @@ pub record FilePromise : Type 1 where
   pub can_replace : (name : List ℕ) → Type 0
   -- No new file may take this name.
   pub cannot_replace : (name : List ℕ) → Type 0
+  -- A new directory may take this name: nothing has it, not even a link that leads nowhere.
+  pub is_free : (name : List ℕ) → Type 0
+  -- Something has this name.
+  pub is_used : (name : List ℕ) → Type 0
 
 -- The promise of a file system without files.
 abbrev pub no_files : FilePromise
@@ -28,6 +35,8 @@ no_files = record {
   has_no_file = λ name. ⊤;
   can_replace = λ name. ⊥;
   cannot_replace = λ name. ⊤;
+  is_free = λ name. ⊥;
+  is_used = λ name. ⊤;
 }
 
 -- The promise of a file system of which nothing is known.
@@ -37,6 +46,8 @@ any_files = record {
   has_no_file = λ name. ⊤;
   can_replace = λ name. ⊤;
   cannot_replace = λ name. ⊤;
+  is_free = λ name. ⊤;
+  is_used = λ name. ⊤;
 }
 
 -- The file of this name was opened, and this is its reader before the first call. What the calls
@@ -49,14 +60,14 @@ pub record IsOpenFile (files : FilePromise) (name : List ℕ) (trace : ReadTrace
 
 -- ---- new files
 
--- A step with a new file, which succeeded or failed. Its writer is known before the first call, and
--- when it is closed.
+-- A step with a new file or a new directory, which succeeded or failed. The writer of a file is
+-- known before the first call, and when it is closed.
 pub data FileStep : Type 0 where
   -- A file of this name was made, which nothing had before.
   Made : (name : List ℕ) → (file : WriteTrace) → FileStep
-  -- No file of this name was made, since something has the name.
+  -- No file or directory of this name was made, since something has the name.
   NameTaken : (name : List ℕ) → FileStep
-  -- No file of this name could be made, for another reason.
+  -- No file or directory of this name could be made, for another reason.
   NotMade : (name : List ℕ) → FileStep
   -- The file of this name was closed.
   Closed : (name : List ℕ) → (file : WriteTrace) → FileStep
@@ -70,6 +81,16 @@ pub data FileStep : Type 0 where
   Removed : (name : List ℕ) → FileStep
   -- Removing the file of this name failed.
   NotRemoved : (name : List ℕ) → FileStep
+  -- A directory of this name was made, without files.
+  MadeDirectory : (name : List ℕ) → FileStep
+  -- The directory of the first name took the second one, which nothing had.
+  RenamedDirectory : (name new_name : List ℕ) → FileStep
+  -- The directory of the first name did not take the second one, and has the name that it had.
+  NotRenamedDirectory : (name new_name : List ℕ) → FileStep
+  -- The directory of this name, which had no files, was removed.
+  RemovedDirectory : (name : List ℕ) → FileStep
+  -- Removing the directory of this name failed.
+  NotRemovedDirectory : (name : List ℕ) → FileStep
 
 -- These steps were taken between two times, if the steps up to each are known.
 abbrev pub TookSteps : (old new : Option (List FileStep)) → List FileStep → Type 0
@@ -218,3 +239,125 @@ abbrev pub SavesNothing : FilePromise → Type 0
 SavesNothing files =
     (name bytes : List ℕ) (old new : Option (List FileStep))
     → ¬ (IsSaved files name bytes old new)
+
+-- ---- a new directory with files
+
+-- A name without the slashes at its end.
+pub record IsWithoutEndSlashes (name short : List ℕ) : Type 0 where
+  pub slashes : List ℕ
+  pub is_name : name ≡ short ++ slashes
+  pub are_slashes : AllByRecursion (λ byte. byte ≡ 47) slashes
+  pub no_last_slash : (before : List ℕ) → short ≢ before ++ 47 ∷ []
+
+-- The name of a file in a directory.
+abbrev pub name_in : (directory name : List ℕ) → List ℕ
+name_in directory name = directory ++ 47 ∷ name
+
+-- The names of these files in a directory.
+abbrev pub names_in : (directory : List ℕ) → List PayloadFile → List (List ℕ)
+names_in directory files = map (λ file. name_in directory file.name) files
+
+-- A new directory was made beside the one that is to have this name. It has the first of the
+-- numbered names that nothing has and that is not the name itself.
+pub record IsDirectoryBeside (name beside : List ℕ) (old new : Option (List FileStep)) : Type 0
+  where
+    pub number : ℕ
+    pub tried : Option (List FileStep)
+    pub are_taken : AreNamesTaken name number old tried
+    pub is_name : IsNewName name number beside
+    pub made : TookSteps tried new (MadeDirectory beside ∷ [])
+
+-- These files were made in a directory, one after the other. Each was made as a new one, has its
+-- bytes, and was flushed and closed.
+pub data AreFilled (directory : List ℕ) : (files : List PayloadFile)
+    → (old new : Option (List FileStep)) → Type 0
+  where
+    NothingToFill : (steps : Option (List FileStep)) → AreFilled directory [] steps steps
+    OneMoreFile : (file : PayloadFile) (later : List PayloadFile) (trace : WriteTrace)
+        (old made closed new : Option (List FileStep))
+        → IsNewFile trace → TookSteps old made (Made (name_in directory file.name) trace ∷ [])
+        → IsWrittenFile (name_in directory file.name) file.bytes trace made closed
+        → AreFilled directory later closed new
+        → AreFilled directory (file ∷ later) old new
+
+-- The first files were made in a directory, and the next one failed: it was not made, also where
+-- something has its name, or it was made and not filled. `left` are the names of the files that are
+-- in the directory then.
+pub data AreNotFilled (directory : List ℕ) (files : List PayloadFile) (left : List (List ℕ))
+    (old new : Option (List FileStep)) : Type 0
+  where
+    FileNotMade : (before : List PayloadFile) (file : PayloadFile) (later : List PayloadFile)
+        (filled : Option (List FileStep))
+        → files ≡ before ++ file ∷ later → AreFilled directory before old filled
+        → TookSteps filled new (NotMade (name_in directory file.name) ∷ [])
+        ⊎ TookSteps filled new (NameTaken (name_in directory file.name) ∷ [])
+        → left ≡ names_in directory before
+        → AreNotFilled directory files left old new
+    FileNotWritten : (before : List PayloadFile) (file : PayloadFile) (later : List PayloadFile)
+        (trace : WriteTrace) (filled made : Option (List FileStep))
+        → files ≡ before ++ file ∷ later → AreFilled directory before old filled
+        → IsNewFile trace
+        → TookSteps filled made (Made (name_in directory file.name) trace ∷ [])
+        → IsNotWrittenFile (name_in directory file.name) file.bytes trace made new
+        → left ≡ names_in directory (before ++ file ∷ [])
+        → AreNotFilled directory files left old new
+
+-- It was tried to remove the files of these names and then their directory. What could not be
+-- removed is left.
+pub data AreRemoved (directory : List ℕ) : (names : List (List ℕ))
+    → (old new : Option (List FileStep)) → Type 0
+  where
+    DirectoryGone : (old new : Option (List FileStep))
+        → TookSteps old new (RemovedDirectory directory ∷ [])
+        ⊎ TookSteps old new (NotRemovedDirectory directory ∷ [])
+        → AreRemoved directory [] old new
+    FileGone : (name : List ℕ) (later : List (List ℕ)) (old removed new : Option (List FileStep))
+        → TookSteps old removed (Removed name ∷ []) ⊎ TookSteps old removed (NotRemoved name ∷ [])
+        → AreRemoved directory later removed new → AreRemoved directory (name ∷ later) old new
+
+-- The directory of this name has these files now, and no others: they were made in a new directory
+-- beside it, which took the name.
+pub record IsExtractedTo (files : FilePromise) (name : List ℕ) (payloads : List PayloadFile)
+    (old new : Option (List FileStep)) : Type 0
+  where
+    pub short : List ℕ
+    pub beside : List ℕ
+    pub made : Option (List FileStep)
+    pub filled : Option (List FileStep)
+    pub is_short : IsWithoutEndSlashes name short
+    pub was_free : files.is_free short
+    pub is_made : IsDirectoryBeside short beside old made
+    pub are_filled : AreFilled beside payloads made filled
+    pub renamed : TookSteps filled new (RenamedDirectory beside short ∷ [])
+
+-- Nothing has this name that had it not before, for this reason: something had it, and nothing was
+-- made; or no new directory was made; or a file in it failed, or the directory could not take the
+-- name. Then all that was made was removed, but for what could not be removed.
+pub data IsNotExtractedTo (files : FilePromise) (name : List ℕ) (payloads : List PayloadFile)
+    (failure : Failure) (old new : Option (List FileStep)) : Type 0
+  where
+    WasThere : (short : List ℕ) → IsWithoutEndSlashes name short → files.is_used short
+        → new ≡ old → failure ≡ NotWritten
+        → IsNotExtractedTo files name payloads failure old new
+    NoDirectory : (short : List ℕ) → IsWithoutEndSlashes name short → files.is_free short
+        → IsNotMade short failure old new
+        → IsNotExtractedTo files name payloads failure old new
+    FileFailed : (short beside : List ℕ) (left : List (List ℕ))
+        (made failed : Option (List FileStep))
+        → IsWithoutEndSlashes name short → files.is_free short
+        → IsDirectoryBeside short beside old made
+        → AreNotFilled beside payloads left made failed → AreRemoved beside left failed new
+        → failure ≡ NotWritten → IsNotExtractedTo files name payloads failure old new
+    NoMemoryForFile : (short beside : List ℕ) (before later : List PayloadFile)
+        (made filled : Option (List FileStep))
+        → IsWithoutEndSlashes name short → files.is_free short
+        → IsDirectoryBeside short beside old made
+        → payloads ≡ before ++ later → AreFilled beside before made filled
+        → AreRemoved beside (names_in beside before) filled new
+        → failure ≡ Call OutOfMemory → IsNotExtractedTo files name payloads failure old new
+    NameFailed : (short beside : List ℕ) (made filled failed : Option (List FileStep))
+        → IsWithoutEndSlashes name short → files.is_free short
+        → IsDirectoryBeside short beside old made → AreFilled beside payloads made filled
+        → TookSteps filled failed (NotRenamedDirectory beside short ∷ [])
+        → AreRemoved beside (names_in beside payloads) failed new
+        → failure ≡ NotWritten → IsNotExtractedTo files name payloads failure old new

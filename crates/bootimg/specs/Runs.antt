@@ -15,6 +15,7 @@ use Rattle.bi_base.specs.Traces.{ReadTrace, WriteTrace, ReadsWell, WritesWell}
 use Rattle.bi_base.specs.Writing.{WroteAll, WriteStopped, WroteAndFlushed, WriteOrFlushStopped}
 use Rattle.bi_base.specs.Commands.{CommandPromise}
 use Rattle.bi_commands.specs.BuildCommands.{build_legacy_promise, build_fit_promise}
+use Rattle.bi_commands.specs.ExtractingAll.{PayloadFile, AreAllPayloads, IsExtractAllError}
 use Rattle.bi_commands.specs.declared.compare.CompareError.{CompareError}
 use Rattle.bi_commands.specs.declared.parts.Part.{Part}
 use Rattle.bi_commands.specs.declared.parts.Part.TheVariants.{Bytes, Length}
@@ -42,7 +43,9 @@ use Rattle.bootimg.specs.ComparedFiles.{IsCompareOutput, IsCompareFailure, compa
 use Rattle.bootimg.specs.ComparedFiles.{failure_of_comparing, refused_source}
 use Rattle.bootimg.specs.Explanations.{explain_text}
 use Rattle.bootimg.specs.Failures.{failure_text, name_text}
+use Rattle.bi_fit.specs.KeptPlaces.{KeptModel}
 use Rattle.bootimg.specs.Files.{FileStep, FilePromise, IsOpenFile, IsSaved, IsNotSaved}
+use Rattle.bootimg.specs.Files.{IsExtractedTo, IsNotExtractedTo}
 use Rattle.bootimg.specs.Tasks.{EndedWith, task_promise}
 
 -- What a run of the program does: which bytes it writes to which stream, and its exit status
@@ -72,6 +75,43 @@ note_line signatures =
 pub data Notes (signatures : ℕ) (old new : WriteTrace) : Type 0 where
   HasNone : signatures ≡ 0 → new ≡ old → Notes signatures old new
   HasSome : 0 < signatures → Logs old (note_line signatures) new → Notes signatures old new
+
+-- The line on an alignment that payloads do not have any more.
+abbrev pub alignment_line : (align : ℕ) → List ℕ
+alignment_line align =
+    codes "bootimg: note: payloads are no longer aligned to "
+    ++ (decimal align ++ (codes " bytes, see --align" ++ 10 ∷ []))
+
+-- The line was written, if an alignment is lost.
+pub data NotesAlignment (old new : WriteTrace) : (alignment : Option ℕ) → Type 0 where
+  LostNone : new ≡ old → NotesAlignment old new None
+  LostSome : (align : ℕ) → Logs old (alignment_line align) new
+      → NotesAlignment old new (Some align)
+
+-- The line on payloads that had fixed positions.
+abbrev pub positions_line : (count : ℕ) → List ℕ
+positions_line count =
+    codes "bootimg: note: "
+    ++ (decimal count ++ (codes " fixed positions of payloads were not kept" ++ 10 ∷ []))
+
+-- The line was written, if there are any.
+pub data NotesPositions (count : ℕ) (old new : WriteTrace) : Type 0 where
+  FixedNone : count ≡ 0 → new ≡ old → NotesPositions count old new
+  FixedSome : 0 < count → Logs old (positions_line count) new → NotesPositions count old new
+
+-- The notes on what a text keeps of a file were written, in this order: on signature nodes, on a
+-- lost alignment, and on fixed positions.
+pub record NotesKept (kept : KeptModel) (old new : WriteTrace) : Type 0 where
+  pub after_signatures : WriteTrace
+  pub after_alignment : WriteTrace
+  pub signatures : Notes kept.signatures old after_signatures
+  pub alignment : NotesAlignment after_signatures after_alignment kept.alignment
+  pub positions : NotesPositions kept.positions after_alignment new
+
+-- What the notes tell of it: where an alignment was asked for, no place is noted.
+abbrev pub noted : (has_align : Bool) → KeptModel → KeptModel
+noted true kept = record kept { alignment = None; positions = 0 }
+noted false kept = kept
 
 -- The failure is about an image from this source, or about the output file of this name.
 abbrev pub problem : ImageSource → Failure → Problem
@@ -344,6 +384,38 @@ pub data IsSavedWork (files : FilePromise) (job : Job) (limits : Limits) (name :
     NoOutput : (failed : Problem) → IsHeldFailure files job limits input new_input failed
         → new_steps ≡ steps → outcome ≡ Err failed
         → IsSavedWork files job limits name input new_input steps new_steps outcome
+
+-- ---- all payloads in a directory
+
+-- All payloads of an image were extracted to the new directory of this name. Or the image was not
+-- read, or it is refused, or it or its payloads are over the limit, and then no file system was
+-- asked for anything; or the directory could not be made. Nothing was written to standard output.
+pub data IsExtractAllWork (files : FilePromise) (limits : Limits) (source : ImageSource)
+    (name : Bor (List ℕ)) (input new_input : ReadTrace) (steps new_steps : Option (List FileStep))
+    (outcome : Result Done Problem) : Type 0
+  where
+    AllExtracted : (image : List ℕ) (payloads : List PayloadFile)
+        → IsImageRead files limits input new_input image source
+        → AreAllPayloads limits image payloads
+        → IsExtractedTo files name.now payloads steps new_steps
+        → (done : Done) → EndedWith 0 done → outcome ≡ Ok done
+        → IsExtractAllWork files limits source name input new_input steps new_steps outcome
+    NotExtracted : (image : List ℕ) (payloads : List PayloadFile)
+        → IsImageRead files limits input new_input image source
+        → AreAllPayloads limits image payloads
+        → (failure : Failure)
+        → IsNotExtractedTo files name.now payloads failure steps new_steps
+        → outcome ≡ Err (problem (File name) failure)
+        → IsExtractAllWork files limits source name input new_input steps new_steps outcome
+    ImageRefused : (image : List ℕ) (error : Error)
+        → IsImageRead files limits input new_input image source
+        → IsExtractAllError limits image error → new_steps ≡ steps
+        → outcome ≡ Err (problem source (Call error))
+        → IsExtractAllWork files limits source name input new_input steps new_steps outcome
+    ImageNotRead : (failure : Failure)
+        → IsImageNotRead files limits input new_input failure source → new_steps ≡ steps
+        → outcome ≡ Err (problem source failure)
+        → IsExtractAllWork files limits source name input new_input steps new_steps outcome
 
 -- ---- a run
 
