@@ -36,9 +36,11 @@ pub mod NameOrders
 pub mod TextNodes
 pub mod AddedImages
 pub mod Laws
+pub mod PlanLaws
 pub mod KnownFiles
 pub mod KnownFaults
 pub mod KnownJudgements
 pub mod KnownBuilds
+pub mod KnownPlans
 pub mod KnownUpdates
 pub mod KnownAlignments

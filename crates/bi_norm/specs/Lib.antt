@@ -8,9 +8,11 @@ pub mod CodeNames
 pub mod Cutting
 pub mod LegacyBuilding
 pub mod FitBuilding
+pub mod PlannedBuilding
 pub mod BuildChecks
 pub mod Comparing
 pub mod KnownConversions
 pub mod KnownPieces
 pub mod KnownBuildFaults
+pub mod KnownPlanFaults
 pub mod Laws
