@@ -21,4 +21,5 @@ pub mod Strings
 pub mod Slices
 pub mod CrcTables
 pub mod Commands
+pub mod Offsets
 pub mod Pipes

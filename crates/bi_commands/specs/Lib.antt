@@ -17,6 +17,7 @@ pub mod ImagePayloads
 pub mod MadeEntries
 pub mod Parts
 pub mod PayloadBounds
+pub mod Scanning
 pub mod Shown
 pub mod Unshown
 pub mod FitListing
@@ -28,6 +29,7 @@ pub mod KnownConcerns
 pub mod KnownDescriptions
 pub mod KnownDifferences
 pub mod KnownTexts
+pub mod KnownScans
 pub mod KnownPayloadFiles
 pub mod TreeEntries
 pub mod UpdatedFileLaws
