@@ -8,14 +8,14 @@ use Rattle.bi_base.specs.Reading.{too_large}
 -- Commands on an image that begins at an offset of their input (profile of this project).
 
 -- The image: the input from this offset on. An input that is shorter has the empty image there.
-abbrev pub image_at : (offset : ℕ) → (input : List ℕ) → List ℕ
-image_at offset input = drop offset input
+abbrev pub input_from : (offset : ℕ) → (input : List ℕ) → List ℕ
+input_from offset input = drop offset input
 
 -- The input is within the limit, and this holds of the image at the offset and this output.
 pub record IsOutputAt (limits : Limits) (offset : ℕ) (IsOutput : List ℕ → List ℕ → Type 0)
     (input output : List ℕ) : Type 0 where
   pub within : length input ≤ limits.file
-  pub is_output : IsOutput (image_at offset input) output
+  pub is_output : IsOutput (input_from offset input) output
 
 -- The error of a command on the image at an offset: the whole input is longer than the limit, or
 -- the input is within it and the image has this error. The offset of a fault of the image counts
@@ -25,7 +25,7 @@ pub data IsErrorAt {E : Type 0} (limits : Limits) (offset : ℕ) (wraps : Error 
   where
     InputIsLonger : limits.file < length input → error ≡ wraps (Refused (too_large limits.file))
         → IsErrorAt limits offset wraps HasError input error
-    ImageFails : length input ≤ limits.file → HasError (image_at offset input) error
+    ImageFails : length input ≤ limits.file → HasError (input_from offset input) error
         → IsErrorAt limits offset wraps HasError input error
 
 -- What a command promises on the image at an offset of its input.

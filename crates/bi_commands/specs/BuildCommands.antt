@@ -7,12 +7,14 @@ use Rattle.bi_base.specs.Commands.{CommandPromise, PromiseLaws}
 use Rattle.bi_base.specs.Commands.{unit_promise, unit_laws}
 use Rattle.bi_base.specs.Limits.{Limits}
 use Rattle.bi_fit.specs.declared.form.Form.{Form}
+use Rattle.bi_fit.specs.Building.{PlanModel}
 use Rattle.bi_legacy.specs.declared.fields.Fields.{Fields}
 use Rattle.bi_legacy.specs.Emitting.{IsEmitFault}
 use Rattle.bi_legacy.specs.Meaning.{image_of}
 use Rattle.bi_fit.specs.declared.building.Head.{Head}
 use Rattle.bi_norm.specs.declared.fit_building.ImageSpec.{ImageSpec}
 use Rattle.bi_norm.specs.FitBuilding.{IsBuilt, IsBuildFault}
+use Rattle.bi_norm.specs.PlannedBuilding.{WordedImage, IsBuiltByPlan, IsPlanFault}
 use Rattle.bi_norm.specs.Converting.{IsConvertedFile, IsConvertError}
 use Rattle.bi_norm.specs.Cutting.{IsCutFault}
 use Rattle.bi_norm.specs.LegacyBuilding.{IsBuiltLegacy}
@@ -154,4 +156,61 @@ convert_promise limits =
 pub convert_laws : (limits : Limits) → PromiseLaws (convert_promise limits)
 convert_laws limits =
     unit_laws (IsConvertedFile limits) (IsConvertError limits)
+    (λ input is. is) (λ input is. is)
+
+-- ---- by a plan
+
+-- The images are the given ones, with their texts, but for their payloads, which are these, in
+-- their order.
+pub record HavePlannedPayloads (given : List WordedImage) (payloads : List (List ℕ))
+    (images : List WordedImage) : Type 0 where
+  pub same_images : HavePayloads (map (λ worded. worded.image) given) payloads
+      (map (λ worded. worded.image) images)
+  pub same_texts : map (λ worded. worded.texts) images ≡ map (λ worded. worded.texts) given
+
+-- The output is a flattened image tree of the given images with these payloads, by a plan.
+pub record IsPlanOutput (limits : Limits) (align : ℕ) (form : Form) (head : Head)
+    (given : List WordedImage) (plan : PlanModel) (payloads : List Part)
+    (input output : List ℕ) : Type 0 where
+  pub contents : List (List ℕ)
+  pub filled : IsFilled payloads input contents
+  pub images : List WordedImage
+  pub have : HavePlannedPayloads given contents images
+  pub built : IsBuiltByPlan limits align form head images plan output
+
+-- The fault of a flattened image tree to be built by a plan, with an input within the limit, in the
+-- order of the checks.
+pub data IsPlanOutputFault (limits : Limits) (align : ℕ) (form : Form) (head : Head)
+    (given : List WordedImage) (plan : PlanModel) (payloads : List Part) (input : List ℕ)
+    (fault : Fault) : Type 0
+  where
+    PlanNotCut : length input ≤ limits.file → IsCutFault input (lengths_of payloads) fault
+        → IsPlanOutputFault limits align form head given plan payloads input fault
+    PlanNotBuilt : length input ≤ limits.file → (contents : List (List ℕ))
+        → IsFilled payloads input contents → (images : List WordedImage)
+        → HavePlannedPayloads given contents images
+        → IsPlanFault limits align form head images plan fault
+        → IsPlanOutputFault limits align form head given plan payloads input fault
+
+-- The error that building by a plan with an input in memory can have, except those of a sink.
+-- Memory is needed only for an input that can be cut.
+abbrev pub IsPlanOutputError : Limits → (align : ℕ) → Form → Head → List WordedImage → PlanModel
+    → List Part → List ℕ → Error → Type 0
+IsPlanOutputError limits align form head given plan payloads input =
+    FailsWith (IsPlanOutputFault limits align form head given plan payloads input)
+    (sum (lengths_of payloads) ≡ length input)
+
+-- What building a flattened image tree by a plan promises as a command.
+abbrev pub build_plan_promise : (align : ℕ) → Form → Head → (images : List WordedImage)
+    → PlanModel → (payloads : List Part) → Limits → CommandPromise (Unit {0}) Error
+build_plan_promise align form head images plan payloads limits =
+    unit_promise (IsPlanOutput limits align form head images plan payloads)
+    (IsPlanOutputError limits align form head images plan payloads)
+
+pub build_plan_laws : (align : ℕ) (form : Form) (head : Head) (images : List WordedImage)
+    (plan : PlanModel) (payloads : List Part) (limits : Limits)
+    → PromiseLaws (build_plan_promise align form head images plan payloads limits)
+build_plan_laws align form head images plan payloads limits =
+    unit_laws (IsPlanOutput limits align form head images plan payloads)
+    (IsPlanOutputError limits align form head images plan payloads)
     (λ input is. is) (λ input is. is)

@@ -1,16 +1,23 @@
 use Rattle.std.specs.Prelude.{ℕ, ◌+◌, ◌-◌, ◌≡◌, ◌≢◌, ◌≤◌, ◌↔◌, IsFalse, IsSome, IfSome, Option}
-use Rattle.std.specs.Prelude.{Some, List, [], drop, length}
+use Rattle.std.specs.Prelude.{Some, List, [], ◌∷◌, drop, length, ⊤}
 use Rattle.std.specs.List.{AllByRecursion, AllZip, Contains, slice_get}
+use Rattle.bi_base.specs.Alignments.{IsAlignment}
 use Rattle.bi_base.specs.Limits.{Limits}
 use Rattle.bi_blob.specs.Blob.{totalsize}
+use Rattle.bi_blob.specs.Layout.{longest_text}
 use Rattle.bi_blob.specs.Tree.{Nodes, FileNode, names}
+use Rattle.bi_fit.specs.declared.form.Form.{Form}
 use Rattle.bi_fit.specs.declared.key.Key.{Key}
+use Rattle.bi_fit.specs.Building.{HeadModel, PlannedImage, PlanModel, CanBePlanned, planned_tree}
 use Rattle.bi_fit.specs.File.{FitMeans}
 use Rattle.bi_fit.specs.ImageTree.{ImageTree, each_own}
 use Rattle.bi_fit.specs.Judgement.{Image, images_of, CheckedHash, verdicts_of, BadList}
 use Rattle.bi_fit.specs.Judgement.{Missing, configuration_nodes, listed_of, default_of}
 use Rattle.bi_fit.specs.Payloads.{source_of, payload_place, IsAt}
+use Rattle.bi_fit.specs.Text.{aligned_fit_text}
+use Rattle.bi_hash.specs.declared.algo.Algo.{Algo}
 use Rattle.bi_hash.specs.declared.verdicts.Verdict.TheVariants.{Good}
+use Rattle.bi_hash.specs.Algos.{algorithm_name}
 use Rattle.bi_legacy.specs.Reading.{LegacyModel, IsReadLegacy}
 use Rattle.bi_commands.specs.declared.check.Allowed.{Allowed}
 use Rattle.bi_commands.specs.CheckedFiles.{IsChecked}
@@ -117,3 +124,20 @@ abbrev pub EmptyIsClean : Type 0
 EmptyIsClean =
     (allowed : Allowed) (limits : Limits) (file text : List ℕ) → IsChecked allowed limits file text
     → (text ≡ []) ↔ IsClean allowed limits file
+
+-- Of these algorithms one is strong, or there is no image.
+abbrev pub AreEnough : List Algo → List PlannedImage → Type 0
+AreEnough algorithms [] = ⊤
+AreEnough algorithms (first ∷ later) =
+    (algo : Algo) × Contains algorithms algo × Contains strong_algorithms (algorithm_name algo)
+
+-- A text that is built by such a plan is clean, whatever is allowed, in either form and with any
+-- alignment: so checking it writes nothing.
+abbrev pub PlannedIsClean : Type 0
+PlannedIsClean =
+    (allowed : Allowed) (limits : Limits) (align : ℕ) (form : Form) (head : HeadModel)
+    (images : List PlannedImage) (plan : PlanModel)
+    → IsAlignment align → CanBePlanned head images plan → AreEnough plan.algorithms images
+    → 4 ≤ limits.depth → limits.file ≤ longest_text
+    → length (aligned_fit_text align form (planned_tree head images plan)) ≤ limits.file
+    → IsClean allowed limits (aligned_fit_text align form (planned_tree head images plan))

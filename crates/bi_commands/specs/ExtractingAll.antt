@@ -77,12 +77,12 @@ pub record AreSafeFileNames (names : List (List ℕ)) : Type 0 where
 
 -- The bytes are what `extract` gives of a part of a legacy image, or of an image of a flattened
 -- image tree: that whose file has this name.
-pub data IsExtracted (meaning : Meaning) (file : PayloadFile) : Type 0 where
+pub data IsExtractedFile (meaning : Meaning) (file : PayloadFile) : Type 0 where
   OfPart : (index : ℕ) → choice_of (Part index) meaning ≡ Chosen file.bytes
-      → file.name ≡ part_file_name index → IsExtracted meaning file
+      → file.name ≡ part_file_name index → IsExtractedFile meaning file
   OfImage : (tree : ImageTree) → meaning ≡ OfFit tree → (name : List ℕ)
       → choice_by_name tree name ≡ Chosen file.bytes
-      → file.name ≡ image_file_name name → IsExtracted meaning file
+      → file.name ≡ image_file_name name → IsExtractedFile meaning file
 
 -- These are the files of all payloads of a file, which means this.
 pub record AreAllPayloads (limits : Limits) (file : List ℕ) (files : List PayloadFile) : Type 0
@@ -93,7 +93,7 @@ pub record AreAllPayloads (limits : Limits) (file : List ℕ) (files : List Payl
     pub are : files ≡ payload_files meaning
     -- What follows: the names are safe, and each file is what `extract` gives.
     pub safe : AreSafeFileNames (map (λ payload. payload.name) files)
-    pub extracted : AllByRecursion (IsExtracted meaning) files
+    pub extracted : AllByRecursion (IsExtractedFile meaning) files
 
 -- The error that extracting all payloads of a file in memory can have: one of reading it, or its
 -- payloads are together longer than the limit.

@@ -2,7 +2,7 @@ use Rattle.std.specs.Prelude.{ℕ, ◌≡◌, List, [], ◌∷◌, ◌++◌, len
 use Rattle.bi_base.specs.Cells.{cell}
 use Rattle.bi_base.specs.Crc.{crc32}
 use Rattle.bi_base.specs.Limits.{Limits}
-use Rattle.bi_base.specs.Offsets.{image_at}
+use Rattle.bi_base.specs.Offsets.{input_from}
 use Rattle.bi_base.specs.Reading.{too_large}
 use Rattle.bi_blob.specs.Blob.{blob_magic}
 use Rattle.bi_blob.specs.KnownTexts.{smallest_text}
@@ -11,7 +11,7 @@ use Rattle.bi_legacy.specs.File.{header_cells, legacy_magic}
 use Rattle.bi_legacy.specs.KnownImages.{kernel_image, kernel_file}
 use Rattle.bi_legacy.specs.Meaning.{LegacyImage}
 use Rattle.bi_legacy.specs.Text.{legacy_text}
-use Rattle.bi_commands.specs.Scanning.{candidates, IsClaim, IsScan, IsScanFault}
+use Rattle.bi_commands.specs.Scanning.{candidates, IsClaim, IsScanText, IsScanFault}
 
 -- Small files with the images that are inside them, by which a reader can judge the definitions.
 
@@ -66,28 +66,28 @@ pub record ClaimsAreKnown : Type 0 where
   pub legacy : IsClaim (scan_limits 162) two_images 0 73
   pub tree : IsClaim (scan_limits 162) two_images 74 88
   pub great : IsClaim (scan_limits 162) great_header 0 0
-  pub magic : IsClaim (scan_limits 162) (cell blob_magic) 0 0
-  pub legacy_magic : IsClaim (scan_limits 162) (cell legacy_magic) 0 0
+  pub blob_alone : IsClaim (scan_limits 162) (cell blob_magic) 0 0
+  pub legacy_alone : IsClaim (scan_limits 162) (cell legacy_magic) 0 0
 
 -- The texts of scans: two images one after the other, one inside the other, external payloads, and
 -- no image at all. The claims of the first are 161 together, of the second 240, and a limit below
 -- that refuses the file.
 pub record ScansAreKnown : Type 0 where
-  pub two : IsScan (scan_limits 162) two_images two_lines
-  pub nested : IsScan (scan_limits 240) nested_images nested_lines
-  pub external : IsScan (scan_limits 253) three_external (codes "0 fit 253 3" ++ 10 ∷ [])
-  pub great : IsScan (scan_limits 162) great_header []
-  pub magic : IsScan (scan_limits 162) (cell blob_magic) []
-  pub none : IsScan (scan_limits 162) (codes "hello") []
-  pub empty : IsScan (scan_limits 64) [] []
+  pub two : IsScanText (scan_limits 162) two_images two_lines
+  pub nested : IsScanText (scan_limits 240) nested_images nested_lines
+  pub external : IsScanText (scan_limits 253) three_external (codes "0 fit 253 3" ++ 10 ∷ [])
+  pub great : IsScanText (scan_limits 162) great_header []
+  pub magic : IsScanText (scan_limits 162) (cell blob_magic) []
+  pub none : IsScanText (scan_limits 162) (codes "hello") []
+  pub empty : IsScanText (scan_limits 64) [] []
   pub longer : IsScanFault (scan_limits 161) two_images (too_large 161)
   pub claims : IsScanFault (scan_limits 239) nested_images (too_large 239)
   pub not_over : ¬ (IsScanFault (scan_limits 240) nested_images (too_large 240))
 
 -- The image at an offset of the first file: the flattened image tree, or nothing after its end.
 pub record OffsetsAreKnown : Type 0 where
-  pub start : image_at 0 two_images ≡ two_images
-  pub tree : image_at 74 two_images ≡ smallest_text
-  pub end : image_at 162 two_images ≡ []
-  pub after : image_at 200 two_images ≡ []
+  pub start : input_from 0 two_images ≡ two_images
+  pub tree : input_from 74 two_images ≡ smallest_text
+  pub end : input_from 162 two_images ≡ []
+  pub after : input_from 200 two_images ≡ []
   pub is_length : length two_images ≡ 162

@@ -10,7 +10,7 @@ use Rattle.bi_base.specs.Checks.{HasNoFault}
 use Rattle.bi_base.specs.Commands.{CommandPromise, PromiseLaws}
 use Rattle.bi_base.specs.Errors.{FailsWith}
 use Rattle.bi_base.specs.Limits.{Limits}
-use Rattle.bi_base.specs.Offsets.{image_at}
+use Rattle.bi_base.specs.Offsets.{input_from}
 use Rattle.bi_base.specs.Reading.{too_large}
 use Rattle.bi_blob.specs.Blob.{blob_magic, totalsize}
 use Rattle.bi_blob.specs.BlobFaults.{HeaderCheck, HeaderPasses, HasHeader, HasVersion}
@@ -33,8 +33,8 @@ use Rattle.bi_commands.specs.Shown.{line, shown_text}
 -- ---- candidates
 
 -- Whether bytes begin with the magic number of a kind.
-abbrev pub begins_with_magic : List ℕ → Bool
-begins_with_magic bytes =
+abbrev pub begins_as_any : List ℕ → Bool
+begins_as_any bytes =
     starts_with nat_eq bytes (cell legacy_magic) || starts_with nat_eq bytes (cell blob_magic)
 
 -- The candidates of an input, in their order: the offsets, aligned or not, at which a magic number
@@ -42,7 +42,7 @@ begins_with_magic bytes =
 abbrev pub candidates_from : (offset : ℕ) → List ℕ → List ℕ
 candidates_from offset [] = []
 candidates_from offset (byte ∷ later) =
-    if begins_with_magic (byte ∷ later) then offset ∷ candidates_from (offset + 1) later
+    if begins_as_any (byte ∷ later) then offset ∷ candidates_from (offset + 1) later
     else candidates_from (offset + 1) later
 
 abbrev pub candidates : (input : List ℕ) → List ℕ
@@ -53,7 +53,7 @@ abbrev pub CandidatesBeginAsImages : Type 0
 CandidatesBeginAsImages =
     (input : List ℕ) (offset : ℕ)
     → Contains (candidates input) offset
-    ↔ ((kind : Kind) × BeginsAs (image_at offset input) kind)
+    ↔ ((found : Kind) × BeginsAs (input_from offset input) found)
 
 -- ---- the bound on work
 
@@ -80,12 +80,12 @@ pub record ClaimsBlob (limits : Limits) (image : List ℕ) : Type 0 where
 -- How many bytes a candidate claims of the input, at most as many as follow its offset: reading its
 -- image takes time in proportion to them, and in proportion to a header if it claims none.
 pub data IsClaim (limits : Limits) (input : List ℕ) (offset claim : ℕ) : Type 0 where
-  OfHeader : ClaimsData limits (image_at offset input)
-      → claim ≡ 64 + u32_at (image_at offset input) 12 → IsClaim limits input offset claim
-  OfBlob : ClaimsBlob limits (image_at offset input)
-      → claim ≡ totalsize (image_at offset input) → IsClaim limits input offset claim
-  OfNone : ¬ (ClaimsData limits (image_at offset input))
-      → ¬ (ClaimsBlob limits (image_at offset input)) → claim ≡ 0
+  OfHeader : ClaimsData limits (input_from offset input)
+      → claim ≡ 64 + u32_at (input_from offset input) 12 → IsClaim limits input offset claim
+  OfBlob : ClaimsBlob limits (input_from offset input)
+      → claim ≡ totalsize (input_from offset input) → IsClaim limits input offset claim
+  OfNone : ¬ (ClaimsData limits (input_from offset input))
+      → ¬ (ClaimsBlob limits (input_from offset input)) → claim ≡ 0
       → IsClaim limits input offset claim
 
 -- These are the claims of all candidates.
@@ -137,15 +137,15 @@ scan_line offset extent meaning =
 pub data IsScanLine (limits : Limits) (input : List ℕ) (offset : ℕ) (text : List ℕ) : Type 0
   where
     Accepted : (meaning : Meaning) (extent : ℕ)
-        → Means limits (image_at offset input) meaning
-        → HasExtent limits (image_at offset input) meaning extent
+        → Means limits (input_from offset input) meaning
+        → HasExtent limits (input_from offset input) meaning extent
         → text ≡ scan_line offset extent meaning → IsScanLine limits input offset text
-    NotAccepted : MeansNothing limits (image_at offset input) → text ≡ []
+    NotAccepted : MeansNothing limits (input_from offset input) → text ≡ []
         → IsScanLine limits input offset text
 
 -- The text has the line of each image inside the input, in the order of their offsets, nested ones
 -- too, and no other.
-pub record IsScan (limits : Limits) (input text : List ℕ) : Type 0 where
+pub record IsScanText (limits : Limits) (input text : List ℕ) : Type 0 where
   pub short : length input ≤ limits.file
   pub within : IsWithinClaims limits input
   pub lines : List (List ℕ)
@@ -154,7 +154,7 @@ pub record IsScan (limits : Limits) (input text : List ℕ) : Type 0 where
 
 -- The text is that, and this is whether it has a line.
 pub record IsScanOutput (limits : Limits) (found : Bool) (input text : List ℕ) : Type 0 where
-  pub scan : IsScan limits input text
+  pub scan : IsScanText limits input text
   pub is_found : IsTrue found ↔ (text ≢ [])
 
 -- The fault of an input: it is longer than the limit, or else its candidates claim more than that.
@@ -170,7 +170,7 @@ IsScanError limits input = FailsWith (IsScanFault limits input) (length input �
 abbrev pub scan_promise : Limits → CommandPromise Bool Error
 scan_promise limits = record {
   is_output = λ found input text. IsScanOutput limits found input text;
-  is_text = IsScan limits;
+  is_text = IsScanText limits;
   has_error = IsScanError limits;
   wraps = λ error. error;
 }
@@ -195,18 +195,18 @@ pub record IsWholeImage (limits : Limits) (input : List ℕ) (offset extent : �
 abbrev pub ScannedImagesAreWhole : Type 0
 ScannedImagesAreWhole =
     (limits : Limits) (input : List ℕ) (offset extent : ℕ) (meaning : Meaning)
-    → Means limits (image_at offset input) meaning
-    → HasExtent limits (image_at offset input) meaning extent
+    → Means limits (input_from offset input) meaning
+    → HasExtent limits (input_from offset input) meaning extent
     → IsWholeImage limits input offset extent meaning
 
 -- An image that is accepted at an offset is at a candidate and has an extent, and each candidate
 -- has one line or none.
 pub record HasLines (limits : Limits) (input : List ℕ) : Type 0 where
   pub is_candidate : (offset : ℕ) (meaning : Meaning)
-      → Means limits (image_at offset input) meaning → Contains (candidates input) offset
+      → Means limits (input_from offset input) meaning → Contains (candidates input) offset
   pub has_extent : (offset : ℕ) (meaning : Meaning)
-      → Means limits (image_at offset input) meaning
-      → (extent : ℕ) × HasExtent limits (image_at offset input) meaning extent
+      → Means limits (input_from offset input) meaning
+      → (extent : ℕ) × HasExtent limits (input_from offset input) meaning extent
   pub one_line : (offset : ℕ) (text other : List ℕ)
       → IsScanLine limits input offset text → IsScanLine limits input offset other
       → text ≡ other
@@ -218,5 +218,5 @@ EachImageIsFound = (limits : Limits) (input : List ℕ) → HasLines limits inpu
 -- as many as the limit has headers.
 abbrev pub LinesAreFew : Type 0
 LinesAreFew =
-    (limits : Limits) (input text : List ℕ) (scan : IsScan limits input text)
+    (limits : Limits) (input text : List ℕ) (scan : IsScanText limits input text)
     → 64 * length (filter (λ line. not (bytes_eq line [])) scan.lines) ≤ limits.file

@@ -7,8 +7,8 @@ use Rattle.bi_fit.specs.declared.form.Form.TheVariants.{Embedded, External}
 use Rattle.bi_fit.specs.File.{IsFitFile}
 use Rattle.bi_fit.specs.ImageTree.{ImageTree, each_own}
 use Rattle.bi_fit.specs.Judgement.{signature_count}
-use Rattle.bi_fit.specs.Payloads.{PayloadSource, NoSource, Data, DataOffset, DataPosition}
-use Rattle.bi_fit.specs.Payloads.{source_of, cell_number, external_base}
+use Rattle.bi_fit.specs.Payloads.{PayloadSource, DataOffset, DataPosition, source_of}
+use Rattle.bi_fit.specs.Payloads.{cell_number, external_base}
 use Rattle.bi_fit.specs.Text.{blob_of, payload_places}
 
 -- What a text does not keep of where a file has its payloads, so that a user can be told of it

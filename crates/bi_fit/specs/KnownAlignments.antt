@@ -1,4 +1,4 @@
-use Rattle.std.specs.Prelude.{◌≡◌, ℕ, true, false, List, [], ◌∷◌, ◌++◌, length, map, replicate}
+use Rattle.std.specs.Prelude.{◌≡◌, ℕ, true, false, [], ◌∷◌, ◌++◌, length, map, replicate}
 use Rattle.std.specs.Prelude.{codes, Some, None}
 use Rattle.bi_base.specs.Alignments.{IsAlignment, IsGreatestAlignment}
 use Rattle.bi_blob.specs.Blob.{totalsize}

@@ -1,4 +1,4 @@
-use Rattle.std.specs.Prelude.{◌≡◌, ℕ, List, [], ◌∷◌, ◌++◌, length, codes, Some, None}
+use Rattle.std.specs.Prelude.{◌≡◌, ℕ, List, [], ◌∷◌, ◌++◌, codes, Some, None}
 use Rattle.bi_base.specs.Cells.{cell}
 use Rattle.bi_blob.specs.Tree.{Nodes, none, node, Root, Property}
 use Rattle.bi_hash.specs.declared.algo.Algo.TheVariants.{Crc32, Sha256}
@@ -6,9 +6,8 @@ use Rattle.bi_hash.specs.Digests.{digest_of}
 use Rattle.bi_fit.specs.declared.form.Form.TheVariants.{Embedded}
 use Rattle.bi_fit.specs.declared.key.Key.{Key}
 use Rattle.bi_fit.specs.declared.key.Key.TheVariants.{Kernel, Fdt}
-use Rattle.bi_fit.specs.Building.{HeadModel, PlannedImage, PlannedConfiguration, PlanModel}
-use Rattle.bi_fit.specs.Building.{CanBePlanned, text_value, planned_image, planned_tree}
-use Rattle.bi_fit.specs.Building.{numbered_hash_name}
+use Rattle.bi_fit.specs.Building.{PlannedImage, PlanModel, CanBePlanned, text_value}
+use Rattle.bi_fit.specs.Building.{planned_image, planned_tree, numbered_hash_name}
 use Rattle.bi_fit.specs.KnownBuilds.{known_head, known_kernel, known_ramdisk, known_text}
 use Rattle.bi_fit.specs.Text.{normal_tree, fit_text}
 

@@ -1,4 +1,4 @@
-use Rattle.std.specs.Prelude.{ℕ, ◌≡◌, List, [], ◌∷◌, ◌++◌, map, codes, Option, None, Some}
+use Rattle.std.specs.Prelude.{ℕ, List, [], ◌∷◌, ◌++◌, codes, Option, None, Some}
 use Rattle.std.specs.Borrow.{Bor}
 use Rattle.bi_base.specs.Alignments.{cell_alignment}
 use Rattle.bi_base.specs.declared.fault.Cause.{Cause}
@@ -9,7 +9,7 @@ use Rattle.bi_fit.specs.declared.key.Key.{Key}
 use Rattle.bi_fit.specs.declared.key.Key.TheVariants.{Kernel}
 use Rattle.bi_fit.specs.Building.{PlannedConfiguration, PlanModel}
 use Rattle.bi_norm.specs.KnownBuildFaults.{head_like, kernel_like, narrow_limits}
-use Rattle.bi_norm.specs.PlannedBuilding.{ImageTexts, WordedImage, without_texts, IsPlanFault}
+use Rattle.bi_norm.specs.PlannedBuilding.{CodeTexts, without_texts, IsPlanFault}
 
 -- Plans that cannot be built, each with its fault, by which a reader can judge the definitions
 -- (profile of this project).
@@ -34,18 +34,18 @@ plan_with configurations default = record {
 abbrev pub HasPlanFault : Bor (List ℕ) → PlanModel → Cause → ℕ → Type 0
 HasPlanFault any plan cause offset =
     IsPlanFault narrow_limits cell_alignment Embedded (head_like any (codes "k"))
-    (without_texts (kernel_like any (codes "k")) ∷ []) plan
+    (without_texts (kernel_like any (codes "k") ∷ [])) plan
     (record { cause = cause; offset = offset })
 
 -- The kernel `k` with these texts in place of its codes, and without configurations.
-abbrev pub HasTextsFault : Bor (List ℕ) → ImageTexts → Cause → ℕ → Type 0
+abbrev pub HasTextsFault : Bor (List ℕ) → CodeTexts → Cause → ℕ → Type 0
 HasTextsFault any texts cause offset =
     IsPlanFault narrow_limits cell_alignment Embedded (head_like any (codes "k"))
     (record { image = kernel_like any (codes "k"); texts = Some texts } ∷ [])
     (plan_with [] None) (record { cause = cause; offset = offset })
 
 -- Texts of a kernel.
-abbrev pub kernel_texts : ImageTexts
+abbrev pub kernel_texts : CodeTexts
 kernel_texts = record {
   image_type = codes "kernel";
   arch = codes "arm";
@@ -91,7 +91,7 @@ pub record HavePlanFaults (any : Bor (List ℕ)) : Type 0 where
       BadField 0
   pub image_before_configuration :
       IsPlanFault narrow_limits cell_alignment Embedded (head_like any (codes "k"))
-      (without_texts (record (kernel_like any (codes "k")) { os = 200 }) ∷ [])
+      (without_texts (record (kernel_like any (codes "k")) { os = 200 } ∷ []))
       (plan_with (with_kernels [] [] ∷ []) None)
       (record { cause = NoCodeName; offset = 0 })
   pub type_with_zero :

@@ -20,8 +20,8 @@ use Rattle.bi_norm.specs.Reading.{IsReadErrorOrTooLarge}
 -- they mean the same (profile of this project).
 
 -- The text of the file in a form, with an alignment.
-pub record IsAlignedForm (limits : Limits) (align : ℕ) (form : Form) (file text : List ℕ) : Type 0
-  where
+pub record IsAlignedForm (limits : Limits) (align : ℕ) (form : Form) (file text : List ℕ)
+    : Type 0 where
   -- The file means this, and nothing else.
   pub meaning : Meaning
   pub means : Means limits file meaning

@@ -28,7 +28,7 @@ use Rattle.bi_norm.specs.FitBuilding.{HasNames, IsBuilt, multi}
 -- digests, and with names of U-Boot's own tables in place of codes (profile of this project).
 
 -- The four texts of an image that are given in place of its codes.
-pub record ImageTexts : Type 0 where
+pub record CodeTexts : Type 0 where
   pub image_type : List ℕ
   pub arch : List ℕ
   pub os : List ℕ
@@ -37,13 +37,13 @@ pub record ImageTexts : Type 0 where
 -- An image with its texts, if they are given. Then its four codes have no effect.
 pub record WordedImage : Type 0 where
   pub image : ImageSpec
-  pub texts : Option ImageTexts
+  pub texts : Option CodeTexts
 
 -- The texts of an image: those that are given, or the names of its codes. A code without a name is
 -- refused before this is used.
-abbrev pub texts_of : ImageSpec → Option ImageTexts → ImageTexts
-texts_of image (Some texts) = texts
-texts_of image None = record {
+abbrev pub code_texts : ImageSpec → Option CodeTexts → CodeTexts
+code_texts image (Some texts) = texts
+code_texts image None = record {
   image_type = code_name type_names image.image_type;
   arch = code_name arch_names image.arch;
   os = code_name os_names image.os;
@@ -51,7 +51,7 @@ texts_of image None = record {
 }
 
 -- The image of the plan.
-abbrev pub image_with_texts : ImageSpec → ImageTexts → PlannedImage
+abbrev pub image_with_texts : ImageSpec → CodeTexts → PlannedImage
 image_with_texts image texts = record {
   name = image.name.now;
   image_type = texts.image_type;
@@ -64,7 +64,7 @@ image_with_texts image texts = record {
 }
 
 abbrev pub image_of_plan : WordedImage → PlannedImage
-image_of_plan worded = image_with_texts worded.image (texts_of worded.image worded.texts)
+image_of_plan worded = image_with_texts worded.image (code_texts worded.image worded.texts)
 
 -- The images of the plan.
 abbrev pub images_of_plan : List WordedImage → List PlannedImage
@@ -101,7 +101,7 @@ pub data PlanCheck : Type 0 where
 
 -- Texts that an image can have: none has a zero byte, and the type is not that of multi-file
 -- images, as no code of an image may be.
-pub record AreImageTexts (texts : ImageTexts) : Type 0 where
+pub record AreCodeTexts (texts : CodeTexts) : Type 0 where
   pub image_type : HasNoZero texts.image_type
   pub arch : HasNoZero texts.arch
   pub os : HasNoZero texts.os
@@ -109,12 +109,12 @@ pub record AreImageTexts (texts : ImageTexts) : Type 0 where
   pub no_multi : texts.image_type ≢ codes "multi"
 
 -- The type and the texts of an image are such that it can be built.
-abbrev pub HasBuildableType : ImageSpec → Option ImageTexts → Type 0
+abbrev pub HasBuildableType : ImageSpec → Option CodeTexts → Type 0
 HasBuildableType image None = image.image_type ≢ multi
-HasBuildableType image (Some texts) = AreImageTexts texts
+HasBuildableType image (Some texts) = AreCodeTexts texts
 
 -- Each code of an image has a name, if no texts are given.
-abbrev pub HasWords : ImageSpec → Option ImageTexts → Type 0
+abbrev pub HasWords : ImageSpec → Option CodeTexts → Type 0
 HasWords image None = HasNames image
 HasWords image (Some texts) = ⊤
 
@@ -231,9 +231,10 @@ pub record IsBuiltByPlan (limits : Limits) (align : ℕ) (form : Form) (head : H
 
 -- ---- building without a plan
 
--- An image without texts of its own.
-abbrev pub without_texts : ImageSpec → WordedImage
-without_texts image = record { image = image; texts = None }
+-- Images without texts of their own.
+abbrev pub without_texts : List ImageSpec → List WordedImage
+without_texts [] = []
+without_texts (image ∷ later) = record { image = image; texts = None } ∷ without_texts later
 
 -- Without configurations, without a default and with SHA-256, what is built is what `build_fit`
 -- builds, and neither is built where the other is not.
@@ -241,10 +242,10 @@ pub record BuildsAlike (limits : Limits) (form : Form) (head : Head) (images : L
     (text : List ℕ) : Type 0 where
   pub by_plan :
       IsBuilt limits form head images text
-      → IsBuiltByPlan limits cell_alignment form head (map without_texts images) plan_by_types
+      → IsBuiltByPlan limits cell_alignment form head (without_texts images) plan_by_types
       text
   pub without_plan :
-      IsBuiltByPlan limits cell_alignment form head (map without_texts images) plan_by_types text
+      IsBuiltByPlan limits cell_alignment form head (without_texts images) plan_by_types text
       → IsBuilt limits form head images text
 
 abbrev pub PlanByTypesBuildsAlike : Type 0

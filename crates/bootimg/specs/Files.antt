@@ -250,12 +250,12 @@ pub record IsWithoutEndSlashes (name short : List ℕ) : Type 0 where
   pub no_last_slash : (before : List ℕ) → short ≢ before ++ 47 ∷ []
 
 -- The name of a file in a directory.
-abbrev pub name_in : (directory name : List ℕ) → List ℕ
-name_in directory name = directory ++ 47 ∷ name
+abbrev pub path_in : (directory name : List ℕ) → List ℕ
+path_in directory name = directory ++ 47 ∷ name
 
 -- The names of these files in a directory.
-abbrev pub names_in : (directory : List ℕ) → List PayloadFile → List (List ℕ)
-names_in directory files = map (λ file. name_in directory file.name) files
+abbrev pub paths_in : (directory : List ℕ) → List PayloadFile → List (List ℕ)
+paths_in directory files = map (λ file. path_in directory file.name) files
 
 -- A new directory was made beside the one that is to have this name. It has the first of the
 -- numbered names that nothing has and that is not the name itself.
@@ -275,8 +275,8 @@ pub data AreFilled (directory : List ℕ) : (files : List PayloadFile)
     NothingToFill : (steps : Option (List FileStep)) → AreFilled directory [] steps steps
     OneMoreFile : (file : PayloadFile) (later : List PayloadFile) (trace : WriteTrace)
         (old made closed new : Option (List FileStep))
-        → IsNewFile trace → TookSteps old made (Made (name_in directory file.name) trace ∷ [])
-        → IsWrittenFile (name_in directory file.name) file.bytes trace made closed
+        → IsNewFile trace → TookSteps old made (Made (path_in directory file.name) trace ∷ [])
+        → IsWrittenFile (path_in directory file.name) file.bytes trace made closed
         → AreFilled directory later closed new
         → AreFilled directory (file ∷ later) old new
 
@@ -289,17 +289,17 @@ pub data AreNotFilled (directory : List ℕ) (files : List PayloadFile) (left : 
     FileNotMade : (before : List PayloadFile) (file : PayloadFile) (later : List PayloadFile)
         (filled : Option (List FileStep))
         → files ≡ before ++ file ∷ later → AreFilled directory before old filled
-        → TookSteps filled new (NotMade (name_in directory file.name) ∷ [])
-        ⊎ TookSteps filled new (NameTaken (name_in directory file.name) ∷ [])
-        → left ≡ names_in directory before
+        → TookSteps filled new (NotMade (path_in directory file.name) ∷ [])
+        ⊎ TookSteps filled new (NameTaken (path_in directory file.name) ∷ [])
+        → left ≡ paths_in directory before
         → AreNotFilled directory files left old new
     FileNotWritten : (before : List PayloadFile) (file : PayloadFile) (later : List PayloadFile)
         (trace : WriteTrace) (filled made : Option (List FileStep))
         → files ≡ before ++ file ∷ later → AreFilled directory before old filled
         → IsNewFile trace
-        → TookSteps filled made (Made (name_in directory file.name) trace ∷ [])
-        → IsNotWrittenFile (name_in directory file.name) file.bytes trace made new
-        → left ≡ names_in directory (before ++ file ∷ [])
+        → TookSteps filled made (Made (path_in directory file.name) trace ∷ [])
+        → IsNotWrittenFile (path_in directory file.name) file.bytes trace made new
+        → left ≡ paths_in directory (before ++ file ∷ [])
         → AreNotFilled directory files left old new
 
 -- It was tried to remove the files of these names and then their directory. What could not be
@@ -353,11 +353,11 @@ pub data IsNotExtractedTo (files : FilePromise) (name : List ℕ) (payloads : Li
         → IsWithoutEndSlashes name short → files.is_free short
         → IsDirectoryBeside short beside old made
         → payloads ≡ before ++ later → AreFilled beside before made filled
-        → AreRemoved beside (names_in beside before) filled new
+        → AreRemoved beside (paths_in beside before) filled new
         → failure ≡ Call OutOfMemory → IsNotExtractedTo files name payloads failure old new
     NameFailed : (short beside : List ℕ) (made filled failed : Option (List FileStep))
         → IsWithoutEndSlashes name short → files.is_free short
         → IsDirectoryBeside short beside old made → AreFilled beside payloads made filled
         → TookSteps filled failed (NotRenamedDirectory beside short ∷ [])
-        → AreRemoved beside (names_in beside payloads) failed new
+        → AreRemoved beside (paths_in beside payloads) failed new
         → failure ≡ NotWritten → IsNotExtractedTo files name payloads failure old new

@@ -6,6 +6,8 @@ pub mod ComparedFiles
 pub mod Failures
 pub mod Files
 pub mod Numbers
+pub mod PlanWords
+pub mod KnownPlanWords
 pub mod ReadParts
 pub mod Tasks
 pub mod Runs

@@ -108,10 +108,10 @@ pub record NotesKept (kept : KeptModel) (old new : WriteTrace) : Type 0 where
   pub alignment : NotesAlignment after_signatures after_alignment kept.alignment
   pub positions : NotesPositions kept.positions after_alignment new
 
--- What the notes tell of it: where an alignment was asked for, no place is noted.
-abbrev pub noted : (has_align : Bool) → KeptModel → KeptModel
-noted true kept = record kept { alignment = None; positions = 0 }
-noted false kept = kept
+-- What the notes tell of it: where an alignment was asked for, no place is notes_due.
+abbrev pub notes_due : (has_align : Bool) → KeptModel → KeptModel
+notes_due true kept = record kept { alignment = None; positions = 0 }
+notes_due false kept = kept
 
 -- The failure is about an image from this source, or about the output file of this name.
 abbrev pub problem : ImageSource → Failure → Problem
