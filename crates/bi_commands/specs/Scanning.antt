@@ -219,4 +219,4 @@ EachImageIsFound = (limits : Limits) (input : List ℕ) → HasLines limits inpu
 abbrev pub LinesAreFew : Type 0
 LinesAreFew =
     (limits : Limits) (input text : List ℕ) (scan : IsScanText limits input text)
-    → 64 * length (filter (λ line. not (bytes_eq line [])) scan.lines) ≤ limits.file
+    → 64 * length (filter (λ one. not (bytes_eq one [])) scan.lines) ≤ limits.file

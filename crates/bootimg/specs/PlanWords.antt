@@ -33,8 +33,8 @@ name_in_word word = first_piece (pieces_of_word word)
 abbrev pub KeyEntry : Type 0
 KeyEntry = Key × List (List ℕ)
 
--- The piece is `KEY=IMAGE,..`: the names are what follows its first `=`, cut at each `,`. No key has
--- an `=` in it. Nothing after the `=` is one empty name.
+-- The piece is `KEY=IMAGE,..`: the names are what follows its first `=`, cut at each `,`. No key
+-- has an `=` in it. Nothing after the `=` is one empty name.
 pub record IsKeyPiece (piece : List ℕ) (entry : KeyEntry) : Type 0 where
   pub names : List ℕ
   pub is_piece : piece ≡ key_name entry.0 ++ 61 ∷ names
@@ -117,6 +117,6 @@ pub record IsAlignValue (argument : List ℕ) (align : ℕ) : Type 0 where
   pub is_alignment : IsAlignment align
 
 -- The value of `--offset` is this number. Without the option it is 0.
-abbrev pub IsOffset : Option (List ℕ) → (offset : ℕ) → Type 0
-IsOffset None offset = offset ≡ 0
-IsOffset (Some argument) offset = IsNumber argument offset
+abbrev pub IsOffsetValue : Option (List ℕ) → (offset : ℕ) → Type 0
+IsOffsetValue None offset = offset ≡ 0
+IsOffsetValue (Some argument) offset = IsNumber argument offset
