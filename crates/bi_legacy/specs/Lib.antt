@@ -1,4 +1,5 @@
 pub mod Codes
+pub mod WordCodes
 pub mod Meaning
 pub mod Parts
 pub mod PlacedParts

@@ -1,5 +1,5 @@
-use Rattle.std.specs.Prelude.{ℕ, ◌≡◌, ◌≢◌, ◌==◌, List, [], ◌∷◌, ◌++◌, length, map, codes, ⊤, Option}
-use Rattle.std.specs.Prelude.{None, Some, Contains}
+use Rattle.std.specs.Prelude.{ℕ, ◌≡◌, ◌≢◌, ◌==◌, ◌<◌, ◌^◌, ⊤, List, [], ◌∷◌, ◌++◌, length, map}
+use Rattle.std.specs.Prelude.{codes, Option, None, Some, Contains}
 use Rattle.std.specs.List.{AllZip, slice_split}
 use Rattle.bi_base.specs.Alignments.{IsAlignment}
 use Rattle.bi_blob.specs.Tree.{AreDistinct, IsChildName, IsNew}
@@ -9,6 +9,8 @@ use Rattle.bi_fit.specs.declared.key.Key.{Key}
 use Rattle.bi_hash.specs.Algos.{algorithm_name}
 use Rattle.bi_hash.specs.declared.algo.Algo.{Algo}
 use Rattle.bi_hash.specs.declared.algo.Algo.TheVariants.{Sha256}
+use Rattle.bi_legacy.specs.Codes.{CodeName, name_of_code}
+use Rattle.bi_legacy.specs.WordCodes.{code_of_word}
 use Rattle.bootimg.specs.Numbers.{IsNumber}
 
 -- The values of `--config`, `--default` and `--hash` of `build-fit`, of `--align` and of `--offset`
@@ -120,3 +122,21 @@ pub record IsAlignValue (argument : List ℕ) (align : ℕ) : Type 0 where
 abbrev pub IsOffsetValue : Option (List ℕ) → (offset : ℕ) → Type 0
 IsOffsetValue None offset = offset ≡ 0
 IsOffsetValue (Some argument) offset = IsNumber argument offset
+
+-- ---- words of an image
+
+-- The text that an image gets for one of its four words, if these are the names of the field that
+-- listings use and all its names: the word itself where it is a name, or the name in listings of
+-- the code that it is as a number.
+pub data IsWordText (listed words : List CodeName) (word text : List ℕ) : Type 0 where
+  IsWord : (code : ℕ) → code_of_word words word ≡ Some code → text ≡ word
+      → IsWordText listed words word text
+  IsCodeNumber : code_of_word words word ≡ None → (code : ℕ) → IsNumber word code
+      → code < 2 ^ 8 → name_of_code listed code ≡ Some text
+      → IsWordText listed words word text
+
+-- The code that a word is: by its name, or as a number of at most 255.
+pub data IsWordCode (words : List CodeName) (word : List ℕ) (code : ℕ) : Type 0 where
+  IsNameOfCode : code_of_word words word ≡ Some code → IsWordCode words word code
+  IsNumberOfCode : code_of_word words word ≡ None → IsNumber word code → code < 2 ^ 8
+      → IsWordCode words word code
