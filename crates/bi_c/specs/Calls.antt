@@ -9,6 +9,7 @@ use Rattle.bi_norm.specs.declared.kind.Kind.{Kind}
 use Rattle.bi_norm.specs.declared.kind.Kind.TheVariants.{Legacy, Fit}
 use Rattle.bi_norm.specs.Kinds.{BeginsAs, IsKindFault}
 use Rattle.bi_norm.specs.NormalForm.{IsNormaliseOutput, IsNormaliseError}
+use Rattle.bi_commands.specs.declared.format.Format.TheVariants.{Lines}
 use Rattle.bi_commands.specs.CheckedFiles.{IsCheckOutput}
 use Rattle.bi_commands.specs.UpdatedFiles.{IsUpdateOutput, IsUpdateError}
 use Rattle.bi_commands.specs.declared.compare.CompareError.{CompareError}
@@ -144,4 +145,4 @@ pub record IsCheckText (limit depth kinds : ℕ) (file text : List ℕ) (value :
   pub arguments : HasKinds limit depth kinds
   pub clean : Bool
   pub number : value ≡ flag clean
-  pub is : IsCheckOutput (allowed_of kinds) (bounds limit depth) clean file text
+  pub is : IsCheckOutput Lines (allowed_of kinds) (bounds limit depth) clean file text

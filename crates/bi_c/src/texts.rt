@@ -4,7 +4,8 @@ ghost use Rattle.bi_c.specs.Answers.{Fills};
 ghost use Rattle.bi_c.specs.Calls.{IsTextOnly, IsTextWithFlag, IsFailureOfOne};
 ghost use Rattle.bi_commands.specs.Describing.{IsDescription, IsDescribeError};
 ghost use Rattle.bi_commands.specs.Listing.{IsListing};
-ghost use Rattle.bi_commands.specs.Reports.{IsVerifyOutput};
+ghost use Rattle.bi_commands.specs.declared.format.Format.TheVariants.{Lines};
+ghost use Rattle.bi_commands.specs.VerifiedFiles.{IsVerifyOutput};
 ghost use Rattle.bi_norm.specs.Converting.{IsConvertedFile, IsConvertError};
 ghost use Rattle.bi_norm.specs.Reading.{IsBootImageReadError};
 
@@ -75,7 +76,8 @@ pub extern "C" fn bootimg_verify(
     answer: &mut Answer,
 ) -> u32
     ensures { Fills
-        (IsTextWithFlag limit depth (λ limits good text. IsVerifyOutput limits good file.now text))
+        (IsTextWithFlag limit depth
+        (λ limits good text. IsVerifyOutput Lines limits good file.now text))
         (IsFailureOfOne limit depth (λ limits error. IsBootImageReadError limits file.now error))
         buffer.old buffer.new answer.new result }
 {

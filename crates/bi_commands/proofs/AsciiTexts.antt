@@ -67,15 +67,16 @@ text_of_bytes f holds [] are = tt
 text_of_bytes f holds (byte ∷ later) are =
     both (f byte) (flat_map f later) (holds byte (are.each 0)) (text_of_bytes f holds later (AreBytes-right (byte ∷ []) later are))
 
--- Words with spaces between them.
-joined : (words : Words) → AreAsciiWords words → HasAscii (join_with_byte 32 words)
-joined [] are = tt
-joined (word ∷ []) are = are.0
-joined (word ∷ next ∷ later) are = both word (32 ∷ join_with_byte 32 (next ∷ later)) are.0 (omega arith, joined (next ∷ later) are.1)
+-- Words with a byte between each two.
+pub words_ascii : (byte : ℕ) → byte < 128 → (words : Words) → AreAsciiWords words → HasAscii (join_with_byte byte words)
+words_ascii byte small [] are = tt
+words_ascii byte small (word ∷ []) are = are.0
+words_ascii byte small (word ∷ next ∷ later) are =
+    both word (byte ∷ join_with_byte byte (next ∷ later)) are.0 (small, words_ascii byte small (next ∷ later) are.1)
 
 -- A line.
 pub ascii_line : (words : Words) → AreAsciiWords words → HasAscii (line words)
-ascii_line words are = both (join_with_byte 32 words) (10 ∷ []) (joined words are) (omega arith, tt)
+ascii_line words are = both (join_with_byte 32 words) (10 ∷ []) (words_ascii 32 (omega arith) words are) (omega arith, tt)
 
 -- Lines.
 pub ascii_lines : (lines : List Words) → AreAsciiLines lines → HasAscii (flat_map line lines)
@@ -137,8 +138,8 @@ name_shown name are = by (bytes_eq name []) (bytes_eq name (codes "-"))
     by false false = text_of_bytes shown_byte (λ byte. name_byte byte (is_plain byte) refl) name are
 
 -- Texts that are printed in quotes.
-escaped : (byte : ℕ) → byte < 128 → HasAscii (escaped_byte byte)
-escaped byte small = by (byte == 34 || byte == 92)
+pub escape_ascii : (byte : ℕ) → byte < 128 → HasAscii (escaped_byte byte)
+escape_ascii byte small = by (byte == 34 || byte == 92)
   where
     by : (b : Bool) → HasAscii (cond b (92 ∷ byte ∷ []) (byte ∷ []))
     by true = (omega arith, (small, tt))
@@ -149,7 +150,7 @@ escaped_bytes [] are = tt
 escaped_bytes (byte ∷ later) are =
     let first = and_parts (is_printable byte) (list_all is_printable later) are in
     both (escaped_byte byte) (flat_map escaped_byte later)
-    (escaped byte (omega (arith, leb-true byte 0x7e (and_parts (nat_le 0x20 byte) (nat_le byte 0x7e) first.0).1)))
+    (escape_ascii byte (omega (arith, leb-true byte 0x7e (and_parts (nat_le 0x20 byte) (nat_le byte 0x7e) first.0).1)))
     (escaped_bytes later first.1)
 
 in_quotes : (text : List ℕ) → is_quotable text ≡ true → HasAscii (quoted_text text)

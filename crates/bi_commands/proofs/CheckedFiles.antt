@@ -1,5 +1,4 @@
-use Rattle.std.proofs.Common.{◌≡◌, ◌↔◌, ℕ, ◌-◌, max, Bool, IsTrue, Result, Ok, Err, IfOk, IfErr, OnOk, List, [], ◌∷◌, ◌++◌, Option, Some}
-use Rattle.std.proofs.Common.{None, length, drop, map}
+use Rattle.std.proofs.Common.{◌≡◌, ◌↔◌, ℕ, ◌-◌, max, Bool, IsTrue, Result, Ok, Err, IfOk, IfErr, OnOk, List, [], ◌∷◌, ◌++◌, Option, Some, None, length, drop, map}
 use Rattle.std.proofs.Common.{refl, sym, ap, ap₂, subst, ◌∙◌, append_assoc, inl, inr}
 use Rattle.std.specs.List.{AllZip}
 use Rattle.bi_base.specs.Commands.{Appended, AppendFailed, WasRefused, SinkFailed}
@@ -20,16 +19,15 @@ use Rattle.bi_legacy.specs.Reading.{LegacyModel, IsReadLegacy}
 use Rattle.bi_norm.specs.Meaning.{OfLegacy, OfFit}
 use Rattle.bi_norm.specs.Reading.{IsBootImageReadError}
 use Rattle.bi_norm.proofs.NormalForms.{needs_memory, only_legacy, only_tree}
-use Rattle.bi_commands.specs.declared.check.Allowed.{Allowed}
-use Rattle.bi_commands.specs.CheckedFiles.{IsChecked, IsCheckError, IsCheckOutput}
-use Rattle.bi_commands.specs.Checking.{Concern, OfLegacyImage, OfImageTree, concern_lines, content_end, payload_end, tree_concerns}
+use Rattle.bi_commands.specs.declared.check.Checker.{Checker}
+use Rattle.bi_commands.specs.CheckedFiles.{IsChecked, IsCheckError, IsCheckOutput, concerns_text}
+use Rattle.bi_commands.specs.Checking.{Concern, OfLegacyImage, OfImageTree, content_end, kept_concerns, payload_end, tree_concerns}
 use Rattle.bi_commands.specs.Checking.{trailing_concerns}
 use Rattle.bi_commands.specs.PayloadBounds.{IsOverPayloadBound}
-use Rattle.bi_commands.specs.ReadChecking.{IsReadCheckError, IsReadCheckText, configurations_concerns, end_at, end_of_read_payloads}
-use Rattle.bi_commands.specs.ReadChecking.{images_concerns}
+use Rattle.bi_commands.specs.ReadChecking.{IsReadCheckError, IsReadCheckText, concern_texts, configurations_concerns, end_at, end_of_read_payloads, images_concerns}
 use Rattle.bi_commands.specs.HashedImages.{images_of_blob}
 use Rattle.bi_commands.specs.ReadChecking.{read_concerns, read_default_concerns}
-use Rattle.bi_commands.proofs.ConcernLines.{lines_append}
+use Rattle.bi_commands.proofs.ConcernTexts.{texts_append}
 use Rattle.bi_commands.proofs.HashedImages.{concerns_of_images}
 use Rattle.bi_commands.proofs.ImageCalls.{tree_needs_memory}
 
@@ -57,8 +55,7 @@ end_of_content file total none [] same is = same
 end_of_content file total none (image ∷ images) same is = absurd is
 end_of_content file total (node name own children later) [] same is = absurd is
 end_of_content file total (node name own children later) (image ∷ images) same is =
-    ap₂ max (ap (λ place. end_at place image.payload) is.0.place ∙ placed_end file (source_of own) image.payload is.0.payload)
-    (end_of_content file total later images same is.1)
+    ap₂ max (ap (λ place. end_at place image.payload) is.0.place ∙ placed_end file (source_of own) image.payload is.0.payload) (end_of_content file total later images same is.1)
 
 -- The image nodes of a file that was read.
 abbrev nodes_found : (limits : Limits) (file : List ℕ) (content : FitModel) (is : IsReadFit limits file content) →
@@ -79,14 +76,14 @@ concerns_of_file limits file content is =
     end_of_content file content.blob.total_size nodes content.images (is.held.total_size ∙ ap totalsize is.is_file) read
     ∙ ap (λ (found : Nodes FileNode). content_end file found tree.payloads) (nodes_found limits file content is) in
     let left : List Concern = configurations_concerns content ++ read_default_concerns content in
-    ap₂ (λ (a b : List Concern). a ++ (configurations_concerns content ++ (read_default_concerns content ++ b)))
-    (concerns_of_images content) (ap (λ n. trailing_concerns (drop n file)) end)
+    ap₂ (λ (a b : List Concern). a ++ (configurations_concerns content ++ (read_default_concerns content ++ b))) (concerns_of_images content) (ap (λ n. trailing_concerns (drop n file)) end)
     ∙ simp append_assoc refl
 
 -- A legacy image that was read is checked by the concern about the bytes after it,
-pub legacy_checked : (allowed : Allowed) (limits : Limits) (file : List ℕ) (parsed : LegacyModel) → IsReadLegacy limits file parsed →
-    IsChecked allowed limits file (concern_lines allowed (trailing_concerns (drop (length file - parsed.unused) file)))
-legacy_checked allowed limits file parsed opened = record {
+pub legacy_checked : (checker : Checker) (limits : Limits) (file : List ℕ) (parsed : LegacyModel) → IsReadLegacy limits file parsed →
+    IsChecked checker.format checker.allowed limits file
+    (concerns_text checker.format checker.allowed (trailing_concerns (drop (length file - parsed.unused) file)))
+legacy_checked checker limits file parsed opened = record {
   meaning = OfLegacy parsed.image;
   means = record { means = opened.means; only = only_legacy limits file parsed opened };
   within = λ over. over;
@@ -96,9 +93,9 @@ legacy_checked allowed limits file parsed opened = record {
 }
 
 -- and a flattened image tree by all concerns about it.
-pub tree_checked : (allowed : Allowed) (limits : Limits) (file text : List ℕ) (content : FitModel) → IsReadFit limits file content →
-    IsReadCheckText allowed limits file content text → IsChecked allowed limits file text
-tree_checked allowed limits file text content is of = record {
+pub tree_checked : (checker : Checker) (limits : Limits) (file text : List ℕ) (content : FitModel) → IsReadFit limits file content →
+    IsReadCheckText checker limits file content text → IsChecked checker.format checker.allowed limits file text
+tree_checked checker limits file text content is of = record {
   meaning = OfFit (tree_of content);
   means = record { means = is.means; only = only_tree limits file content is };
   within = of.within;
@@ -108,81 +105,82 @@ tree_checked allowed limits file text content is of = record {
 }
 
 -- An error is one of checking the file.
-pub not_checked : {S : Type 0} (fails : S → List ℕ → S → Error → Type 0) (allowed : Allowed) (limits : Limits) (file : List ℕ)
+pub not_checked : {S : Type 0} (fails : S → List ℕ → S → Error → Type 0) (checker : Checker) (limits : Limits) (file : List ℕ)
     (content : FitModel) (old new : S) (error : Error) → IsReadFit limits file content
-    → AppendFailed fails (IsReadCheckText allowed limits file content) (IsReadCheckError limits content) old new error
-    → AppendFailed fails (IsChecked allowed limits file) (IsCheckError limits file) old new error
-not_checked fails allowed limits file content old new error is (WasRefused (inl refused) kept) =
+    → AppendFailed fails (IsReadCheckText checker limits file content) (IsReadCheckError limits content) old new error
+    → AppendFailed fails (IsChecked checker.format checker.allowed limits file) (IsCheckError limits file) old new error
+not_checked fails checker limits file content old new error is (WasRefused (inl refused) kept) =
     WasRefused (subst (IsCheckError limits file) (sym refused.0)
     (inr (record { meaning = OfFit (tree_of content); means = is.means; is_over = refused.1 }, refl))) kept
-not_checked fails allowed limits file content old new error is (WasRefused (inr short) kept) =
+not_checked fails checker limits file content old new error is (WasRefused (inr short) kept) =
     WasRefused (subst (IsCheckError limits file) (sym short) (tree_needs_memory limits file content is)) kept
-not_checked fails allowed limits file content old new error is (SinkFailed text cause is_text failed same) =
-    SinkFailed text cause (tree_checked allowed limits file text content is is_text) failed same
+not_checked fails checker limits file content old new error is (SinkFailed text cause is_text failed same) =
+    SinkFailed text cause (tree_checked checker limits file text content is is_text) failed same
 
 -- So it is if the lines are made in memory.
-pub not_checked_in_memory : (allowed : Allowed) (limits : Limits) (file old new : List ℕ) (error : Error) →
-    AppendFailed (FailsWithin Grows IsOutOfMemory) (IsChecked allowed limits file) (IsCheckError limits file) old new error →
+pub not_checked_in_memory : (checker : Checker) (limits : Limits) (file old new : List ℕ) (error : Error) →
+    AppendFailed (FailsWithin Grows IsOutOfMemory) (IsChecked checker.format checker.allowed limits file)
+    (IsCheckError limits file) old new error →
     IsCheckError limits file error
-not_checked_in_memory allowed limits file old new error (WasRefused is kept) = is
-not_checked_in_memory allowed limits file old new error (SinkFailed text cause is failed same) =
+not_checked_in_memory checker limits file old new error (WasRefused is kept) = is
+not_checked_in_memory checker limits file old new error (SinkFailed text cause is failed same) =
     subst (IsCheckError limits file) (sym (same ∙ failed.1)) (needs_memory limits file is.meaning is.means.means)
 
 -- What a call on what was read from a file did is what it did with the file.
-pub legacy_appended : {S : Type 0} (appends : S → List ℕ → S → Type 0) (fails : S → List ℕ → S → Error → Type 0) (allowed : Allowed)
+pub legacy_appended : {S : Type 0} (appends : S → List ℕ → S → Type 0) (fails : S → List ℕ → S → Error → Type 0) (checker : Checker)
     (limits : Limits) (file : List ℕ) (parsed : LegacyModel) (old new : S) (result : Result Bool Error) → IsReadLegacy limits file parsed →
-    Wrote appends fails old (concern_lines allowed (trailing_concerns (drop (length file - parsed.unused) file))) result new →
-    IfOk result (λ clean. IsTrue clean ↔ (concern_lines allowed (trailing_concerns (drop (length file - parsed.unused) file)) ≡ [])) →
-    IfOk result (λ clean. Appended appends (IsCheckOutput allowed limits clean file) old new)
-legacy_appended appends fails allowed limits file parsed old new (Ok clean) is wrote tested = record {
-  text = concern_lines allowed (trailing_concerns (drop (length file - parsed.unused) file));
-  is_text = record { checked = legacy_checked allowed limits file parsed is; is_empty = tested };
+    Wrote appends fails old
+    (concerns_text checker.format checker.allowed (trailing_concerns (drop (length file - parsed.unused) file))) result new →
+    IfOk result (λ clean. IsTrue clean
+    ↔ (kept_concerns checker.allowed (trailing_concerns (drop (length file - parsed.unused) file)) ≡ [])) →
+    IfOk result (λ clean. Appended appends (IsCheckOutput checker.format checker.allowed limits clean file) old new)
+unfolding legacy_checked
+legacy_appended appends fails checker limits file parsed old new (Ok clean) is wrote tested = record {
+  text = concerns_text checker.format checker.allowed (trailing_concerns (drop (length file - parsed.unused) file));
+  is_text = record { checked = legacy_checked checker limits file parsed is; is_empty = tested };
   appended = wrote;
 }
-legacy_appended appends fails allowed limits file parsed old new (Err error) is wrote tested = tt
+legacy_appended appends fails checker limits file parsed old new (Err error) is wrote tested = tt
 
-pub fit_appended : {S : Type 0} (appends : S → List ℕ → S → Type 0) (allowed : Allowed) (limits : Limits) (file : List ℕ)
+pub fit_appended : {S : Type 0} (appends : S → List ℕ → S → Type 0) (checker : Checker) (limits : Limits) (file : List ℕ)
     (content : FitModel) (old new : S) (result : Result Bool Error) → IsReadFit limits file content →
-    OnOk result (appends old (concern_lines allowed (read_concerns file content)) new) →
-    IfOk result (λ clean. IsTrue clean ↔ (concern_lines allowed (read_concerns file content) ≡ [])) →
+    OnOk result (appends old (concerns_text checker.format checker.allowed (read_concerns file content)) new) →
+    IfOk result (λ clean. IsTrue clean ↔ (kept_concerns checker.allowed (read_concerns file content) ≡ [])) →
     OnOk result (¬ (IsOverPayloadBound limits (OfFit (tree_of content)))) →
-    IfOk result (λ clean. Appended appends (IsCheckOutput allowed limits clean file) old new)
-fit_appended appends allowed limits file content old new (Ok clean) is wrote tested within = record {
-  text = concern_lines allowed (read_concerns file content);
-  is_text = record {
-    checked = tree_checked allowed limits file _ content is
-        (record { within = within; is_text = refl });
-    is_empty = tested;
-  };
+    IfOk result (λ clean. Appended appends (IsCheckOutput checker.format checker.allowed limits clean file) old new)
+unfolding tree_checked
+fit_appended appends checker limits file content old new (Ok clean) is wrote tested within = record {
+  text = concerns_text checker.format checker.allowed (read_concerns file content);
+  is_text = record { checked = tree_checked checker limits file _ content is (record { within = within; is_text = refl }); is_empty = tested };
   appended = wrote;
 }
-fit_appended appends allowed limits file content old new (Err error) is wrote tested within = tt
+fit_appended appends checker limits file content old new (Err error) is wrote tested within = tt
 
-pub fit_not_checked : {S V : Type 0} (fails : S → List ℕ → S → Error → Type 0) (allowed : Allowed) (limits : Limits) (file : List ℕ)
+pub fit_not_checked : {S V : Type 0} (fails : S → List ℕ → S → Error → Type 0) (checker : Checker) (limits : Limits) (file : List ℕ)
     (content : FitModel) (old new : S) (result : Result V Error) → IsReadFit limits file content →
-    IfErr result (AppendFailed fails (IsReadCheckText allowed limits file content) (IsReadCheckError limits content) old new) →
-    IfErr result (AppendFailed fails (IsChecked allowed limits file) (IsCheckError limits file) old new)
-fit_not_checked fails allowed limits file content old new (Ok value) is failed = tt
-fit_not_checked fails allowed limits file content old new (Err error) is failed =
-    not_checked fails allowed limits file content old new error is failed
+    IfErr result (AppendFailed fails (IsReadCheckText checker limits file content) (IsReadCheckError limits content) old new) →
+    IfErr result (AppendFailed fails (IsChecked checker.format checker.allowed limits file) (IsCheckError limits file) old new)
+fit_not_checked fails checker limits file content old new (Ok value) is failed = tt
+fit_not_checked fails checker limits file content old new (Err error) is failed =
+    not_checked fails checker limits file content old new error is failed
 
--- The lines of the concerns, part by part.
-pub read_pieces : (allowed : Allowed) (file : List ℕ) (content : FitModel) (bytes : List ℕ) →
+-- The texts of the concerns, part by part.
+pub read_pieces : (checker : Checker) (file : List ℕ) (content : FitModel) (bytes : List ℕ) →
     bytes ≡ drop (end_of_read_payloads content.blob.total_size content.images) file →
-    concern_lines allowed (read_concerns file content)
-    ≡ concern_lines allowed (images_concerns (images_of_blob content))
-    ++ (concern_lines allowed (configurations_concerns content)
-    ++ (concern_lines allowed (read_default_concerns content) ++ concern_lines allowed (trailing_concerns bytes)))
-read_pieces allowed file content bytes is =
+    concern_texts checker (read_concerns file content)
+    ≡ concern_texts checker (images_concerns (images_of_blob content))
+    ++ (concern_texts checker (configurations_concerns content)
+    ++ (concern_texts checker (read_default_concerns content) ++ concern_texts checker (trailing_concerns bytes)))
+read_pieces checker file content bytes is =
     let images = images_concerns (images_of_blob content) in
     let lists = configurations_concerns content in
     let default = read_default_concerns content in
     let rest = trailing_concerns (drop (end_of_read_payloads content.blob.total_size content.images) file) in
-    lines_append allowed images (lists ++ (default ++ rest))
-    ∙ ap (λ l. concern_lines allowed images ++ l)
-    (lines_append allowed lists (default ++ rest)
-    ∙ ap (λ l. concern_lines allowed lists ++ l)
-    (lines_append allowed default rest ∙ ap (λ b. concern_lines allowed default ++ concern_lines allowed (trailing_concerns b)) (sym is)))
+    texts_append checker images (lists ++ (default ++ rest))
+    ∙ ap (λ l. concern_texts checker images ++ l)
+    (texts_append checker lists (default ++ rest)
+    ∙ ap (λ l. concern_texts checker lists ++ l)
+    (texts_append checker default rest ∙ ap (λ b. concern_texts checker default ++ concern_texts checker (trailing_concerns b)) (sym is)))
 
 -- An error of reading a file is one of checking it.
 pub check_error_of_reading : (limits : Limits) (file : List ℕ) (error : Error) → IsBootImageReadError limits file error →

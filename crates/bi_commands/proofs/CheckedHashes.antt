@@ -1,17 +1,23 @@
 use Rattle.std.proofs.Common.{◌≡◌, ℕ, Bool, true, false, List, [], ◌∷◌, ◌++◌, map, codes, flat_map, filter, refl, sym, ap, ◌∙◌}
 use Rattle.std.proofs.Common.{append_assoc}
 use Rattle.std.proofs.Common.{Option}
+use Rattle.std.specs.Option.{option_map}
 use Rattle.std.specs.List.{join_with_byte, list_any}
 use Rattle.bi_fit.specs.Judgement.{CheckedHash}
 use Rattle.bi_commands.specs.declared.check.Allowed.{Allowed}
 use Rattle.bi_commands.specs.Checking.{BadHash, UnhashedImage, WeakHash, concern_line, concern_lines, hash_concerns, hashed_concerns}
 use Rattle.bi_commands.specs.Checking.{is_good}
 use Rattle.bi_commands.specs.Checking.{is_strong, payload_concerns, protection_concerns}
-use Rattle.bi_commands.specs.ReadChecking.{good_algorithm}
+use Rattle.bi_commands.specs.declared.check.Checker.{Checker}
+use Rattle.bi_commands.specs.ConcernJson.{concern_object}
+use Rattle.bi_commands.specs.Json.{json_string, member_text, with_commas, string_or_null}
+use Rattle.bi_commands.specs.ReadChecking.{concern_texts, good_algorithm, good_algorithm_json}
 use Rattle.bi_commands.specs.Reports.{shown_or_none}
 use Rattle.bi_commands.specs.Shown.{shown_text}
-use Rattle.bi_commands.proofs.ConcernLines.{lines_allowed, lines_append, lines_flat_map}
+use Rattle.bi_commands.proofs.ConcernLines.{lines_allowed}
+use Rattle.bi_commands.proofs.ConcernTexts.{texts_append}
 use Rattle.bi_commands.proofs.FitLines.{joined_after}
+use Rattle.bi_commands.proofs.JsonTexts.{commas_between}
 
 -- A payload without a Good verdict has one concern, so has one whose Good verdicts are of no strong algorithm, and one with a Good verdict
 -- of a strong algorithm has none.
@@ -39,7 +45,7 @@ weak_pieces image hashes =
     let algorithms : List (List ℕ) = map algorithm_word (filter is_good hashes) in
     let printed : List ℕ = flat_map good_algorithm hashes in
     let words : join_with_byte 32 (shown_text image ∷ algorithms) ≡ shown_text image ++ printed =
-    joined_after (shown_text image) algorithms ∙ ap (λ l. shown_text image ++ l) (sym (good_algorithms hashes)) in
+    joined_after 32 (shown_text image) algorithms ∙ ap (λ l. shown_text image ++ l) (sym (good_algorithms hashes)) in
     ap (λ l. codes "weak-hash " ++ (l ++ 10 ∷ [])) words
     ∙ simp append_assoc refl
 
@@ -65,13 +71,53 @@ good_hash_concerns hash is = rw is refl
 pub bad_hash_concerns : (hash : CheckedHash) → is_good hash ≡ false → hash_concerns hash ≡ BadHash hash ∷ []
 bad_hash_concerns hash is = rw is refl
 
--- The lines of an image: those of its hash nodes, and then that of its payload.
-pub image_pieces : (allowed : Allowed) (image : List ℕ) (payload : Option (List ℕ)) (hashes : List CheckedHash) →
-    concern_lines allowed (hashed_concerns image payload hashes)
-    ≡ flat_map (λ hash. concern_lines allowed (hash_concerns hash)) hashes ++ concern_lines allowed (payload_concerns image payload hashes)
-image_pieces allowed image payload hashes =
-    lines_append allowed (flat_map hash_concerns hashes) (payload_concerns image payload hashes)
-    ∙ ap (λ l. l ++ concern_lines allowed (payload_concerns image payload hashes)) (lines_flat_map allowed hash_concerns hashes)
+-- The texts of the concerns about an image: those of its hash nodes, and then that of its payload.
+pub image_texts : (checker : Checker) (image : List ℕ) (payload : Option (List ℕ)) (hashes : List CheckedHash) →
+    concern_texts checker (hashed_concerns image payload hashes)
+    ≡ concern_texts checker (flat_map hash_concerns hashes) ++ concern_texts checker (payload_concerns image payload hashes)
+image_texts checker image payload hashes = texts_append checker (flat_map hash_concerns hashes) (payload_concerns image payload hashes)
+
+-- The same for a string of JSON.
+pub good_string : (hash : CheckedHash) → is_good hash ≡ true →
+    good_algorithm_json hash ≡ string_or_null (option_map shown_text hash.algo) ∷ []
+good_string hash is = rw is refl
+
+pub no_string : (hash : CheckedHash) → is_good hash ≡ false → good_algorithm_json hash ≡ []
+no_string hash is = rw is refl
+
+-- The algorithm of a hash node as a string, and those of the Good ones.
+abbrev algorithm_string : CheckedHash → List ℕ
+algorithm_string hash = string_or_null (option_map shown_text hash.algo)
+
+good_strings : (hashes : List CheckedHash) →
+    flat_map good_algorithm_json hashes ≡ map algorithm_string (filter is_good hashes)
+good_strings [] = refl
+good_strings (hash ∷ later) = by (is_good hash) refl (good_strings later) where
+  by : (b : Bool) → is_good hash ≡ b →
+      flat_map good_algorithm_json later ≡ map algorithm_string (filter is_good later) →
+      flat_map good_algorithm_json (hash ∷ later) ≡ map algorithm_string (filter is_good (hash ∷ later))
+  by true is rest = rw is (ap (λ (l : List (List ℕ)). algorithm_string hash ∷ l) rest)
+  by false is rest = rw is rest
+
+-- The end of an object after a list, and what comes before it.
+around_list : (first second third values : List ℕ) →
+    123 ∷ ((first ++ (44 ∷ (second ++ (44 ∷ (third ++ (values ++ 93 ∷ [])))))) ++ 125 ∷ [])
+    ≡ 123 ∷ ((first ++ (44 ∷ second)) ++ ((44 ∷ third) ++ (values ++ 93 ∷ 125 ∷ [])))
+around_list first second third values = simp append_assoc refl
+
+-- The object of an image with Good verdicts of no strong algorithm, in its parts.
+pub weak_in_parts : (image : List ℕ) (hashes : List CheckedHash) →
+    concern_object (WeakHash image (filter is_good hashes))
+    ≡ 123 ∷ (join_with_byte 44
+    (map member_text ((codes "concern", json_string (codes "weak-hash")) ∷ (codes "image", json_string (shown_text image)) ∷ []))
+    ++ (codes ",\"algorithms\":[" ++ (with_commas false (flat_map good_algorithm_json hashes) ++ codes "]}")))
+weak_in_parts image hashes =
+    let values = map algorithm_string (filter is_good hashes) in
+    let first = member_text (codes "concern", json_string (codes "weak-hash")) in
+    let second = member_text (codes "image", json_string (shown_text image)) in
+    around_list first second (codes "\"algorithms\":[") (join_with_byte 44 values)
+    ∙ ap (λ (l : List ℕ). 123 ∷ ((first ++ (44 ∷ second)) ++ (codes ",\"algorithms\":[" ++ (l ++ codes "]}"))))
+    (sym (commas_between values) ∙ ap (with_commas false) (sym (good_strings hashes)))
 
 -- The algorithm of a hash node with the verdict Good is printed, and no other one.
 pub good_text : (hash : CheckedHash) → is_good hash ≡ true → good_algorithm hash ≡ 32 ∷ shown_or_none hash.algo

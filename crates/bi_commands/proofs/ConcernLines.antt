@@ -23,10 +23,3 @@ pub lines_append : (allowed : Allowed) (one later : List Concern) →
 lines_append allowed one later =
     let kept : Concern → Bool = λ concern. not (allows allowed (kind_of concern)) in
     ap (flat_map concern_line) (filter-append kept one later) ∙ flat_map-append concern_line (filter kept one) (filter kept later)
-
--- Those of the concerns about each element of a list.
-pub lines_flat_map : {X : Type 0} (allowed : Allowed) (f : X → List Concern) (xs : List X) →
-    concern_lines allowed (flat_map f xs) ≡ flat_map (λ x. concern_lines allowed (f x)) xs
-lines_flat_map allowed f [] = refl
-lines_flat_map allowed f (x ∷ xs) = lines_append allowed (f x) (flat_map f xs)
-    ∙ ap (λ l. concern_lines allowed (f x) ++ l) (lines_flat_map allowed f xs)

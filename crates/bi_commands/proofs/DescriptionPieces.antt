@@ -36,7 +36,7 @@ steps_are_path (first ∷ names) some = sym
 pub words_joined : (first : Field) (later : List Field) →
     join_with_byte 32 (words_of (first ∷ later)) ≡ field_text first ++ flat_map (λ word. 32 ∷ field_text word) later
 words_joined first later =
-    joined_after (field_text first) (words_of later)
+    joined_after 32 (field_text first) (words_of later)
     ∙ ap (λ bytes. field_text first ++ bytes) (flat_map-map (λ word. 32 ∷ word) field_text later)
 
 -- What holds where a call succeeded.

@@ -5,13 +5,13 @@ use Rattle.std.proofs.lemmas.Option.{slice_get-map, slice_get-get_or}
 use Rattle.bi_blob.specs.Blob.{Reservation, end_pair}
 use Rattle.std.proofs.lemmas.List.{append-nil}
 
--- Words with a space between each two, and the reservation at an index.
+-- Words with a byte between each two, and the reservation at an index.
 
--- Words after a first one, with a space before each.
-pub joined_after : (first : List ℕ) (words : List (List ℕ)) →
-    join_with_byte 32 (first ∷ words) ≡ first ++ flat_map (λ word. 32 ∷ word) words
-joined_after first [] = sym (append-nil first)
-joined_after first (word ∷ words) = ap (λ later. first ++ (32 ∷ later)) (joined_after word words)
+-- Words after a first one, with a byte before each.
+pub joined_after : (byte : ℕ) (first : List ℕ) (words : List (List ℕ)) →
+    join_with_byte byte (first ∷ words) ≡ first ++ flat_map (λ word. byte ∷ word) words
+joined_after byte first [] = sym (append-nil first)
+joined_after byte first (word ∷ words) = ap (λ later. first ++ (byte ∷ later)) (joined_after byte word words)
 
 -- The two numbers of a reservation.
 abbrev pub numbers_of : Reservation → ℕ × ℕ

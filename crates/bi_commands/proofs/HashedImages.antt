@@ -2,7 +2,6 @@ use Rattle.std.proofs.Common.{◌≡◌, ◌≤◌, ℕ, true, false, List, [], 
 use Rattle.std.proofs.Common.{◌∙◌, ◌-◌, arith, drop, get_or, take, take_all}
 use Rattle.std.specs.List.{flat_map}
 use Rattle.std.specs.Option.{option_map}
-use Rattle.std.proofs.lemmas.Grind.{flat_map-append}
 use Rattle.bi_blob.specs.Lookups.{Sibling, siblings}
 use Rattle.bi_blob.specs.Tree.{FileNode}
 use Rattle.bi_fit.specs.Content.{FitModel, ImageModel, tree_of}
@@ -11,29 +10,30 @@ use Rattle.bi_fit.specs.Judgement.{Image, CheckedHash, checked_hash, images_of, 
 use Rattle.bi_fit.specs.Names.{is_hash_name}
 use Rattle.bi_fit.proofs.FileNodes.{bare_image, image_siblings, siblings-by_name}
 use Rattle.bi_fit.proofs.FileVerdicts.{hashes_are, verdicts_are}
+use Rattle.bi_commands.specs.declared.format.Format.{Format}
 use Rattle.bi_commands.specs.declared.hash_nodes.HashedImage.{HashedImage as ImageValue}
 use Rattle.bi_commands.specs.Checking.{Concern, hashed_concerns, hashes_of_image, image_concerns}
 use Rattle.bi_commands.specs.HashedImages.{HashedImage, hashed_image, hashed_images, hashes_left, image_value, images_of_blob}
 use Rattle.bi_commands.specs.ReadChecking.{images_concerns}
-use Rattle.bi_commands.specs.ReadReports.{lines_of_image}
-use Rattle.bi_commands.specs.Reports.{hash_line}
+use Rattle.bi_commands.specs.ReadReports.{hash_text, hash_texts}
+use Rattle.bi_commands.proofs.TextsInTurn.{map_append}
 
 -- The images that were read of a file, with their hash nodes, are the images of its tree.
 
--- The lines of hash nodes image by image.
-lines_by_image : (entries : List (Sibling FileNode)) (images : List ImageModel) →
-    flat_map lines_of_image (hashed_images entries images) ≡ flat_map hash_line (file_verdicts entries images)
-lines_by_image [] images = refl
-lines_by_image (entry ∷ entries) [] = refl
-lines_by_image (entry ∷ entries) (image ∷ images) =
+-- The hash nodes image by image.
+texts_by_image : (format : Format) (entries : List (Sibling FileNode)) (images : List ImageModel) →
+    hash_texts format (hashed_images entries images) ≡ map (hash_text format) (file_verdicts entries images)
+texts_by_image format [] images = refl
+texts_by_image format (entry ∷ entries) [] = refl
+texts_by_image format (entry ∷ entries) (image ∷ images) =
     let first : List CheckedHash = file_hashes entry.name image.payload (siblings entry.children) in
-    ap (λ lines. flat_map hash_line first ++ lines) (lines_by_image entries images)
-    ∙ sym (flat_map-append hash_line first (file_verdicts entries images))
+    ap (λ (texts : List (List ℕ)). map (hash_text format) first ++ texts) (texts_by_image format entries images)
+    ∙ sym (map_append (hash_text format) first (file_verdicts entries images))
 
-pub lines_of_images : (content : FitModel) →
-    flat_map lines_of_image (images_of_blob content) ≡ flat_map hash_line (verdicts_of (tree_of content))
-lines_of_images content =
-    lines_by_image (siblings (file_images content.blob)) content.images ∙ ap (flat_map hash_line) (sym (verdicts_are content))
+pub texts_of_images : (format : Format) (content : FitModel) →
+    hash_texts format (images_of_blob content) ≡ map (hash_text format) (verdicts_of (tree_of content))
+texts_of_images format content =
+    texts_by_image format (siblings (file_images content.blob)) content.images ∙ ap (map (hash_text format)) (sym (verdicts_are content))
 
 -- The concerns about images.
 concerns_by_image : (entries : List (Sibling FileNode)) (images : List ImageModel) →

@@ -1,7 +1,7 @@
 use Rattle.std.proofs.Common.{◌≡◌, ◌↔◌, ℕ, ◌/◌, ◌%◌, ◌<◌, suc, Bool, true, false, List, [], ◌∷◌, ◌++◌, get_or, map, refl, sym, ap, ap₂}
-use Rattle.std.proofs.Common.{subst, ◌∙◌, arith, IsTrue, ◌&&◌, append-nil, Result, Ok, Err, IfOk, IfErr, OnOk}
+use Rattle.std.proofs.Common.{subst, ◌∙◌, arith, IsTrue, ◌&&◌, append-nil, append_assoc, codes, Result, Ok, Err, IfOk, IfErr, OnOk}
 use Rattle.std.specs.Fmt.{digit_glyph}
-use Rattle.std.specs.List.{flat_map, slice_index, list_all}
+use Rattle.std.specs.List.{flat_map, join_with_byte, slice_index, list_all}
 use Rattle.std.proofs.lemmas.Grind.{flat_map-append}
 use Rattle.std.proofs.lemmas.List.Folds.{flat_map-map}
 use Rattle.std.proofs.lemmas.List.FromFn.{get_or-map-range_with_len}
@@ -21,15 +21,21 @@ use Rattle.bi_norm.specs.Meaning.{OfLegacy, OfFit}
 use Rattle.bi_norm.specs.Reading.{IsBootImageReadError}
 use Rattle.bi_norm.proofs.NormalForms.{needs_memory}
 use Rattle.hex.specs.Hex.{encode_lower, encode_with, lower_digits}
+use Rattle.bi_commands.specs.declared.format.Format.{Format}
+use Rattle.bi_commands.specs.declared.format.Format.TheVariants.{Lines, Json}
 use Rattle.bi_commands.specs.declared.verdict_counts.Counts.{Counts}
 use Rattle.bi_commands.specs.HashedImages.{images_of_blob}
-use Rattle.bi_commands.specs.ReadReports.{lines_of_image}
-use Rattle.bi_commands.specs.Reports.{HashVerdict, Summary, AreGood, IsReport, IsVerifyOutput, counts_of, is_verdict, legacy_report}
-use Rattle.bi_commands.specs.Reports.{report_line, report_of}
+use Rattle.bi_commands.specs.Formats.{in_turn}
+use Rattle.bi_commands.specs.Json.{with_commas}
+use Rattle.bi_commands.specs.ReadReports.{after_hashes, before_hashes, hash_texts, legacy_report_text}
+use Rattle.bi_commands.specs.ReportJson.{hash_object, summary_object}
+use Rattle.bi_commands.specs.Reports.{HashVerdict, Summary, AreGood, counts_of, hash_line, is_verdict, report_line}
 use Rattle.bi_commands.specs.Shown.{digits_of_byte}
 use Rattle.bi_commands.specs.VerdictCounts.{are_good, counts_model, hash_counts}
-use Rattle.bi_commands.proofs.HashedImages.{lines_of_images}
+use Rattle.bi_commands.specs.VerifiedFiles.{IsReport, IsVerifyOutput, report_text}
+use Rattle.bi_commands.proofs.HashedImages.{texts_of_images}
 use Rattle.bi_commands.proofs.ImageCalls.{tree_needs_memory}
+use Rattle.bi_commands.proofs.JsonTexts.{commas_between}
 use Rattle.bi_commands.proofs.VerdictCounts.{good_counts}
 
 -- The report on what was read from a file is the report on the file.
@@ -77,17 +83,22 @@ all_good (hash ∷ later) = (forth (all_good later).0, back (all_good later).1) 
   back rest good = rw (ap (is_verdict Good) good.0) (rest good.1)
 
 -- The report on a legacy image that was read from a file.
-pub legacy_reported : (limits : Limits) (file : List ℕ) (parsed : LegacyModel) → IsReadLegacy limits file parsed →
-    IsVerifyOutput limits true file (flat_map report_line legacy_report)
-legacy_reported limits file parsed opened = record {
-  report = record { meaning = OfLegacy parsed.image; means = opened.means; is = refl };
+pub legacy_reported : (format : Format) (limits : Limits) (file : List ℕ) (parsed : LegacyModel) → IsReadLegacy limits file parsed →
+    IsVerifyOutput format limits true file (legacy_report_text format)
+legacy_reported format limits file parsed opened = record {
+  report = record { meaning = OfLegacy parsed.image; means = opened.means; is = same format };
   all_good = (λ _. tt, λ _. refl);
 }
+  where
+    same : (form : Format) → legacy_report_text form ≡ report_text form (OfLegacy parsed.image)
+    same Lines = refl
+    same Json = refl
 
 -- The report on a flattened image tree that was read from a file.
-pub tree_reported : (limits : Limits) (file : List ℕ) (content : FitModel) (good : Bool) → IsReadFit limits file content →
-    (IsTrue good ↔ AreGood (verdicts_of (tree_of content))) → IsVerifyOutput limits good file (report_of (OfFit (tree_of content)))
-tree_reported limits file content good is are = record {
+pub tree_reported : (format : Format) (limits : Limits) (file : List ℕ) (content : FitModel) (good : Bool) →
+    IsReadFit limits file content → (IsTrue good ↔ AreGood (verdicts_of (tree_of content))) →
+    IsVerifyOutput format limits good file (report_text format (OfFit (tree_of content)))
+tree_reported format limits file content good is are = record {
   report = record { meaning = OfFit (tree_of content); means = is.means; is = refl };
   all_good = are;
 }
@@ -98,47 +109,63 @@ pub good_of_counts : (hashes : List CheckedHash) (counts : Counts) (good : Bool)
 good_of_counts hashes counts good counted tested =
     subst (λ (b : Bool). IsTrue b ↔ AreGood hashes) (sym (tested ∙ ap are_good counted ∙ good_counts hashes)) (all_good hashes)
 
--- The lines of all hash nodes, and the last line.
-pub lines_of_report : (content : FitModel) (counts : Counts) → counts ≡ hash_counts (verdicts_of (tree_of content)) →
-    report_of (OfFit (tree_of content)) ≡ flat_map lines_of_image (images_of_blob content) ++ report_line (Summary (counts_model counts))
-lines_of_report content counts counted =
+-- What stands after a list in an object: another member, and the end of the line.
+end_of_object : (values text second : List ℕ) →
+    (((values ++ 93 ∷ []) ++ (44 ∷ (text ++ second))) ++ 125 ∷ []) ++ 10 ∷ [] ≡ values ++ (93 ∷ 44 ∷ (text ++ (second ++ 125 ∷ 10 ∷ [])))
+end_of_object values text second = simp append_assoc refl
+
+-- The report in its parts: what comes before the hash nodes, the hash nodes, and what comes after them.
+pub report_in_parts : (format : Format) (content : FitModel) (counts : Counts) → counts ≡ hash_counts (verdicts_of (tree_of content)) →
+    report_text format (OfFit (tree_of content))
+    ≡ before_hashes format
+    ++ (in_turn format false (hash_texts format (images_of_blob content)) ++ after_hashes format (counts_model counts))
+report_in_parts Lines content counts counted =
     let hashes = verdicts_of (tree_of content) in
     flat_map-append report_line (map HashVerdict hashes) (Summary (counts_of hashes) ∷ [])
     ∙ ap₂ (λ (a b : List ℕ). a ++ b)
-    (flat_map-map report_line HashVerdict hashes ∙ sym (lines_of_images content))
-    (append-nil (report_line (Summary (counts_of hashes)))
-    ∙ ap (λ (numbers : Counts). report_line (Summary (counts_model numbers))) (sym counted))
+    (flat_map-map report_line HashVerdict hashes
+    ∙ sym (flat_map-map (λ (text : List ℕ). text) hash_line hashes)
+    ∙ ap (λ (texts : List (List ℕ)). flat_map (λ text. text) texts) (sym (texts_of_images Lines content)))
+    (append-nil (report_line (Summary (counts_of hashes))) ∙ ap (λ (numbers : Counts). report_line (Summary (counts_model numbers))) (sym counted))
+report_in_parts Json content counts counted =
+    let hashes = verdicts_of (tree_of content) in
+    let values = join_with_byte 44 (map hash_object hashes) in
+    ap (λ (l : List ℕ). before_hashes Json ++ l) (end_of_object values (codes "\"summary\":") (summary_object (counts_of hashes)))
+    ∙ ap₂ (λ (a : List ℕ) (numbers : Counts). before_hashes Json ++ (a ++ after_hashes Json (counts_model numbers)))
+    (sym (commas_between (map hash_object hashes)) ∙ ap (with_commas false) (sym (texts_of_images Json content)))
+    (sym counted)
 
 -- An error is one of reading the file,
-pub not_verified : {S : Type 0} (fails : S → List ℕ → S → Error → Type 0) (limits : Limits) (file : List ℕ) (content : FitModel)
-    (old new : S) (error : Error) → IsReadFit limits file content
-    → AppendFailed fails (λ text. text ≡ report_of (OfFit (tree_of content))) (λ error. error ≡ OutOfMemory) old new error
-    → AppendFailed fails (IsReport limits file) (IsBootImageReadError limits file) old new error
-not_verified fails limits file content old new error is (WasRefused none kept) =
+pub not_verified : {S : Type 0} (fails : S → List ℕ → S → Error → Type 0) (format : Format) (limits : Limits) (file : List ℕ)
+    (content : FitModel) (old new : S) (error : Error) → IsReadFit limits file content
+    → AppendFailed fails (λ text. text ≡ report_text format (OfFit (tree_of content))) (λ error. error ≡ OutOfMemory) old new error
+    → AppendFailed fails (IsReport format limits file) (IsBootImageReadError limits file) old new error
+not_verified fails format limits file content old new error is (WasRefused none kept) =
     WasRefused (subst (IsBootImageReadError limits file) (sym none) (tree_needs_memory limits file content is)) kept
-not_verified fails limits file content old new error is (SinkFailed text cause is_text failed same) =
+not_verified fails format limits file content old new error is (SinkFailed text cause is_text failed same) =
     SinkFailed text cause (record { meaning = OfFit (tree_of content); means = is.means; is = is_text }) failed same
 
 -- also if the report is made in memory.
-pub not_reported : (limits : Limits) (file old new : List ℕ) (error : Error) →
-    AppendFailed (FailsWithin Grows IsOutOfMemory) (IsReport limits file) (IsBootImageReadError limits file) old new error →
+pub not_reported : (format : Format) (limits : Limits) (file old new : List ℕ) (error : Error) →
+    AppendFailed (FailsWithin Grows IsOutOfMemory) (IsReport format limits file) (IsBootImageReadError limits file) old new error →
     IsBootImageReadError limits file error
-not_reported limits file old new error (WasRefused is kept) = is
-not_reported limits file old new error (SinkFailed text cause is failed same) =
+not_reported format limits file old new error (WasRefused is kept) = is
+not_reported format limits file old new error (SinkFailed text cause is failed same) =
     subst (IsBootImageReadError limits file) (sym (same ∙ failed.1)) (needs_memory limits file is.meaning is.means)
 
 -- What a call on what was read from a file did is what it did with the file.
-pub fit_reported : {S : Type 0} (appends : S → List ℕ → S → Type 0) (limits : Limits) (file : List ℕ) (content : FitModel) (old new : S)
-    (result : Result Bool Error) → IsReadFit limits file content → OnOk result (appends old (report_of (OfFit (tree_of content))) new) →
+pub fit_reported : {S : Type 0} (appends : S → List ℕ → S → Type 0) (format : Format) (limits : Limits) (file : List ℕ)
+    (content : FitModel) (old new : S) (result : Result Bool Error) → IsReadFit limits file content →
+    OnOk result (appends old (report_text format (OfFit (tree_of content))) new) →
     IfOk result (λ good. IsTrue good ↔ AreGood (verdicts_of (tree_of content))) →
-    IfOk result (λ good. Appended appends (IsVerifyOutput limits good file) old new)
-fit_reported appends limits file content old new (Ok good) is written are =
-    record { text = report_of (OfFit (tree_of content)); is_text = tree_reported limits file content good is are; appended = written }
-fit_reported appends limits file content old new (Err error) is written are = tt
+    IfOk result (λ good. Appended appends (IsVerifyOutput format limits good file) old new)
+fit_reported appends format limits file content old new (Ok good) is written are =
+    record { text = report_text format (OfFit (tree_of content)); is_text = tree_reported format limits file content good is are; appended = written }
+fit_reported appends format limits file content old new (Err error) is written are = tt
 
-pub fit_not_reported : {S V : Type 0} (fails : S → List ℕ → S → Error → Type 0) (limits : Limits) (file : List ℕ) (content : FitModel)
-    (old new : S) (result : Result V Error) → IsReadFit limits file content →
-    IfErr result (AppendFailed fails (λ text. text ≡ report_of (OfFit (tree_of content))) (λ error. error ≡ OutOfMemory) old new) →
-    IfErr result (AppendFailed fails (IsReport limits file) (IsBootImageReadError limits file) old new)
-fit_not_reported fails limits file content old new (Ok value) is failed = tt
-fit_not_reported fails limits file content old new (Err error) is failed = not_verified fails limits file content old new error is failed
+pub fit_not_reported : {S V : Type 0} (fails : S → List ℕ → S → Error → Type 0) (format : Format) (limits : Limits) (file : List ℕ)
+    (content : FitModel) (old new : S) (result : Result V Error) → IsReadFit limits file content →
+    IfErr result (AppendFailed fails (λ text. text ≡ report_text format (OfFit (tree_of content))) (λ error. error ≡ OutOfMemory) old new) →
+    IfErr result (AppendFailed fails (IsReport format limits file) (IsBootImageReadError limits file) old new)
+fit_not_reported fails format limits file content old new (Ok value) is failed = tt
+fit_not_reported fails format limits file content old new (Err error) is failed = not_verified fails format limits file content old new error is failed

@@ -48,3 +48,7 @@ pub mod VerdictCounts
 pub mod AsciiReports
 pub mod ListedResults
 pub mod LinesLeft
+pub mod JsonTexts
+pub mod TextsInTurn
+pub mod AsciiJson
+pub mod ConcernTexts

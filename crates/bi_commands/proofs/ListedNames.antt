@@ -80,7 +80,7 @@ images_line configuration key result names are =
 -- Words and more of them, with a space before each but the first.
 joined_more : (first : List ℕ) (words more : List (List ℕ)) →
     join_with_byte 32 (first ∷ (words ++ more)) ≡ join_with_byte 32 (first ∷ words) ++ flat_map (λ word. 32 ∷ word) more
-joined_more first [] more = joined_after first more
+joined_more first [] more = joined_after 32 first more
 joined_more first (word ∷ words) more =
     ap (λ later. first ++ (32 ∷ later)) (joined_more word words more)
     ∙ sym (append_assoc first (32 ∷ join_with_byte 32 (word ∷ words)) (flat_map (λ word. 32 ∷ word) more))

@@ -9,10 +9,10 @@ use Rattle.bi_fit.specs.Judgement.{configuration_nodes}
 use Rattle.bi_fit.specs.Names.{all_keys}
 use Rattle.bi_fit.proofs.FileConfigurations.{each_is_found, names_are}
 use Rattle.bi_fit.proofs.FileLists.{listed_is}
-use Rattle.bi_commands.specs.declared.check.Allowed.{Allowed}
-use Rattle.bi_commands.specs.Checking.{Concern, concern_lines, configuration_concerns, list_concerns}
-use Rattle.bi_commands.specs.ReadChecking.{configurations_concerns, configuration_concern_lines}
-use Rattle.bi_commands.proofs.ConcernLines.{lines_flat_map}
+use Rattle.bi_commands.specs.declared.check.Checker.{Checker}
+use Rattle.bi_commands.specs.Checking.{Concern, configuration_concerns, list_concerns}
+use Rattle.bi_commands.specs.ReadChecking.{concern_texts, configuration_concern_texts, configurations_concerns}
+use Rattle.bi_commands.proofs.ConcernTexts.{texts_flat_map}
 
 -- The concerns about configurations are those about the children of the node of the configurations, one after the other.
 
@@ -21,31 +21,30 @@ same_concerns : {A : Type 0} (f g : A → List Concern) → ((x : A) → f x ≡
 same_concerns f g same [] = refl
 same_concerns f g same (x ∷ xs) = ap₂ (λ first later. first ++ later) (same x) (same_concerns f g same xs)
 
--- The lines of the concerns about a configuration.
-lines_of_node : (allowed : Allowed) (content : FitModel) → IsHeld content → (entry : Sibling FileNode) → IsConfiguration content entry →
-    concern_lines allowed (configuration_concerns (tree_of content) entry.name) ≡ configuration_concern_lines allowed content.images entry
-lines_of_node allowed content held entry is =
+-- The texts of the concerns about a configuration.
+texts_of_node : (checker : Checker) (content : FitModel) → IsHeld content → (entry : Sibling FileNode) → IsConfiguration content entry →
+    concern_texts checker (configuration_concerns (tree_of content) entry.name) ≡ configuration_concern_texts checker content.images entry
+texts_of_node checker content held entry is =
     let concerns : Key → List Concern = λ key. list_concerns entry.name key (file_listed content.images entry key) in
-    ap (concern_lines allowed)
-    (same_concerns _ concerns (λ (key : Key). ap (list_concerns entry.name key)
-    (listed_is content held entry.name entry key is.is_found)) all_keys)
-    ∙ lines_flat_map allowed concerns all_keys
+    ap (concern_texts checker)
+    (same_concerns _ concerns (λ (key : Key). ap (list_concerns entry.name key) (listed_is content held entry.name entry key is.is_found)) all_keys)
+    ∙ texts_flat_map checker concerns all_keys
 
 -- About several.
-lines_of_nodes : (allowed : Allowed) (content : FitModel) → IsHeld content → (entries : List (Sibling FileNode)) →
+texts_of_nodes : (checker : Checker) (content : FitModel) → IsHeld content → (entries : List (Sibling FileNode)) →
     AllByRecursion (IsConfiguration content) entries →
-    flat_map (λ name. concern_lines allowed (configuration_concerns (tree_of content) name)) (map (λ sibling. sibling.name) entries)
-    ≡ flat_map (configuration_concern_lines allowed content.images) entries
-lines_of_nodes allowed content held [] are = refl
-lines_of_nodes allowed content held (entry ∷ later) are =
-    ap₂ (λ (first rest : List ℕ). first ++ rest) (lines_of_node allowed content held entry are.0)
-    (lines_of_nodes allowed content held later are.1)
+    flat_map (λ name. concern_texts checker (configuration_concerns (tree_of content) name)) (map (λ sibling. sibling.name) entries)
+    ≡ flat_map (configuration_concern_texts checker content.images) entries
+texts_of_nodes checker content held [] are = refl
+texts_of_nodes checker content held (entry ∷ later) are =
+    ap₂ (λ (first rest : List (List ℕ)). first ++ rest) (texts_of_node checker content held entry are.0)
+    (texts_of_nodes checker content held later are.1)
 
 -- About all.
-pub lines_of_configurations : (allowed : Allowed) (content : FitModel) → IsHeld content →
-    concern_lines allowed (configurations_concerns content)
-    ≡ flat_map (configuration_concern_lines allowed content.images) (siblings (file_configurations content.blob))
-lines_of_configurations allowed content held =
-    lines_flat_map allowed (configuration_concerns (tree_of content)) (names (configuration_nodes (tree_of content)))
-    ∙ ap (flat_map (λ name. concern_lines allowed (configuration_concerns (tree_of content) name))) (names_are content)
-    ∙ lines_of_nodes allowed content held (siblings (file_configurations content.blob)) (each_is_found content held)
+pub texts_of_configurations : (checker : Checker) (content : FitModel) → IsHeld content →
+    concern_texts checker (configurations_concerns content)
+    ≡ flat_map (configuration_concern_texts checker content.images) (siblings (file_configurations content.blob))
+texts_of_configurations checker content held =
+    texts_flat_map checker (configuration_concerns (tree_of content)) (names (configuration_nodes (tree_of content)))
+    ∙ ap (flat_map (λ name. concern_texts checker (configuration_concerns (tree_of content) name))) (names_are content)
+    ∙ texts_of_nodes checker content held (siblings (file_configurations content.blob)) (each_is_found content held)

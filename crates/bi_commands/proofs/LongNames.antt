@@ -65,7 +65,7 @@ name_shown name = by_name (bytes_eq name []) refl (bytes_eq name (codes "-")) re
 third_word : (first second third : List ℕ) (later : Words) → length third ≤ length (line (first ∷ second ∷ third ∷ later))
 third_word first second third later =
     let rest : List ℕ = flat_map (λ word. 32 ∷ word) later in
-    let words = ap length (joined_after first (second ∷ third ∷ later)) in
+    let words = ap length (joined_after 32 first (second ∷ third ∷ later)) in
     let whole = length-append (join_with_byte 32 (first ∷ second ∷ third ∷ later)) (10 ∷ []) in
     let after_first = length-append first ((32 ∷ second) ++ ((32 ∷ third) ++ rest)) in
     let after_second = length-append (32 ∷ second) ((32 ∷ third) ++ rest) in

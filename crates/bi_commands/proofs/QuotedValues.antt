@@ -111,7 +111,7 @@ quoted_listed : (bytes : List ℕ) → join_with_byte 32 (map quoted_text (liste
 quoted_listed bytes =
     let names = has_first_name bytes in
     ap (λ texts. join_with_byte 32 (map quoted_text texts)) names.are
-    ∙ joined_after (quoted_text names.first) (map quoted_text names.others)
+    ∙ joined_after 32 (quoted_text names.first) (map quoted_text names.others)
     ∙ ap (λ later. 34 ∷ later) (sym (ap after_quote names.are) ∙ quotes bytes)
 
 -- Whether a value is texts, byte by byte.

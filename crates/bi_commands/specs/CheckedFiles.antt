@@ -6,20 +6,32 @@ use Rattle.bi_norm.specs.Comparing.{MeansOnly}
 use Rattle.bi_norm.specs.Meaning.{Meaning, Means}
 use Rattle.bi_norm.specs.Reading.{IsReadErrorOrTooLarge}
 use Rattle.bi_commands.specs.declared.check.Allowed.{Allowed}
-use Rattle.bi_commands.specs.Checking.{Concern, AreConcerns, concern_lines}
+use Rattle.bi_commands.specs.declared.format.Format.{Format}
+use Rattle.bi_commands.specs.declared.format.Format.TheVariants.{Lines, Json}
+use Rattle.bi_commands.specs.Checking.{Concern, AreConcerns, concern_lines, kept_concerns}
+use Rattle.bi_commands.specs.ConcernJson.{concerns_object}
+use Rattle.bi_commands.specs.Json.{json_line}
 use Rattle.bi_commands.specs.PayloadBounds.{IsOverPayloadBound}
 
 -- Checking a boot image (profile of this project).
 
--- The text has the lines of the concerns about the file that are not allowed. The file means
+-- The text of the concerns that are not allowed, in a form.
+abbrev pub concerns_text : Format → Allowed → List Concern → List ℕ
+concerns_text Lines allowed concerns = concern_lines allowed concerns
+concerns_text Json allowed concerns =
+    json_line (concerns_object (kept_concerns allowed concerns))
+
+-- The text is that of the concerns about the file that are not allowed, in a form. The file means
 -- something and nothing else, and its payloads are within the payload bound.
-pub record IsChecked (allowed : Allowed) (limits : Limits) (file text : List ℕ) : Type 0 where
-  pub meaning : Meaning
-  pub means : MeansOnly limits file meaning
-  pub within : ¬ (IsOverPayloadBound limits meaning)
-  pub concerns : List Concern
-  pub are_concerns : AreConcerns limits file concerns
-  pub is_text : text ≡ concern_lines allowed concerns
+pub record IsChecked (format : Format) (allowed : Allowed) (limits : Limits) (file text : List ℕ)
+    : Type 0
+  where
+    pub meaning : Meaning
+    pub means : MeansOnly limits file meaning
+    pub within : ¬ (IsOverPayloadBound limits meaning)
+    pub concerns : List Concern
+    pub are_concerns : AreConcerns limits file concerns
+    pub is_text : text ≡ concerns_text format allowed concerns
 
 -- The file means something whose payloads are over the payload bound.
 pub record HoldsTooMuch (limits : Limits) (file : List ℕ) : Type 0 where
@@ -32,25 +44,26 @@ pub record HoldsTooMuch (limits : Limits) (file : List ℕ) : Type 0 where
 abbrev pub IsCheckError : Limits → List ℕ → Error → Type 0
 IsCheckError limits file = IsReadErrorOrTooLarge limits file (HoldsTooMuch limits file)
 
--- The text has the lines of the concerns about the file that are not allowed, and this is whether
--- there are none.
-pub record IsCheckOutput (allowed : Allowed) (limits : Limits) (clean : Bool) (file text : List ℕ)
-    : Type 0
+-- The text is that of the concerns about the file that are not allowed, in a form, and this is
+-- whether there are none.
+pub record IsCheckOutput (format : Format) (allowed : Allowed) (limits : Limits) (clean : Bool)
+    (file text : List ℕ) : Type 0
   where
-    pub checked : IsChecked allowed limits file text
-    pub is_empty : IsTrue clean ↔ (text ≡ [])
+    pub checked : IsChecked format allowed limits file text
+    pub is_empty : IsTrue clean ↔ (kept_concerns allowed checked.concerns ≡ [])
 
 -- What checking promises as a command.
-abbrev pub check_promise : Allowed → Limits → CommandPromise Bool Error
-check_promise allowed limits = record {
-  is_output = λ clean file text. IsCheckOutput allowed limits clean file text;
-  is_text = IsChecked allowed limits;
+abbrev pub check_promise : Format → Allowed → Limits → CommandPromise Bool Error
+check_promise format allowed limits = record {
+  is_output = λ clean file text. IsCheckOutput format allowed limits clean file text;
+  is_text = IsChecked format allowed limits;
   has_error = IsCheckError limits;
   wraps = λ error. error;
 }
 
-pub check_laws : (allowed : Allowed) (limits : Limits) → PromiseLaws (check_promise allowed limits)
-check_laws allowed limits = record {
+pub check_laws : (format : Format) (allowed : Allowed) (limits : Limits)
+    → PromiseLaws (check_promise format allowed limits)
+check_laws format allowed limits = record {
   is_text = λ clean file text is. is.checked;
   wraps_once = λ a b same. same;
   no_read_error = λ file is. is;

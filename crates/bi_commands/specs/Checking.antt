@@ -207,7 +207,11 @@ allows allowed kind.Missing = allowed.missing
 allows allowed kind.BadDefault = allowed.bad_default
 allows allowed kind.Trailing = allowed.trailing
 
+-- The concerns that are not allowed.
+abbrev pub kept_concerns : Allowed → List Concern → List Concern
+kept_concerns allowed concerns =
+    filter (λ concern. not (allows allowed (kind_of concern))) concerns
+
 -- The lines of the concerns that are not allowed.
 abbrev pub concern_lines : Allowed → List Concern → List ℕ
-concern_lines allowed concerns =
-    flat_map concern_line (filter (λ concern. not (allows allowed (kind_of concern))) concerns)
+concern_lines allowed concerns = flat_map concern_line (kept_concerns allowed concerns)

@@ -13,6 +13,7 @@ use Rattle.bi_fit.specs.Payloads.{source_of, payload_place, IsAt}
 use Rattle.bi_hash.specs.declared.verdicts.Verdict.TheVariants.{Good}
 use Rattle.bi_legacy.specs.Reading.{LegacyModel, IsReadLegacy}
 use Rattle.bi_commands.specs.declared.check.Allowed.{Allowed}
+use Rattle.bi_commands.specs.declared.format.Format.TheVariants.{Lines}
 use Rattle.bi_commands.specs.CheckedFiles.{IsChecked}
 use Rattle.bi_commands.specs.Checking.{hashes_of_image, strong_algorithms}
 use Rattle.bi_commands.specs.Reports.{AreGood}
@@ -115,5 +116,6 @@ pub data IsClean (allowed : Allowed) (limits : Limits) (file : List ℕ) : Type 
 -- The law that checking a file writes nothing if and only if the file is clean.
 abbrev pub EmptyIsClean : Type 0
 EmptyIsClean =
-    (allowed : Allowed) (limits : Limits) (file text : List ℕ) → IsChecked allowed limits file text
+    (allowed : Allowed) (limits : Limits) (file text : List ℕ)
+    → IsChecked Lines allowed limits file text
     → (text ≡ []) ↔ IsClean allowed limits file

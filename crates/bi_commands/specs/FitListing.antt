@@ -1,13 +1,11 @@
-use Rattle.std.specs.Prelude.{◌≡◌, ℕ, List, [], ◌∷◌, ◌++◌, Option, None, Some, length, map}
+use Rattle.std.specs.Prelude.{ℕ, List, [], ◌∷◌, ◌++◌, Option, None, Some, length, map}
 use Rattle.std.specs.Prelude.{flat_map}
 use Rattle.std.specs.Prelude.{codes, unwrap_or, false}
 use Rattle.std.specs.Fmt.{decimal}
 use Rattle.bi_base.specs.Cells.{cell8}
-use Rattle.bi_base.specs.Limits.{Limits}
 use Rattle.bi_blob.specs.Blob.{Reservation, totalsize}
 use Rattle.bi_blob.specs.Tree.{Nodes, node, FileNode, names}
 use Rattle.bi_fit.specs.declared.key.Key.{Key}
-use Rattle.bi_fit.specs.File.{FitMeans}
 use Rattle.bi_fit.specs.ImageTree.{ImageTree}
 use Rattle.bi_fit.specs.Judgement.{ListResult, NoConfig, NoKey, BadList, Missing}
 use Rattle.bi_fit.specs.Judgement.{ListedImages, configuration_nodes, listed_of, default_of}
@@ -89,9 +87,3 @@ fit_listing file images tree =
     ++ (image_lines file images tree.payloads
     ++ (flat_map (configuration_lines tree) (names (configuration_nodes tree))
     ++ default_line (default_of tree))))))
-
--- The text is the listing of the flattened image tree.
-pub record IsFitListing (limits : Limits) (file text : List ℕ) : Type 0 where
-  pub tree : ImageTree
-  pub means : FitMeans limits file tree
-  pub is : text ≡ fit_listing file means.is_file.images tree

@@ -38,3 +38,13 @@ pub mod VerdictCounts
 pub mod ReadReports
 pub mod Children
 pub mod Listed
+pub mod Json
+pub mod ListingJson
+pub mod ReportJson
+pub mod ConcernJson
+pub mod DescriptionJson
+pub mod ComparisonJson
+pub mod Formats
+pub mod JsonValues
+pub mod VerifiedFiles
+pub mod ListedFiles

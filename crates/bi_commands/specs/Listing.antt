@@ -1,15 +1,10 @@
-use Rattle.std.specs.Prelude.{ℕ, ◌+◌, ◌≡◌, List, [], ◌∷◌, ◌++◌, length, codes, unwrap_or}
+use Rattle.std.specs.Prelude.{ℕ, ◌+◌, List, [], ◌∷◌, ◌++◌, length, codes, unwrap_or}
 use Rattle.std.specs.Fmt.{decimal}
-use Rattle.bi_base.specs.Commands.{CommandPromise, PromiseLaws, unit_promise, unit_laws}
-use Rattle.bi_base.specs.declared.fault.Error.{Error}
-use Rattle.bi_base.specs.Limits.{Limits}
 use Rattle.bi_legacy.specs.Codes.{CodeName, os_names, arch_names, type_names, compression_names}
 use Rattle.bi_legacy.specs.Codes.{name_of_code}
 use Rattle.bi_legacy.specs.Meaning.{LegacyImage}
 use Rattle.bi_legacy.specs.PlacedParts.{PartModel, placed_parts}
-use Rattle.bi_legacy.specs.Reading.{LegacyModel, IsReadLegacy}
-use Rattle.bi_norm.specs.Reading.{IsBootImageReadError}
-use Rattle.bi_commands.specs.FitListing.{IsFitListing}
+use Rattle.bi_legacy.specs.Reading.{LegacyModel}
 use Rattle.bi_commands.specs.Shown.{line, hexadecimal, shown_text}
 
 -- The text that `list` writes (profile of this project).
@@ -59,19 +54,3 @@ legacy_listing parsed =
     ++ (code_lines parsed.image
     ++ (parts_lines parsed.image
     ++ line (codes "unused" ∷ decimal parsed.unused ∷ []))))
-
--- The text is the listing of the file, which is a legacy image or a flattened image tree.
-pub data IsListing (limits : Limits) (file text : List ℕ) : Type 0 where
-  OfLegacyImage : (parsed : LegacyModel) → IsReadLegacy limits file parsed
-      → text ≡ legacy_listing parsed → IsListing limits file text
-  OfImageTree : IsFitListing limits file text → IsListing limits file text
-
--- What listing promises as a command.
-abbrev pub list_promise : Limits → CommandPromise (Unit {0}) Error
-list_promise limits =
-    unit_promise (IsListing limits) (IsBootImageReadError limits)
-
-pub list_laws : (limits : Limits) → PromiseLaws (list_promise limits)
-list_laws limits =
-    unit_laws (IsListing limits) (IsBootImageReadError limits)
-    (λ input is. is) (λ input is. is)

@@ -1,18 +1,14 @@
-use Rattle.std.specs.Prelude.{◌≡◌, ◌↔◌, ℕ, Bool, true, false, IsTrue, List, [], ◌∷◌, ◌++◌}
+use Rattle.std.specs.Prelude.{◌≡◌, ℕ, Bool, true, false, List, [], ◌∷◌, ◌++◌}
 use Rattle.std.specs.Prelude.{Option, None, Some, flat_map, map, filter, length, codes}
 use Rattle.std.specs.Prelude.{bytes_eq}
 use Rattle.std.specs.Prelude.{if◌then◌else◌}
 use Rattle.std.specs.List.{AllByRecursion}
 use Rattle.std.specs.Fmt.{decimal}
-use Rattle.bi_base.specs.Commands.{CommandPromise, PromiseLaws}
-use Rattle.bi_base.specs.declared.fault.Error.{Error}
-use Rattle.bi_base.specs.Limits.{Limits}
 use Rattle.bi_fit.specs.Judgement.{CheckedHash, verdicts_of}
 use Rattle.bi_hash.specs.declared.verdicts.Verdict.{Verdict}
 use Rattle.bi_hash.specs.declared.verdicts.Verdict.TheVariants.{Good, Bad, UnknownAlgo, NoPayload}
 use Rattle.bi_hash.specs.declared.verdicts.Verdict.TheVariants.{Malformed}
-use Rattle.bi_norm.specs.Meaning.{Meaning, OfLegacy, OfFit, Means}
-use Rattle.bi_norm.specs.Reading.{IsBootImageReadError}
+use Rattle.bi_norm.specs.Meaning.{Meaning, OfLegacy, OfFit}
 use Rattle.bi_commands.specs.Descriptions.{Words}
 use Rattle.bi_commands.specs.Shown.{line, shown_text}
 use Rattle.bi_commands.specs.ValueTexts.{hexadecimal_digits}
@@ -127,36 +123,8 @@ hash_line hash = report_line (HashVerdict hash)
 abbrev pub report_of : Meaning → List ℕ
 report_of meaning = flat_map report_line (report_lines meaning)
 
--- ---- the report on a file
-
--- The text is the report on the file.
-pub record IsReport (limits : Limits) (file text : List ℕ) : Type 0 where
-  pub meaning : Meaning
-  pub means : Means limits file meaning
-  pub is : text ≡ report_of meaning
+-- ---- what they say
 
 -- Each of these hash nodes has the verdict Good.
 abbrev pub AreGood : List CheckedHash → Type 0
 AreGood hashes = AllByRecursion (λ hash. hash.verdict ≡ Good) hashes
-
--- The text is the report on the file, and this is whether no verdict in it is other than Good.
-pub record IsVerifyOutput (limits : Limits) (good : Bool) (file text : List ℕ) : Type 0 where
-  pub report : IsReport limits file text
-  pub all_good : IsTrue good ↔ AreGood (hashes_of report.meaning)
-
--- What verifying promises as a command.
-abbrev pub verify_promise : Limits → CommandPromise Bool Error
-verify_promise limits = record {
-  is_output = λ good file text. IsVerifyOutput limits good file text;
-  is_text = IsReport limits;
-  has_error = IsBootImageReadError limits;
-  wraps = λ error. error;
-}
-
-pub verify_laws : (limits : Limits) → PromiseLaws (verify_promise limits)
-verify_laws limits = record {
-  is_text = λ good file text is. is.report;
-  wraps_once = λ a b same. same;
-  no_read_error = λ file is. is;
-  no_write_error = λ file is. is;
-}

@@ -20,9 +20,13 @@ abbrev pub are_quotable_texts : List ℕ → Bool
 are_quotable_texts value =
     ends_with nat_eq value (0 ∷ []) && list_all is_quotable (listed_names value)
 
--- A byte in quotes: a backslash comes before `"` and before a backslash.
+-- Whether a backslash comes before a byte in quotes: it is `"` or a backslash.
+abbrev pub needs_backslash : ℕ → Bool
+needs_backslash byte = byte == 34 || byte == 92
+
+-- A byte in quotes.
 abbrev pub escaped_byte : ℕ → List ℕ
-escaped_byte byte = if byte == 34 || byte == 92 then 92 ∷ byte ∷ [] else byte ∷ []
+escaped_byte byte = if needs_backslash byte then 92 ∷ byte ∷ [] else byte ∷ []
 
 -- A text in quotes.
 abbrev pub quoted_text : List ℕ → List ℕ

@@ -3,16 +3,19 @@
 ghost use Rattle.std.specs.Prelude.{◌≡◌, ⊤, IfOk, IfErr, string_bytes};
 ghost use Rattle.bi_base.specs.Commands.{Appended, AppendFailed};
 ghost use Rattle.bi_base.specs.Pipes.{IsPiped};
+ghost use Rattle.bi_commands.specs.declared.format.Format.TheVariants.{Lines, Json};
 ghost use Rattle.bi_commands.specs.CheckedFiles.{IsChecked, IsCheckError, IsCheckOutput};
 ghost use Rattle.bi_commands.specs.CheckedFiles.{check_promise, check_laws};
 ghost use Rattle.bi_commands.specs.Checking.{kind_word, allows as allows_kind};
 
 pub(crate) mod concern;
+mod concern_json;
 mod configurations;
 mod fit;
 mod images;
 mod trailing;
 
+use crate::format::Format;
 use bi_base::{Command, Error, Limits, Sink, VecSink, pipe_to};
 use bi_norm::BootImage;
 use fit::check_fit;
@@ -108,43 +111,80 @@ impl Allowed {
 /// legacy image, or of the header and the memory reservation block of a blob. No payload is hashed
 /// before the lengths of the payloads are checked.
 pub fn check(alloc: Global, file: &[u8], allowed: Allowed, limits: Limits) -> Result<String, Error>
-    ensures checked { IfOk result (λ text. IsChecked allowed limits file.now
+    ensures checked { IfOk result (λ text. IsChecked Lines allowed limits file.now
+        (string_bytes text)) }
+    ensures failed { IfErr result (IsCheckError limits file.now) }
+{
+    let checker = Checker {
+        allowed,
+        format: Format::Lines,
+    };
+    check_as(alloc, file, checker, limits)
+}
+
+/// Returns the concerns about a boot image that are not allowed, as one text of JSON and a newline.
+/// It says what the lines of `check` say, and the errors are those of `check`.
+pub fn check_json(
+    alloc: Global,
+    file: &[u8],
+    allowed: Allowed,
+    limits: Limits,
+) -> Result<String, Error>
+    ensures checked { IfOk result (λ text. IsChecked Json allowed limits file.now
+        (string_bytes text)) }
+    ensures failed { IfErr result (IsCheckError limits file.now) }
+{
+    let checker = Checker {
+        allowed,
+        format: Format::Json,
+    };
+    check_as(alloc, file, checker, limits)
+}
+
+/// Returns the text of the concerns about a boot image that are not allowed.
+fn check_as(alloc: Global, file: &[u8], checker: Checker, limits: Limits) -> Result<String, Error>
+    ensures checked { IfOk result (λ text. IsChecked checker.format checker.allowed limits file.now
         (string_bytes text)) }
     ensures failed { IfErr result (IsCheckError limits file.now) }
 {
     let mut sink = VecSink::new(alloc);
-    let _clean = check_into(alloc, file, allowed, limits, &mut sink)?;
+    let _clean = check_into(alloc, file, checker, limits, &mut sink)?;
     match String::from_utf8(sink.into_vec()) {
         Ok(text) => Ok(text),
         Err(_) => unreachable!(),
     }
 }
 
-/// Appends the lines that `check` returns, one by one, and returns whether there are none. Each
-/// refusal and each allocation comes before the first byte, and no memory is taken for the lines.
+/// Appends the text of the concerns about a boot image that are not allowed, piece by piece, and
+/// returns whether there are none. Each refusal and each allocation comes before the first byte,
+/// and no memory is taken for the text.
 fn check_into<S: Sink>(
     alloc: Global,
     file: &[u8],
-    allowed: Allowed,
+    checker: Checker,
     limits: Limits,
     sink: &mut S,
 ) -> Result<bool, Error>
     ensures appended { IfOk result (λ clean. Appended S.appends
-        (IsCheckOutput allowed limits clean file.now) sink.old sink.new) }
-    ensures failed { IfErr result (AppendFailed S.fails (IsChecked allowed limits file.now)
+        (IsCheckOutput checker.format checker.allowed limits clean file.now) sink.old sink.new) }
+    ensures failed { IfErr result (AppendFailed S.fails
+        (IsChecked checker.format checker.allowed limits file.now)
         (IsCheckError limits file.now) sink.old sink.new) }
 {
     match BootImage::read(alloc, file, limits)? {
-        BootImage::Legacy(image) => check_legacy(file, &image, allowed, sink),
-        BootImage::Fit(image) => check_fit(alloc, file, &image, allowed, limits, sink),
+        BootImage::Legacy(image) => check_legacy(file, &image, checker, sink),
+        BootImage::Fit(image) => check_fit(alloc, file, &image, checker, limits, sink),
     }
 }
 
-/// Checking, as a command: `check`. Its value is whether there is no line.
+/// Checking, as a command: `check`, or `check_json`. Its value is whether no concern is left after
+/// those that are allowed.
 #[derive(Clone, Copy, Debug, PartialEq, Eq)]
 pub struct Checker {
     /// The kinds of concerns that are left out.
     pub allowed: Allowed,
+    /// The form of the text.
+    pub format: Format,
 }
 
 impl Command for Checker {
@@ -154,9 +194,10 @@ impl Command for Checker {
 
     ghost can_run = { λ _. ⊤ };
 
-    ghost promise = { λ checker. check_promise checker.allowed };
+    ghost promise = { λ checker. check_promise checker.format checker.allowed };
 
-    /// Appends the lines one by one. Each refusal and each allocation comes before the first byte.
+    /// Appends the text piece by piece. Each refusal and each allocation comes before the first
+    /// byte.
     fn run<S: Sink>(
         &self,
         alloc: Global,
@@ -164,13 +205,13 @@ impl Command for Checker {
         limits: Limits,
         sink: &mut S,
     ) -> Result<bool, Error> {
-        let clean = check_into(alloc, input, self.allowed, limits, sink)?;
+        let clean = check_into(alloc, input, *self, limits, sink)?;
         Ok(clean)
     }
 
     ghost wraps_from = { λ _ _ _ _ same. same };
 
-    ghost laws = { λ checker. check_laws checker.allowed };
+    ghost laws = { λ checker. check_laws checker.format checker.allowed };
 }
 
 /// Reads a boot image to its end, writes the lines of the concerns about it that are not allowed,
@@ -184,8 +225,31 @@ pub fn check_to<R: Read, W: Write>(
     allowed: Allowed,
     limits: Limits,
 ) -> Result<bool, Error>
-    ensures { IsPiped (check_promise allowed limits) limits (R.remaining reader.old)
+    ensures { IsPiped (check_promise Lines allowed limits) limits (R.remaining reader.old)
         (R.remaining reader.new) (W.contents writer.old) (W.contents writer.new) result }
 {
-    pipe_to(alloc, &Checker { allowed }, reader, writer, limits)
+    let checker = Checker {
+        allowed,
+        format: Format::Lines,
+    };
+    pipe_to(alloc, &checker, reader, writer, limits)
+}
+
+/// Reads a boot image to its end, writes the concerns about it that are not allowed as one text of
+/// JSON and a newline, and flushes. Its value and its errors are those of `check_to`.
+pub fn check_json_to<R: Read, W: Write>(
+    alloc: Global,
+    reader: &mut R,
+    writer: &mut W,
+    allowed: Allowed,
+    limits: Limits,
+) -> Result<bool, Error>
+    ensures { IsPiped (check_promise Json allowed limits) limits (R.remaining reader.old)
+        (R.remaining reader.new) (W.contents writer.old) (W.contents writer.new) result }
+{
+    let checker = Checker {
+        allowed,
+        format: Format::Json,
+    };
+    pipe_to(alloc, &checker, reader, writer, limits)
 }

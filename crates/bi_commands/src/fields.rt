@@ -162,7 +162,7 @@ fn bytes_of_cell(number: u32) -> [u8; 4]
 }
 
 /// Appends a number of 64 bits as `0x` and sixteen hexadecimal digits. Fails as the sink does.
-fn put_hexadecimal_64<S: Sink>(number: u64, sink: &mut S) -> Result<(), Error>
+pub(crate) fn put_hexadecimal_64<S: Sink>(number: u64, sink: &mut S) -> Result<(), Error>
     ensures { Wrote S.appends S.fails sink.old (hexadecimal_64 number) result sink.new }
 {
     let bytes = bytes_of_two_cells(number);
@@ -179,7 +179,7 @@ fn bytes_of_two_cells(number: u64) -> [u8; 8]
 }
 
 /// Appends two hexadecimal digits for each byte. Fails as the sink does.
-fn put_digits<S: Sink>(bytes: &[u8], sink: &mut S) -> Result<(), Error>
+pub(crate) fn put_digits<S: Sink>(bytes: &[u8], sink: &mut S) -> Result<(), Error>
     ensures { Wrote S.appends S.fails sink.old (hexadecimal_digits bytes.now) result sink.new }
 {
     for piece in bytes.chunks(PIECE) {
@@ -265,7 +265,7 @@ fn put_shown_byte<S: Sink>(byte: u8, sink: &mut S) -> Result<(), Error>
 }
 
 /// Returns a hexadecimal digit in upper case.
-fn upper_digit(value: u8) -> u8
+pub(crate) fn upper_digit(value: u8) -> u8
     requires { value < 16 }
     ensures { result ≡ digit_glyph true value }
 {

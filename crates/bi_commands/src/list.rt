@@ -8,8 +8,10 @@ ghost use Rattle.std.specs.Prelude.{⊤, IfOk, OnOk, IfErr, string_bytes};
 ghost use Rattle.bi_base.specs.Commands.{Appended, AppendFailed};
 ghost use Rattle.bi_base.specs.Pipes.{IsPiped};
 ghost use Rattle.bi_norm.specs.Reading.{IsBootImageReadError};
-ghost use Rattle.bi_commands.specs.Listing.{IsListing, list_promise, list_laws};
+ghost use Rattle.bi_commands.specs.declared.format.Format.TheVariants.{Lines, Json};
+ghost use Rattle.bi_commands.specs.ListedFiles.{IsListing, list_promise, list_laws};
 
+use crate::format::Format;
 use bi_base::{Command, Error, Limits, Sink, VecSink, pipe_to};
 use bi_norm::BootImage;
 pub(crate) use fit::KEYS;
@@ -25,34 +27,65 @@ use std::io::{Read, Write};
 /// OutOfMemory may come in place of any of these, but only after the checks of a legacy image, or
 /// of the header and the memory reservation block of a blob.
 pub fn listing(alloc: Global, file: &[u8], limits: Limits) -> Result<String, Error>
-    ensures lists { IfOk result (λ text. IsListing limits file.now (string_bytes text)) }
+    ensures lists { IfOk result (λ text. IsListing Lines limits file.now (string_bytes text)) }
+    ensures failed { IfErr result (IsBootImageReadError limits file.now) }
+{
+    listing_as(alloc, file, limits, Format::Lines)
+}
+
+/// Returns the listing of a boot image, as one text of JSON and a newline. It says what the lines of
+/// `listing` say, and the errors are those of `listing`.
+pub fn listing_json(alloc: Global, file: &[u8], limits: Limits) -> Result<String, Error>
+    ensures lists { IfOk result (λ text. IsListing Json limits file.now (string_bytes text)) }
+    ensures failed { IfErr result (IsBootImageReadError limits file.now) }
+{
+    listing_as(alloc, file, limits, Format::Json)
+}
+
+/// Returns the listing of a boot image, in a form.
+fn listing_as(
+    alloc: Global,
+    file: &[u8],
+    limits: Limits,
+    format: Format,
+) -> Result<String, Error>
+    ensures lists { IfOk result (λ text. IsListing format limits file.now (string_bytes text)) }
     ensures failed { IfErr result (IsBootImageReadError limits file.now) }
 {
     let mut sink = VecSink::new(alloc);
-    list_into(alloc, file, limits, &mut sink)?;
+    list_into(alloc, file, limits, format, &mut sink)?;
     match String::from_utf8(sink.into_vec()) {
         Ok(text) => Ok(text),
         Err(_) => unreachable!(),
     }
 }
 
-/// Appends the listing of a boot image. Each refusal and each allocation comes before the first
-/// byte.
-fn list_into<S: Sink>(alloc: Global, file: &[u8], limits: Limits, sink: &mut S) -> Result<(), Error>
-    ensures appended { OnOk result (Appended S.appends (IsListing limits file.now)
+/// Appends the listing of a boot image, in a form. Each refusal and each allocation comes before the
+/// first byte.
+fn list_into<S: Sink>(
+    alloc: Global,
+    file: &[u8],
+    limits: Limits,
+    format: Format,
+    sink: &mut S,
+) -> Result<(), Error>
+    ensures appended { OnOk result (Appended S.appends (IsListing format limits file.now)
         sink.old sink.new) }
-    ensures failed { IfErr result (AppendFailed S.fails (IsListing limits file.now)
+    ensures failed { IfErr result (AppendFailed S.fails (IsListing format limits file.now)
         (IsBootImageReadError limits file.now) sink.old sink.new) }
 {
     match BootImage::read(alloc, file, limits)? {
-        BootImage::Legacy(image) => list_legacy(&image, sink),
-        BootImage::Fit(image) => list_fit(&image, sink),
+        BootImage::Legacy(image) => list_legacy(&image, format, sink),
+        BootImage::Fit(image) => list_fit(&image, format, sink),
     }
 }
 
-/// Listing, as a command: `listing`.
+/// Listing, as a command: `listing`, or `listing_json`.
 #[derive(Clone, Copy, Debug, PartialEq, Eq)]
-pub struct Lister;
+pub struct Lister {
+    /// The form of the listing.
+    pub format: Format,
+}
 
 impl Command for Lister {
     type Value = ();
@@ -61,9 +94,9 @@ impl Command for Lister {
 
     ghost can_run = { λ _. ⊤ };
 
-    ghost promise = { λ _. list_promise };
+    ghost promise = { λ lister. list_promise lister.format };
 
-    /// Appends the listing line by line. Each refusal and each allocation comes before the first
+    /// Appends the listing piece by piece. Each refusal and each allocation comes before the first
     /// byte.
     fn run<S: Sink>(
         &self,
@@ -72,13 +105,13 @@ impl Command for Lister {
         limits: Limits,
         sink: &mut S,
     ) -> Result<(), Error> {
-        list_into(alloc, input, limits, sink)?;
+        list_into(alloc, input, limits, self.format, sink)?;
         Ok(())
     }
 
     ghost wraps_from = { λ _ _ _ _ same. same };
 
-    ghost laws = { λ _. list_laws };
+    ghost laws = { λ lister. list_laws lister.format };
 }
 
 /// Reads a boot image to its end, writes its listing, and flushes: `pipe_to` with a `Lister`.
@@ -90,8 +123,28 @@ pub fn list_to<R: Read, W: Write>(
     writer: &mut W,
     limits: Limits,
 ) -> Result<(), Error>
-    ensures { IsPiped (list_promise limits) limits (R.remaining reader.old) (R.remaining reader.new)
-        (W.contents writer.old) (W.contents writer.new) result }
+    ensures { IsPiped (list_promise Lines limits) limits (R.remaining reader.old)
+        (R.remaining reader.new) (W.contents writer.old) (W.contents writer.new) result }
 {
-    pipe_to(alloc, &Lister, reader, writer, limits)
+    let lister = Lister {
+        format: Format::Lines,
+    };
+    pipe_to(alloc, &lister, reader, writer, limits)
+}
+
+/// Reads a boot image to its end, writes its listing as one text of JSON and a newline, and flushes.
+/// Its errors are those of `list_to`.
+pub fn listing_json_to<R: Read, W: Write>(
+    alloc: Global,
+    reader: &mut R,
+    writer: &mut W,
+    limits: Limits,
+) -> Result<(), Error>
+    ensures { IsPiped (list_promise Json limits) limits (R.remaining reader.old)
+        (R.remaining reader.new) (W.contents writer.old) (W.contents writer.new) result }
+{
+    let lister = Lister {
+        format: Format::Json,
+    };
+    pipe_to(alloc, &lister, reader, writer, limits)
 }

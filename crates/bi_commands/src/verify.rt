@@ -1,8 +1,9 @@
 //! The report on a boot image: a text with the verdict on each of its checksums and digests.
 
+mod report_json;
 pub(crate) mod report_line;
 
-ghost use Rattle.std.specs.Prelude.{◌≡◌, ◌↔◌, ⊤, IfOk, IfErr, OnOk, IsTrue, flat_map};
+ghost use Rattle.std.specs.Prelude.{◌≡◌, ◌↔◌, [], ◌∷◌, ⊤, IfOk, IfErr, OnOk, IsTrue, false, map};
 ghost use Rattle.std.specs.Prelude.{string_bytes};
 ghost use Rattle.bi_base.specs.Commands.{Appended, AppendFailed};
 ghost use Rattle.bi_base.specs.declared.fault.Error.TheVariants.{OutOfMemory};
@@ -10,20 +11,28 @@ ghost use Rattle.bi_base.specs.Pipes.{IsPiped};
 ghost use Rattle.bi_base.specs.Sinks.{Wrote};
 ghost use Rattle.bi_fit.specs.Content.{AreAtTheirPlaces, IsHeld, tree_of};
 ghost use Rattle.bi_fit.specs.Judgement.{verdicts_of};
+ghost use Rattle.bi_fit.specs.JudgementCalls.{checked_hash_of};
 ghost use Rattle.bi_norm.specs.Meaning.{OfFit};
 ghost use Rattle.bi_norm.specs.Reading.{IsBootImageReadError};
 ghost use Rattle.bi_commands.specs.HashedImages.{hashes_left, images_of_blob};
-ghost use Rattle.bi_commands.specs.Reports.{AreGood, IsReport, IsVerifyOutput, hash_line};
-ghost use Rattle.bi_commands.specs.Reports.{legacy_report, report_line, report_of, verify_promise};
-ghost use Rattle.bi_commands.specs.Reports.{verify_laws};
-ghost use Rattle.bi_commands.specs.ReadReports.{lines_of_image};
+ghost use Rattle.bi_commands.specs.declared.format.Format.TheVariants.{Lines, Json};
+ghost use Rattle.bi_commands.specs.Formats.{WroteInTurn, in_turn};
+ghost use Rattle.bi_commands.specs.ReadReports.{after_hashes, before_hashes, hash_text, hash_texts};
+ghost use Rattle.bi_commands.specs.ReadReports.{legacy_report_text};
+ghost use Rattle.bi_commands.specs.Reports.{AreGood};
+ghost use Rattle.bi_commands.specs.VerdictCounts.{counts_model, hash_counts};
+ghost use Rattle.bi_commands.specs.VerifiedFiles.{IsReport, IsVerifyOutput, report_text};
+ghost use Rattle.bi_commands.specs.VerifiedFiles.{verify_laws, verify_promise};
 
+use crate::format::Format;
 use crate::hash_nodes::{HashNodes, HashedImages};
-use crate::verdict_counts::count_verdicts;
+use crate::json::put_comma;
+use crate::verdict_counts::{Counts, count_verdicts};
 use bi_base::{Command, Error, Limits, Sink, VecSink, pipe_to};
-use bi_fit::Fit;
+use bi_fit::{Checked, Fit};
 use bi_hash::RegionDigests;
 use bi_norm::BootImage;
+use report_json::{put_checksums_object, put_hash_object, put_summary_member};
 use report_line::{ReportLine, put_report_line};
 use std::alloc::Global;
 use std::io::{Read, Write};
@@ -46,44 +55,68 @@ pub struct Report {
 /// OutOfMemory may come in place of any of these, but only after the checks of a legacy image, or
 /// of the header and the memory reservation block of a blob.
 pub fn verify(alloc: Global, file: &[u8], limits: Limits) -> Result<Report, Error>
-    ensures verified { IfOk result (λ report. IsVerifyOutput limits report.all_good file.now
+    ensures verified { IfOk result (λ report. IsVerifyOutput Lines limits report.all_good file.now
+        (string_bytes report.text)) }
+    ensures failed { IfErr result (IsBootImageReadError limits file.now) }
+{
+    verify_as(alloc, file, limits, Format::Lines)
+}
+
+/// Returns the report on a boot image, as one text of JSON and a newline. It says what the lines of
+/// `verify` say, and the errors are those of `verify`.
+pub fn verify_json(alloc: Global, file: &[u8], limits: Limits) -> Result<Report, Error>
+    ensures verified { IfOk result (λ report. IsVerifyOutput Json limits report.all_good file.now
+        (string_bytes report.text)) }
+    ensures failed { IfErr result (IsBootImageReadError limits file.now) }
+{
+    verify_as(alloc, file, limits, Format::Json)
+}
+
+/// Returns the report on a boot image, in a form.
+fn verify_as(alloc: Global, file: &[u8], limits: Limits, format: Format) -> Result<Report, Error>
+    ensures verified { IfOk result (λ report. IsVerifyOutput format limits report.all_good file.now
         (string_bytes report.text)) }
     ensures failed { IfErr result (IsBootImageReadError limits file.now) }
 {
     let mut sink = VecSink::new(alloc);
-    let all_good = verify_into(alloc, file, limits, &mut sink)?;
+    let all_good = verify_into(alloc, file, limits, format, &mut sink)?;
     match String::from_utf8(sink.into_vec()) {
         Ok(text) => Ok(Report { text, all_good }),
         Err(_) => unreachable!(),
     }
 }
 
-/// Appends the report on a boot image, line by line, and returns whether no verdict in it is other
-/// than Good. Each refusal and each allocation comes before the first byte, and no memory is taken
-/// for the report.
+/// Appends the report on a boot image in a form, piece by piece, and returns whether no verdict in
+/// it is other than Good. Each refusal and each allocation comes before the first byte, and no
+/// memory is taken for the report.
 fn verify_into<S: Sink>(
     alloc: Global,
     file: &[u8],
     limits: Limits,
+    format: Format,
     sink: &mut S,
 ) -> Result<bool, Error>
     ensures appended { IfOk result (λ good. Appended S.appends
-        (IsVerifyOutput limits good file.now) sink.old sink.new) }
-    ensures failed { IfErr result (AppendFailed S.fails (IsReport limits file.now)
+        (IsVerifyOutput format limits good file.now) sink.old sink.new) }
+    ensures failed { IfErr result (AppendFailed S.fails (IsReport format limits file.now)
         (IsBootImageReadError limits file.now) sink.old sink.new) }
 {
     match BootImage::read(alloc, file, limits)? {
         BootImage::Legacy(_image) => {
-            put_checksums(sink)?;
+            put_checksums(format, sink)?;
             Ok(true)
         }
-        BootImage::Fit(image) => verify_fit(alloc, &image, sink),
+        BootImage::Fit(image) => verify_fit(alloc, &image, format, sink),
     }
 }
 
-/// Verifying, as a command: `verify`. Its value is whether no verdict is other than Good.
+/// Verifying, as a command: `verify`, or `verify_json`. Its value is whether no verdict is other
+/// than Good.
 #[derive(Clone, Copy, Debug, PartialEq, Eq)]
-pub struct Verifier;
+pub struct Verifier {
+    /// The form of the report.
+    pub format: Format,
+}
 
 impl Command for Verifier {
     type Value = bool;
@@ -92,9 +125,9 @@ impl Command for Verifier {
 
     ghost can_run = { λ _. ⊤ };
 
-    ghost promise = { λ _. verify_promise };
+    ghost promise = { λ verifier. verify_promise verifier.format };
 
-    /// Appends the report line by line. Each refusal and each allocation comes before the first
+    /// Appends the report piece by piece. Each refusal and each allocation comes before the first
     /// byte.
     fn run<S: Sink>(
         &self,
@@ -103,13 +136,13 @@ impl Command for Verifier {
         limits: Limits,
         sink: &mut S,
     ) -> Result<bool, Error> {
-        let all_good = verify_into(alloc, input, limits, sink)?;
+        let all_good = verify_into(alloc, input, limits, self.format, sink)?;
         Ok(all_good)
     }
 
     ghost wraps_from = { λ _ _ _ _ same. same };
 
-    ghost laws = { λ _. verify_laws };
+    ghost laws = { λ verifier. verify_laws verifier.format };
 }
 
 /// Reads a boot image to its end, writes the report on it, and flushes: `pipe_to` with a
@@ -122,17 +155,46 @@ pub fn verify_to<R: Read, W: Write>(
     writer: &mut W,
     limits: Limits,
 ) -> Result<bool, Error>
-    ensures { IsPiped (verify_promise limits) limits (R.remaining reader.old)
+    ensures { IsPiped (verify_promise Lines limits) limits (R.remaining reader.old)
         (R.remaining reader.new) (W.contents writer.old) (W.contents writer.new) result }
 {
-    pipe_to(alloc, &Verifier, reader, writer, limits)
+    let verifier = Verifier {
+        format: Format::Lines,
+    };
+    pipe_to(alloc, &verifier, reader, writer, limits)
+}
+
+/// Reads a boot image to its end, writes the report on it as one text of JSON and a newline, and
+/// flushes. Its value and its errors are those of `verify_to`.
+pub fn verify_json_to<R: Read, W: Write>(
+    alloc: Global,
+    reader: &mut R,
+    writer: &mut W,
+    limits: Limits,
+) -> Result<bool, Error>
+    ensures { IsPiped (verify_promise Json limits) limits (R.remaining reader.old)
+        (R.remaining reader.new) (W.contents writer.old) (W.contents writer.new) result }
+{
+    let verifier = Verifier {
+        format: Format::Json,
+    };
+    pipe_to(alloc, &verifier, reader, writer, limits)
 }
 
 /// Appends the report on any legacy image that was read, so that its checksums are right. Fails as
 /// the sink does.
-fn put_checksums<S: Sink>(sink: &mut S) -> Result<(), Error>
-    ensures { Wrote S.appends S.fails sink.old (flat_map report_line legacy_report) result
-        sink.new }
+fn put_checksums<S: Sink>(format: Format, sink: &mut S) -> Result<(), Error>
+    ensures { Wrote S.appends S.fails sink.old (legacy_report_text format) result sink.new }
+{
+    match format {
+        Format::Lines => put_checksum_lines(sink),
+        Format::Json => put_checksums_object(sink),
+    }
+}
+
+/// Appends the lines of the two checksums, which are good. Fails as the sink does.
+fn put_checksum_lines<S: Sink>(sink: &mut S) -> Result<(), Error>
+    ensures { Wrote S.appends S.fails sink.old (legacy_report_text Lines) result sink.new }
 {
     put_report_line(ReportLine::GoodChecksum(b"header"), sink)?;
     put_report_line(ReportLine::GoodChecksum(b"data"), sink)
@@ -140,45 +202,119 @@ fn put_checksums<S: Sink>(sink: &mut S) -> Result<(), Error>
 
 /// Appends the report on a flattened image tree that was read, and returns whether no verdict is
 /// other than Good. Fails with OutOfMemory before the first byte, or as the sink does.
-fn verify_fit<S: Sink>(alloc: Global, fit: &Fit, sink: &mut S) -> Result<bool, Error>
+fn verify_fit<S: Sink>(
+    alloc: Global,
+    fit: &Fit,
+    format: Format,
+    sink: &mut S,
+) -> Result<bool, Error>
     requires held { IsHeld fit.now }
     ensures appended { OnOk result
-        (S.appends sink.old (report_of (OfFit (tree_of fit.now))) sink.new) }
+        (S.appends sink.old (report_text format (OfFit (tree_of fit.now))) sink.new) }
     ensures good { IfOk result (λ good. IsTrue good ↔ AreGood (verdicts_of (tree_of fit.now))) }
     ensures failed { IfErr result (AppendFailed S.fails
-        (λ text. text ≡ report_of (OfFit (tree_of fit.now))) (λ error. error ≡ OutOfMemory)
-        sink.old sink.new) }
+        (λ text. text ≡ report_text format (OfFit (tree_of fit.now)))
+        (λ error. error ≡ OutOfMemory) sink.old sink.new) }
 {
     let mut digests = fit.region_digests(alloc);
     let counts = count_verdicts(fit, &mut digests)?;
-    put_images(fit, &digests, sink)?;
-    put_report_line(ReportLine::Summary(counts), sink)?;
+    put_report(fit, &digests, counts, format, sink)?;
     Ok(counts.are_good())
 }
 
-/// Appends the line of each hash node of a flattened image tree. Fails as the sink does.
-fn put_images<'a, S: Sink>(
+/// Appends the report on a flattened image tree with this number of each verdict. Fails as the sink
+/// does.
+fn put_report<'a, S: Sink>(
     fit: &Fit<'a>,
     digests: &RegionDigests<'a>,
+    counts: Counts,
+    format: Format,
     sink: &mut S,
 ) -> Result<(), Error>
     requires placed { AreAtTheirPlaces digests.now fit.now.images }
-    ensures { Wrote S.appends S.fails sink.old (flat_map lines_of_image (images_of_blob fit.now))
-        result sink.new }
+    requires counted { counts ≡ hash_counts (verdicts_of (tree_of fit.now)) }
+    ensures { Wrote S.appends S.fails sink.old (report_text format (OfFit (tree_of fit.now))) result
+        sink.new }
 {
+    put_before_hashes(format, sink)?;
+    put_images(fit, digests, format, sink)?;
+    put_after_hashes(counts, format, sink)
+}
+
+/// Appends what comes before the hash nodes. Fails as the sink does.
+fn put_before_hashes<S: Sink>(format: Format, sink: &mut S) -> Result<(), Error>
+    ensures { Wrote S.appends S.fails sink.old (before_hashes format) result sink.new }
+{
+    match format {
+        Format::Lines => Ok(()),
+        Format::Json => sink.put(b"{\"kind\":\"fit\",\"hashes\":["),
+    }
+}
+
+/// Appends what comes after the hash nodes. Fails as the sink does.
+fn put_after_hashes<S: Sink>(counts: Counts, format: Format, sink: &mut S) -> Result<(), Error>
+    ensures { Wrote S.appends S.fails sink.old (after_hashes format (counts_model counts)) result
+        sink.new }
+{
+    match format {
+        Format::Lines => put_report_line(ReportLine::Summary(counts), sink),
+        Format::Json => put_summary_member(counts, sink),
+    }
+}
+
+/// Appends each hash node of a flattened image tree. Fails as the sink does.
+fn put_images<'a, S: Sink>(
+    fit: &Fit<'a>,
+    digests: &RegionDigests<'a>,
+    format: Format,
+    sink: &mut S,
+) -> Result<(), Error>
+    requires placed { AreAtTheirPlaces digests.now fit.now.images }
+    ensures { Wrote S.appends S.fails sink.old
+        (in_turn format false (hash_texts format (images_of_blob fit.now))) result sink.new }
+{
+    let mut is_later = false;
     for image in HashedImages::new(fit, digests) {
-        put_hashes(image.hashes, sink)?;
+        is_later = put_hashes(image.hashes, format, is_later, sink)?;
     }
     Ok(())
 }
 
-/// Appends the line of each hash node of an image. Fails as the sink does.
-fn put_hashes<S: Sink>(hashes: HashNodes, sink: &mut S) -> Result<(), Error>
-    ensures { Wrote S.appends S.fails sink.old
-        (flat_map hash_line (hashes_left hashes.entry)) result sink.new }
+/// Appends each hash node of an image, and returns whether there is one, or there are any before
+/// them. Fails as the sink does.
+fn put_hashes<S: Sink>(
+    hashes: HashNodes,
+    format: Format,
+    is_later: bool,
+    sink: &mut S,
+) -> Result<bool, Error>
+    ensures { WroteInTurn S.appends S.fails sink.old format is_later
+        (map (hash_text format) (hashes_left hashes.entry)) result sink.new }
 {
+    let mut later = is_later;
     for hash in hashes {
-        put_report_line(ReportLine::HashVerdict(hash), sink)?;
+        put_hash(hash, format, later, sink)?;
+        later = true;
     }
-    Ok(())
+    Ok(later)
+}
+
+/// Appends a hash node. Fails as the sink does.
+fn put_hash<S: Sink>(
+    hash: Checked,
+    format: Format,
+    is_later: bool,
+    sink: &mut S,
+) -> Result<(), Error>
+    ensures { Wrote S.appends S.fails sink.old
+        (in_turn format is_later (hash_text format (checked_hash_of hash.entry) ∷ [])) result
+        sink.new }
+{
+    match format {
+        Format::Lines => put_report_line(ReportLine::HashVerdict(hash), sink),
+        Format::Json => {
+            put_comma(is_later, sink)?;
+            put_hash_object(&hash, sink)
+        }
+    }
 }

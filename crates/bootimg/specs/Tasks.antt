@@ -10,11 +10,12 @@ use Rattle.bi_norm.specs.NormalForm.{IsNormalForm, IsNormaliseError, IsNormalise
 use Rattle.bi_norm.specs.Reading.{IsBootImageReadError}
 use Rattle.bi_commands.specs.declared.extract.ExtractError.{ExtractError}
 use Rattle.bi_commands.specs.declared.extract.ExtractError.TheVariants as extract
+use Rattle.bi_commands.specs.declared.format.Format.TheVariants.{Lines}
 use Rattle.bi_commands.specs.CheckedFiles.{IsChecked, IsCheckError, IsCheckOutput}
 use Rattle.bi_commands.specs.Describing.{IsDescription, IsDescribeError}
 use Rattle.bi_commands.specs.Extracting.{IsChosen, IsExtractError}
 use Rattle.bi_commands.specs.Listing.{IsListing}
-use Rattle.bi_commands.specs.Reports.{IsReport, IsVerifyOutput}
+use Rattle.bi_commands.specs.VerifiedFiles.{IsReport, IsVerifyOutput}
 use Rattle.bi_commands.specs.UpdatedFiles.{IsUpdated, IsUpdateError, IsUpdateOutput}
 use Rattle.bi_fit.specs.declared.configurations.ConfigError.TheVariants as list
 use Rattle.bootimg.specs.declared.command_line.Task.{Task}
@@ -47,9 +48,9 @@ TaskDone (Normalise form) limits done input output =
 TaskDone ListImage limits done input output = IsListing limits input output × EndedWith 0 done
 TaskDone Describe limits done input output = IsDescription limits input output × EndedWith 0 done
 TaskDone Verify limits done input output =
-    (good : Bool) × IsVerifyOutput limits good input output × EndedWith (status_of good) done
+    (good : Bool) × IsVerifyOutput Lines limits good input output × EndedWith (status_of good) done
 TaskDone (Check allowed) limits done input output =
-    (clean : Bool) × IsCheckOutput allowed limits clean input output
+    (clean : Bool) × IsCheckOutput Lines allowed limits clean input output
     × EndedWith (status_of clean) done
 TaskDone (Update changes form) limits done input output =
     IsUpdateOutput changes limits form done.signatures input output × (done.status ≡ 0)
@@ -62,8 +63,8 @@ abbrev pub TaskText : Task → Limits → (input output : List ℕ) → Type 0
 TaskText (Normalise form) limits input output = IsNormalForm limits form input output
 TaskText ListImage limits input output = IsListing limits input output
 TaskText Describe limits input output = IsDescription limits input output
-TaskText Verify limits input output = IsReport limits input output
-TaskText (Check allowed) limits input output = IsChecked allowed limits input output
+TaskText Verify limits input output = IsReport Lines limits input output
+TaskText (Check allowed) limits input output = IsChecked Lines allowed limits input output
 TaskText (Update changes form) limits input output = IsUpdated changes limits form input output
 TaskText (Extract selection) limits input output =
     IsChosen (select_of selection) limits input output

@@ -10,6 +10,7 @@ use bi_commands::check::Checker;
 use bi_commands::convert::Converter;
 use bi_commands::describe::Describer;
 use bi_commands::extract::Extractor;
+use bi_commands::format::Format;
 use bi_commands::list::Lister;
 use bi_commands::update::Updater;
 use bi_commands::verify::Verifier;
@@ -76,11 +77,18 @@ impl Command for Task {
                 return Ok(Done::with_status(SUCCESS));
             }
             Task::Verify => {
-                let good = Verifier.run(alloc, input, limits, sink)?;
+                let verifier = Verifier {
+                    format: Format::Lines,
+                };
+                let good = verifier.run(alloc, input, limits, sink)?;
                 return Ok(Done::with_status(status(good)));
             }
             Task::Check(allowed) => {
-                let clean = Checker { allowed: *allowed }.run(alloc, input, limits, sink)?;
+                let checker = Checker {
+                    allowed: *allowed,
+                    format: Format::Lines,
+                };
+                let clean = checker.run(alloc, input, limits, sink)?;
                 return Ok(Done::with_status(status(clean)));
             }
             Task::Update(changes, form) => {

@@ -4,19 +4,23 @@ ghost use Rattle.std.specs.Prelude.{◌≡◌, [], ◌∷◌, ◌++◌, filter, 
 ghost use Rattle.std.specs.Option.{option_map};
 ghost use Rattle.bi_base.specs.Sinks.{Wrote};
 ghost use Rattle.bi_fit.specs.JudgementCalls.{checked_hash_of};
-ghost use Rattle.bi_commands.specs.Checking.{BadHash, WeakHash, concern_line, concern_lines};
+ghost use Rattle.bi_commands.specs.Checking.{BadHash, WeakHash, concern_line};
 ghost use Rattle.bi_commands.specs.Checking.{BadDefault, BadKey, MissingImage, TrailingBytes};
 ghost use Rattle.bi_commands.specs.Checking.{UnhashedImage, is_good as is_good_hash};
 ghost use Rattle.bi_commands.specs.Checking.{kind_of as kind_of_concern};
 ghost use Rattle.bi_commands.specs.HashedImages.{hashes_left};
 ghost use Rattle.bi_commands.specs.LineValues.{concern_value};
-ghost use Rattle.bi_commands.specs.ReadChecking.{good_algorithm};
+ghost use Rattle.bi_commands.specs.Formats.{WroteInTurn, in_turn};
+ghost use Rattle.bi_commands.specs.ReadChecking.{concern_text, concern_texts, good_algorithm};
 ghost use Rattle.bi_commands.specs.Reports.{is_verdict};
 ghost use Rattle.bi_hash.specs.declared.verdicts.Verdict.TheVariants.{Good};
 
-use super::{Allowed, ConcernKind};
+use super::concern_json::put_concern_object;
+use super::{Checker, ConcernKind};
 use crate::fields::{Field, name_or_none, put_fields, put_later_field, put_line};
+use crate::format::Format;
 use crate::hash_nodes::HashNodes;
+use crate::json::put_comma;
 use crate::verify::report_line::verdict_word;
 use bi_base::{Error, Sink};
 use bi_fit::{Checked, Key};
@@ -60,19 +64,41 @@ impl Concern<'_, '_> {
     }
 }
 
-/// Appends the line of a concern, if its kind is not allowed. Fails as the sink does.
+/// Appends a concern, if its kind is not allowed, and returns whether it did or there is a concern
+/// before it. Fails as the sink does.
 pub(super) fn put_concern<S: Sink>(
     concern: Concern,
-    allowed: Allowed,
+    checker: Checker,
+    is_later: bool,
+    sink: &mut S,
+) -> Result<bool, Error>
+    ensures { WroteInTurn S.appends S.fails sink.old checker.format is_later
+        (concern_texts checker (concern_value concern.entry ∷ [])) result sink.new }
+{
+    if checker.allowed.allows(concern.kind()) {
+        return Ok(is_later);
+    }
+    put_text_of(concern, checker.format, is_later, sink)?;
+    Ok(true)
+}
+
+/// Appends the text of a concern. Fails as the sink does.
+fn put_text_of<S: Sink>(
+    concern: Concern,
+    format: Format,
+    is_later: bool,
     sink: &mut S,
 ) -> Result<(), Error>
     ensures { Wrote S.appends S.fails sink.old
-        (concern_lines allowed (concern_value concern.entry ∷ [])) result sink.new }
+        (in_turn format is_later (concern_text format (concern_value concern.entry) ∷ [])) result
+        sink.new }
 {
-    if allowed.allows(concern.kind()) {
-        Ok(())
-    } else {
-        put_line_of(concern, sink)
+    match format {
+        Format::Lines => put_line_of(concern, sink),
+        Format::Json => {
+            put_comma(is_later, sink)?;
+            put_concern_object(concern, sink)
+        }
     }
 }
 

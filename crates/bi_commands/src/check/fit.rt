@@ -1,27 +1,30 @@
 //! The concerns about a flattened image tree.
 
-ghost use Rattle.std.specs.Prelude.{◌≡◌, ◌↔◌, [], IfOk, IfErr, IsTrue, OnOk, drop};
+ghost use Rattle.std.specs.Prelude.{◌≡◌, ◌↔◌, [], IfOk, IfErr, IsTrue, OnOk, drop, false};
 ghost use Rattle.bi_base.specs.Commands.{AppendFailed};
 ghost use Rattle.bi_base.specs.Sinks.{Wrote};
 ghost use Rattle.bi_fit.specs.Content.{AreAtTheirPlaces, IsHeld, tree_of};
 ghost use Rattle.bi_norm.specs.Meaning.{OfFit};
-ghost use Rattle.bi_commands.specs.Checking.{concern_lines};
+ghost use Rattle.bi_commands.specs.CheckedFiles.{concerns_text};
+ghost use Rattle.bi_commands.specs.Checking.{kept_concerns};
+ghost use Rattle.bi_commands.specs.Formats.{WroteInTurn};
 ghost use Rattle.bi_commands.specs.PayloadBounds.{IsOverPayloadBound};
 ghost use Rattle.bi_commands.specs.ReadChecking.{IsReadCheckError, IsReadCheckText};
-ghost use Rattle.bi_commands.specs.ReadChecking.{end_of_read_payloads, read_concerns};
+ghost use Rattle.bi_commands.specs.ReadChecking.{concern_texts, end_of_read_payloads};
+ghost use Rattle.bi_commands.specs.ReadChecking.{read_concerns};
 
-use super::Allowed;
+use super::Checker;
 use super::configurations::{put_configurations, put_default};
 use super::images::put_images;
-use super::trailing::{content_end, put_trailing};
+use super::trailing::{content_end, put_after_concerns, put_before_concerns, put_trailing};
 use crate::payload_bounds::check_payloads;
 use crate::verdict_counts::count_verdicts;
-use bi_base::{CountSink, Error, Limits, Sink};
+use bi_base::{Error, Limits, Sink};
 use bi_fit::Fit;
 use bi_hash::RegionDigests;
 use std::alloc::Global;
 
-/// Appends the lines of the concerns about a flattened image tree that was read from this file, and
+/// Appends the text of the concerns about a flattened image tree that was read from this file, and
 /// returns whether there are none.
 ///
 /// Errors, before the first byte: TooLarge at the limit, if the payloads are longer; OutOfMemory.
@@ -30,46 +33,65 @@ pub(super) fn check_fit<S: Sink>(
     alloc: Global,
     file: &[u8],
     fit: &Fit,
-    allowed: Allowed,
+    checker: Checker,
     limits: Limits,
     sink: &mut S,
 ) -> Result<bool, Error>
     requires held { IsHeld fit.now }
-    ensures appended { OnOk result
-        (S.appends sink.old (concern_lines allowed (read_concerns file.now fit.now)) sink.new) }
+    ensures appended { OnOk result (S.appends sink.old (concerns_text checker.format checker.allowed
+        (read_concerns file.now fit.now)) sink.new) }
     ensures clean { IfOk result (λ clean. IsTrue clean
-        ↔ (concern_lines allowed (read_concerns file.now fit.now) ≡ [])) }
+        ↔ (kept_concerns checker.allowed (read_concerns file.now fit.now) ≡ [])) }
     ensures within { OnOk result (¬ (IsOverPayloadBound limits (OfFit (tree_of fit.now)))) }
     ensures failed { IfErr result (AppendFailed S.fails
-        (IsReadCheckText allowed limits file.now fit.now)
+        (IsReadCheckText checker limits file.now fit.now)
         (IsReadCheckError limits fit.now) sink.old sink.new) }
 {
     check_payloads(fit.images(), limits.file())?;
     let mut digests = fit.region_digests(alloc);
     let _ = count_verdicts(fit, &mut digests)?;
-    let mut lines = CountSink::new();
-    put_concerns(file, fit, &digests, allowed, &mut lines)?;
-    put_concerns(file, fit, &digests, allowed, sink)?;
-    Ok(lines.count() == 0)
+    let clean = put_text(file, fit, &digests, checker, sink)?;
+    Ok(clean)
 }
 
-/// Appends the lines of the concerns. Fails as the sink does.
+/// Appends the text of the concerns, and returns whether there are none. Fails as the sink does.
+fn put_text<'a, S: Sink>(
+    file: &[u8],
+    fit: &Fit<'a>,
+    digests: &RegionDigests<'a>,
+    checker: Checker,
+    sink: &mut S,
+) -> Result<bool, Error>
+    requires held { IsHeld fit.now }
+    requires placed { AreAtTheirPlaces digests.now fit.now.images }
+    ensures text { Wrote S.appends S.fails sink.old (concerns_text checker.format checker.allowed
+        (read_concerns file.now fit.now)) result sink.new }
+    ensures clean { IfOk result (λ clean. IsTrue clean
+        ↔ (kept_concerns checker.allowed (read_concerns file.now fit.now) ≡ [])) }
+{
+    put_before_concerns(checker.format, sink)?;
+    let any = put_concerns(file, fit, digests, checker, sink)?;
+    put_after_concerns(checker.format, sink)?;
+    Ok(!any)
+}
+
+/// Appends the concerns, and returns whether there are any. Fails as the sink does.
 fn put_concerns<'a, S: Sink>(
     file: &[u8],
     fit: &Fit<'a>,
     digests: &RegionDigests<'a>,
-    allowed: Allowed,
+    checker: Checker,
     sink: &mut S,
-) -> Result<(), Error>
+) -> Result<bool, Error>
     requires held { IsHeld fit.now }
     requires placed { AreAtTheirPlaces digests.now fit.now.images }
-    ensures { Wrote S.appends S.fails sink.old
-        (concern_lines allowed (read_concerns file.now fit.now)) result sink.new }
+    ensures { WroteInTurn S.appends S.fails sink.old checker.format false
+        (concern_texts checker (read_concerns file.now fit.now)) result sink.new }
 {
-    put_images(fit, digests, allowed, sink)?;
-    put_configurations(fit, allowed, sink)?;
-    put_default(fit, allowed, sink)?;
-    put_trailing(trailing_bytes(file, fit), allowed, sink)
+    let of_images = put_images(fit, digests, checker, false, sink)?;
+    let of_lists = put_configurations(fit, checker, of_images, sink)?;
+    let of_default = put_default(fit, checker, of_lists, sink)?;
+    put_trailing(trailing_bytes(file, fit), checker, of_default, sink)
 }
 
 /// Returns the bytes of a file after the last of the blob and the payloads.

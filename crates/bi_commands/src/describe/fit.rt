@@ -14,7 +14,7 @@ use super::entries::Entry;
 use super::image_nodes::entries_of;
 use super::limited_sink::LimitedSink;
 use super::lines::{most_open, put_tree};
-use crate::common_lines::put_reservations;
+use crate::common_lines::put_reservation_lines;
 use crate::fields::{Field, put_lines};
 use crate::payload_bounds::check_payloads;
 use bi_base::{Error, Limits, Sink};
@@ -60,7 +60,7 @@ fn put_fit<'a, S: Sink>(
     ensures room { length names.new ≡ length names.old }
 {
     put_head(blob.boot_cpu(), sink)?;
-    put_reservations(blob, sink)?;
+    put_reservation_lines(blob, sink)?;
     put_tree(entries, names, sink)
 }
 

@@ -1,42 +1,122 @@
 //! The listing of a legacy image.
 
-ghost use Rattle.std.specs.Prelude.{◌++◌};
+ghost use Rattle.std.specs.Prelude.{[], ◌∷◌, ◌++◌, false};
 ghost use Rattle.std.specs.Fmt.{decimal};
 ghost use Rattle.bi_base.specs.Sinks.{Wrote};
-ghost use Rattle.bi_legacy.specs.PlacedParts.{part_model};
+ghost use Rattle.bi_legacy.specs.PlacedParts.{part_model, placed_parts};
+ghost use Rattle.bi_commands.specs.Formats.{in_turn};
+ghost use Rattle.bi_commands.specs.Json.{json_line};
+ghost use Rattle.bi_commands.specs.ListedFiles.{legacy_listing_text};
 ghost use Rattle.bi_commands.specs.Listing.{legacy_listing, parts_lines, part_line};
+ghost use Rattle.bi_commands.specs.ListingJson.{legacy_listing_object, part_object};
+ghost use Rattle.bi_commands.specs.ReadListing.{part_text, part_texts};
 
-use crate::common_lines::{put_codes, put_kind_and_fields};
+use crate::common_lines::{put_codes, put_header_members, put_kind_and_fields};
 use crate::fields::{Field, put_decimal, put_line};
+use crate::format::Format;
+use crate::json::{JsonValue, put_comma, put_object};
 use bi_base::{Error, Sink};
 use bi_legacy::{Legacy, Part};
 
-/// Appends the listing of a legacy image that was read. Fails as the sink does.
-pub(super) fn list_legacy<S: Sink>(image: &Legacy, sink: &mut S) -> Result<(), Error>
+/// Appends the listing of a legacy image that was read, in a form. Fails as the sink does.
+pub(super) fn list_legacy<S: Sink>(
+    image: &Legacy,
+    format: Format,
+    sink: &mut S,
+) -> Result<(), Error>
+    ensures { Wrote S.appends S.fails sink.old (legacy_listing_text format image.now) result
+        sink.new }
+{
+    match format {
+        Format::Lines => put_legacy_lines(image, sink),
+        Format::Json => put_legacy_object(image, sink),
+    }
+}
+
+/// Appends the lines of a legacy image. Fails as the sink does.
+fn put_legacy_lines<S: Sink>(image: &Legacy, sink: &mut S) -> Result<(), Error>
     ensures { Wrote S.appends S.fails sink.old (legacy_listing image.now) result sink.new }
 {
     let fields = image.fields();
     put_kind_and_fields(fields, sink)?;
     put_codes(fields, sink)?;
-    put_parts(image, sink)?;
+    put_part_lines(image, sink)?;
     let unused = Field::Decimal(u64::from(image.unused()));
     put_line(&[Field::Text(b"unused"), unused], sink)
 }
 
 /// Appends the line with the number of parts, and a line for each part. Fails as the sink does.
-fn put_parts<S: Sink>(image: &Legacy, sink: &mut S) -> Result<(), Error>
+fn put_part_lines<S: Sink>(image: &Legacy, sink: &mut S) -> Result<(), Error>
     ensures { Wrote S.appends S.fails sink.old (parts_lines image.now.image) result sink.new }
 {
     let count = Field::Decimal(image.part_count() as u64);
     put_line(&[Field::Text(b"parts"), count], sink)?;
+    put_parts(image, Format::Lines, sink)
+}
+
+/// Appends the object of a legacy image, and a newline. Fails as the sink does.
+fn put_legacy_object<S: Sink>(image: &Legacy, sink: &mut S) -> Result<(), Error>
+    ensures { Wrote S.appends S.fails sink.old (json_line (legacy_listing_object image.now)) result
+        sink.new }
+{
+    sink.put(b"{")?;
+    put_header_members(image.fields(), sink)?;
+    sink.put(b",\"parts\":[")?;
+    put_parts(image, Format::Json, sink)?;
+    sink.put(b"],\"unused\":")?;
+    put_decimal(u64::from(image.unused()), sink)?;
+    sink.put(b"}\n")
+}
+
+/// Appends each part. Fails as the sink does.
+fn put_parts<S: Sink>(image: &Legacy, format: Format, sink: &mut S) -> Result<(), Error>
+    ensures { Wrote S.appends S.fails sink.old
+        (in_turn format false (part_texts format 0 (placed_parts image.now.image))) result
+        sink.new }
+{
+    let mut is_later = false;
     for (index, part) in image.parts().enumerate() {
-        put_part(index, &part, sink)?;
+        put_part(index, &part, format, is_later, sink)?;
+        is_later = true;
     }
     Ok(())
 }
 
+/// Appends a part. Fails as the sink does.
+fn put_part<S: Sink>(
+    index: usize,
+    part: &Part,
+    format: Format,
+    is_later: bool,
+    sink: &mut S,
+) -> Result<(), Error>
+    ensures { Wrote S.appends S.fails sink.old
+        (in_turn format is_later (part_text format index (part_model part.now) ∷ [])) result
+        sink.new }
+{
+    match format {
+        Format::Lines => put_part_line(index, part, sink),
+        Format::Json => {
+            put_comma(is_later, sink)?;
+            put_part_object(part, sink)
+        }
+    }
+}
+
+/// Appends the object of a part. Fails as the sink does.
+fn put_part_object<S: Sink>(part: &Part, sink: &mut S) -> Result<(), Error>
+    ensures { Wrote S.appends S.fails sink.old (part_object (part_model part.now)) result
+        sink.new }
+{
+    let members = [
+        ("offset", JsonValue::Number(u64::from(part.place))),
+        ("size", JsonValue::Number(part.bytes.len() as u64)),
+    ];
+    put_object(&members, sink)
+}
+
 /// Appends the line of a part. Fails as the sink does.
-fn put_part<S: Sink>(index: usize, part: &Part, sink: &mut S) -> Result<(), Error>
+fn put_part_line<S: Sink>(index: usize, part: &Part, sink: &mut S) -> Result<(), Error>
     ensures { Wrote S.appends S.fails sink.old (part_line index (part_model part.now)) result
         sink.new }
 {

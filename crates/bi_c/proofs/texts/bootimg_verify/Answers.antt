@@ -1,7 +1,8 @@
 use Rattle.std.proofs.Common.{refl, string_bytes}
 use Rattle.bi_base.specs.Limits.{IsInRange}
 use Rattle.bi_norm.specs.Reading.{IsBootImageReadError}
-use Rattle.bi_commands.specs.Reports.{IsVerifyOutput}
+use Rattle.bi_commands.specs.declared.format.Format.TheVariants.{Lines}
+use Rattle.bi_commands.specs.VerifiedFiles.{IsVerifyOutput}
 use Rattle.bi_c.specs.declared.failure.Failure.TheVariants.{WrongArgument}
 use Rattle.bi_c.specs.Answers.{FilledNothing}
 use Rattle.bi_c.proofs.CallAnswers.{not_so, is_so, buffer_is_filled, failed_of_one, text_with_flag_of_call}
@@ -14,17 +15,12 @@ pub returns-in-Ok : goal.returns-in-Ok
 returns-in-Ok c =
     let in_range : IsInRange c.args.limit c.args.depth = is_so _ c.in-Some.ensures.in_range in
     buffer_is_filled _ _ c.as_bytes.result.now _ _ c.from.result _ _
-    (text_with_flag_of_call c.args.limit c.args.depth
-    (λ limits good text. IsVerifyOutput limits good c.args.file.now text) c.in-Some.limits c.in-Ok.report.all_good
-    (string_bytes c.in-Ok.report.text) c.as_bytes.result.now c.from.result in_range c.in-Some.ensures.value c.as_bytes.ensures.value
-    c.from.ensures c.in-Ok.ensures.verified)
+    (text_with_flag_of_call c.args.limit c.args.depth (λ limits good text. IsVerifyOutput Lines limits good c.args.file.now text) c.in-Some.limits c.in-Ok.report.all_good (string_bytes c.in-Ok.report.text) c.as_bytes.result.now c.from.result in_range c.in-Some.ensures.value c.as_bytes.ensures.value c.from.ensures c.in-Ok.ensures.verified)
     c.fill.ensures.answer c.fill.ensures.filled
 
 pub returns-in-Err : goal.returns-in-Err
 returns-in-Err c =
     let in_range : IsInRange c.args.limit c.args.depth = is_so _ c.in-Some.ensures.in_range in
     FilledNothing c.failure_of.result
-    (failed_of_one c.args.limit c.args.depth
-    (λ limits error. IsBootImageReadError limits c.args.file.now error) c.in-Some.limits c.in-Err.error c.failure_of.result in_range
-    c.in-Some.ensures.value c.failure_of.ensures (λ l is. is) (λ l is. is) c.in-Err.ensures.failed)
+    (failed_of_one c.args.limit c.args.depth (λ limits error. IsBootImageReadError limits c.args.file.now error) c.in-Some.limits c.in-Err.error c.failure_of.result in_range c.in-Some.ensures.value c.failure_of.ensures (λ l is. is) (λ l is. is) c.in-Err.ensures.failed)
     refl c.fail-in-Err.ensures.answer c.fail-in-Err.ensures.status

@@ -1,26 +1,34 @@
-use Rattle.std.proofs.Common.{ap, refl}
+use Rattle.std.proofs.Common.{true, List, [], ◌∷◌, ℕ, map, ap, refl}
 use Rattle.bi_fit.specs.JudgementCalls.{checked_hash_of}
 use Rattle.bi_commands.specs.HashedImages.{hashes_left}
-use Rattle.bi_commands.specs.Reports.{hash_line}
-use Rattle.bi_commands.proofs.LinesLeft.{all_left, next_left, next_left_fails, none_left}
+use Rattle.bi_commands.specs.ReadReports.{hash_text}
+use Rattle.bi_commands.proofs.TextsInTurn.{turn_begins, turn_ends, turn_fails, turn_goes_on, turn_passed}
 use Rattle.bi_commands.proofs.verify.put_hashes.Goals as goal
 
 pub loop-hash-init : goal.loop-hash-init
-loop-hash-init g c = all_left g.S.Sink.appends g.met.S.Sink.appends_nothing c.args.sink.now hash_line (hashes_left c.args.hashes) _ _
-    (ap hashes_left c.into_iter-hash-iterator.ensures.into_iter_gives) refl
+loop-hash-init g c =
+    let text = hash_text c.args.format in
+    turn_begins g.S.Sink.appends g.met.S.Sink.appends_nothing c.args.sink.now c.args.format c.args.is_later _ _
+    (ap (λ hashes. map text (hashes_left hashes)) c.into_iter-hash-iterator.ensures.into_iter_gives)
 
 pub loop-hash-preserved : goal.loop-hash-preserved
 loop-hash-preserved g c =
-    next_left g.S.Sink.appends g.met.S.Sink.appends_in_turn c.args.sink.now c.loop-hash.sink c.put_report_line.new.sink hash_line
-    (checked_hash_of c.in-Some.hash) _ _ _
-    c.loop-hash.invariant c.in-Some.ensures.steps c.in_ok-put_report_line.ensures
+    let text = hash_text c.args.format in
+    let one : List (List ℕ) = text (checked_hash_of c.in-Some.hash) ∷ [] in
+    turn_goes_on g.S.Sink.appends g.met.S.Sink.appends_in_turn c.args.sink.now c.loop-hash.sink c.put_hash.new.sink c.args.format c.args.is_later c.loop-hash.later true
+    one (map text (hashes_left c.next.new.self)) _ _ c.loop-hash.invariant (ap (map text) c.in-Some.ensures.steps) refl c.in_ok-put_hash.ensures
 
-pub returns-in_err-put_report_line : goal.returns-in_err-put_report_line
-returns-in_err-put_report_line g c =
+pub returns-in_err-put_hash : goal.returns-in_err-put_hash
+returns-in_err-put_hash g c =
+    let S = g.S.Sink in
     let laws = g.met.S.Sink in
-    next_left_fails g.S.Sink.appends g.S.Sink.fails laws.fails_after laws.fails_before c.args.sink.now c.loop-hash.sink
-    c.put_report_line.new.sink hash_line (checked_hash_of c.in-Some.hash) _ _ _ _ c.from_residual.result
-    c.loop-hash.invariant c.in-Some.ensures.steps c.from_residual.ensures.1 c.in_err-put_report_line.ensures
+    let text = hash_text c.args.format in
+    let one : List (List ℕ) = text (checked_hash_of c.in-Some.hash) ∷ [] in
+    turn_passed S.appends S.fails c.args.sink.now c.args.format c.args.is_later _ _ c.from_residual.result c.put_hash.new.sink c.from_residual.ensures.1
+    (turn_fails S.appends S.fails laws.fails_after laws.fails_before c.args.sink.now c.loop-hash.sink c.put_hash.new.sink c.args.format c.args.is_later c.loop-hash.later
+    one (map text (hashes_left c.next.new.self)) _ _ _ c.loop-hash.invariant (ap (map text) c.in-Some.ensures.steps) c.in_err-put_hash.ensures)
 
 pub returns : goal.returns
-returns g c = none_left g.S.Sink.appends c.args.sink.now c.loop-hash.sink hash_line _ _ c.loop-hash.invariant c.in-None.ensures.steps.0
+returns g c =
+    turn_ends g.S.Sink.appends c.args.sink.now c.loop-hash.sink c.args.format c.args.is_later c.loop-hash.later _ _ c.loop-hash.invariant
+    (ap (map (hash_text c.args.format)) c.in-None.ensures.steps.0)

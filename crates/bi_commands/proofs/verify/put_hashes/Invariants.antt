@@ -1,10 +1,11 @@
-use Rattle.std.proofs.Common.{flat_map}
+use Rattle.std.proofs.Common.{map}
 use Rattle.bi_commands.specs.HashedImages.{hashes_left}
-use Rattle.bi_commands.specs.Reports.{hash_line}
-use Rattle.bi_commands.proofs.LinesLeft.{AreLeft}
+use Rattle.bi_commands.specs.ReadReports.{hash_text}
+use Rattle.bi_commands.proofs.TextsInTurn.{AreInTurn}
 use Rattle.bi_commands.proofs.verify.put_hashes.Given as goal
 
--- The lines so far and those of the hash nodes that are left are all.
+-- The hash nodes that are left follow those that were appended.
 abbrev pub invariant-loop-hash : goal.invariant-loop-hash
 invariant-loop-hash g l =
-    AreLeft g.S.Sink.appends l.initial.sink l.sink hash_line (hashes_left l.hash-iterator) (flat_map hash_line (hashes_left l.fn.hashes))
+    AreInTurn g.S.Sink.appends l.initial.sink l.sink l.fn.format l.fn.is_later l.later (map (hash_text l.fn.format) (hashes_left l.hash-iterator))
+    (map (hash_text l.fn.format) (hashes_left l.fn.hashes))

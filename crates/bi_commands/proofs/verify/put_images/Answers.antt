@@ -1,26 +1,33 @@
-use Rattle.std.proofs.Common.{refl, ◌∙◌}
-use Rattle.bi_commands.specs.HashedImages.{image_value, images_of_blob}
-use Rattle.bi_commands.specs.ReadReports.{lines_of_image}
-use Rattle.bi_commands.proofs.LinesLeft.{all_left, next_left, next_left_fails, none_left}
+use Rattle.std.proofs.Common.{false, map, ap, ◌∙◌}
+use Rattle.bi_base.proofs.SinkLaws.{passed_on}
+use Rattle.bi_commands.specs.HashedImages.{image_value}
+use Rattle.bi_commands.specs.ReadReports.{hash_text, hash_texts}
+use Rattle.bi_commands.proofs.TextsInTurn.{turn_begins, turn_ends, turn_fails, turn_goes_on}
 use Rattle.bi_commands.proofs.verify.put_images.Goals as goal
 
 pub loop-image-init : goal.loop-image-init
-loop-image-init g c = all_left g.S.Sink.appends g.met.S.Sink.appends_nothing c.args.sink.now lines_of_image
-    (images_of_blob c.args.fit.now) _ _ (c.into_iter-image-iterator.ensures.into_iter_gives ∙ c.new-image-items.ensures) refl
+loop-image-init g c =
+    turn_begins g.S.Sink.appends g.met.S.Sink.appends_nothing c.args.sink.now c.args.format false _ _
+    (ap (hash_texts c.args.format) (c.into_iter-image-iterator.ensures.into_iter_gives ∙ c.new-image-items.ensures))
 
 pub loop-image-preserved : goal.loop-image-preserved
 loop-image-preserved g c =
-    next_left g.S.Sink.appends g.met.S.Sink.appends_in_turn c.args.sink.now c.loop-image.sink c.put_hashes.new.sink lines_of_image
-    (image_value c.in-Some.image) _ _ _
-    c.loop-image.invariant c.in-Some.ensures.steps c.in_ok-put_hashes.ensures
+    let image = image_value c.in-Some.image in
+    turn_goes_on g.S.Sink.appends g.met.S.Sink.appends_in_turn c.args.sink.now c.loop-image.sink c.put_hashes.new.sink c.args.format false c.loop-image.is_later _
+    (map (hash_text c.args.format) image.hashes) (hash_texts c.args.format c.next.new.self) _ _ c.loop-image.invariant (ap (hash_texts c.args.format) c.in-Some.ensures.steps)
+    c.in_ok-is_later.ensures.1 c.in_ok-is_later.ensures.0
 
-pub returns-in_err-put_hashes : goal.returns-in_err-put_hashes
-returns-in_err-put_hashes g c =
+pub returns-in_err-is_later : goal.returns-in_err-is_later
+returns-in_err-is_later g c =
+    let S = g.S.Sink in
     let laws = g.met.S.Sink in
-    next_left_fails g.S.Sink.appends g.S.Sink.fails laws.fails_after laws.fails_before c.args.sink.now c.loop-image.sink
-    c.put_hashes.new.sink lines_of_image (image_value c.in-Some.image) _ _ _ _ c.from_residual.result
-    c.loop-image.invariant c.in-Some.ensures.steps c.from_residual.ensures.1 c.in_err-put_hashes.ensures
+    let image = image_value c.in-Some.image in
+    passed_on S.appends S.fails c.args.sink.now _ _ c.from_residual.result c.put_hashes.new.sink c.from_residual.ensures.1
+    (turn_fails S.appends S.fails laws.fails_after laws.fails_before c.args.sink.now c.loop-image.sink c.put_hashes.new.sink c.args.format false c.loop-image.is_later
+    (map (hash_text c.args.format) image.hashes) (hash_texts c.args.format c.next.new.self) _ _ _ c.loop-image.invariant
+    (ap (hash_texts c.args.format) c.in-Some.ensures.steps) c.in_err-is_later.ensures)
 
 pub returns : goal.returns
-returns g c = none_left g.S.Sink.appends c.args.sink.now c.loop-image.sink lines_of_image _ _
-    c.loop-image.invariant c.in-None.ensures.steps.0
+returns g c =
+    (turn_ends g.S.Sink.appends c.args.sink.now c.loop-image.sink c.args.format false c.loop-image.is_later _ _ c.loop-image.invariant
+    (ap (hash_texts c.args.format) c.in-None.ensures.steps.0)).0

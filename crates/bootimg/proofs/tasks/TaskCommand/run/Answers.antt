@@ -3,11 +3,12 @@ use Rattle.std.proofs.lemmas.Result.{err_from_is_err_and}
 use Rattle.bi_norm.specs.Converting.{IsConvertedFile, IsConvertError}
 use Rattle.bi_norm.specs.NormalForm.{IsNormalForm, IsNormaliseError}
 use Rattle.bi_norm.specs.Reading.{IsBootImageReadError}
+use Rattle.bi_commands.specs.declared.format.Format.TheVariants.{Lines}
 use Rattle.bi_commands.specs.CheckedFiles.{IsChecked, IsCheckError}
 use Rattle.bi_commands.specs.Describing.{IsDescription, IsDescribeError}
 use Rattle.bi_commands.specs.Extracting.{IsChosen, IsExtractError}
 use Rattle.bi_commands.specs.Listing.{IsListing}
-use Rattle.bi_commands.specs.Reports.{IsReport}
+use Rattle.bi_commands.specs.VerifiedFiles.{IsReport}
 use Rattle.bi_commands.specs.UpdatedFiles.{IsUpdated, IsUpdateError}
 use Rattle.bootimg.specs.Selections.{select_of}
 use Rattle.bootimg.proofs.SelectionNames.{same_chosen, same_failure}
@@ -20,8 +21,7 @@ returns-in_err-signatures-in-Normalise-clause-failed g c =
     let input = c.args.input.now in
     let p = err_from_is_err_and c.from_residual.result c.from_residual.ensures.1 in
     rw (c.in-Normalise.is, p.1)
-    (call_failed g.S.Sink.fails (IsNormalForm limits c.in-Normalise.form input)
-    (IsNormaliseError limits c.in-Normalise.form input) c.args.sink.now c.run.new.sink c.in_err-signatures-in-Normalise.field-0.0 p.0 p.2
+    (call_failed g.S.Sink.fails (IsNormalForm limits c.in-Normalise.form input) (IsNormaliseError limits c.in-Normalise.form input) c.args.sink.now c.run.new.sink c.in_err-signatures-in-Normalise.field-0.0 p.0 p.2
     c.in_err-signatures-in-Normalise.ensures.failed)
 
 pub returns-in_err-run-in-List-clause-failed : goal.returns-in_err-run-in-List-clause-failed
@@ -30,8 +30,7 @@ returns-in_err-run-in-List-clause-failed g c =
     let input = c.args.input.now in
     let p = err_from_is_err_and c.from_residual-in_err-run-in-List.result c.from_residual-in_err-run-in-List.ensures.1 in
     rw (c.in-List.is, p.1)
-    (call_failed g.S.Sink.fails (IsListing limits input)
-    (IsBootImageReadError limits input) c.args.sink.now c.run-in-List.new.sink c.in_err-run-in-List.field-0.0 p.0 p.2
+    (call_failed g.S.Sink.fails (IsListing limits input) (IsBootImageReadError limits input) c.args.sink.now c.run-in-List.new.sink c.in_err-run-in-List.field-0.0 p.0 p.2
     c.in_err-run-in-List.ensures.failed)
 
 pub returns-in_err-run-in-Describe-clause-failed : goal.returns-in_err-run-in-Describe-clause-failed
@@ -40,8 +39,7 @@ returns-in_err-run-in-Describe-clause-failed g c =
     let input = c.args.input.now in
     let p = err_from_is_err_and c.from_residual-in_err-run-in-Describe.result c.from_residual-in_err-run-in-Describe.ensures.1 in
     rw (c.in-Describe.is, p.1)
-    (call_failed g.S.Sink.fails (IsDescription limits input)
-    (IsDescribeError limits input) c.args.sink.now c.run-in-Describe.new.sink c.in_err-run-in-Describe.field-0.0 p.0 p.2
+    (call_failed g.S.Sink.fails (IsDescription limits input) (IsDescribeError limits input) c.args.sink.now c.run-in-Describe.new.sink c.in_err-run-in-Describe.field-0.0 p.0 p.2
     c.in_err-run-in-Describe.ensures.failed)
 
 pub returns-in_err-good-in-Verify-clause-failed : goal.returns-in_err-good-in-Verify-clause-failed
@@ -50,8 +48,7 @@ returns-in_err-good-in-Verify-clause-failed g c =
     let input = c.args.input.now in
     let p = err_from_is_err_and c.from_residual-in_err-good-in-Verify.result c.from_residual-in_err-good-in-Verify.ensures.1 in
     rw (c.in-Verify.is, p.1)
-    (call_failed g.S.Sink.fails (IsReport limits input)
-    (IsBootImageReadError limits input) c.args.sink.now c.run-in-Verify.new.sink c.in_err-good-in-Verify.field-0.0 p.0 p.2
+    (call_failed g.S.Sink.fails (IsReport Lines limits input) (IsBootImageReadError limits input) c.args.sink.now c.run-in-Verify.new.sink c.in_err-good-in-Verify.field-0.0 p.0 p.2
     c.in_err-good-in-Verify.ensures.failed)
 
 pub returns-in_err-clean-in-Check-clause-failed : goal.returns-in_err-clean-in-Check-clause-failed
@@ -60,8 +57,7 @@ returns-in_err-clean-in-Check-clause-failed g c =
     let input = c.args.input.now in
     let p = err_from_is_err_and c.from_residual-in_err-clean-in-Check.result c.from_residual-in_err-clean-in-Check.ensures.1 in
     rw (c.in-Check.is, p.1)
-    (call_failed g.S.Sink.fails (IsChecked c.in-Check.allowed limits input)
-    (IsCheckError limits input) c.args.sink.now c.run-in-Check.new.sink c.in_err-clean-in-Check.field-0.0 p.0 p.2
+    (call_failed g.S.Sink.fails (IsChecked Lines c.in-Check.allowed limits input) (IsCheckError limits input) c.args.sink.now c.run-in-Check.new.sink c.in_err-clean-in-Check.field-0.0 p.0 p.2
     c.in_err-clean-in-Check.ensures.failed)
 
 pub returns-in_err-signatures-in-Update-clause-failed : goal.returns-in_err-signatures-in-Update-clause-failed
@@ -72,8 +68,7 @@ returns-in_err-signatures-in-Update-clause-failed g c =
     let form = c.in-Update.form in
     let p = err_from_is_err_and c.from_residual-in_err-signatures-in-Update.result c.from_residual-in_err-signatures-in-Update.ensures.1 in
     rw (c.in-Update.is, p.1)
-    (call_failed g.S.Sink.fails (IsUpdated changes limits form input)
-    (IsUpdateError changes limits form input) c.args.sink.now c.run-in-Update.new.sink
+    (call_failed g.S.Sink.fails (IsUpdated changes limits form input) (IsUpdateError changes limits form input) c.args.sink.now c.run-in-Update.new.sink
     c.in_err-signatures-in-Update.field-0.0 p.0 p.2 c.in_err-signatures-in-Update.ensures.failed)
 
 pub returns-in_err-run-in-Extract-clause-failed : goal.returns-in_err-run-in-Extract-clause-failed
@@ -85,8 +80,7 @@ returns-in_err-run-in-Extract-clause-failed g c =
     let same = c.select-select.ensures in
     let p = err_from_is_err_and c.from_residual-in_err-run-in-Extract.result c.from_residual-in_err-run-in-Extract.ensures.1 in
     rw (c.in-Extract.is, p.1)
-    (extract_failed g.S.Sink.fails (IsChosen other limits input)
-    (IsExtractError other limits input) c.args.sink.now c.run-in-Extract.new.sink c.in_err-run-in-Extract.field-0.0 p.0 p.2
+    (extract_failed g.S.Sink.fails (IsChosen other limits input) (IsExtractError other limits input) c.args.sink.now c.run-in-Extract.new.sink c.in_err-run-in-Extract.field-0.0 p.0 p.2
     (same_failure g.S.Sink.fails one other same limits input c.args.sink.now c.run-in-Extract.new.sink c.in_err-run-in-Extract.field-0.0
     c.in_err-run-in-Extract.ensures.failed))
 
@@ -96,8 +90,7 @@ returns-in_err-run-in-Convert-clause-failed g c =
     let input = c.args.input.now in
     let p = err_from_is_err_and c.from_residual-in_err-run-in-Convert.result c.from_residual-in_err-run-in-Convert.ensures.1 in
     rw (c.in-Convert.is, p.1)
-    (call_failed g.S.Sink.fails (IsConvertedFile limits input)
-    (IsConvertError limits input) c.args.sink.now c.run-in-Convert.new.sink c.in_err-run-in-Convert.field-0.0 p.0 p.2
+    (call_failed g.S.Sink.fails (IsConvertedFile limits input) (IsConvertError limits input) c.args.sink.now c.run-in-Convert.new.sink c.in_err-run-in-Convert.field-0.0 p.0 p.2
     c.in_err-run-in-Convert.ensures.failed)
 
 pub returns-in-List-clause-appended : goal.returns-in-List-clause-appended
@@ -112,10 +105,6 @@ returns-in-Extract-clause-appended g c =
     rw (c.in-Extract.is)
     (record {
       text = appended.text;
-      is_text = (
-        same_chosen c.select-select.result
-            (select_of c.in-Extract.selection) c.select-select.ensures c.args.limits c.args.input.now appended.text appended.is_text,
-        search rules,
-      );
+      is_text = (same_chosen c.select-select.result (select_of c.in-Extract.selection) c.select-select.ensures c.args.limits c.args.input.now appended.text appended.is_text, search rules);
       appended = appended.appended;
     })

@@ -1,7 +1,7 @@
 use Rattle.std.proofs.Common.{codes, append-nil, ap, ◌++◌}
 use Rattle.bi_commands.specs.Reports.{GoodChecksum, report_line}
 use Rattle.bi_commands.proofs.LineChains.{first_of_all_fails, last_writes}
-use Rattle.bi_commands.proofs.verify.put_checksums.Goals as goal
+use Rattle.bi_commands.proofs.verify.put_checksum_lines.Goals as goal
 
 pub returns-in_err-put_report_line : goal.returns-in_err-put_report_line
 returns-in_err-put_report_line g c =

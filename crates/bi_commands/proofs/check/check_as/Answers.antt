@@ -5,16 +5,17 @@ use Rattle.bi_commands.specs.CheckedFiles.{IsCheckOutput}
 use Rattle.bi_commands.proofs.AsciiReports.{checked_is_ascii}
 use Rattle.bi_commands.proofs.AsciiTexts.{appended_utf8}
 use Rattle.bi_commands.proofs.CheckedFiles.{not_checked_in_memory}
-use Rattle.bi_commands.proofs.check.check.Goals as goal
+use Rattle.bi_commands.proofs.check.check_as.Goals as goal
 
 pub returns-in_err-_clean-clause-failed : goal.returns-in_err-_clean-clause-failed
 returns-in_err-_clean-clause-failed c =
     let p = err_from_is_err_and c.from_residual.result c.from_residual.ensures.1 in
-    rw (p.1, p.2) (not_checked_in_memory c.args.allowed c.args.limits c.args.file.now _ _ _ c.in_err-_clean.ensures.failed)
+    rw (p.1, p.2) (not_checked_in_memory c.args.checker c.args.limits c.args.file.now _ _ _ c.in_err-_clean.ensures.failed)
 
 pub unreachable-requires : goal.unreachable-requires
 unreachable-requires c =
+    let checker = c.args.checker in
     true≢false (sym (subst IsOk c.in-Err.is (c.from_utf8.ensures.succeeds
-    (appended_utf8 (IsCheckOutput c.args.allowed c.args.limits c.in_ok-_clean._clean c.args.file.now) _ _ _
-    (λ text is. checked_is_ascii c.args.allowed c.args.limits c.args.file.now text is.checked)
+    (appended_utf8 (IsCheckOutput checker.format checker.allowed c.args.limits c.in_ok-_clean._clean c.args.file.now) _ _ _
+    (λ text is. checked_is_ascii checker.format checker.allowed c.args.limits c.args.file.now text is.checked)
     c.in_ok-_clean.ensures.appended c.new-sink.ensures c.into_vec.ensures))))
