@@ -6,6 +6,7 @@ ghost use Rattle.bi_c.specs.Arguments.{bounds};
 ghost use Rattle.bi_c.specs.Calls.{IsSame, IsTextWithFlag, IsFailureOfTwo};
 ghost use Rattle.bi_c.specs.Calls.{failure_of_compare_error};
 ghost use Rattle.bi_commands.specs.Comparing.{IsComparison, IsComparisonError, IsReadingError};
+ghost use Rattle.bi_commands.specs.declared.format.Format.TheVariants.{Lines};
 
 use crate::answer::{Answer, fail, fill, succeed};
 use crate::arguments::limits_of;
@@ -49,7 +50,7 @@ pub extern "C" fn bootimg_compare(
     answer: &mut Answer,
 ) -> u32
     ensures { Fills (IsTextWithFlag limit depth
-        (λ limits same text. IsComparison limits one.now other.now same text))
+        (λ limits same text. IsComparison Lines limits one.now other.now same text))
         (IsFailureOfTwo limit depth (IsComparisonError (bounds limit depth) one.now other.now))
         buffer.old buffer.new answer.new result }
 {

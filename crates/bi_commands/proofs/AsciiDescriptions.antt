@@ -4,6 +4,7 @@ use Rattle.std.specs.Option.{option_map}
 use Rattle.std.specs.FinMap.{entries}
 use Rattle.std.specs.List.{AllByRecursion}
 use Rattle.bi_base.specs.Cells.{AreBytes}
+use Rattle.bi_base.specs.Limits.{Limits}
 use Rattle.bi_base.proofs.ListMembers.{each-append, each-map, each-weaker}
 use Rattle.bi_blob.specs.Blob.{Reservation}
 use Rattle.bi_blob.specs.Tree.{Nodes, none, node, Property, PropertyMap, AreNodes, with_each}
@@ -17,11 +18,12 @@ use Rattle.bi_hash.specs.declared.algo.Algo.TheVariants.{Sha256}
 use Rattle.bi_hash.proofs.DigestBytes.{AreBytes-digest_of}
 use Rattle.bi_legacy.specs.Codes.{os_names, arch_names, type_names, compression_names}
 use Rattle.bi_legacy.specs.Meaning.{LegacyImage}
-use Rattle.bi_norm.specs.Meaning.{OfLegacy, OfFit}
+use Rattle.bi_legacy.proofs.ImageOfFile.{image_of_file}
+use Rattle.bi_norm.specs.Meaning.{Meaning, OfLegacy, OfFit, Means}
 use Rattle.bi_commands.specs.Descriptions.{PayloadDigest, NodePayload, NotAnImage, OfImage, DescribedNode, digest_of_payload, digest_words}
 use Rattle.bi_commands.specs.Descriptions.{field_words, code_words, part_words, legacy_lines, path, described_nodes, described_images}
 use Rattle.bi_commands.specs.Descriptions.{plain_node, property_words, payload_words, own_lines, node_lines, reservation_words, tree_lines}
-use Rattle.bi_commands.specs.Descriptions.{fit_lines, description}
+use Rattle.bi_commands.specs.Descriptions.{fit_lines, description, description_lines}
 use Rattle.bi_commands.specs.Shown.{shown_text}
 use Rattle.bi_commands.proofs.AsciiTexts.{AreAsciiWords, AreAsciiLines, HasAscii, is_ascii, by_test, each_text, ascii_lines, decimal_shown}
 use Rattle.bi_commands.proofs.AsciiTexts.{bytes_digits, address, address_64, name_shown, value_shown, code_named}
@@ -188,6 +190,12 @@ fit_shown tree is = (
         (tree_shown tree is),
   ),
 )
+
+-- The lines of the description of what a file means.
+pub lines_shown : (limits : Limits) (file : List ℕ) (meaning : Meaning) → Means limits file meaning →
+    AreAsciiLines (description_lines meaning)
+lines_shown limits file (OfLegacy image) means = legacy_shown image (image_of_file file image means.is_file).name_bytes
+lines_shown limits file (OfFit tree) means = fit_shown tree (file_means_image_tree file tree means.is_file)
 
 -- The description of a legacy image whose name is bytes is ASCII.
 pub legacy_is_ascii : (image : LegacyImage) → AreBytes image.name → IsAscii (description (OfLegacy image))

@@ -25,6 +25,7 @@ pub mod LegacyOutputs
 pub mod FitOutputs
 pub mod DescriptionFacts
 pub mod DifferenceFacts
+pub mod DifferenceLines
 pub mod TextFacts
 pub mod LineSets
 pub mod LongNames
@@ -42,6 +43,7 @@ pub mod ConfigurationNodes
 pub mod UnshownNames
 pub mod AsciiTexts
 pub mod AsciiDescriptions
+pub mod AsciiDifferences
 pub mod AsciiListings
 pub mod HashedImages
 pub mod VerdictCounts

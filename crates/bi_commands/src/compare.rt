@@ -1,6 +1,7 @@
 //! Comparing what two boot images mean: whether it is the same, and what differs.
 
 mod differences;
+mod json;
 mod texts;
 
 ghost use Rattle.std.specs.Prelude.{◌≡◌, ◌↔◌, ◌⊎◌, IsTrue, List, ℕ, IfOk, OnOk, IfErr};
@@ -9,6 +10,7 @@ ghost use Rattle.bi_base.specs.Limits.{Limits};
 ghost use Rattle.bi_norm.specs.Comparing.{AreCompared};
 ghost use Rattle.bi_norm.specs.Meaning.{Meaning, Means};
 ghost use Rattle.bi_norm.specs.Reading.{IsBootImageReadError, meaning_of, IsReadBootImage};
+ghost use Rattle.bi_commands.specs.declared.format.Format.TheVariants.{Lines, Json};
 ghost use Rattle.bi_commands.specs.Comparing.{IsComparison, IsComparisonError};
 ghost use Rattle.bi_commands.specs.Comparing.{IsReadingError, IsDescribingError, comparison};
 ghost use Rattle.bi_commands.specs.Descriptions.{description};
@@ -18,6 +20,7 @@ ghost use Rattle.bi_commands.specs.ReadDescription.{IsHeldImage};
 use crate::describe::describe_image;
 use bi_base::{Error, Fault, Limits};
 use bi_norm::BootImage;
+use json::comparison_json;
 use std::alloc::{AllocError, Global};
 use texts::compare_texts;
 
@@ -40,7 +43,8 @@ pub enum CompareError {
 pub struct Comparison {
     /// Whether both mean the same.
     pub same: bool,
-    /// The differences of their descriptions. Empty if and only if both mean the same.
+    /// The differences of their descriptions: empty if and only if both mean the same. Of
+    /// `compare_json`, the text of JSON.
     pub differences: String,
 }
 
@@ -78,7 +82,7 @@ pub fn compare(
     other: &[u8],
     limits: Limits,
 ) -> Result<Comparison, CompareError>
-    ensures compared { IfOk result (λ comparison. IsComparison limits one.now other.now
+    ensures compared { IfOk result (λ comparison. IsComparison Lines limits one.now other.now
         comparison.same (string_bytes comparison.differences)) }
     ensures failed { IfErr result (IsComparisonError limits one.now other.now) }
 {
@@ -95,6 +99,27 @@ pub fn compare(
     Ok(Comparison {
         same: false,
         differences: compare_images(alloc, &image, &other_image, &text, &other_text)?,
+    })
+}
+
+/// Returns whether two boot images mean the same, and what differs between them, as one text of
+/// JSON and a newline. It says what the lines of `compare` say, and the errors are those of
+/// `compare`.
+pub fn compare_json(
+    alloc: Global,
+    one: &[u8],
+    other: &[u8],
+    limits: Limits,
+) -> Result<Comparison, CompareError>
+    ensures compared { IfOk result (λ comparison. IsComparison Json limits one.now other.now
+        comparison.same (string_bytes comparison.differences)) }
+    ensures failed { IfErr result (IsComparisonError limits one.now other.now) }
+{
+    let comparison = compare(alloc, one, other, limits)?;
+    let same = comparison.same;
+    Ok(Comparison {
+        same,
+        differences: comparison_json(alloc, same, &comparison.differences)?,
     })
 }
 
