@@ -25,7 +25,10 @@ pub mod LegacyOutputs
 pub mod FitOutputs
 pub mod DescriptionFacts
 pub mod DifferenceFacts
+pub mod LegacyConcernFacts
+pub mod RefusalFacts
 pub mod TextFacts
+pub mod UpdatedMeaningFacts
 pub mod LineSets
 pub mod LongNames
 pub mod DescribedLines
