@@ -26,7 +26,10 @@ pub mod FitOutputs
 pub mod DescriptionFacts
 pub mod DifferenceFacts
 pub mod DifferenceLines
+pub mod LegacyConcernFacts
+pub mod RefusalFacts
 pub mod TextFacts
+pub mod UpdatedMeaningFacts
 pub mod LineSets
 pub mod LongNames
 pub mod DescribedLines

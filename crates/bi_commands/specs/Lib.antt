@@ -23,10 +23,13 @@ pub mod ReadChecking
 pub mod ReadDescription
 pub mod ReadListing
 pub mod Reports
+pub mod KnownBounds
 pub mod KnownConcerns
 pub mod KnownDescriptions
 pub mod KnownDifferences
+pub mod KnownRefusals
 pub mod KnownTexts
+pub mod KnownUpdates
 pub mod TreeEntries
 pub mod UpdatedFileLaws
 pub mod UpdatedFiles
