@@ -162,11 +162,12 @@ for command in ("describe", "check"):
     runs, verified = zip(*([run("large", [PROGRAM, each]) for each in (command, "verify")] for _ in range(10)))
     times = ratio(runs, verified)
     judge(f"large, {command} beside verify", times <= 1.15, f"{times:.2f} times as long")
-for path, command in [("configured", "list"), *(("more", command) for command in ("list", "describe", "verify", "check"))]:
-    words = [PROGRAM, *COMMANDS[command]]
-    runs, without = zip(*([run(path, each) for each in ([*words, "--json"], words)] for _ in range(10)))
+with_json = [("configured", *COMMANDS["list"]), *(("more", *COMMANDS[command]) for command in ("list", "describe", "verify", "check"))]
+for path, *words in [*with_json, ("more", "compare", "-", "FILE.other")]:
+    wanted = int(words[0] == "compare")
+    runs, without = zip(*([run(path, [PROGRAM, *words, *json], wanted) for json in (["--json"], [])] for _ in range(10)))
     times = ratio(runs, without)
-    judge(f"{path}, {command} --json", times <= JSON, f"{least(runs)[0]:.3f} s, {times:.2f} times as long as without --json")
+    judge(f"{path}, {words[0]} --json", times <= JSON, f"{least(runs)[0]:.3f} s, {times:.2f} times as long as without --json")
 sys.exit(failures != 0)
 END
 # The trees are made by another process: what a process has used counts for the memory of those that it starts.
@@ -174,5 +175,5 @@ program=$root/crates/bootimg/out/bootimg
 python_with_blobs costs.py make
 python_with_blobs costs.py "$program" | tee costs
 add_counts "$(grep -c '^ok: ' costs)" "$(grep -c '^FAILED: ' costs)"
-[ "$(grep -c '^ok: \|^FAILED: ' costs)" = 42 ] || add_counts 0 1
+[ "$(grep -c '^ok: \|^FAILED: ' costs)" = 43 ] || add_counts 0 1
 finish
