@@ -24,6 +24,16 @@ passes python3 "$suite" --outputs json "$program"
 check "there is JSON of each kind" sh -c '[ "$(cut -d "\"" -f 2 json | sort -u | tr "\n" " ")" = "concerns kind same " ]'
 check "jq reads the JSON, and prints the same bytes" sh -c 'jq -c . json | cmp - json'
 
+# names_members PAGE: the page has the members of the JSON, and no others.
+names_members() {
+    grep -oE '"[a-z0-9_]+":' "$root/$1" | tr -d '":' | sort -u > got
+    jq -r '.. | objects | keys_unsorted[]' json | sort -u | diff got -
+}
+
+for page in man/bootimg.1 docs/CLI.md; do
+    check "$page has the members of the JSON" names_members "$page"
+done
+
 # saves ARGUMENT..: with -o the program writes the same JSON to a file.
 saves() {
     "$program" "$@" > wanted && [ -s wanted ] && "$program" "$@" -o saved && cmp wanted saved
