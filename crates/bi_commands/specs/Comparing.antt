@@ -8,6 +8,7 @@ use Rattle.bi_norm.specs.Meaning.{Meaning, OfLegacy, OfFit}
 use Rattle.bi_norm.specs.Reading.{IsBootImageReadError, NeedsMemory}
 use Rattle.bi_commands.specs.declared.compare.CompareError.{CompareError}
 use Rattle.bi_commands.specs.declared.compare.CompareError.TheVariants.{One, Other, OutOfMemory}
+use Rattle.bi_commands.specs.declared.format.Format.TheVariants.{Lines}
 use Rattle.bi_commands.specs.Descriptions.{description, description_texts}
 use Rattle.bi_commands.specs.Describing.{CanBeDescribed, IsTooLongToDescribe}
 use Rattle.bi_commands.specs.Differences.{differences}
@@ -45,7 +46,7 @@ pub data IsTextOfDifferences (limits : Limits) (one other : Meaning) (text : Lis
     : (same : Bool) → Type 0
   where
     AreTheSame : text ≡ [] → IsTextOfDifferences limits one other text true
-    AreDifferent : CanBeDescribed limits one → CanBeDescribed limits other
+    AreDifferent : CanBeDescribed Lines limits one → CanBeDescribed Lines limits other
         → text ≡ comparison one other → IsTextOfDifferences limits one other text false
 
 -- The text is what differs between two files, and `same` is whether they mean the same. The text is
@@ -68,9 +69,10 @@ IsReadingError limits one other OutOfMemory = NeedsMemory limits one
 -- describe, or else the second one.
 abbrev pub IsDescribingError : Limits → (one other : Meaning) → CompareError → Type 0
 IsDescribingError limits one other (One fault) =
-    IsTooLongToDescribe limits one × (fault ≡ too_large limits.file)
+    IsTooLongToDescribe Lines limits one × (fault ≡ too_large limits.file)
 IsDescribingError limits one other (Other fault) =
-    CanBeDescribed limits one × IsTooLongToDescribe limits other × (fault ≡ too_large limits.file)
+    CanBeDescribed Lines limits one × IsTooLongToDescribe Lines limits other
+    × (fault ≡ too_large limits.file)
 IsDescribingError limits one other OutOfMemory = ⊥
 
 -- The error that describing two files can have, which do not mean the same.

@@ -9,6 +9,7 @@ ghost use Rattle.bi_base.specs.Limits.{Limits};
 ghost use Rattle.bi_norm.specs.Comparing.{AreCompared};
 ghost use Rattle.bi_norm.specs.Meaning.{Meaning, Means};
 ghost use Rattle.bi_norm.specs.Reading.{IsBootImageReadError, meaning_of, IsReadBootImage};
+ghost use Rattle.bi_commands.specs.declared.format.Format.TheVariants.{Lines};
 ghost use Rattle.bi_commands.specs.Comparing.{IsComparison, IsComparisonError};
 ghost use Rattle.bi_commands.specs.Comparing.{IsReadingError, IsDescribingError, comparison};
 ghost use Rattle.bi_commands.specs.Descriptions.{description};
@@ -16,6 +17,7 @@ ghost use Rattle.bi_commands.specs.Describing.{CanBeDescribed};
 ghost use Rattle.bi_commands.specs.ReadDescription.{IsHeldImage};
 
 use crate::describe::describe_image;
+use crate::format::Format;
 use bi_base::{Error, Fault, Limits};
 use bi_norm::BootImage;
 use std::alloc::{AllocError, Global};
@@ -166,13 +168,13 @@ fn describe_one(
     limits: Limits,
 ) -> Result<String, CompareError>
     requires held { IsHeldImage image.now }
-    ensures within { OnOk result (CanBeDescribed limits (meaning_of image.now)) }
+    ensures within { OnOk result (CanBeDescribed Lines limits (meaning_of image.now)) }
     ensures described { IfOk result (λ text. string_bytes text
         ≡ description (meaning_of image.now)) }
     ensures failed { IfErr result (λ error. (error ≡ CompareError.OutOfMemory)
         ⊎ ((other : Meaning) → IsDescribingError limits (meaning_of image.now) other error)) }
 {
-    match describe_image(alloc, image, limits) {
+    match describe_image(alloc, image, limits, Format::Lines) {
         Ok(text) => Ok(text),
         Err(Error::Refused(fault)) => Err(CompareError::One(fault)),
         Err(_) => Err(CompareError::OutOfMemory),
@@ -186,14 +188,14 @@ fn describe_other(
     limits: Limits,
 ) -> Result<String, CompareError>
     requires held { IsHeldImage image.now }
-    ensures within { OnOk result (CanBeDescribed limits (meaning_of image.now)) }
+    ensures within { OnOk result (CanBeDescribed Lines limits (meaning_of image.now)) }
     ensures described { IfOk result (λ text. string_bytes text
         ≡ description (meaning_of image.now)) }
     ensures failed { IfErr result (λ error. (error ≡ CompareError.OutOfMemory)
-        ⊎ ((one : Meaning) → CanBeDescribed limits one
+        ⊎ ((one : Meaning) → CanBeDescribed Lines limits one
         → IsDescribingError limits one (meaning_of image.now) error)) }
 {
-    match describe_image(alloc, image, limits) {
+    match describe_image(alloc, image, limits, Format::Lines) {
         Ok(text) => Ok(text),
         Err(Error::Refused(fault)) => Err(CompareError::Other(fault)),
         Err(_) => Err(CompareError::OutOfMemory),
