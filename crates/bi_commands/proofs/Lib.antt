@@ -2,6 +2,8 @@ pub mod DescribedImages
 pub mod PrintableLines
 pub mod EntryLines
 pub mod TreeLines
+pub mod EntryJson
+pub mod AsciiDescriptionJson
 pub mod QuotedValues
 pub mod LineChains
 pub mod DescriptionPieces
@@ -29,6 +31,7 @@ pub mod DifferenceLines
 pub mod TextFacts
 pub mod LineSets
 pub mod LongNames
+pub mod LongNamesJson
 pub mod DescribedLines
 pub mod ComparedTexts
 pub mod ComparedImages

@@ -28,6 +28,7 @@ pub mod KnownDescriptions
 pub mod KnownDifferences
 pub mod KnownTexts
 pub mod TreeEntries
+pub mod EntryJson
 pub mod UpdatedFileLaws
 pub mod UpdatedFiles
 pub mod ValueTexts
