@@ -77,8 +77,8 @@ pub error_of_one : (limits : Limits) (image other_image : BootImage) (error : Co
 error_of_one limits image other_image error (inl memory) = inl memory
 error_of_one limits image other_image error (inr describing) = inr (describing (meaning_of other_image))
 
-pub error_of_other : (limits : Limits) (image other_image : BootImage) (error : CompareError) → CanBeDescribed limits (meaning_of image)
-    → (error ≡ OutOfMemory) ⊎ ((one : Meaning) → CanBeDescribed limits one → IsDescribingError limits one (meaning_of other_image) error)
+pub error_of_other : (limits : Limits) (image other_image : BootImage) (error : CompareError) → CanBeDescribed Lines limits (meaning_of image)
+    → (error ≡ OutOfMemory) ⊎ ((one : Meaning) → CanBeDescribed Lines limits one → IsDescribingError limits one (meaning_of other_image) error)
     → (error ≡ OutOfMemory) ⊎ IsDescribingError limits (meaning_of image) (meaning_of other_image) error
 error_of_other limits image other_image error described (inl memory) = inl memory
 error_of_other limits image other_image error described (inr describing) = inr (describing (meaning_of image) described)
@@ -121,7 +121,7 @@ compared_same limits one other image other_image same text opened other_opened i
 -- The differences of two files that do not mean the same.
 pub compared_different : (limits : Limits) (one other : List ℕ) (image other_image : BootImage) (same : Bool) (text : List ℕ) →
     IsReadBootImage limits one image → IsReadBootImage limits other other_image → IsTrue same ↔ (meaning_of image ≡ meaning_of other_image)
-    → same ≡ false → CanBeDescribed limits (meaning_of image) → CanBeDescribed limits (meaning_of other_image) →
+    → same ≡ false → CanBeDescribed Lines limits (meaning_of image) → CanBeDescribed Lines limits (meaning_of other_image) →
     text ≡ comparison (meaning_of image) (meaning_of other_image) → IsComparison Lines limits one other false text
 compared_different limits one other image other_image same text opened other_opened is is_false described other_described is_text = record {
   compared = are_compared limits one other image other_image false opened other_opened

@@ -2,6 +2,8 @@ pub mod DescribedImages
 pub mod PrintableLines
 pub mod EntryLines
 pub mod TreeLines
+pub mod EntryJson
+pub mod AsciiDescriptionJson
 pub mod QuotedValues
 pub mod LineChains
 pub mod DescriptionPieces
@@ -32,6 +34,7 @@ pub mod TextFacts
 pub mod UpdatedMeaningFacts
 pub mod LineSets
 pub mod LongNames
+pub mod LongNamesJson
 pub mod DescribedLines
 pub mod ComparedTexts
 pub mod ComparedImages

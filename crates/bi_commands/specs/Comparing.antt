@@ -49,7 +49,7 @@ pub data IsTextOfDifferences (limits : Limits) (one other : Meaning) (text : Lis
     : (same : Bool) → Type 0
   where
     AreTheSame : text ≡ [] → IsTextOfDifferences limits one other text true
-    AreDifferent : CanBeDescribed limits one → CanBeDescribed limits other
+    AreDifferent : CanBeDescribed Lines limits one → CanBeDescribed Lines limits other
         → text ≡ comparison one other → IsTextOfDifferences limits one other text false
 
 -- The text of a comparison, in a form. In JSON it says whether the meanings are the same, too.
@@ -79,9 +79,10 @@ IsReadingError limits one other OutOfMemory = NeedsMemory limits one
 -- describe, or else the second one.
 abbrev pub IsDescribingError : Limits → (one other : Meaning) → CompareError → Type 0
 IsDescribingError limits one other (One fault) =
-    IsTooLongToDescribe limits one × (fault ≡ too_large limits.file)
+    IsTooLongToDescribe Lines limits one × (fault ≡ too_large limits.file)
 IsDescribingError limits one other (Other fault) =
-    CanBeDescribed limits one × IsTooLongToDescribe limits other × (fault ≡ too_large limits.file)
+    CanBeDescribed Lines limits one × IsTooLongToDescribe Lines limits other
+    × (fault ≡ too_large limits.file)
 IsDescribingError limits one other OutOfMemory = ⊥
 
 -- The error that describing two files can have, which do not mean the same.

@@ -31,6 +31,7 @@ pub mod KnownRefusals
 pub mod KnownTexts
 pub mod KnownUpdates
 pub mod TreeEntries
+pub mod EntryJson
 pub mod UpdatedFileLaws
 pub mod UpdatedFiles
 pub mod ValueTexts

@@ -18,6 +18,7 @@ ghost use Rattle.bi_commands.specs.Describing.{CanBeDescribed};
 ghost use Rattle.bi_commands.specs.ReadDescription.{IsHeldImage};
 
 use crate::describe::describe_image;
+use crate::format::Format;
 use bi_base::{Error, Fault, Limits};
 use bi_norm::BootImage;
 use json::comparison_json;
@@ -191,13 +192,13 @@ fn describe_one(
     limits: Limits,
 ) -> Result<String, CompareError>
     requires held { IsHeldImage image.now }
-    ensures within { OnOk result (CanBeDescribed limits (meaning_of image.now)) }
+    ensures within { OnOk result (CanBeDescribed Lines limits (meaning_of image.now)) }
     ensures described { IfOk result (λ text. string_bytes text
         ≡ description (meaning_of image.now)) }
     ensures failed { IfErr result (λ error. (error ≡ CompareError.OutOfMemory)
         ⊎ ((other : Meaning) → IsDescribingError limits (meaning_of image.now) other error)) }
 {
-    match describe_image(alloc, image, limits) {
+    match describe_image(alloc, image, limits, Format::Lines) {
         Ok(text) => Ok(text),
         Err(Error::Refused(fault)) => Err(CompareError::One(fault)),
         Err(_) => Err(CompareError::OutOfMemory),
@@ -211,14 +212,14 @@ fn describe_other(
     limits: Limits,
 ) -> Result<String, CompareError>
     requires held { IsHeldImage image.now }
-    ensures within { OnOk result (CanBeDescribed limits (meaning_of image.now)) }
+    ensures within { OnOk result (CanBeDescribed Lines limits (meaning_of image.now)) }
     ensures described { IfOk result (λ text. string_bytes text
         ≡ description (meaning_of image.now)) }
     ensures failed { IfErr result (λ error. (error ≡ CompareError.OutOfMemory)
-        ⊎ ((one : Meaning) → CanBeDescribed limits one
+        ⊎ ((one : Meaning) → CanBeDescribed Lines limits one
         → IsDescribingError limits one (meaning_of image.now) error)) }
 {
-    match describe_image(alloc, image, limits) {
+    match describe_image(alloc, image, limits, Format::Lines) {
         Ok(text) => Ok(text),
         Err(Error::Refused(fault)) => Err(CompareError::Other(fault)),
         Err(_) => Err(CompareError::OutOfMemory),

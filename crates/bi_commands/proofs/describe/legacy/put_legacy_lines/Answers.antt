@@ -5,7 +5,7 @@ use Rattle.bi_commands.specs.Shown.{line}
 use Rattle.bi_commands.specs.TreeEntries.{digest_made}
 use Rattle.bi_commands.proofs.LineChains.{first_of_all_fails, next_fails, last_writes}
 use Rattle.bi_commands.proofs.DescriptionPieces.{three_texts, first_of_three}
-use Rattle.bi_commands.proofs.describe.legacy.put_legacy.Goals as goal
+use Rattle.bi_commands.proofs.describe.legacy.put_legacy_lines.Goals as goal
 
 pub returns-in_err-put_kind_and_fields : goal.returns-in_err-put_kind_and_fields
 returns-in_err-put_kind_and_fields g c =

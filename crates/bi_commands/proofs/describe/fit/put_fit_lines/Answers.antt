@@ -5,7 +5,7 @@ use Rattle.bi_commands.specs.Shown.{line}
 use Rattle.bi_commands.specs.TreeEntries.{as_entry}
 use Rattle.bi_commands.proofs.LineChains.{first_of_all_fails, next_fails, last_writes}
 use Rattle.bi_commands.proofs.DescriptionPieces.{three_texts, first_of_three}
-use Rattle.bi_commands.proofs.describe.fit.put_fit.Goals as goal
+use Rattle.bi_commands.proofs.describe.fit.put_fit_lines.Goals as goal
 
 pub returns-in_err-put_head-clause-wrote : goal.returns-in_err-put_head-clause-wrote
 returns-in_err-put_head-clause-wrote g c =
