@@ -182,7 +182,10 @@ tree_pieces : (processor reservations root : List ℕ)
     ++ (44 ∷ (codes "\"root\":{" ++ (root ++ 125 ∷ [])))))))) ++ 125 ∷ [])) ++ 10 ∷ []
     ≡ (123 ∷ ((codes "\"kind\":\"fit\"" ++ (44 ∷ processor))
     ++ (codes ",\"reservations\":[" ++ (reservations ++ codes "],\"root\":{")))) ++ ((root ++ 125 ∷ []) ++ codes "}\n")
-tree_pieces processor reservations root = simp append_assoc refl
+tree_pieces processor reservations root =
+    simp append_assoc
+    (ap (λ (l : List ℕ). 123 ∷ (codes "\"kind\":\"fit\"" ++ (44 ∷ (processor ++ (codes ",\"reservations\":[" ++ l)))))
+    (sym (append_assoc reservations (codes "],\"root\":{") (root ++ codes "}}\n"))))
 
 -- The text of the entries of a tree that was read is its description in JSON.
 pub json_of_tree : (content : FitModel) → read_json content.blob (tree_entries (tree_of content)) ≡ description_json (OfFit (tree_of content))

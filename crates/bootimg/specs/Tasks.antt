@@ -46,7 +46,7 @@ abbrev pub TaskDone : Task → Limits → Done → (input output : List ℕ) →
 TaskDone (Normalise form) limits done input output =
     IsNormaliseOutput limits form done.signatures input output × (done.status ≡ 0)
 TaskDone ListImage limits done input output = IsListing limits input output × EndedWith 0 done
-TaskDone Describe limits done input output = IsDescription limits input output × EndedWith 0 done
+TaskDone Describe limits done input output = IsDescription Lines limits input output × EndedWith 0 done
 TaskDone Verify limits done input output =
     (good : Bool) × IsVerifyOutput Lines limits good input output × EndedWith (status_of good) done
 TaskDone (Check allowed) limits done input output =
@@ -62,7 +62,7 @@ TaskDone Convert limits done input output = IsConvertedFile limits input output 
 abbrev pub TaskText : Task → Limits → (input output : List ℕ) → Type 0
 TaskText (Normalise form) limits input output = IsNormalForm limits form input output
 TaskText ListImage limits input output = IsListing limits input output
-TaskText Describe limits input output = IsDescription limits input output
+TaskText Describe limits input output = IsDescription Lines limits input output
 TaskText Verify limits input output = IsReport Lines limits input output
 TaskText (Check allowed) limits input output = IsChecked Lines allowed limits input output
 TaskText (Update changes form) limits input output = IsUpdated changes limits form input output
@@ -87,7 +87,7 @@ abbrev pub TaskFails : Task → Limits → (input : List ℕ) → Failure → Ty
 TaskFails (Normalise form) limits input failure =
     IsCallFailure (IsNormaliseError limits form input) failure
 TaskFails ListImage limits input failure = IsCallFailure (IsBootImageReadError limits input) failure
-TaskFails Describe limits input failure = IsCallFailure (IsDescribeError limits input) failure
+TaskFails Describe limits input failure = IsCallFailure (IsDescribeError Lines limits input) failure
 TaskFails Verify limits input failure = IsCallFailure (IsBootImageReadError limits input) failure
 TaskFails (Check allowed) limits input failure = IsCallFailure (IsCheckError limits input) failure
 TaskFails (Update changes form) limits input failure =
@@ -169,7 +169,7 @@ task_in_memory (Normalise form) limits input failure is =
 task_in_memory ListImage limits input failure is =
     call_in_memory (IsBootImageReadError limits input) (λ no. no) (λ no. no) failure is
 task_in_memory Describe limits input failure is =
-    call_in_memory (IsDescribeError limits input) (λ no. no) (λ no. no) failure is
+    call_in_memory (IsDescribeError Lines limits input) (λ no. no) (λ no. no) failure is
 task_in_memory Verify limits input failure is =
     call_in_memory (IsBootImageReadError limits input) (λ no. no) (λ no. no) failure is
 task_in_memory (Check allowed) limits input failure is =

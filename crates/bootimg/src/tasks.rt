@@ -73,7 +73,10 @@ impl Command for Task {
                 return Ok(Done::with_status(SUCCESS));
             }
             Task::Describe => {
-                Describer.run(alloc, input, limits, sink)?;
+                let describer = Describer {
+                    format: Format::Lines,
+                };
+                describer.run(alloc, input, limits, sink)?;
                 return Ok(Done::with_status(SUCCESS));
             }
             Task::Verify => {

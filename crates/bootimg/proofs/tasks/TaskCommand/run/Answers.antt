@@ -39,7 +39,7 @@ returns-in_err-run-in-Describe-clause-failed g c =
     let input = c.args.input.now in
     let p = err_from_is_err_and c.from_residual-in_err-run-in-Describe.result c.from_residual-in_err-run-in-Describe.ensures.1 in
     rw (c.in-Describe.is, p.1)
-    (call_failed g.S.Sink.fails (IsDescription limits input) (IsDescribeError limits input) c.args.sink.now c.run-in-Describe.new.sink c.in_err-run-in-Describe.field-0.0 p.0 p.2
+    (call_failed g.S.Sink.fails (IsDescription Lines limits input) (IsDescribeError Lines limits input) c.args.sink.now c.run-in-Describe.new.sink c.in_err-run-in-Describe.field-0.0 p.0 p.2
     c.in_err-run-in-Describe.ensures.failed)
 
 pub returns-in_err-good-in-Verify-clause-failed : goal.returns-in_err-good-in-Verify-clause-failed
