@@ -238,18 +238,3 @@ pub property_of_bytes : (name value : List ℕ) → are_quotable_texts value ≡
     property_object (name, value)
     ≡ json_object (name_member (codes "name") name ∷ (codes "hex", json_string (hexadecimal_digits value)) ∷ [])
 property_of_bytes name value is = rw is refl
-
--- The first one in parts.
-around_strings : (name values : List ℕ) →
-    123 ∷ ((name ++ (44 ∷ (codes "\"strings\":[" ++ (values ++ 93 ∷ [])))) ++ 125 ∷ [])
-    ≡ 123 ∷ (name ++ (codes ",\"strings\":[" ++ (values ++ codes "]}")))
-around_strings name values = simp append_assoc refl
-
-pub strings_in_parts : (name : List ℕ) (strings : List JsonText)
-    → json_object (name_member (codes "name") name ∷ (codes "strings", json_array strings) ∷ [])
-    ≡ 123 ∷ (join_with_byte 44 (map member_text (name_member (codes "name") name ∷ []))
-    ++ (codes ",\"strings\":[" ++ (with_commas false strings ++ codes "]}")))
-strings_in_parts name strings =
-    let first : List ℕ = member_text (name_member (codes "name") name) in
-    around_strings first (join_with_byte 44 strings)
-    ∙ ap (λ (l : List ℕ). 123 ∷ (first ++ (codes ",\"strings\":[" ++ (l ++ codes "]}")))) (sym (commas_between strings))

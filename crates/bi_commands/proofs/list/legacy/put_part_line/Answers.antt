@@ -3,7 +3,7 @@ use Rattle.std.specs.Fmt.{decimal}
 use Rattle.bi_commands.proofs.ListedFiles.{one_more_piece}
 use Rattle.bi_commands.proofs.PartLines.{part_pieces}
 use Rattle.bi_commands.proofs.LineChains.{first_of_all_fails, next_fails, last_writes}
-use Rattle.bi_commands.proofs.list.legacy.put_part.Goals as goal
+use Rattle.bi_commands.proofs.list.legacy.put_part_line.Goals as goal
 
 pub returns-in_err-put_text_and_number : goal.returns-in_err-put_text_and_number
 returns-in_err-put_text_and_number g c =
