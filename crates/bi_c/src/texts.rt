@@ -51,8 +51,9 @@ pub extern "C" fn bootimg_describe(
     buffer: &mut [u8],
     answer: &mut Answer,
 ) -> u32
-    ensures { Fills (IsTextOnly limit depth (λ limits text. IsDescription limits file.now text))
-        (IsFailureOfOne limit depth (λ limits error. IsDescribeError limits file.now error))
+    ensures { Fills
+        (IsTextOnly limit depth (λ limits text. IsDescription Lines limits file.now text))
+        (IsFailureOfOne limit depth (λ limits error. IsDescribeError Lines limits file.now error))
         buffer.old buffer.new answer.new result }
 {
     let Some(limits) = limits_of(limit, depth) else {

@@ -373,7 +373,7 @@ code_ascii code_names are code = by (name_of_code code_names code) (code_named c
     by None is = is
     by (Some name) is = string_ascii name is
 
-header_ascii : (image : LegacyImage) → AreBytes image.name → (last : List Member) → AllByRecursion IsAsciiMember last →
+pub header_ascii : (image : LegacyImage) → AreBytes image.name → (last : List Member) → AllByRecursion IsAsciiMember last →
     AllByRecursion IsAsciiMember (header_members image ++ last)
 header_ascii image bytes last are = (
   (by_test (codes "kind") refl, by_test (json_string (codes "legacy")) refl),
@@ -419,7 +419,7 @@ legacy_ascii parsed bytes =
       ((by_test (codes "unused") refl, decimal_shown parsed.unused), tt),
     )))
 
-reservations_ascii : (reservations : List Reservation) → AllByRecursion HasAscii (map reservation_object reservations)
+pub reservations_ascii : (reservations : List Reservation) → AllByRecursion HasAscii (map reservation_object reservations)
 reservations_ascii [] = tt
 reservations_ascii (reservation ∷ later) = (
   object_ascii

@@ -182,7 +182,10 @@ tree_pieces : (processor reservations root : List ℕ)
     ++ (44 ∷ (codes "\"root\":{" ++ (root ++ 125 ∷ [])))))))) ++ 125 ∷ [])) ++ 10 ∷ []
     ≡ (123 ∷ ((codes "\"kind\":\"fit\"" ++ (44 ∷ processor))
     ++ (codes ",\"reservations\":[" ++ (reservations ++ codes "],\"root\":{")))) ++ ((root ++ 125 ∷ []) ++ codes "}\n")
-tree_pieces processor reservations root = simp append_assoc refl
+tree_pieces processor reservations root =
+    simp append_assoc
+    (ap (λ (l : List ℕ). 123 ∷ (codes "\"kind\":\"fit\"" ++ (44 ∷ (processor ++ (codes ",\"reservations\":[" ++ l)))))
+    (sym (append_assoc reservations (codes "],\"root\":{") (root ++ codes "}}\n"))))
 
 -- The text of the entries of a tree that was read is its description in JSON.
 pub json_of_tree : (content : FitModel) → read_json content.blob (tree_entries (tree_of content)) ≡ description_json (OfFit (tree_of content))
@@ -235,18 +238,3 @@ pub property_of_bytes : (name value : List ℕ) → are_quotable_texts value ≡
     property_object (name, value)
     ≡ json_object (name_member (codes "name") name ∷ (codes "hex", json_string (hexadecimal_digits value)) ∷ [])
 property_of_bytes name value is = rw is refl
-
--- The first one in parts.
-around_strings : (name values : List ℕ) →
-    123 ∷ ((name ++ (44 ∷ (codes "\"strings\":[" ++ (values ++ 93 ∷ [])))) ++ 125 ∷ [])
-    ≡ 123 ∷ (name ++ (codes ",\"strings\":[" ++ (values ++ codes "]}")))
-around_strings name values = simp append_assoc refl
-
-pub strings_in_parts : (name : List ℕ) (strings : List JsonText)
-    → json_object (name_member (codes "name") name ∷ (codes "strings", json_array strings) ∷ [])
-    ≡ 123 ∷ (join_with_byte 44 (map member_text (name_member (codes "name") name ∷ []))
-    ++ (codes ",\"strings\":[" ++ (with_commas false strings ++ codes "]}")))
-strings_in_parts name strings =
-    let first : List ℕ = member_text (name_member (codes "name") name) in
-    around_strings first (join_with_byte 44 strings)
-    ∙ ap (λ (l : List ℕ). 123 ∷ (first ++ (codes ",\"strings\":[" ++ (l ++ codes "]}")))) (sym (commas_between strings))

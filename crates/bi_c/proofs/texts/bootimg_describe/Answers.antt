@@ -1,5 +1,6 @@
 use Rattle.std.proofs.Common.{refl, string_bytes}
 use Rattle.bi_base.specs.Limits.{IsInRange}
+use Rattle.bi_commands.specs.declared.format.Format.TheVariants.{Lines}
 use Rattle.bi_commands.specs.Describing.{IsDescription, IsDescribeError}
 use Rattle.bi_c.specs.declared.failure.Failure.TheVariants.{WrongArgument}
 use Rattle.bi_c.specs.Answers.{FilledNothing}
@@ -13,7 +14,7 @@ pub returns-in-Ok : goal.returns-in-Ok
 returns-in-Ok c =
     let in_range : IsInRange c.args.limit c.args.depth = is_so _ c.in-Some.ensures.in_range in
     buffer_is_filled _ _ c.as_bytes.result.now _ _ 0 _ _
-    (text_of_call c.args.limit c.args.depth (λ limits text. IsDescription limits c.args.file.now text) c.in-Some.limits
+    (text_of_call c.args.limit c.args.depth (λ limits text. IsDescription Lines limits c.args.file.now text) c.in-Some.limits
     (string_bytes c.in-Ok.text) c.as_bytes.result.now in_range c.in-Some.ensures.value c.as_bytes.ensures.value c.in-Ok.ensures.described)
     c.fill.ensures.answer c.fill.ensures.filled
 
@@ -22,6 +23,6 @@ returns-in-Err c =
     let in_range : IsInRange c.args.limit c.args.depth = is_so _ c.in-Some.ensures.in_range in
     FilledNothing c.failure_of.result
     (failed_of_one c.args.limit c.args.depth
-    (λ limits error. IsDescribeError limits c.args.file.now error) c.in-Some.limits c.in-Err.error c.failure_of.result in_range
+    (λ limits error. IsDescribeError Lines limits c.args.file.now error) c.in-Some.limits c.in-Err.error c.failure_of.result in_range
     c.in-Some.ensures.value c.failure_of.ensures (λ l is. is) (λ l is. is) c.in-Err.ensures.failed)
     refl c.fail-in-Err.ensures.answer c.fail-in-Err.ensures.status
