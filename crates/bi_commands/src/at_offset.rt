@@ -34,7 +34,7 @@ impl<C: Command> Command for At<C> {
         limits: Limits,
         sink: &mut S,
     ) -> Result<C::Value, C::Failure> {
-        self.command.run(alloc, image_at(input, self.offset), limits, sink)
+        self.command.run(alloc, image_at(input, self.offset as usize), limits, sink)
     }
 
     ghost wraps_from = { λ at. C.wraps_from at.command };
@@ -42,9 +42,9 @@ impl<C: Command> Command for At<C> {
     ghost laws = { λ at. laws_at at.offset (C.promise at.command) (C.laws at.command) };
 }
 
-/// Returns the bytes of an input from an offset on.
-fn image_at(input: &[u8], offset: u32) -> &[u8]
+/// Returns the image at an offset of an input: the input from there on.
+pub(crate) fn image_at(input: &[u8], offset: usize) -> &[u8]
     ensures { result.now ≡ input_from offset input.entry.now }
 {
-    input.get(offset as usize..).unwrap_or_default()
+    input.get(offset..).unwrap_or_default()
 }

@@ -1,7 +1,6 @@
 //! How many bytes the headers inside a file claim: the bound on the work of a scan.
 
-ghost use Rattle.std.specs.Prelude.{◌≡◌, ◌↔◌, ◌≤◌, IfErr, IsTrue, OnOk, length};
-ghost use Rattle.bi_base.specs.Cells.{u32_at};
+ghost use Rattle.std.specs.Prelude.{◌≡◌, ◌≤◌, IfErr, OnOk, length};
 ghost use Rattle.bi_base.specs.Crc.{crc32 as crc32_of};
 ghost use Rattle.bi_base.specs.Reading.{too_large};
 ghost use Rattle.bi_legacy.specs.Faults.{header_without_checksum};
@@ -10,6 +9,7 @@ ghost use Rattle.bi_norm.specs.Kinds.{BeginsAs};
 ghost use Rattle.bi_commands.specs.Scanning.{IsClaim, IsOverClaims, IsWithinClaims};
 
 use super::blob_claims::blob_claim;
+use crate::at_offset::image_at;
 use bi_base::{Cause, Crc32, Fault, Limits, cell_at, refuse};
 use bi_legacy::HEADER_SIZE;
 use bi_legacy::offsets::{IH_HCRC, IH_SIZE, IH_TIME};
@@ -25,7 +25,7 @@ pub(super) fn check_claims(file: &[u8], limits: Limits) -> Result<(), Fault>
 {
     let mut total = 0;
     for offset in 0..file.len() {
-        total += claim_of(&file[offset..]);
+        total += claim_of(image_at(file, offset));
         if total > limits.file() as usize {
             return refuse(Cause::TooLarge, limits.file());
         }
@@ -52,7 +52,7 @@ fn legacy_claim(image: &[u8]) -> usize
     ensures claim { IsClaim image.now result }
     ensures within { result ≤ length image.now }
 {
-    if image.len() < HEADER_SIZE || !has_header_checksum(image) {
+    if image.len() < HEADER_SIZE || cell_at(image, IH_HCRC) != header_checksum(image) {
         return 0;
     }
     let size = cell_at(image, IH_SIZE) as usize;
@@ -62,15 +62,14 @@ fn legacy_claim(image: &[u8]) -> usize
     HEADER_SIZE + size
 }
 
-/// Returns whether the checksum of the header of a legacy image is right.
-fn has_header_checksum(image: &[u8]) -> bool
+/// Returns the CRC-32 of the header of a legacy image, with zeros instead of its checksum.
+fn header_checksum(image: &[u8]) -> u32
     requires { 64 ≤ length image.now }
-    ensures { IsTrue result
-        ↔ (u32_at image.now 4 ≡ crc32_of (header_without_checksum image.now)) }
+    ensures { result ≡ crc32_of (header_without_checksum image.now) }
 {
     let mut sum = Crc32::new();
     sum.update(&image[..IH_HCRC]);
     sum.update(&[0; 4]);
     sum.update(&image[IH_TIME..HEADER_SIZE]);
-    sum.finish() == cell_at(image, IH_HCRC)
+    sum.finish()
 }

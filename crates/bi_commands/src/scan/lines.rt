@@ -11,6 +11,7 @@ ghost use Rattle.bi_commands.specs.ReadChecking.{end_of_read_payloads};
 ghost use Rattle.bi_commands.specs.Scanning.{HasLines, IsLineAt};
 ghost use Rattle.bi_commands.specs.Shown.{line, shown_text};
 
+use crate::at_offset::image_at;
 use crate::check::trailing::content_end;
 use crate::fields::{Field, put_line};
 use bi_base::{Error, Limits, Sink, VecSink, cell_at};
@@ -51,7 +52,7 @@ fn put_line_at(
         (Appended Grows (IsLineAt limits file.now offset) lines.old lines.new) }
     ensures failed { IfErr result (λ error. error ≡ OutOfMemory) }
 {
-    let image = &file[offset..];
+    let image = image_at(file, offset);
     if kind_of(image).is_err() {
         return Ok(());
     }
