@@ -54,3 +54,4 @@ pub mod AsciiJson
 pub mod ConcernTexts
 pub mod OffsetLists
 pub mod ScanClaims
+pub mod ScannedLines
