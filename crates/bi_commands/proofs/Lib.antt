@@ -60,3 +60,6 @@ pub mod JsonTexts
 pub mod TextsInTurn
 pub mod AsciiJson
 pub mod ConcernTexts
+pub mod OffsetLists
+pub mod ScanClaims
+pub mod ScannedLines

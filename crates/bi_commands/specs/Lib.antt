@@ -52,3 +52,7 @@ pub mod Formats
 pub mod JsonValues
 pub mod VerifiedFiles
 pub mod ListedFiles
+pub mod Offsets
+pub mod Scanning
+pub mod ScanLaws
+pub mod KnownScans

@@ -13,7 +13,7 @@ mod concern_json;
 mod configurations;
 mod fit;
 mod images;
-mod trailing;
+pub(crate) mod trailing;
 
 use crate::format::Format;
 use bi_base::{Command, Error, Limits, Sink, VecSink, pipe_to};
