@@ -1,16 +1,16 @@
 //! Comparing what two files mean.
 
-ghost use Rattle.std.specs.Prelude.{◌≡◌};
-ghost use Rattle.bi_c.specs.Answers.{Answers, Fills};
+ghost use Rattle.std.specs.Prelude.{◌≡◌, string_bytes};
+ghost use Rattle.bi_c.specs.Answers.{Answers, Fills, IsTextOf, IsFailureOf};
 ghost use Rattle.bi_c.specs.Arguments.{bounds};
 ghost use Rattle.bi_c.specs.Calls.{IsSame, IsTextWithFlag, IsFailureOfTwo};
-ghost use Rattle.bi_c.specs.Calls.{failure_of_compare_error};
+ghost use Rattle.bi_c.specs.Calls.{failure_of_compare_error, flag};
 ghost use Rattle.bi_commands.specs.Comparing.{IsComparison, IsComparisonError, IsReadingError};
 
 use crate::answer::{Answer, fail, fill, succeed};
 use crate::arguments::limits_of;
 use crate::failure::Failure;
-use bi_commands::compare::{CompareError, compare, have_same_meaning};
+use bi_commands::compare::{CompareError, Comparison, compare, have_same_meaning};
 use std::alloc::Global;
 
 /// Sets `answer.value` to 1 if two files mean the same, and otherwise to 0. Returns the status.
@@ -56,7 +56,21 @@ pub extern "C" fn bootimg_compare(
     let Some(limits) = limits_of(limit, depth) else {
         return fail(Failure::WrongArgument, answer);
     };
-    match compare(alloc, one, other, limits) {
+    fill_comparison(compare(alloc, one, other, limits), buffer, answer)
+}
+
+/// Writes what a comparison of two files found to a buffer, and the answer. Returns the status.
+fn fill_comparison(
+    made: Result<Comparison, CompareError>,
+    buffer: &mut [u8],
+    answer: &mut Answer,
+) -> u32
+    ensures { Fills
+        (IsTextOf (λ compared. string_bytes compared.differences) (λ compared. flag compared.same)
+        made)
+        (IsFailureOf failure_of_compare_error made) buffer.old buffer.new answer.new result }
+{
+    match made {
         Ok(compared) => fill(
             compared.differences.as_bytes(),
             usize::from(compared.same),
