@@ -218,12 +218,20 @@ uint32_t bootimg_compare(const uint8_t *one, size_t one_size, const uint8_t *oth
 uint32_t bootimg_list_json(const uint8_t *file, size_t file_size, uint32_t limit, uint32_t depth,
                            uint8_t *buffer, size_t buffer_size, bootimg_answer *answer);
 
+uint32_t bootimg_describe_json(const uint8_t *file, size_t file_size, uint32_t limit,
+                               uint32_t depth, uint8_t *buffer, size_t buffer_size,
+                               bootimg_answer *answer);
+
 uint32_t bootimg_verify_json(const uint8_t *file, size_t file_size, uint32_t limit, uint32_t depth,
                              uint8_t *buffer, size_t buffer_size, bootimg_answer *answer);
 
 uint32_t bootimg_check_json(const uint8_t *file, size_t file_size, uint32_t kinds, uint32_t limit,
                             uint32_t depth, uint8_t *buffer, size_t buffer_size,
                             bootimg_answer *answer);
+
+uint32_t bootimg_compare_json(const uint8_t *one, size_t one_size, const uint8_t *other,
+                              size_t other_size, uint32_t limit, uint32_t depth, uint8_t *buffer,
+                              size_t buffer_size, bootimg_answer *answer);
 
 /* Writes the FIT that a legacy image is converted to. The call fails with BadMagic at 0 for a file
  * that is not a legacy image, for example a FIT; with NoCodeName at the offset of the first code

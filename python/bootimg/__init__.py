@@ -53,8 +53,10 @@ __all__ = [
     "check",
     "check_json",
     "compare",
+    "compare_json",
     "convert",
     "describe",
+    "describe_json",
     "extract_config",
     "extract_image",
     "extract_part",
@@ -173,6 +175,7 @@ _CALLS = {
     "list": _FILE + _NUMBER * 2 + _BUFFER,
     "list_json": _FILE + _NUMBER * 2 + _BUFFER,
     "describe": _FILE + _NUMBER * 2 + _BUFFER,
+    "describe_json": _FILE + _NUMBER * 2 + _BUFFER,
     "verify": _FILE + _NUMBER * 2 + _BUFFER,
     "verify_json": _FILE + _NUMBER * 2 + _BUFFER,
     "check": _FILE + _NUMBER * 3 + _BUFFER,
@@ -180,6 +183,7 @@ _CALLS = {
     "convert": _FILE + _NUMBER * 2 + _BUFFER,
     "same_meaning": _FILE * 2 + _NUMBER * 2,
     "compare": _FILE * 2 + _NUMBER * 2 + _BUFFER,
+    "compare_json": _FILE * 2 + _NUMBER * 2 + _BUFFER,
     "cause_name": _NUMBER + _BUFFER,
     "version": _BUFFER,
 }
@@ -433,6 +437,12 @@ def describe(file: Buffer, limit: int = LIMIT, depth: int = DEPTH) -> str:
     return _text("describe", (file,), _number(limit), _number(depth))[0]
 
 
+def describe_json(file: Buffer, limit: int = LIMIT, depth: int = DEPTH) -> str:
+    """Returns what `describe` says as one JSON text in ASCII and a newline. Raises Refused with
+    TooLarge if this text, or the payloads together, are longer than `limit`."""
+    return _text("describe_json", (file,), _number(limit), _number(depth))[0]
+
+
 def verify(file: Buffer, limit: int = LIMIT, depth: int = DEPTH) -> Report:
     """Returns the report on the checksums and digests of a file."""
     text, value = _text("verify", (file,), _number(limit), _number(depth))
@@ -487,6 +497,15 @@ def compare(
     There are none if they mean the same thing. If they do not, raises Refused with TooLarge for the
     first file whose description, or payloads together, are longer than `limit`."""
     text, value = _text("compare", (one, other), _number(limit), _number(depth))
+    return Comparison(value == 1, text)
+
+
+def compare_json(
+    one: Buffer, other: Buffer, limit: int = LIMIT, depth: int = DEPTH
+) -> Comparison:
+    """Returns what `compare` says, with the differences as one JSON text in ASCII and a newline,
+    even if there are none."""
+    text, value = _text("compare_json", (one, other), _number(limit), _number(depth))
     return Comparison(value == 1, text)
 
 

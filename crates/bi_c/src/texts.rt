@@ -14,7 +14,7 @@ use crate::answer::{Answer, fail, fill};
 use crate::arguments::limits_of;
 use crate::failure::{Failure, failure_of};
 use bi_base::Error;
-use bi_commands::describe::describe;
+use bi_commands::describe::{describe, describe_json};
 use bi_commands::list::{listing, listing_json};
 use bi_commands::verify::{Report, verify, verify_json};
 use bi_norm::convert;
@@ -70,14 +70,37 @@ pub extern "C" fn bootimg_describe(
     buffer: &mut [u8],
     answer: &mut Answer,
 ) -> u32
-    ensures { Fills (IsTextOnly limit depth (λ limits text. IsDescription limits file.now text))
-        (IsFailureOfOne limit depth (λ limits error. IsDescribeError limits file.now error))
+    ensures { Fills
+        (IsTextOnly limit depth (λ limits text. IsDescription Lines limits file.now text))
+        (IsFailureOfOne limit depth (λ limits error. IsDescribeError Lines limits file.now error))
         buffer.old buffer.new answer.new result }
 {
     let Some(limits) = limits_of(limit, depth) else {
         return fail(Failure::WrongArgument, answer);
     };
     fill_text(describe(alloc, file, limits), buffer, answer)
+}
+
+/// Writes the description of what a file means as one text of JSON and a newline to a buffer.
+/// Returns the status.
+#[unsafe(no_mangle)]
+pub extern "C" fn bootimg_describe_json(
+    alloc: Global,
+    file: &[u8],
+    limit: u32,
+    depth: u32,
+    buffer: &mut [u8],
+    answer: &mut Answer,
+) -> u32
+    ensures { Fills
+        (IsTextOnly limit depth (λ limits text. IsDescription Json limits file.now text))
+        (IsFailureOfOne limit depth (λ limits error. IsDescribeError Json limits file.now error))
+        buffer.old buffer.new answer.new result }
+{
+    let Some(limits) = limits_of(limit, depth) else {
+        return fail(Failure::WrongArgument, answer);
+    };
+    fill_text(describe_json(alloc, file, limits), buffer, answer)
 }
 
 /// Writes the text that a call on a file made to a buffer, and the answer. Returns the status.

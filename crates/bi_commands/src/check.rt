@@ -13,7 +13,7 @@ mod concern_json;
 mod configurations;
 mod fit;
 mod images;
-mod trailing;
+pub(crate) mod trailing;
 
 use crate::format::Format;
 use bi_base::{Command, Error, Limits, Sink, VecSink, pipe_to};
@@ -33,7 +33,7 @@ pub enum ConcernKind {
     /// An image with a payload has Good verdicts, and none of them is of SHA-256, SHA-384 or
     /// SHA-512.
     WeakHash,
-    /// The value of a key of a configuration is no list of names.
+    /// The value of a key of a configuration is not a list of names.
     BadList,
     /// A configuration lists a name that no image has.
     Missing,

@@ -105,7 +105,7 @@ static uint32_t make(const struct call *call, uint8_t *buffer, size_t size, boot
     if (strcmp(call->command, "list") == 0)
         return (call->is_json ? bootimg_list_json : bootimg_list)(one, one_size, limit, depth, buffer, size, answer);
     if (strcmp(call->command, "describe") == 0)
-        return bootimg_describe(one, one_size, limit, depth, buffer, size, answer);
+        return (call->is_json ? bootimg_describe_json : bootimg_describe)(one, one_size, limit, depth, buffer, size, answer);
     if (strcmp(call->command, "verify") == 0)
         return (call->is_json ? bootimg_verify_json : bootimg_verify)(one, one_size, limit, depth, buffer, size, answer);
     if (strcmp(call->command, "check") == 0)
@@ -113,7 +113,8 @@ static uint32_t make(const struct call *call, uint8_t *buffer, size_t size, boot
     if (strcmp(call->command, "convert") == 0)
         return bootimg_convert(one, one_size, limit, depth, buffer, size, answer);
     if (strcmp(call->command, "compare") == 0)
-        return bootimg_compare(one, one_size, other, other_size, limit, depth, buffer, size, answer);
+        return (call->is_json ? bootimg_compare_json : bootimg_compare)(one, one_size, other, other_size, limit, depth, buffer, size,
+                                                                        answer);
     if (strcmp(call->command, "cause") == 0)
         return bootimg_cause_name(call->number, buffer, size, answer);
     CHECK(strcmp(call->command, "version") == 0);
@@ -268,8 +269,8 @@ static const struct {
     const char *command;
     int is_json;
 } of_one[] = {
-    {"normalise", 0}, {"update", 0}, {"list", 0}, {"list", 1}, {"describe", 0}, {"verify", 0}, {"verify", 1}, {"check", 0}, {"check", 1},
-    {"convert", 0},
+    {"normalise", 0}, {"update", 0}, {"convert", 0}, {"list", 0}, {"list", 1}, {"describe", 0}, {"describe", 1}, {"verify", 0},
+    {"verify", 1}, {"check", 0}, {"check", 1},
 };
 
 enum { CALLS_OF_ONE = sizeof of_one / sizeof of_one[0] };

@@ -1,5 +1,6 @@
 use Rattle.std.proofs.Common.{refl, string_bytes}
 use Rattle.bi_commands.specs.Comparing.{IsComparison, IsComparisonError}
+use Rattle.bi_commands.specs.declared.format.Format.TheVariants.{Lines}
 use Rattle.bi_c.specs.declared.failure.Failure.TheVariants.{WrongArgument}
 use Rattle.bi_c.specs.Answers.{FilledNothing}
 use Rattle.bi_c.proofs.CallAnswers.{not_so, is_so, comparison_fills}
@@ -10,7 +11,7 @@ returns-in_default c = FilledNothing WrongArgument (not_so _ c.in_default.ensure
 
 pub returns : goal.returns
 returns c =
-    comparison_fills c.args.limit c.args.depth (λ limits same text. IsComparison limits c.args.one.now c.args.other.now same text)
+    comparison_fills c.args.limit c.args.depth (λ limits same text. IsComparison Lines limits c.args.one.now c.args.other.now same text)
     (λ limits. IsComparisonError limits c.args.one.now c.args.other.now) (λ compared. string_bytes compared.differences)
     (λ compared. compared.same) c.in-Some.limits c.compare.result _ _ _ _
     (is_so _ c.in-Some.ensures.in_range) c.in-Some.ensures.value c.compare.ensures.compared c.compare.ensures.failed

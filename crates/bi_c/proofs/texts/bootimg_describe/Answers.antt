@@ -1,4 +1,5 @@
 use Rattle.std.proofs.Common.{refl, string_bytes}
+use Rattle.bi_commands.specs.declared.format.Format.TheVariants.{Lines}
 use Rattle.bi_commands.specs.Describing.{IsDescription, IsDescribeError}
 use Rattle.bi_c.specs.declared.failure.Failure.TheVariants.{WrongArgument}
 use Rattle.bi_c.specs.Answers.{FilledNothing}
@@ -10,7 +11,7 @@ returns-in_default c = FilledNothing WrongArgument (not_so _ c.in_default.ensure
 
 pub returns : goal.returns
 returns c =
-    text_fills c.args.limit c.args.depth (λ limits text. IsDescription limits c.args.file.now text)
-    (λ limits. IsDescribeError limits c.args.file.now) (λ text. string_bytes text) c.in-Some.limits c.describe.result _ _ _ _
+    text_fills c.args.limit c.args.depth (λ limits text. IsDescription Lines limits c.args.file.now text)
+    (λ limits. IsDescribeError Lines limits c.args.file.now) (λ text. string_bytes text) c.in-Some.limits c.describe.result _ _ _ _
     (is_so _ c.in-Some.ensures.in_range) c.in-Some.ensures.value (λ l is. is) (λ l is. is) c.describe.ensures.described
     c.describe.ensures.failed c.fill_text.ensures
