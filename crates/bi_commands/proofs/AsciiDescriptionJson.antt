@@ -124,8 +124,8 @@ tree_ascii tree is =
             (
               by_test (codes "root") refl,
               object_ascii members
-              (members_ascii (plain_node tree.root.own) (node_objects nodes) (good-entries tree.root.own is.is_tree.is_own, tt)
-              (nodes_ascii nodes (all_nodes tree.root.children tree.payloads is.is_tree.children is.name_bytes))),
+                  (members_ascii (plain_node tree.root.own) (node_objects nodes) (good-entries tree.root.own is.is_tree.is_own, tt)
+                  (nodes_ascii nodes (all_nodes tree.root.children tree.payloads is.is_tree.children is.name_bytes))),
             ),
             tt,
           ),
