@@ -31,7 +31,7 @@ digests_of_bytes [] = refl
 digests_of_bytes (part ∷ later) = ap (λ digests. digest_of_payload part.bytes ∷ digests) (digests_of_bytes later)
 
 -- The objects of parts are those of their digests.
-objects_of_parts : (parts : List (List ℕ)) →
+pub objects_of_parts : (parts : List (List ℕ)) →
     map (λ part. digest_object (digest_of_payload part)) parts ≡ map digest_object (map digest_of_payload parts)
 objects_of_parts [] = refl
 objects_of_parts (part ∷ later) = ap (λ (texts : List (List ℕ)). digest_object (digest_of_payload part) ∷ texts) (objects_of_parts later)

@@ -69,7 +69,7 @@ properties_json (property ∷ properties) more rest at_head at_properties =
     (sym (append_assoc first others after) ∙ ap (λ (l : List ℕ). l ++ after) (sym (joined_after 44 first (map property_object properties))))
 
 -- The last two members of a node, and what follows them.
-last_members : (properties children later : List ℕ)
+pub last_members : (properties children later : List ℕ)
     → ((codes "\"properties\":[" ++ (properties ++ 93 ∷ [])) ++ (44 ∷ (codes "\"children\":[" ++ (children ++ 93 ∷ [])))) ++ (125 ∷ later)
     ≡ codes "\"properties\":[" ++ (properties ++ (codes "],\"children\":[" ++ (children ++ (codes "]}" ++ later))))
 last_members properties children later = simp append_assoc refl

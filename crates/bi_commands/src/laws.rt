@@ -6,8 +6,8 @@ ghost use Rattle.bi_commands.specs.DescriptionLaws.{SameDescriptionIsSimilar};
 ghost use Rattle.bi_commands.specs.Parts.{LengthsAreCut};
 ghost use Rattle.bi_commands.specs.UpdatedFileLaws.{NoChangeNormalises};
 
-/// Files with one description have meanings that are the same once each payload is replaced by its
-/// length and its SHA-256.
+/// Files with one description, as lines or in JSON, have meanings that are the same once each
+/// payload is replaced by its length and its SHA-256.
 pub fn same_description_is_similar()
     ensures { SameDescriptionIsSimilar }
 {}
