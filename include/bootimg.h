@@ -212,6 +212,27 @@ uint32_t bootimg_compare(const uint8_t *one, size_t one_size, const uint8_t *oth
                          size_t other_size, uint32_t limit, uint32_t depth, uint8_t *buffer,
                          size_t buffer_size, bootimg_answer *answer);
 
+/* The calls `.._json` write what the call without `_json` writes, as one JSON text (RFC 8259) in
+ * ASCII and a newline. Their arguments, `value` and errors are those of that call. There is always
+ * an output, even if there are no concerns. */
+uint32_t bootimg_list_json(const uint8_t *file, size_t file_size, uint32_t limit, uint32_t depth,
+                           uint8_t *buffer, size_t buffer_size, bootimg_answer *answer);
+
+uint32_t bootimg_describe_json(const uint8_t *file, size_t file_size, uint32_t limit,
+                               uint32_t depth, uint8_t *buffer, size_t buffer_size,
+                               bootimg_answer *answer);
+
+uint32_t bootimg_verify_json(const uint8_t *file, size_t file_size, uint32_t limit, uint32_t depth,
+                             uint8_t *buffer, size_t buffer_size, bootimg_answer *answer);
+
+uint32_t bootimg_check_json(const uint8_t *file, size_t file_size, uint32_t kinds, uint32_t limit,
+                            uint32_t depth, uint8_t *buffer, size_t buffer_size,
+                            bootimg_answer *answer);
+
+uint32_t bootimg_compare_json(const uint8_t *one, size_t one_size, const uint8_t *other,
+                              size_t other_size, uint32_t limit, uint32_t depth, uint8_t *buffer,
+                              size_t buffer_size, bootimg_answer *answer);
+
 /* Writes the FIT that a legacy image is converted to. The call fails with BadMagic at 0 for a file
  * that is not a legacy image, for example a FIT; with NoCodeName at the offset of the first code
  * without a name, 28 to 31; with EmptyPart at 64 if there is no part; with TooManyParts at 64 if a

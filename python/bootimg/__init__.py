@@ -51,20 +51,25 @@ __all__ = [
     "WrongArgument",
     "cause_name",
     "check",
+    "check_json",
     "compare",
+    "compare_json",
     "convert",
     "describe",
+    "describe_json",
     "extract_config",
     "extract_image",
     "extract_part",
     "kind",
     "listing",
+    "listing_json",
     "normalise",
     "normalise_and_count",
     "same_meaning",
     "update",
     "update_and_count",
     "verify",
+    "verify_json",
     "version",
 ]
 
@@ -168,12 +173,17 @@ _CALLS = {
     "extract_config": _FILE * 2 + _NUMBER * 4,
     "extract_default": _FILE + _NUMBER * 4,
     "list": _FILE + _NUMBER * 2 + _BUFFER,
+    "list_json": _FILE + _NUMBER * 2 + _BUFFER,
     "describe": _FILE + _NUMBER * 2 + _BUFFER,
+    "describe_json": _FILE + _NUMBER * 2 + _BUFFER,
     "verify": _FILE + _NUMBER * 2 + _BUFFER,
+    "verify_json": _FILE + _NUMBER * 2 + _BUFFER,
     "check": _FILE + _NUMBER * 3 + _BUFFER,
+    "check_json": _FILE + _NUMBER * 3 + _BUFFER,
     "convert": _FILE + _NUMBER * 2 + _BUFFER,
     "same_meaning": _FILE * 2 + _NUMBER * 2,
     "compare": _FILE * 2 + _NUMBER * 2 + _BUFFER,
+    "compare_json": _FILE * 2 + _NUMBER * 2 + _BUFFER,
     "cause_name": _NUMBER + _BUFFER,
     "version": _BUFFER,
 }
@@ -415,6 +425,11 @@ def listing(file: Buffer, limit: int = LIMIT, depth: int = DEPTH) -> str:
     return _text("list", (file,), _number(limit), _number(depth))[0]
 
 
+def listing_json(file: Buffer, limit: int = LIMIT, depth: int = DEPTH) -> str:
+    """Returns what `listing` says as one JSON text in ASCII and a newline."""
+    return _text("list_json", (file,), _number(limit), _number(depth))[0]
+
+
 def describe(file: Buffer, limit: int = LIMIT, depth: int = DEPTH) -> str:
     """Returns the description of what a file means. It does not depend on the layout of the file.
     Raises Refused with TooLarge if the description, or the payloads together, are longer than
@@ -422,9 +437,21 @@ def describe(file: Buffer, limit: int = LIMIT, depth: int = DEPTH) -> str:
     return _text("describe", (file,), _number(limit), _number(depth))[0]
 
 
+def describe_json(file: Buffer, limit: int = LIMIT, depth: int = DEPTH) -> str:
+    """Returns what `describe` says as one JSON text in ASCII and a newline. Raises Refused with
+    TooLarge if this text, or the payloads together, are longer than `limit`."""
+    return _text("describe_json", (file,), _number(limit), _number(depth))[0]
+
+
 def verify(file: Buffer, limit: int = LIMIT, depth: int = DEPTH) -> Report:
     """Returns the report on the checksums and digests of a file."""
     text, value = _text("verify", (file,), _number(limit), _number(depth))
+    return Report(text, value == 1)
+
+
+def verify_json(file: Buffer, limit: int = LIMIT, depth: int = DEPTH) -> Report:
+    """Returns what `verify` says, with the report as one JSON text in ASCII and a newline."""
+    text, value = _text("verify_json", (file,), _number(limit), _number(depth))
     return Report(text, value == 1)
 
 
@@ -434,8 +461,20 @@ def check(
     """Returns a line for each concern about a file: each thing in it that is not protected. The
     text is empty if there is no concern. Lines of the kinds in `allow`, of CONCERNS, are left out.
     Raises Refused with TooLarge if the payloads together are longer than `limit`."""
-    kinds = sum(1 << _index_of(kind, CONCERNS) for kind in set(allow))
-    return _text("check", (file,), kinds, _number(limit), _number(depth))[0]
+    return _text("check", (file,), _kinds_of(allow), _number(limit), _number(depth))[0]
+
+
+def check_json(
+    file: Buffer, allow: Iterable[str] = (), limit: int = LIMIT, depth: int = DEPTH
+) -> str:
+    """Returns what `check` says as one JSON text in ASCII and a newline, even if there is no
+    concern."""
+    return _text("check_json", (file,), _kinds_of(allow), _number(limit), _number(depth))[0]
+
+
+def _kinds_of(allow: Iterable[str]) -> int:
+    """Returns the number of a choice of kinds of concerns."""
+    return sum(1 << _index_of(kind, CONCERNS) for kind in set(allow))
 
 
 def convert(file: Buffer, limit: int = LIMIT, depth: int = DEPTH) -> bytes:
@@ -458,6 +497,15 @@ def compare(
     There are none if they mean the same thing. If they do not, raises Refused with TooLarge for the
     first file whose description, or payloads together, are longer than `limit`."""
     text, value = _text("compare", (one, other), _number(limit), _number(depth))
+    return Comparison(value == 1, text)
+
+
+def compare_json(
+    one: Buffer, other: Buffer, limit: int = LIMIT, depth: int = DEPTH
+) -> Comparison:
+    """Returns what `compare` says, with the differences as one JSON text in ASCII and a newline,
+    even if there are none."""
+    text, value = _text("compare_json", (one, other), _number(limit), _number(depth))
     return Comparison(value == 1, text)
 
 

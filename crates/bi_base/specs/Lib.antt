@@ -1,5 +1,6 @@
 pub mod Cells
 pub mod Causes
+pub mod KnownCauses
 pub mod Errors
 pub mod Checks
 pub mod Limits

@@ -12,6 +12,7 @@ mod crc;
 pub mod crc_laws;
 mod crc_tables;
 mod fault;
+pub mod known_causes;
 mod limits;
 mod outcomes;
 mod pipes;

@@ -1,6 +1,7 @@
 pub mod CallAnswers
-pub mod Places
-pub mod ListedChoices
+pub mod CheckedFiles
 pub mod ExtractedFiles
-pub mod SliceWriting
+pub mod ListedChoices
 pub mod NormalisedFiles
+pub mod Places
+pub mod SliceWriting

@@ -1,4 +1,4 @@
-use Rattle.std.specs.Prelude.{ℕ, ◌<◌, ◌≤◌, ◌≡◌, ◌++◌, List, length, drop}
+use Rattle.std.specs.Prelude.{ℕ, ◌<◌, ◌≤◌, ◌≡◌, ◌++◌, List, length, drop, Result, Ok, Err}
 use Rattle.bi_base.specs.declared.fault.Error.{Error}
 use Rattle.bi_base.specs.declared.fault.Error.TheVariants as error
 use Rattle.bi_base.specs.Causes.{number_of}
@@ -105,3 +105,15 @@ pub record IsFailureBy (HasError : Error → Type 0) (failure : Failure) : Type 
   pub cause : Error
   pub is_failure : failure ≡ failure_of_error cause
   pub is_error : HasError cause
+
+-- The output is the text of what a call made, and the number is the one of it.
+abbrev pub IsTextOf : {V E : Type 0} → (text_of : V → List ℕ) → (number_of : V → ℕ) → Result V E
+    → (text : List ℕ) → (value : ℕ) → Type 0
+IsTextOf text_of number_of (Ok made) text value =
+    IsJust (text_of made) (number_of made) text value
+IsTextOf text_of number_of (Err error) text value = ⊥
+
+-- The failure is the one for the error of a call.
+abbrev pub IsFailureOf : {V E : Type 0} → (failure_of : E → Failure) → Result V E → Failure → Type 0
+IsFailureOf failure_of (Ok made) failure = ⊥
+IsFailureOf failure_of (Err error) failure = failure ≡ failure_of error

@@ -1,11 +1,10 @@
-use Rattle.std.proofs.Common.{◌≡◌, ℕ, Bool, true, false, cond, List, [], ◌∷◌, ◌++◌, Option, None, Some, map, codes, ltb, refl, arith}
-use Rattle.std.specs.Prelude.{IsAscii, unwrap_or}
+use Rattle.std.proofs.Common.{◌≡◌, ℕ, Bool, true, false, cond, List, [], ◌∷◌, ◌++◌, None, Some, map, codes, refl}
+use Rattle.std.specs.Prelude.{IsAscii}
 use Rattle.std.specs.FinMap.{entries}
 use Rattle.std.specs.Fmt.{decimal}
 use Rattle.std.specs.List.{AllByRecursion, list_all}
 use Rattle.std.proofs.lemmas.Bool.{and_parts}
 use Rattle.bi_base.specs.Cells.{AreBytes}
-use Rattle.bi_blob.specs.Blob.{Reservation}
 use Rattle.bi_blob.specs.Tree.{Nodes, none, node, Property}
 use Rattle.bi_fit.specs.Content.{FitModel, IsHeld, tree_of}
 use Rattle.bi_fit.specs.ImageTree.{ImageTree, IsImageTree, IsProperty}
@@ -13,7 +12,6 @@ use Rattle.bi_fit.specs.Judgement.{listed_names}
 use Rattle.bi_fit.proofs.NormalTrees.{held_means}
 use Rattle.bi_fit.proofs.TextLaws.{file_means_image_tree}
 use Rattle.bi_fit.proofs.TreeContents.{AreBlobProperties, good-entries}
-use Rattle.bi_legacy.specs.Codes.{CodeName, os_names, arch_names, type_names, compression_names, name_of_code}
 use Rattle.bi_legacy.specs.Meaning.{LegacyImage}
 use Rattle.bi_norm.specs.Meaning.{OfLegacy, OfFit}
 use Rattle.bi_commands.specs.declared.format.Format.{Format}
@@ -25,12 +23,13 @@ use Rattle.bi_commands.specs.Descriptions.{PayloadDigest, DescribedNode, NodePay
 use Rattle.bi_commands.specs.Descriptions.{described_nodes}
 use Rattle.bi_commands.specs.FitListing.{hexadecimal_64}
 use Rattle.bi_commands.specs.Json.{JsonText, Member, json_array, json_null, json_object, json_string}
-use Rattle.bi_commands.specs.ListingJson.{header_members, name_member, named_code, reservation_object}
+use Rattle.bi_commands.specs.ListingJson.{header_members, name_member, reservation_object}
 use Rattle.bi_commands.specs.ValueTexts.{are_quotable_texts, hexadecimal_digits, is_quotable}
 use Rattle.bi_commands.proofs.AsciiDescriptions.{AreByteNodes, HasByteDigest, IsByteDigest, IsByteNode, all_nodes, digest_is_bytes}
 use Rattle.bi_commands.proofs.AsciiDescriptions.{fit_description_shown, legacy_description_shown}
 use Rattle.bi_commands.proofs.AsciiJson.{IsAsciiMember, array_ascii, line_ascii, name_ascii, object_ascii, string_ascii}
-use Rattle.bi_commands.proofs.AsciiTexts.{HasAscii, address_64, all_in_quotes, by_test, bytes_digits, code_named, decimal_shown, is_ascii}
+use Rattle.bi_commands.proofs.AsciiListings.{header_ascii, reservations_ascii}
+use Rattle.bi_commands.proofs.AsciiTexts.{HasAscii, all_in_quotes, by_test, bytes_digits, decimal_shown, is_ascii}
 
 -- Proves that a description in JSON is ASCII: its strings are names, values and digests as they are printed.
 
@@ -42,44 +41,7 @@ digest_ascii digest bytes =
       ((by_test (codes "sha256") refl, string_ascii (hexadecimal_digits digest.sha256) (bytes_digits digest.sha256 bytes)), tt),
     )
 
--- A code.
-code_ascii : (code_names : List CodeName) → list_all (λ (name : CodeName). list_all (λ byte. ltb byte 128) name.name) code_names ≡ true →
-    (code : ℕ) → HasAscii (named_code (name_of_code code_names code) code)
-code_ascii code_names are code = by (name_of_code code_names code) (code_named code_names are code)
-  where
-    by : (name : Option (List ℕ)) → HasAscii (unwrap_or name (decimal code)) → HasAscii (named_code name code)
-    by None is = is
-    by (Some name) is = string_ascii name is
-
 -- A legacy image.
-header_ascii : (image : LegacyImage) → AreBytes image.name → (last : List Member) → AllByRecursion IsAsciiMember last →
-    AllByRecursion IsAsciiMember (header_members image ++ last)
-header_ascii image bytes last are = (
-  (by_test (codes "kind") refl, by_test (json_string (codes "legacy")) refl),
-  (
-    (by_test (codes "name") refl, name_ascii image.name bytes),
-    (
-      (by_test (codes "time") refl, decimal_shown image.time),
-      (
-        (by_test (codes "load") refl, decimal_shown image.load),
-        (
-          (by_test (codes "entry") refl, decimal_shown image.entry),
-          (
-            (by_test (codes "os") refl, code_ascii os_names refl image.os),
-            (
-              (by_test (codes "arch") refl, code_ascii arch_names refl image.arch),
-              (
-                (by_test (codes "type") refl, code_ascii type_names refl image.image_type),
-                ((by_test (codes "compression") refl, code_ascii compression_names refl image.compression), are),
-              ),
-            ),
-          ),
-        ),
-      ),
-    ),
-  ),
-)
-
 parts_ascii : (parts : List (List ℕ)) → AllByRecursion HasAscii (map (λ part. digest_object (digest_of_payload part)) parts)
 parts_ascii [] = tt
 parts_ascii (part ∷ later) = (digest_ascii (digest_of_payload part) (digest_is_bytes part), parts_ascii later)
@@ -145,18 +107,6 @@ nodes_ascii (node name own children later) bytes = (
 )
 
 -- A flattened image tree.
-reservations_ascii : (reservations : List Reservation) → AllByRecursion HasAscii (map reservation_object reservations)
-reservations_ascii [] = tt
-reservations_ascii (reservation ∷ later) = (
-  object_ascii
-      ((codes "address", json_string (hexadecimal_64 reservation.address)) ∷ (codes "size", json_string (hexadecimal_64 reservation.size)) ∷ [])
-      (
-        (by_test (codes "address") refl, string_ascii (hexadecimal_64 reservation.address) (address_64 reservation.address)),
-        ((by_test (codes "size") refl, string_ascii (hexadecimal_64 reservation.size) (address_64 reservation.size)), tt),
-      ),
-  reservations_ascii later,
-)
-
 tree_ascii : (tree : ImageTree) → IsImageTree tree → HasAscii (fit_object tree)
 tree_ascii tree is =
     let reservations : List JsonText = map reservation_object tree.reservations in
@@ -174,8 +124,8 @@ tree_ascii tree is =
             (
               by_test (codes "root") refl,
               object_ascii members
-              (members_ascii (plain_node tree.root.own) (node_objects nodes) (good-entries tree.root.own is.is_tree.is_own, tt)
-              (nodes_ascii nodes (all_nodes tree.root.children tree.payloads is.is_tree.children is.name_bytes))),
+                  (members_ascii (plain_node tree.root.own) (node_objects nodes) (good-entries tree.root.own is.is_tree.is_own, tt)
+                  (nodes_ascii nodes (all_nodes tree.root.children tree.payloads is.is_tree.children is.name_bytes))),
             ),
             tt,
           ),

@@ -1,7 +1,6 @@
-use Rattle.std.proofs.Common.{◌≡◌, ℕ, ◌≤◌, inr, List, [], ◌∷◌, ◌++◌, codes, drop, flat_map, length, map, refl, sym, ap, ◌∙◌, arith}
-use Rattle.std.proofs.Common.{append_assoc, append-nil}
+use Rattle.std.proofs.Common.{◌≡◌, ℕ, ◌≤◌, inr, List, [], ◌∷◌, ◌++◌, codes, drop, length, map, refl, sym, ap, ◌∙◌, arith}
+use Rattle.std.proofs.Common.{append_assoc, false}
 use Rattle.std.specs.List.{join_with_byte}
-use Rattle.std.proofs.lemmas.Grind.{flat_map-append}
 use Rattle.bi_base.specs.declared.fault.Error.{Error}
 use Rattle.bi_base.specs.Limits.{Limits}
 use Rattle.bi_base.specs.Reading.{too_large}
@@ -16,13 +15,12 @@ use Rattle.bi_commands.specs.declared.format.Format.TheVariants.{Lines, Json}
 use Rattle.bi_commands.specs.Describing.{IsImageError, description_text}
 use Rattle.bi_commands.specs.DescriptionJson.{digest_object, legacy_object}
 use Rattle.bi_commands.specs.Descriptions.{PayloadDigest, digest_of_payload}
-use Rattle.bi_commands.specs.Json.{Member, json_array, json_line, json_object, json_string, member_text}
+use Rattle.bi_commands.specs.Json.{JsonText, Member, json_array, json_line, json_object, json_string, member_text, with_commas}
 use Rattle.bi_commands.specs.LimitedSinks.{Takes, HasNoRoom}
 use Rattle.bi_commands.specs.ListingJson.{header_members}
 use Rattle.bi_commands.specs.ReadDescription.{read_legacy_json, read_legacy_text}
 use Rattle.bi_commands.specs.TreeEntries.{digest_made}
-use Rattle.bi_commands.proofs.FitLines.{joined_after}
-use Rattle.bi_commands.proofs.JsonTexts.{commas_between}
+use Rattle.bi_commands.proofs.JsonTexts.{object_with_list}
 
 -- The text that is written for a legacy image is its description, and a description is refused if it is longer than the limit.
 
@@ -38,37 +36,21 @@ objects_of_parts : (parts : List (List ℕ)) →
 objects_of_parts [] = refl
 objects_of_parts (part ∷ later) = ap (λ (texts : List (List ℕ)). digest_object (digest_of_payload part) ∷ texts) (objects_of_parts later)
 
--- A last text after others, with commas between them.
-joined_with_last : (first : List ℕ) (others : List (List ℕ)) (last : List ℕ) →
-    join_with_byte 44 ((first ∷ others) ++ last ∷ []) ≡ join_with_byte 44 (first ∷ others) ++ (44 ∷ last)
-joined_with_last first others last =
-    let commas = flat_map (λ (word : List ℕ). 44 ∷ word) others in
-    joined_after 44 first (others ++ last ∷ [])
-    ∙ ap (λ (l : List ℕ). first ++ l)
-    (flat_map-append (λ (word : List ℕ). 44 ∷ word) others (last ∷ []) ∙ ap (λ (l : List ℕ). commas ++ l) (append-nil (44 ∷ last)))
-    ∙ sym (append_assoc first commas (44 ∷ last))
-    ∙ ap (λ (l : List ℕ). l ++ (44 ∷ last)) (sym (joined_after 44 first others))
-
--- The end of an object after a list.
-end_of_parts : (before values : List ℕ) →
-    (123 ∷ ((before ++ (44 ∷ (codes "\"parts\":[" ++ (values ++ 93 ∷ [])))) ++ 125 ∷ [])) ++ 10 ∷ []
-    ≡ 123 ∷ (before ++ (codes ",\"parts\":[" ++ (values ++ codes "]}\n")))
-end_of_parts before values = simp append_assoc refl
+-- A newline after an object that ends with a list.
+line_of_parts : (before name values : List ℕ) →
+    (123 ∷ (before ++ (name ++ (values ++ 93 ∷ 125 ∷ [])))) ++ 10 ∷ [] ≡ 123 ∷ (before ++ (name ++ (values ++ 93 ∷ 125 ∷ 10 ∷ [])))
+line_of_parts before name values = simp append_assoc refl
 
 -- The object of a legacy image and a newline, in its parts.
 legacy_in_parts : (image : LegacyImage) →
     json_line (legacy_object image) ≡ read_legacy_json image (map digest_of_payload image.parts)
 legacy_in_parts image =
     let members : List Member = header_members image in
-    let before : List ℕ = join_with_byte 44 (map member_text members) in
-    let values : List (List ℕ) = map digest_object (map digest_of_payload image.parts) in
-    let last : List ℕ = member_text (codes "parts", json_array values) in
-    ap (λ (texts : List (List ℕ)). json_line (json_object (header_members image ++ (codes "parts", json_array texts) ∷ [])))
+    let values : List JsonText = map digest_object (map digest_of_payload image.parts) in
+    ap (λ (texts : List JsonText). json_line (json_object (header_members image ++ (codes "parts", json_array texts) ∷ [])))
     (objects_of_parts image.parts)
-    ∙ ap (λ (text : List ℕ). (123 ∷ (text ++ 125 ∷ [])) ++ 10 ∷ [])
-    (joined_with_last (member_text (codes "kind", json_string (codes "legacy"))) (map member_text (drop 1 members)) last)
-    ∙ end_of_parts before (join_with_byte 44 values)
-    ∙ ap (λ (text : List ℕ). 123 ∷ (before ++ (codes ",\"parts\":[" ++ (text ++ codes "]}\n")))) (sym (commas_between values))
+    ∙ ap json_line (object_with_list (codes "kind", json_string (codes "legacy")) (drop 1 members) (codes "parts") values)
+    ∙ line_of_parts (join_with_byte 44 (map member_text members)) (codes ",\"parts\":[") (with_commas false values)
 
 -- The text that is written for a legacy image, in a form.
 abbrev described_image : Format → LegacyImage → List ℕ

@@ -35,7 +35,7 @@ differences_are_known = record {
 }
 
 -- A description is the texts of its lines, each with its newline.
-lines_of_texts : (words : List Words) → flat_map line words ≡ lines (map (λ each. join_with_byte 32 each) words)
+pub lines_of_texts : (words : List Words) → flat_map line words ≡ lines (map (λ each. join_with_byte 32 each) words)
 lines_of_texts [] = refl
 lines_of_texts (each ∷ later) =
     append_assoc (join_with_byte 32 each) (10 ∷ []) (flat_map line later)

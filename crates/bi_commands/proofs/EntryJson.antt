@@ -176,13 +176,30 @@ root_json tree =
         ap (entries_json part) (sym (append-nil (node_entries nodes)))
         ∙ nodes_json nodes [] [] (λ (part : NodePart). sym (append-nil (end_of_node part))) part
 
--- The object of a flattened image tree and a newline, in parts.
-tree_pieces : (processor reservations root : List ℕ)
-    → (123 ∷ ((codes "\"kind\":\"fit\"" ++ (44 ∷ (processor ++ (44 ∷ ((codes "\"reservations\":[" ++ (reservations ++ 93 ∷ []))
+-- The object of a flattened image tree and a newline.
+abbrev tree_line : (processor reservations root : List ℕ) → List ℕ
+tree_line processor reservations root =
+    (123 ∷ ((codes "\"kind\":\"fit\"" ++ (44 ∷ (processor ++ (44 ∷ ((codes "\"reservations\":[" ++ (reservations ++ 93 ∷ []))
     ++ (44 ∷ (codes "\"root\":{" ++ (root ++ 125 ∷ [])))))))) ++ 125 ∷ [])) ++ 10 ∷ []
+
+-- It is read from left to right,
+pub tree_in_turn : (processor reservations root : List ℕ) → tree_line processor reservations root
+    ≡ 123 ∷ (codes "\"kind\":\"fit\"" ++ (44 ∷ (processor
+    ++ (codes ",\"reservations\":[" ++ (reservations ++ (codes "],\"root\":{" ++ (root ++ codes "}}\n")))))))
+tree_in_turn processor reservations root = simp append_assoc refl
+
+-- and written in parts.
+tree_pieces : (processor reservations root : List ℕ) → tree_line processor reservations root
     ≡ (123 ∷ ((codes "\"kind\":\"fit\"" ++ (44 ∷ processor))
     ++ (codes ",\"reservations\":[" ++ (reservations ++ codes "],\"root\":{")))) ++ ((root ++ 125 ∷ []) ++ codes "}\n")
-tree_pieces processor reservations root = simp append_assoc refl
+tree_pieces processor reservations root =
+    let end : List ℕ = (root ++ 125 ∷ []) ++ codes "}\n" in
+    tree_in_turn processor reservations root
+    ∙ ap (λ (l : List ℕ). 123 ∷ (codes "\"kind\":\"fit\"" ++ (44 ∷ l)))
+    (ap (λ (l : List ℕ). processor ++ (codes ",\"reservations\":[" ++ l))
+    (ap (λ (l : List ℕ). reservations ++ (codes "],\"root\":{" ++ l)) (sym (append_assoc root (125 ∷ []) (codes "}\n")))
+    ∙ sym (append_assoc reservations (codes "],\"root\":{") end))
+    ∙ sym (append_assoc processor (codes ",\"reservations\":[" ++ (reservations ++ codes "],\"root\":{")) end))
 
 -- The text of the entries of a tree that was read is its description in JSON.
 pub json_of_tree : (content : FitModel) → read_json content.blob (tree_entries (tree_of content)) ≡ description_json (OfFit (tree_of content))
@@ -191,7 +208,7 @@ json_of_tree content =
     let cpu : ℕ = content.blob.cpu in
     let reservations : List (List ℕ) = map reservation_object content.blob.reservations in
     let root : List ℕ =
-        members_after_name (plain_node tree.root.own) (node_objects (described_nodes tree.root.children tree.payloads)) in
+    members_after_name (plain_node tree.root.own) (node_objects (described_nodes tree.root.children tree.payloads)) in
     ap (λ (l : List ℕ). before_root content.blob ++ (l ++ codes "}\n")) (root_json tree)
     ∙ ap (λ (l : List ℕ). (123 ∷ (join_with_byte 44 (map member_text (processor_members cpu))
     ++ (codes ",\"reservations\":[" ++ (l ++ codes "],\"root\":{")))) ++ ((root ++ 125 ∷ []) ++ codes "}\n")) (commas_between reservations)
@@ -235,18 +252,3 @@ pub property_of_bytes : (name value : List ℕ) → are_quotable_texts value ≡
     property_object (name, value)
     ≡ json_object (name_member (codes "name") name ∷ (codes "hex", json_string (hexadecimal_digits value)) ∷ [])
 property_of_bytes name value is = rw is refl
-
--- The first one in parts.
-around_strings : (name values : List ℕ) →
-    123 ∷ ((name ++ (44 ∷ (codes "\"strings\":[" ++ (values ++ 93 ∷ [])))) ++ 125 ∷ [])
-    ≡ 123 ∷ (name ++ (codes ",\"strings\":[" ++ (values ++ codes "]}")))
-around_strings name values = simp append_assoc refl
-
-pub strings_in_parts : (name : List ℕ) (strings : List JsonText)
-    → json_object (name_member (codes "name") name ∷ (codes "strings", json_array strings) ∷ [])
-    ≡ 123 ∷ (join_with_byte 44 (map member_text (name_member (codes "name") name ∷ []))
-    ++ (codes ",\"strings\":[" ++ (with_commas false strings ++ codes "]}")))
-strings_in_parts name strings =
-    let first : List ℕ = member_text (name_member (codes "name") name) in
-    around_strings first (join_with_byte 44 strings)
-    ∙ ap (λ (l : List ℕ). 123 ∷ (first ++ (codes ",\"strings\":[" ++ (l ++ codes "]}")))) (sym (commas_between strings))

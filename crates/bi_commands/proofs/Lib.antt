@@ -28,7 +28,10 @@ pub mod FitOutputs
 pub mod DescriptionFacts
 pub mod DifferenceFacts
 pub mod DifferenceLines
+pub mod LegacyConcernFacts
+pub mod RefusalFacts
 pub mod TextFacts
+pub mod UpdatedMeaningFacts
 pub mod LineSets
 pub mod LongNames
 pub mod LongNamesJson
@@ -57,3 +60,6 @@ pub mod JsonTexts
 pub mod TextsInTurn
 pub mod AsciiJson
 pub mod ConcernTexts
+pub mod OffsetLists
+pub mod ScanClaims
+pub mod ScannedLines

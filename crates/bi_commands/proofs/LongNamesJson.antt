@@ -172,7 +172,7 @@ pub refused_names : (format : Format) (limits : Limits) (content : FitModel) (li
 refused_names format limits content limit (error.Refused fault) held is (is_fault, (names, distinct, are, longer)) =
     let of_file = long_names_of_tree content names distinct are in
     let described =
-        long_names_in_text format content (is_image_tree content.blob.file (tree_of content) (held_means content held)) in
+    long_names_in_text format content (is_image_tree content.blob.file (tree_of content) (held_means content held)) in
     (inr (omega (arith, is, longer, of_file, described)), is_fault ∙ ap too_large is)
 refused_names format limits content limit error.OutOfMemory held is failed = tt
 refused_names format limits content limit error.ReadFailed held is failed = absurd failed

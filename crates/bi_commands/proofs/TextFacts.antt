@@ -114,6 +114,7 @@ reports_are_known = record {
   legacy = refl;
   no_hashes = refl;
   hashes = ap report hashes_are_known ∙ refl;
+  no_algorithm = refl;
   counts = refl;
 }
 
@@ -196,6 +197,8 @@ concerns_are_known = record {
     find-properties other_lists (key_name Script),
     find-properties default_list default_name,
   ) refl;
+  no_algorithm = refl;
+  no_default = refl;
   last_payload_ends = refl;
   zeros = refl;
   end = refl;

@@ -19,21 +19,8 @@ use Rattle.bi_commands.specs.ReadDescription.{root_lines}
 use Rattle.bi_commands.specs.Shown.{line}
 use Rattle.bi_commands.specs.TreeEntries.{EntryModel, NodeEnds, PropertyEntry, entry_lines, node_entries, own_entries, payload_entries}
 use Rattle.bi_commands.specs.TreeEntries.{tree_entries}
-use Rattle.bi_commands.proofs.FitLines.{numbers_of, reservation_found, reservation_of}
 
 -- The lines of a flattened image tree are those of its entries.
-
--- The text from the reservation at an index on is its line and those after it.
-pub reservation_lines_from : (reservations : List Reservation) (index : ℕ) (found : Option (ℕ × ℕ)) (numbers : ℕ × ℕ) →
-    index < length reservations → found ≡ slice_get (map numbers_of reservations) index → found ≡ Some numbers
-    → flat_map line (map reservation_words (drop index reservations))
-    ≡ line (reservation_words (reservation_of (Some numbers))) ++ flat_map line (map reservation_words (drop (index + 1) reservations))
-reservation_lines_from reservations index found numbers within is some =
-    let same : Some numbers ≡ Some (numbers_of (get_or reservations index end_pair)) = sym some
-    ∙ reservation_found reservations index found within is in
-    ap (λ left. flat_map line (map reservation_words left)) (drop_more reservations index end_pair within)
-    ∙ ap (λ o. line (reservation_words (reservation_of o))
-    ++ flat_map line (map reservation_words (drop (index + 1) reservations))) (sym same)
 
 -- The lines of properties and of the entries after them.
 property_lines : (names : List (List ℕ)) (properties : List Property) (later : List EntryModel)

@@ -14,13 +14,14 @@ use Rattle.bi_fit.specs.Reading.{IsReadFit}
 use Rattle.bi_fit.specs.Text.{fit_text}
 use Rattle.bi_fit.specs.Updating.{with_changes}
 use Rattle.bi_fit.proofs.FileTrees.{is_image_tree, depth-image_tree}
+use Rattle.bi_fit.proofs.UpdateChanges.{each_update_has_its_changes}
 use Rattle.bi_fit.proofs.UpdatedTrees.{updated_is_accepted}
 use Rattle.bi_fit.proofs.UpdatedVerdicts.{updated_judgement, signatures-updated}
 use Rattle.bi_legacy.specs.File.{LegacyMeans}
 use Rattle.bi_legacy.specs.Meaning.{with_new_time}
 use Rattle.bi_legacy.specs.Reading.{LegacyModel, IsReadLegacy}
 use Rattle.bi_legacy.specs.Text.{legacy_text}
-use Rattle.bi_legacy.proofs.UpdatedImages.{updated_has_normal_form}
+use Rattle.bi_legacy.proofs.UpdatedImages.{updated_has_new_time, updated_has_normal_form}
 use Rattle.bi_norm.specs.Meaning.{Meaning, OfLegacy, OfFit, normal_text}
 use Rattle.bi_norm.specs.NormalForm.{IsNormalForm}
 use Rattle.bi_norm.specs.Reading.{IsBootImageReadError, NeedsMemory, ForLegacyImage}
@@ -58,6 +59,7 @@ module _ (changes : Changes) (limits : Limits) (form : Form) (file : List ℕ) (
     text_means = subst (λ other. LegacyMeans limits (legacy_text (with_new_time time parsed.image))
         (with_new_time other parsed.image)) is_time
         (updated_has_normal_form file parsed.image limits time opened.means small).text_means_image;
+    changed = updated_has_new_time parsed.image (unwrap_or changes.time parsed.image.time);
     judgement = tt;
   }
 
@@ -96,6 +98,7 @@ module _ (changes : Changes) (limits : Limits) (form : Form) (file : List ℕ) (
         text_means = (updated_is_accepted limits form changes tree (is_image_tree file tree opened.means.is_file)
             (subst (λ n. n ≤ limits.depth) (sym (depth-image_tree file tree opened.means.is_file))
             opened.means.within.shallow) fits most).means;
+        changed = each_update_has_its_changes changes tree;
         judgement = updated_judgement changes tree;
       }
 

@@ -1,5 +1,6 @@
-use Rattle.std.specs.Prelude.{◌≡◌, ℕ, false, true, List, [], ◌∷◌, ◌++◌, Option, Some, codes, drop}
-use Rattle.std.specs.Prelude.{filter, map, option_map}
+use Rattle.std.specs.Prelude.{◌≡◌, ℕ, false, true, List, [], ◌∷◌, ◌++◌, Option, None, Some, codes}
+use Rattle.std.specs.Prelude.{drop, filter, map, option_map}
+use Rattle.bi_base.specs.Limits.{widest}
 use Rattle.bi_blob.specs.Layout.{tree_with_places}
 use Rattle.bi_blob.specs.Tree.{Nodes, none, node, Property, Root, FileNode}
 use Rattle.bi_fit.specs.ImageTree.{image_nodes}
@@ -7,13 +8,19 @@ use Rattle.bi_fit.specs.Judgement.{CheckedHash}
 use Rattle.bi_fit.specs.KnownFiles.{file_of_images, region_of, three_external, three_tree}
 use Rattle.bi_fit.specs.KnownFiles.{tree_with_images}
 use Rattle.bi_fit.specs.KnownJudgements.{configured_tree, hashed_tree}
-use Rattle.bi_hash.specs.declared.verdicts.Verdict.TheVariants.{Good, Bad}
+use Rattle.bi_hash.specs.declared.verdicts.Verdict.TheVariants.{Good, Bad, Malformed}
+use Rattle.bi_legacy.specs.KnownFaults.{file_of_data}
+use Rattle.bi_legacy.specs.KnownFiles.{kernel_file_with_rest, multi_data_with_rest}
+use Rattle.bi_legacy.specs.KnownImages.{kernel_file}
 use Rattle.bi_commands.specs.declared.check.Allowed.{Allowed}
 use Rattle.bi_commands.specs.declared.check.ConcernKind.{ConcernKind}
 use Rattle.bi_commands.specs.declared.check.ConcernKind.TheVariants as kind
+use Rattle.bi_commands.specs.Checking.{Concern, BadHash, TrailingBytes, AreConcerns}
 use Rattle.bi_commands.specs.Checking.{allows, kind_word, concern_lines, content_end}
-use Rattle.bi_commands.specs.Checking.{hashed_concerns, trailing_concerns, tree_concerns}
-use Rattle.bi_commands.specs.KnownTexts.{lines, three_root}
+use Rattle.bi_commands.specs.Checking.{default_concerns, hashed_concerns, trailing_concerns}
+use Rattle.bi_commands.specs.Checking.{tree_concerns}
+use Rattle.bi_commands.specs.CleanFiles.{IsClean}
+use Rattle.bi_commands.specs.KnownTexts.{hash_with, lines, three_root}
 
 -- The concerns about small trees, by which a reader can judge the definitions.
 
@@ -31,8 +38,9 @@ nothing_allowed = record {
 
 -- The lines of the concerns about a tree with a hash node of each verdict, and about one whose
 -- configurations have lists of each kind and whose default is none of them. With lists allowed, the
--- second has those of the image and of the default. The payloads of a file of 253 bytes end where
--- it ends. Zeros after an image are no concern.
+-- second has those of the image and of the default. A hash node may have no algorithm, and a
+-- configuration may be there without a default. The payloads of a file of 253 bytes end where it
+-- ends. Zeros after an image are no concern.
 pub record ConcernsAreKnown : Type 0 where
   pub hashes : concern_lines nothing_allowed (tree_concerns hashed_tree)
       ≡ lines
@@ -56,6 +64,10 @@ pub record ConcernsAreKnown : Type 0 where
       (record nothing_allowed { bad_list = true; missing = true })
       (tree_concerns configured_tree)
       ≡ lines (codes "unhashed a" ∷ codes "bad-default conf-3" ∷ [])
+  pub no_algorithm : concern_lines nothing_allowed (BadHash (hash_with Malformed) ∷ [])
+      ≡ lines (codes "bad-hash a hash-1 - malformed" ∷ [])
+  pub no_default : concern_lines nothing_allowed (default_concerns None (codes "conf-1" ∷ []))
+      ≡ lines (codes "bad-default -" ∷ [])
   pub last_payload_ends : option_map
       (λ images. content_end three_external images three_tree.payloads)
       (image_nodes three_root)
@@ -135,6 +147,25 @@ pub record TrailingBytesAreKnown : Type 0 where
   pub zeros : late_lines (0 ∷ 0 ∷ []) ≡ Some []
   pub one : late_lines (codes "+") ≡ Some (lines (codes "trailing 1" ∷ []))
   pub after_zero : late_lines (0 ∷ codes "+") ≡ Some (lines (codes "trailing 2" ∷ []))
+
+-- A file has these concerns and no others.
+pub record HasOnlyConcerns (file : List ℕ) (concerns : List Concern) : Type 0 where
+  pub are_concerns : AreConcerns widest file concerns
+  pub only : (others : List Concern) → AreConcerns widest file others → others ≡ concerns
+
+-- The bytes after the last part of a legacy image are those that have a line: the seven bytes after
+-- the data of a kernel image, and the two bytes after the last part in the data of a multi-file
+-- image. Without such bytes the image is clean, and so it is if they are allowed.
+pub record LegacyConcernsAreKnown : Type 0 where
+  pub after_data : HasOnlyConcerns kernel_file_with_rest (TrailingBytes 7 ∷ [])
+  pub after_data_is_not_clean : ¬ (IsClean nothing_allowed widest kernel_file_with_rest)
+  pub after_data_is_allowed :
+      IsClean (record nothing_allowed { trailing = true }) widest kernel_file_with_rest
+  pub in_data : HasOnlyConcerns (file_of_data 4 multi_data_with_rest) (TrailingBytes 2 ∷ [])
+  pub in_data_is_not_clean :
+      ¬ (IsClean nothing_allowed widest (file_of_data 4 multi_data_with_rest))
+  pub nothing : HasOnlyConcerns kernel_file []
+  pub nothing_is_clean : IsClean nothing_allowed widest kernel_file
 
 -- The kinds, each once.
 abbrev pub each_kind : List ConcernKind

@@ -27,7 +27,8 @@ use Rattle.bi_commands.specs.Extracting.{HasMissingImage, NoSuchEntry, HasNoPayl
 use Rattle.bi_commands.specs.Extracting.{choice_of}
 use Rattle.bi_commands.specs.FitListing.{configuration_lines, default_line, fit_listing}
 use Rattle.bi_commands.specs.Listing.{legacy_listing}
-use Rattle.bi_commands.specs.Reports.{Summary, counts_of, legacy_report, report_line, report_of}
+use Rattle.bi_commands.specs.Reports.{HashVerdict, Summary, counts_of, legacy_report}
+use Rattle.bi_commands.specs.Reports.{report_line, report_of}
 use Rattle.bi_commands.specs.Shown.{shown_text}
 
 -- Small boot images with what the commands write of them, by which a reader can judge the
@@ -160,7 +161,8 @@ counted_verdicts =
     ∷ Malformed ∷ []
 
 -- The reports on a legacy image, on a tree without hash nodes, and on a tree with a hash node of
--- each verdict; and the last line of a report on hash nodes with another number of each.
+-- each verdict; the line of a hash node without an algorithm and a value; and the last line of a
+-- report on hash nodes with another number of each.
 pub record ReportsAreKnown : Type 0 where
   pub legacy : flat_map report_line legacy_report
       ≡ lines (codes "header crc32 good" ∷ codes "data crc32 good" ∷ [])
@@ -176,6 +178,8 @@ pub record ReportsAreKnown : Type 0 where
       ∷ codes "b hash-1 crc32 no-payload 352441c2"
       ∷ codes "summary good 1 bad 1 unknown-algorithm 1 no-payload 1 malformed 1"
       ∷ [])
+  pub no_algorithm : report_line (HashVerdict (hash_with Malformed))
+      ≡ lines (codes "a hash-1 - malformed -" ∷ [])
   pub counts : report_line (Summary (counts_of (map hash_with counted_verdicts)))
       ≡ lines
       (codes "summary good 2 bad 1 unknown-algorithm 0 no-payload 3 malformed 4" ∷ [])

@@ -23,10 +23,13 @@ pub mod ReadChecking
 pub mod ReadDescription
 pub mod ReadListing
 pub mod Reports
+pub mod KnownBounds
 pub mod KnownConcerns
 pub mod KnownDescriptions
 pub mod KnownDifferences
+pub mod KnownRefusals
 pub mod KnownTexts
+pub mod KnownUpdates
 pub mod TreeEntries
 pub mod EntryJson
 pub mod UpdatedFileLaws
@@ -49,3 +52,7 @@ pub mod Formats
 pub mod JsonValues
 pub mod VerifiedFiles
 pub mod ListedFiles
+pub mod Offsets
+pub mod Scanning
+pub mod ScanLaws
+pub mod KnownScans

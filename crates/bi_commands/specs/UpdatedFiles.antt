@@ -9,6 +9,8 @@ use Rattle.bi_fit.specs.declared.form.Form.{Form}
 use Rattle.bi_fit.specs.ImageTree.{ImageTree}
 use Rattle.bi_fit.specs.NewDigests.{new_digests}
 use Rattle.bi_fit.specs.Updating.{with_changes, HasUpdatedJudgement}
+use Rattle.bi_fit.specs.UpdateLaws.{HasOnlyChanges}
+use Rattle.bi_legacy.specs.Laws.{HasNewTime}
 use Rattle.bi_legacy.specs.Meaning.{with_new_time}
 use Rattle.bi_norm.specs.Comparing.{MeansOnly}
 use Rattle.bi_norm.specs.Meaning.{Meaning, OfLegacy, OfFit, Means, normal_text}
@@ -29,11 +31,19 @@ pub record HashesTooMuch (changes : Changes) (limits : Limits) (meaning : Meanin
   pub hashes : changes.hashes ≡ true
   pub is_over : IsOverPayloadBound limits meaning
 
--- What follows from the updated meaning of a flattened image tree: verdicts, configurations, the
--- default and signatures.
-abbrev pub UpdatesJudgement : Changes → Meaning → Type 0
-UpdatesJudgement changes (OfLegacy image) = ⊤
-UpdatesJudgement changes (OfFit tree) = HasUpdatedJudgement changes tree
+-- What a boot image means has these changes and no others. Without a new time the time of a legacy
+-- image is as it was.
+abbrev pub HasOnlyTheseChanges : Changes → (old new : Meaning) → Type 0
+HasOnlyTheseChanges changes (OfLegacy old) (OfLegacy new) =
+    HasNewTime (unwrap_or changes.time old.time) old new
+HasOnlyTheseChanges changes (OfFit old) (OfFit new) = HasOnlyChanges changes old new
+HasOnlyTheseChanges changes old new = ⊥
+
+-- What follows from the meaning of a flattened image tree after these changes: verdicts,
+-- configurations, the default and signatures. Nothing does from that of a legacy image.
+abbrev pub UpdatesJudgement : Changes → (old new : Meaning) → Type 0
+UpdatesJudgement changes (OfFit old) (OfFit new) = HasUpdatedJudgement changes old new
+UpdatesJudgement changes old new = ⊤
 
 -- The text is that of the updated file.
 pub record IsUpdated (changes : Changes) (limits : Limits) (form : Form) (file text : List ℕ)
@@ -45,7 +55,9 @@ pub record IsUpdated (changes : Changes) (limits : Limits) (form : Form) (file t
   -- The text is the normal text of the updated meaning, and means it within the same limits.
   pub is_text : text ≡ normal_text form (updated_meaning changes meaning)
   pub text_means : Means limits text (updated_meaning changes meaning)
-  pub judgement : UpdatesJudgement changes meaning
+  -- This is what the file means with the changes and no others, and what follows from them.
+  pub changed : HasOnlyTheseChanges changes meaning (updated_meaning changes meaning)
+  pub judgement : UpdatesJudgement changes meaning (updated_meaning changes meaning)
 
 -- The text is that of the updated file, and this is the number of its signature nodes.
 pub record IsUpdateOutput (changes : Changes) (limits : Limits) (form : Form) (count : ℕ)

@@ -1,8 +1,10 @@
 //! Small boot images with what the commands write of them. Each function does nothing: what it
-//! ensures is a fact about the definitions.
+//! ensures is a fact about the definitions. One calls the function of a law, from which its fact
+//! follows.
 
 ghost use Rattle.bi_commands.specs.KnownConcerns.{ConcernsAreKnown, StrongAlgorithmsAreKnown};
-ghost use Rattle.bi_commands.specs.KnownConcerns.{TrailingBytesAreKnown, AllowedKindsAreKnown};
+ghost use Rattle.bi_commands.specs.KnownConcerns.{TrailingBytesAreKnown, LegacyConcernsAreKnown};
+ghost use Rattle.bi_commands.specs.KnownConcerns.{AllowedKindsAreKnown};
 ghost use Rattle.bi_commands.specs.KnownDescriptions.{ValuesAreShown, DescriptionsAreKnown};
 ghost use Rattle.bi_commands.specs.KnownDifferences.{DifferencesAreKnown, ComparisonsAreKnown};
 ghost use Rattle.bi_commands.specs.KnownTexts.{NamesAreShown, ChoicesAreKnown, ReportsAreKnown};
@@ -65,6 +67,14 @@ pub fn strong_algorithms_are_known()
 pub fn trailing_bytes_are_known()
     ensures { TrailingBytesAreKnown }
 {}
+
+/// The bytes after the last part of a legacy image, in its data or after that, are those that have
+/// a line. If there are none, or if they are allowed, the image is clean.
+pub fn legacy_concerns_are_known()
+    ensures { LegacyConcernsAreKnown }
+{
+    bi_legacy::laws::one_meaning();
+}
 
 /// Each kind of concerns is allowed by its own name.
 pub fn allowed_kinds_are_known()

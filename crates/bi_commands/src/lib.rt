@@ -2,6 +2,7 @@
 //! convert and build, over any reader and writer, and compare, over two files in memory.
 #![tactic(auto)]
 
+pub mod at_offset;
 pub mod build_fit;
 pub mod build_legacy;
 pub mod check;
@@ -15,12 +16,15 @@ mod fields;
 pub mod format;
 mod hash_nodes;
 mod json;
+pub mod known_refusals;
 pub mod known_texts;
+pub mod known_updates;
 pub mod laws;
 pub mod list;
 mod listed;
 pub mod parts;
 mod payload_bounds;
+pub mod scan;
 pub mod shown;
 pub mod unshown;
 pub mod update;

@@ -48,7 +48,8 @@ UpdatedIsAccepted =
 -- follows from a tree stays.
 abbrev pub EachUpdateHasItsJudgement : Type 0
 EachUpdateHasItsJudgement =
-    (changes : Changes) (tree : ImageTree) → HasUpdatedJudgement changes tree
+    (changes : Changes) (tree : ImageTree)
+    → HasUpdatedJudgement changes tree (with_changes changes tree)
 
 -- ---- what an update changes
 

@@ -113,15 +113,15 @@ abbrev pub new_hash : (hashes : Bool) → Image → Sibling PropertyMap → Chec
 new_hash false image hash = checked_hash image hash
 new_hash true image hash = rechecked_by image hash image.payload (known_algorithm hash.own)
 
--- What follows from a tree after an update. If the digests change, the verdict on each hash node
--- with a known algorithm, of an image with a payload, is Good. All other verdicts stay, and so do
--- the configurations and what they list, the default, and the number of signatures.
-pub record HasUpdatedJudgement (changes : Changes) (tree : ImageTree) : Type 0 where
-  pub verdicts : verdicts_of (with_changes changes tree)
-      ≡ flat_map (λ image. map (new_hash changes.hashes image) (hash_nodes image)) (images_of tree)
-  pub configurations : names (configuration_nodes (with_changes changes tree))
-      ≡ names (configuration_nodes tree)
+-- What follows from a tree that was updated, beside what followed from it before. If the digests
+-- change, the verdict on each hash node with a known algorithm, of an image with a payload, is Good.
+-- All other verdicts stay, and so do the configurations and what they list, the default, and the
+-- number of signatures.
+pub record HasUpdatedJudgement (changes : Changes) (old new : ImageTree) : Type 0 where
+  pub verdicts : verdicts_of new
+      ≡ flat_map (λ image. map (new_hash changes.hashes image) (hash_nodes image)) (images_of old)
+  pub configurations : names (configuration_nodes new) ≡ names (configuration_nodes old)
   pub listed : (configuration : List ℕ) (key : Key)
-      → listed_of (with_changes changes tree) configuration key ≡ listed_of tree configuration key
-  pub default_configuration : default_of (with_changes changes tree) ≡ default_of tree
-  pub signatures : signature_count (with_changes changes tree) ≡ signature_count tree
+      → listed_of new configuration key ≡ listed_of old configuration key
+  pub default_configuration : default_of new ≡ default_of old
+  pub signatures : signature_count new ≡ signature_count old

@@ -9,5 +9,6 @@ pub mod Conversions
 pub mod Comparisons
 pub mod ImageChecks
 pub mod BuildFaultFacts
+pub mod ComparisonFacts
 pub mod BuiltChecks
 pub mod BuiltTexts

@@ -13,4 +13,5 @@ pub mod Comparing
 pub mod KnownConversions
 pub mod KnownPieces
 pub mod KnownBuildFaults
+pub mod KnownComparisons
 pub mod Laws

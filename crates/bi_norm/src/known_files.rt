@@ -1,9 +1,11 @@
-//! Small legacy images with what they are converted to, small inputs with their pieces, and small
-//! trees that cannot be built. Each function does nothing: what it ensures is a fact about the
-//! definitions.
+//! Small legacy images with what they are converted to, small inputs with their pieces, small trees
+//! that cannot be built, and small files that are compared. Each function does nothing: what it
+//! ensures is a fact about the definitions. One calls the function of a law, from which its fact
+//! follows.
 
 ghost use Rattle.bi_norm.specs.KnownConversions.{ConversionsAreKnown, ConvertFaultsAreKnown};
 ghost use Rattle.bi_norm.specs.KnownConversions.{TypesHaveTheirKeys};
+ghost use Rattle.bi_norm.specs.KnownComparisons.{ComparedFilesAreKnown, CompareErrorsAreKnown};
 ghost use Rattle.bi_norm.specs.KnownPieces.{CutsAreKnown, CutFaultsAreKnown};
 ghost use Rattle.bi_norm.specs.KnownBuildFaults.{BuildFaultsAreKnown, RefusalsAreKnown};
 
@@ -44,4 +46,17 @@ pub fn build_faults_are_known()
 /// or the first image has a type or code that is refused.
 pub fn refusals_need_no_memory()
     ensures { RefusalsAreKnown }
+{}
+
+/// A kernel image means the same as one with bytes after it, and not the same as a multi-file image.
+pub fn compared_files_are_known()
+    ensures { ComparedFilesAreKnown }
+{
+    bi_legacy::laws::one_meaning();
+}
+
+/// If two files are compared and one of them means nothing, the error has its fault. If neither
+/// means anything, the error has the fault of the first, and no error has that of the second.
+pub fn compare_errors_are_known()
+    ensures { CompareErrorsAreKnown }
 {}

@@ -83,6 +83,7 @@ struct call {
     uint32_t changes;
     uint32_t time;
     int is_quiet;
+    int is_json;
     /* What is extracted: a part, or by the name of an image, of a configuration or of none. */
     int selection;
     struct memory name;
@@ -102,17 +103,18 @@ static uint32_t make(const struct call *call, uint8_t *buffer, size_t size, boot
     if (strcmp(call->command, "update") == 0)
         return bootimg_update(one, one_size, call->changes, call->time, call->form, limit, depth, buffer, size, answer);
     if (strcmp(call->command, "list") == 0)
-        return bootimg_list(one, one_size, limit, depth, buffer, size, answer);
+        return (call->is_json ? bootimg_list_json : bootimg_list)(one, one_size, limit, depth, buffer, size, answer);
     if (strcmp(call->command, "describe") == 0)
-        return bootimg_describe(one, one_size, limit, depth, buffer, size, answer);
+        return (call->is_json ? bootimg_describe_json : bootimg_describe)(one, one_size, limit, depth, buffer, size, answer);
     if (strcmp(call->command, "verify") == 0)
-        return bootimg_verify(one, one_size, limit, depth, buffer, size, answer);
+        return (call->is_json ? bootimg_verify_json : bootimg_verify)(one, one_size, limit, depth, buffer, size, answer);
     if (strcmp(call->command, "check") == 0)
-        return bootimg_check(one, one_size, call->kinds, limit, depth, buffer, size, answer);
+        return (call->is_json ? bootimg_check_json : bootimg_check)(one, one_size, call->kinds, limit, depth, buffer, size, answer);
     if (strcmp(call->command, "convert") == 0)
         return bootimg_convert(one, one_size, limit, depth, buffer, size, answer);
     if (strcmp(call->command, "compare") == 0)
-        return bootimg_compare(one, one_size, other, other_size, limit, depth, buffer, size, answer);
+        return (call->is_json ? bootimg_compare_json : bootimg_compare)(one, one_size, other, other_size, limit, depth, buffer, size,
+                                                                        answer);
     if (strcmp(call->command, "cause") == 0)
         return bootimg_cause_name(call->number, buffer, size, answer);
     CHECK(strcmp(call->command, "version") == 0);
@@ -262,6 +264,17 @@ static int extract(const struct call *call, FILE *output)
     return 0;
 }
 
+/* The calls on one file that have a buffer. */
+static const struct {
+    const char *command;
+    int is_json;
+} of_one[] = {
+    {"normalise", 0}, {"update", 0}, {"convert", 0}, {"list", 0}, {"list", 1}, {"describe", 0}, {"describe", 1}, {"verify", 0},
+    {"verify", 1}, {"check", 0}, {"check", 1},
+};
+
+enum { CALLS_OF_ONE = sizeof of_one / sizeof of_one[0] };
+
 /* Calls whose numbers are out of their ranges leave the buffer as it is. */
 static int try_arguments(struct call *call)
 {
@@ -271,8 +284,12 @@ static int try_arguments(struct call *call)
     for (int i = 0; i < 4; i++) {
         struct call wrong = *call;
         wrong.limit = limits[i];
-        CHECK(make(&wrong, &byte, 1, &answer) == BOOTIMG_WRONG_ARGUMENT);
-        CHECK(byte == 0xa5 && answer.size == 0 && answer.value == 0 && answer.cause == 0);
+        for (int j = 0; j < CALLS_OF_ONE; j++) {
+            wrong.command = of_one[j].command;
+            wrong.is_json = of_one[j].is_json;
+            CHECK(make(&wrong, &byte, 1, &answer) == BOOTIMG_WRONG_ARGUMENT);
+            CHECK(byte == 0xa5 && answer.size == 0 && answer.value == 0 && answer.cause == 0);
+        }
         CHECK(bootimg_list(call->files[0].bytes, call->files[0].size, call->limit, depths[i], &byte, 1, &answer) ==
               BOOTIMG_WRONG_ARGUMENT);
         CHECK(bootimg_same_meaning(call->files[0].bytes, call->files[0].size, call->files[0].bytes, call->files[0].size,
@@ -281,6 +298,8 @@ static int try_arguments(struct call *call)
     CHECK(bootimg_normalise(call->files[0].bytes, call->files[0].size, 2, call->limit, 64, &byte, 1, &answer) ==
           BOOTIMG_WRONG_ARGUMENT);
     CHECK(bootimg_check(call->files[0].bytes, call->files[0].size, 128, call->limit, 64, &byte, 1, &answer) ==
+          BOOTIMG_WRONG_ARGUMENT);
+    CHECK(bootimg_check_json(call->files[0].bytes, call->files[0].size, 128, call->limit, 64, &byte, 1, &answer) ==
           BOOTIMG_WRONG_ARGUMENT);
     CHECK(bootimg_update(call->files[0].bytes, call->files[0].size, 4, 0, 0, call->limit, 64, &byte, 1, &answer) ==
           BOOTIMG_WRONG_ARGUMENT);
@@ -304,14 +323,13 @@ static int try_arguments(struct call *call)
     return 0;
 }
 
-static const char *const of_one[] = {"normalise", "update", "list", "describe", "verify", "check", "convert"};
-
 /* Writes what all calls on one file write. */
 static void run_all(const struct call *call, FILE *output)
 {
-    for (size_t i = 0; i < sizeof of_one / sizeof of_one[0]; i++) {
+    for (int i = 0; i < CALLS_OF_ONE; i++) {
         struct call one = *call;
-        one.command = of_one[i];
+        one.command = of_one[i].command;
+        one.is_json = of_one[i].is_json;
         one.is_quiet = 1;
         one.changes = BOOTIMG_CHANGE_TIME | BOOTIMG_CHANGE_HASHES;
         fprintf(output, "%s %d\n", one.command, run(&one, output));
@@ -385,6 +403,8 @@ int main(int count, char **words)
     for (int i = 2; i < count; i++) {
         if (strcmp(words[i], "--external") == 0) {
             call.form = BOOTIMG_EXTERNAL;
+        } else if (strcmp(words[i], "--json") == 0) {
+            call.is_json = 1;
         } else if (strcmp(words[i], "--limit") == 0) {
             call.limit = (uint32_t)strtoul(words[++i], NULL, 10);
         } else if (strcmp(words[i], "--kinds") == 0) {
@@ -425,7 +445,6 @@ int main(int count, char **words)
         else
             printf("kind %s\n", answer.value == BOOTIMG_LEGACY ? "legacy" : "fit");
     } else if (strcmp(call.command, "arguments") == 0) {
-        call.command = "describe";
         status = try_arguments(&call);
     } else if (strcmp(call.command, "threads") == 0) {
         status = try_threads(&call);

@@ -110,11 +110,7 @@ fn put_part_objects<S: Sink>(parts: &[PayloadDigest], sink: &mut S) -> Result<()
 }
 
 /// Appends the object of a part, after a comma if it is not the first. Fails as the sink does.
-fn put_part_object<S: Sink>(
-    part: PayloadDigest,
-    is_later: bool,
-    sink: &mut S,
-) -> Result<(), Error>
+fn put_part_object<S: Sink>(part: PayloadDigest, is_later: bool, sink: &mut S) -> Result<(), Error>
     ensures { Wrote S.appends S.fails sink.old
         (in_turn Json is_later (digest_object (digest_made part) ∷ [])) result sink.new }
 {

@@ -20,7 +20,7 @@ ghost use Rattle.bi_commands.specs.Shown.{line, shown_text};
 use super::fit::KEYS;
 use crate::fields::{Field, put_fields, put_later_field, put_line};
 use crate::format::Format;
-use crate::json::{JsonValue, put_comma, put_json, put_members, put_object};
+use crate::json::{JsonValue, put_comma, put_members, put_next, put_object};
 use crate::listed::{KeyList, configuration_nodes, listed_under};
 use bi_base::{Error, Sink};
 use bi_fdt::NodeRef;
@@ -216,8 +216,7 @@ fn put_name_strings<S: Sink>(value: &[u8], sink: &mut S) -> Result<(), Error>
     let mut rest = value;
     let mut is_later = false;
     while let Some((name, later)) = split_name(rest) {
-        put_comma(is_later, sink)?;
-        put_json(JsonValue::Shown(name), sink)?;
+        put_next(JsonValue::Shown(name), is_later, sink)?;
         is_later = true;
         rest = later;
     }

@@ -1,7 +1,8 @@
-use Rattle.std.proofs.Common.{ℕ, List, ◌++◌, append-nil, sym, ap}
+use Rattle.std.proofs.Common.{ℕ, List}
 use Rattle.bi_commands.specs.DescriptionJson.{digest_object}
 use Rattle.bi_commands.specs.Json.{comma}
 use Rattle.bi_commands.specs.TreeEntries.{digest_made}
+use Rattle.bi_commands.proofs.JsonTexts.{one_value}
 use Rattle.bi_commands.proofs.LineChains.{first_of_all_fails, last_writes}
 use Rattle.bi_commands.proofs.describe.legacy.put_part_object.Goals as goal
 
@@ -12,7 +13,7 @@ returns-in_err-put_comma g c =
     let one : List ℕ = comma c.args.is_later in
     let two : List ℕ = digest_object (digest_made c.args.part) in
     first_of_all_fails S.appends S.fails laws.fails_before c.args.sink.now c.put_comma.new.sink one two _ _ c.from_residual.result
-    (ap (λ (l : List ℕ). one ++ l) (append-nil two)) c.from_residual.ensures.1 c.in_err-put_comma.ensures
+    (one_value c.args.is_later two) c.from_residual.ensures.1 c.in_err-put_comma.ensures
 
 pub returns : goal.returns
 returns g c =
@@ -22,5 +23,5 @@ returns g c =
     let two : List ℕ = digest_object (digest_made c.args.part) in
     last_writes S.appends S.fails laws.appends_in_turn laws.fails_after c.args.sink.now c.put_comma.new.sink c.put_digest_object.new.sink
     one two _ c.put_digest_object.result
-    (ap (λ (l : List ℕ). one ++ l) (append-nil two))
+    (one_value c.args.is_later two)
     c.in_ok-put_comma.ensures c.put_digest_object.ensures

@@ -1,0 +1,93 @@
+use Rattle.std.proofs.Common.{◌≡◌, ◌⊎◌, ℕ, zero, suc, ◌+◌, ◌-◌, ◌<◌, ◌≤◌, List, [], ◌∷◌, ◌++◌, length, inl, inr, refl, arith}
+use Rattle.std.specs.List.{AllZip, range_with_len, sum}
+use Rattle.std.proofs.lemmas.List.Sums.{sum_by-append}
+use Rattle.std.proofs.lemmas.Bool.{cases_eq}
+use Rattle.bi_base.specs.Cells.{u32_at}
+use Rattle.bi_base.specs.Checks.{HasNoFault}
+use Rattle.bi_base.specs.Crc.{crc32}
+use Rattle.bi_base.specs.Limits.{Limits, widest}
+use Rattle.bi_base.specs.declared.fault.Fault.{Fault}
+use Rattle.bi_blob.specs.Blob.{totalsize}
+use Rattle.bi_blob.specs.BlobFaults.{HeaderCheck, HeaderPasses}
+use Rattle.bi_blob.proofs.Blobs.TestedChecks.{IsDecided, header_decided, le_decided}
+use Rattle.bi_legacy.specs.Faults as legacy
+use Rattle.bi_norm.specs.declared.kind.Kind.{Kind}
+use Rattle.bi_norm.specs.declared.kind.Kind.TheVariants as kind
+use Rattle.bi_norm.specs.Kinds.{BeginsAs, IsKindFault, TooShort, OfNoKind, magic_of}
+use Rattle.bi_commands.specs.Offsets.{input_from}
+use Rattle.bi_commands.specs.Scanning.{AreClaims, HasBlobClaim, HasLegacyClaim, IsClaim, IsOverClaims, OfBlob, OfData, OfNothing}
+use Rattle.bi_commands.specs.Scanning.{blob_claim_checks, legacy_claim_checks}
+use Rattle.bi_commands.proofs.OffsetLists.{all_offsets}
+
+-- Each image has a claim, so those of the first offsets are some of those of all offsets.
+
+-- An image of no kind claims nothing.
+pub nothing_is_claimed : (image : List ℕ) (fault : Fault) → IsKindFault image fault → IsClaim image 0
+nothing_is_claimed image fault (TooShort short is) =
+    OfNothing (λ claim. omega (arith, short, claim.begins.whole)) (λ claim. omega (arith, short, claim.begins.whole)) refl
+nothing_is_claimed image fault (OfNoKind whole none is) = OfNothing (λ claim. none _ claim.begins) (λ claim. none _ claim.begins) refl
+
+-- Two facts hold together or not.
+both_decided : {P Q : Type 0} → IsDecided P → IsDecided Q → IsDecided (P × Q)
+both_decided (inl p) (inl q) = inl (p, q)
+both_decided (inl p) (inr fails) = inr (λ both. fails both.1)
+both_decided (inr fails) q = inr (λ both. fails both.0)
+
+all_decided : {C : Type 0} (Passes : C → Type 0) → ((check : C) → IsDecided (Passes check)) → (checks : List C) →
+    IsDecided (HasNoFault Passes checks)
+all_decided Passes decided [] = inl tt
+all_decided Passes decided (check ∷ later) = both_decided (decided check) (all_decided Passes decided later)
+
+begins_decided : (image : List ℕ) (found : Kind) → IsDecided (BeginsAs image found)
+begins_decided image found = by (both_decided (le_decided 4 (length image)) (cases_eq (u32_at image 0) (magic_of found))) where
+  by : IsDecided ((4 ≤ length image) × (u32_at image 0 ≡ magic_of found)) → IsDecided (BeginsAs image found)
+  by (inl begins) = inl (record { whole = begins.0; magic = begins.1 })
+  by (inr fails) = inr (λ begins. fails (begins.whole, begins.magic))
+
+legacy_decided : (image : List ℕ) → IsDecided (HasLegacyClaim image)
+legacy_decided image =
+    by (both_decided (begins_decided image kind.Legacy)
+    (both_decided (le_decided 64 (length image))
+    (both_decided (cases_eq (u32_at image 4) (crc32 (legacy.header_without_checksum image)))
+    (both_decided (le_decided (64 + u32_at image 12) (length image)) (inl tt))))) where
+      by : IsDecided (BeginsAs image kind.Legacy × HasNoFault (legacy.Passes widest image) legacy_claim_checks) →
+          IsDecided (HasLegacyClaim image)
+      by (inl claim) = inl (record { begins = claim.0; passes = claim.1 })
+      by (inr fails) = inr (λ claim. fails (claim.begins, claim.passes))
+
+blob_decided : (image : List ℕ) → IsDecided (HasBlobClaim image)
+blob_decided image =
+    by (both_decided (begins_decided image kind.Fit)
+    (all_decided (HeaderPasses widest image) (header_decided widest image) blob_claim_checks)) where
+      by : IsDecided (BeginsAs image kind.Fit × HasNoFault (HeaderPasses widest image) blob_claim_checks) →
+          IsDecided (HasBlobClaim image)
+      by (inl claim) = inl (record { begins = claim.0; passes = claim.1 })
+      by (inr fails) = inr (λ claim. fails (claim.begins, claim.passes))
+
+-- Each image has a claim.
+claim_of_image : (image : List ℕ) → (claim : ℕ) × IsClaim image claim
+claim_of_image image = by (legacy_decided image) (blob_decided image) where
+  by : IsDecided (HasLegacyClaim image) → IsDecided (HasBlobClaim image) → (claim : ℕ) × IsClaim image claim
+  by (inl claim) decided = (64 + u32_at image 12, OfData claim refl)
+  by (inr fails) (inl claim) = (totalsize image, OfBlob claim refl)
+  by (inr fails) (inr none) = (0, OfNothing fails none refl)
+
+-- So have those at offsets in a row.
+claims_from : (input : List ℕ) (begin count : ℕ) →
+    (claims : List ℕ) × AllZip (λ offset. IsClaim (input_from offset input)) (range_with_len begin count) claims
+claims_from input begin zero = ([], tt)
+claims_from input begin (suc count) =
+    let first = claim_of_image (input_from begin input) in
+    let later = claims_from input (begin + 1) count in
+    (first.0 ∷ later.0, (first.1, later.1))
+
+-- If the images at the first offsets claim more than the limit, all do.
+pub over_claims : (limits : Limits) (input claims : List ℕ) (count : ℕ) → count ≤ length input →
+    AllZip (λ offset. IsClaim (input_from offset input)) (range_with_len 0 count) claims → limits.file < sum claims → IsOverClaims limits input
+over_claims limits input claims count within are over =
+    let later = claims_from input count (length input - count) in
+    record {
+      claims = claims ++ later.0;
+      are_claims = all_offsets (λ offset. IsClaim (input_from offset input)) count (length input) claims later.0 within are later.1;
+      over = omega (arith, over, sum_by-append (λ (claim : ℕ). claim) claims later.0);
+    }

@@ -1,0 +1,35 @@
+use Rattle.std.specs.Prelude.{ℕ, [], ◌∷◌, None, Some, codes, replicate}
+use Rattle.bi_fit.specs.ImageTree.{ImageTree}
+use Rattle.bi_fit.specs.KnownFiles.{plain_tree, shared_region, shared_tree}
+use Rattle.bi_legacy.specs.KnownFaults.{limited_to}
+use Rattle.bi_legacy.specs.KnownImages.{multi_image}
+use Rattle.bi_norm.specs.Meaning.{Meaning, OfLegacy, OfFit}
+use Rattle.bi_commands.specs.KnownUpdates.{only_hashes, only_time}
+use Rattle.bi_commands.specs.PayloadBounds.{IsOverPayloadBound}
+use Rattle.bi_commands.specs.UpdatedFiles.{HashesTooMuch}
+
+-- Small boot images whose payloads are over the payload bound or within it, by which a reader can
+-- judge the definitions.
+
+-- Three images with the same payload of 1,000 bytes.
+abbrev pub three_payloads : Meaning
+three_payloads = OfFit (shared_tree shared_region)
+
+-- An image with a payload of 100 bytes, one with an empty payload, and one without a payload.
+abbrev pub one_payload : ImageTree
+one_payload =
+    plain_tree
+    (codes "a" ∷ codes "b" ∷ codes "c" ∷ [])
+    (Some (replicate 100 7) ∷ Some [] ∷ None ∷ [])
+
+-- Payloads that are as long as the limit are within it. Equal payloads count once for each image,
+-- and an empty or missing payload counts nothing. The parts of a legacy image do not count.
+pub record PayloadBoundsAreKnown : Type 0 where
+  pub three : IsOverPayloadBound (limited_to 2999) three_payloads
+  pub three_within : ¬ (IsOverPayloadBound (limited_to 3000) three_payloads)
+  pub one : IsOverPayloadBound (limited_to 99) (OfFit one_payload)
+  pub one_within : ¬ (IsOverPayloadBound (limited_to 100) (OfFit one_payload))
+  pub parts_within : ¬ (IsOverPayloadBound (limited_to 7) (OfLegacy multi_image))
+  pub hashes : HashesTooMuch only_hashes (limited_to 2999) three_payloads
+  pub hashes_within : ¬ (HashesTooMuch only_hashes (limited_to 3000) three_payloads)
+  pub time : ¬ (HashesTooMuch (only_time 5) (limited_to 2999) three_payloads)

@@ -1,0 +1,46 @@
+use Rattle.std.specs.Prelude.{ℕ, ◌≡◌, ◌≢◌, ◌+◌, ◌≤◌, List, [], length}
+use Rattle.std.specs.List.{Contains}
+use Rattle.bi_base.specs.Cells.{slice}
+use Rattle.bi_base.specs.Limits.{Limits}
+use Rattle.bi_norm.specs.Meaning.{Meaning, Means}
+use Rattle.bi_commands.specs.Offsets.{input_from}
+use Rattle.bi_commands.specs.Scanning.{IsImageAt, IsScanText, scan_line}
+
+-- Laws of the boot images inside a file. Each is the contract of a function in `laws`.
+
+-- An image that is cut out at its offset, with its extent, is whole: it is accepted under the same
+-- limits, and means the same.
+pub record IsWholeImage (limits : Limits) (input : List ℕ) (offset extent : ℕ) (meaning : Meaning)
+    : Type 0
+  where
+    pub in_input : offset + extent ≤ length input
+    pub means : Means limits (slice input offset extent) meaning
+
+-- So is each image that a scan finds.
+abbrev pub ScannedImagesAreWhole : Type 0
+ScannedImagesAreWhole =
+    (limits : Limits) (input : List ℕ) (offset extent : ℕ) (meaning : Meaning)
+    → IsImageAt limits input offset extent meaning
+    → IsWholeImage limits input offset extent meaning
+
+-- These lines have one for each image that is accepted at an offset of an input, and no other line
+-- that is not empty.
+pub record HasEachImage (limits : Limits) (input : List ℕ) (lines : List (List ℕ)) : Type 0 where
+  pub each : (offset : ℕ) (meaning : Meaning) → Means limits (input_from offset input) meaning
+      → (extent : ℕ) × IsImageAt limits input offset extent meaning
+      × Contains lines (scan_line offset extent meaning)
+  pub no_other : (text : List ℕ) → Contains lines text → text ≢ []
+      → (offset extent : ℕ) × (meaning : Meaning) × IsImageAt limits input offset extent meaning
+      × (text ≡ scan_line offset extent meaning)
+
+-- The lines of a scan do.
+abbrev pub EachImageHasItsLine : Type 0
+EachImageHasItsLine =
+    (limits : Limits) (input text : List ℕ) (is : IsScanText limits input text)
+    → HasEachImage limits input is.has.lines
+
+-- An input has at most one scan.
+abbrev pub OneScan : Type 0
+OneScan =
+    (limits : Limits) (input one other : List ℕ)
+    → IsScanText limits input one → IsScanText limits input other → one ≡ other

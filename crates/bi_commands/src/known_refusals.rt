@@ -1,0 +1,30 @@
+//! Small boot images with what the commands refuse of them. Each function does nothing: what it
+//! ensures is a fact about the definitions.
+
+ghost use Rattle.bi_commands.specs.KnownBounds.{PayloadBoundsAreKnown};
+ghost use Rattle.bi_commands.specs.KnownRefusals.{DescriptionBoundsAreKnown};
+ghost use Rattle.bi_commands.specs.KnownRefusals.{DescribingErrorsAreKnown, ReadingErrorsAreKnown};
+
+/// Payloads that are together as long as the limit are within it, and longer ones are not. Equal
+/// payloads count once for each image. An update only of the time has no such bound.
+pub fn payload_bounds_are_known()
+    ensures { PayloadBoundsAreKnown }
+{}
+
+/// An image whose description is as long as the limit can be described, and one whose description
+/// or whose payloads are longer cannot.
+pub fn description_bounds_are_known()
+    ensures { DescriptionBoundsAreKnown }
+{}
+
+/// If two images are too long to describe, the error names the first, and no error names the
+/// second. If one is, the error names that one.
+pub fn describing_errors_are_known()
+    ensures { DescribingErrorsAreKnown }
+{}
+
+/// If two files mean nothing, the error names the first, and no error names the second. If one does,
+/// the error names that one.
+pub fn reading_errors_are_known()
+    ensures { ReadingErrorsAreKnown }
+{}
