@@ -4,10 +4,10 @@ use Rattle.std.specs.Prelude.{◌==◌, IfSome, unwrap_or}
 use Rattle.std.specs.Int.{from_be_bytes, w32}
 use Rattle.std.specs.List.{AllZip}
 use Rattle.std.proofs.lemmas.List.{drop-take, length-append, length-drop, length-take, length-take-le, take-take, take_at}
-use Rattle.bi_base.specs.Cells.{AreBytes, cell, slice, u32_at, up4}
+use Rattle.bi_base.specs.Cells.{AreBytes, slice, u32_at, up4}
 use Rattle.bi_base.specs.Limits.{Limits}
 use Rattle.bi_base.proofs.ByteLists.{AreBytes-take}
-use Rattle.bi_base.proofs.CellLaws.{length-cell, length-slice}
+use Rattle.bi_base.proofs.CellLaws.{length-slice}
 use Rattle.bi_blob.specs.Blob.{BeginsWithReservations, Header, HoldsTree, IsBlob, Reservation, header_length, lacks_structure_size}
 use Rattle.bi_blob.specs.Blob.{off_dt_strings, off_dt_struct, off_mem_rsvmap, size_dt_strings, size_dt_struct, structure_end, strings_end}
 use Rattle.bi_blob.specs.Blob.{totalsize}
@@ -21,7 +21,7 @@ use Rattle.bi_fit.proofs.FilePayloads.{payloads_are_at_places}
 use Rattle.bi_fit.proofs.Meanings.{same_in_some}
 use Rattle.bi_legacy.specs.File.{IsLegacyFile, LegacyMeans, header}
 use Rattle.bi_legacy.specs.Meaning.{LegacyImage}
-use Rattle.bi_legacy.proofs.HeaderReads.{size_read}
+use Rattle.bi_legacy.proofs.HeaderReads.{length-header, size_read}
 use Rattle.bi_norm.specs.Meaning.{Meaning, OfLegacy, OfFit, Means}
 use Rattle.bi_commands.specs.Checking.{content_end}
 use Rattle.bi_commands.specs.CleanFiles.{EndsBy, IsAfterContent}
@@ -46,10 +46,6 @@ unfolding u32_at
 u32_of_cut file end at within = ap (from_be_bytes w32) (slice_of_cut file end at 4 within)
 
 -- ---- a legacy image
-
-legacy_header_length : (image : LegacyImage) (field body : List ℕ) → length field ≡ 32 → length (header image field body) ≡ 64
-unfolding header cell
-legacy_header_length image field body whole = omega (arith, whole)
 
 -- A legacy image that is cut after its data.
 cut_legacy : (limits : Limits) (file : List ℕ) (image : LegacyImage) → LegacyMeans limits file image →
@@ -79,7 +75,7 @@ cut_legacy limits file image means = (
     head = header image is.field is.body
 
     head_length : length head ≡ 64
-    head_length = legacy_header_length image is.field is.body is.name.whole
+    head_length = length-header image is.field is.body is.name.whole
 
     size : u32_at file 12 ≡ length is.body
     size = size_read file image is
@@ -91,20 +87,20 @@ cut_legacy limits file image means = (
 
 -- ---- a blob
 
-least_header : (file : List ℕ) → 36 ≤ header_length file
-least_header file = by (lacks_structure_size file) where
-  by : (lacks : Bool) → 36 ≤ (if lacks then 36 else 40)
-  by true = omega arith
-  by false = omega arith
-
 -- A blob that is cut at or after its end.
 module _ (file : List ℕ) (end : ℕ) (head : Header file) (after : totalsize file ≤ end) (within : end ≤ length file) where
   cut_length : length (take end file) ≡ end
   cut_length = length-take-le end file within
 
+  cut_after_header : 36 ≤ end
+  cut_after_header = by (lacks_structure_size file) head.total_holds_header where
+    by : (lacks : Bool) → (if lacks then 36 else 40) ≤ totalsize file → 36 ≤ end
+    by true holds = omega (arith, holds, after)
+    by false holds = omega (arith, holds, after)
+
   -- The cells of its header are the same,
   cell_of_cut : (at : ℕ) → at + 4 ≤ 36 → u32_at (take end file) at ≡ u32_at file at
-  cell_of_cut at low = u32_of_cut file end at (omega (arith, low, least_header file, head.total_holds_header, after))
+  cell_of_cut at low = u32_of_cut file end at (omega (arith, low, cut_after_header))
 
   header_of_cut : header_length (take end file) ≡ header_length file
   header_of_cut = ap (λ n. if n == 16 then 36 else 40) (cell_of_cut 20 (omega arith))

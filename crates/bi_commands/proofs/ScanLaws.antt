@@ -10,9 +10,8 @@ use Rattle.bi_blob.proofs.Blobs.OneBlob.{one_blob}
 use Rattle.bi_fit.specs.File.{FitMeans}
 use Rattle.bi_fit.specs.ImageTree.{ImageTree, image_nodes}
 use Rattle.bi_fit.proofs.Meanings.{same_in_some}
-use Rattle.bi_legacy.proofs.OneMeaning.{one_legacy_meaning}
+use Rattle.bi_norm.specs.Laws.{OneFileMeaning}
 use Rattle.bi_norm.specs.Meaning.{Meaning, OfLegacy, OfFit, Means}
-use Rattle.bi_norm.proofs.KindLaws.{one_file_meaning}
 use Rattle.bi_commands.specs.Checking.{content_end}
 use Rattle.bi_commands.specs.Offsets.{input_from}
 use Rattle.bi_commands.specs.ScanLaws.{EachImageHasItsLine, OneScan}
@@ -44,14 +43,13 @@ at_offset R begin (suc count) (suc index) (item ∷ items) all within =
     }
 
 -- The line at the offset of an image is that of the image.
-line_of_image : (limits : Limits) (input : List ℕ) (offset : ℕ) (text : List ℕ) (meaning : Meaning) → IsLineAt limits input offset text →
-    Means limits (input_from offset input) meaning →
+line_of_image : OneFileMeaning → (limits : Limits) (input : List ℕ) (offset : ℕ) (text : List ℕ) (meaning : Meaning) →
+    IsLineAt limits input offset text → Means limits (input_from offset input) meaning →
     (extent : ℕ) × IsImageAt limits input offset extent meaning × (text ≡ scan_line offset extent meaning)
-line_of_image limits input offset text meaning (WithImage extent found is same) means =
-    let one : found ≡ meaning =
-    one_file_meaning one_legacy_meaning limits limits (input_from offset input) found meaning is.means means in
+line_of_image one_meaning limits input offset text meaning (WithImage extent found is same) means =
+    let one : found ≡ meaning = one_meaning limits limits (input_from offset input) found meaning is.means means in
     (extent, subst (IsImageAt limits input offset extent) one is, same ∙ ap (scan_line offset extent) one)
-line_of_image limits input offset text meaning (WithoutImage nothing same) means = absurd (nothing meaning means)
+line_of_image one_meaning limits input offset text meaning (WithoutImage nothing same) means = absurd (nothing meaning means)
 
 -- A line that is not empty is that of an image.
 line_has_image : (limits : Limits) (input : List ℕ) (offset : ℕ) (text : List ℕ) → IsLineAt limits input offset text → text ≢ [] →
@@ -65,12 +63,12 @@ pub inside : (limits : Limits) (input : List ℕ) (offset : ℕ) (meaning : Mean
 inside limits input offset meaning means =
     omega (arith, (means_kind limits (input_from offset input) meaning means).1.whole, length-drop offset input)
 
-pub each_image_has_its_line : EachImageHasItsLine
-each_image_has_its_line limits input text is = record {
+pub each_image_has_its_line : OneFileMeaning → EachImageHasItsLine
+each_image_has_its_line one_meaning limits input text is = record {
   each = λ offset meaning means.
       let at = at_offset (IsLineAt limits input) 0 (length input) offset is.has.lines is.has.are_lines
       (inside limits input offset meaning means) in
-      let line = line_of_image limits input offset at.item meaning
+      let line = line_of_image one_meaning limits input offset at.item meaning
       (subst (λ (offset : ℕ). IsLineAt limits input offset at.item) (omega arith) at.holds) means in
       (line.0, line.1, (offset, at.within, at.is_item (scan_line offset line.0 meaning) ∙ line.2));
   no_other = λ line contains some.
@@ -102,32 +100,32 @@ one_extent limits image (OfFit tree) one other (means, is) (other_means, other_i
         ∙ other_means.is_file.has_images)
 
 -- So there is one line for an offset,
-one_line : (limits : Limits) (input : List ℕ) (offset : ℕ) (one other : List ℕ) → IsLineAt limits input offset one →
-    IsLineAt limits input offset other → one ≡ other
-one_line limits input offset one other is (WithImage extent meaning other_is same) =
-    let found = line_of_image limits input offset one meaning is other_is.means in
+one_line : OneFileMeaning → (limits : Limits) (input : List ℕ) (offset : ℕ) (one other : List ℕ) →
+    IsLineAt limits input offset one → IsLineAt limits input offset other → one ≡ other
+one_line one_meaning limits input offset one other is (WithImage extent meaning other_is same) =
+    let found = line_of_image one_meaning limits input offset one meaning is other_is.means in
     found.2
     ∙ ap (λ (extent : ℕ). scan_line offset extent meaning)
     (one_extent limits (input_from offset input) meaning found.0 extent found.1.has_extent other_is.has_extent)
     ∙ sym same
-one_line limits input offset one other (WithImage extent meaning is same) (WithoutImage nothing other_same) =
+one_line one_meaning limits input offset one other (WithImage extent meaning is same) (WithoutImage nothing other_same) =
     absurd (nothing meaning is.means)
-one_line limits input offset one other (WithoutImage nothing same) (WithoutImage other_nothing other_same) = same ∙ sym other_same
+one_line one_meaning limits input offset one other (WithoutImage nothing same) (WithoutImage other_nothing other_same) = same ∙ sym other_same
 
 -- and one list of lines.
-same_lines : (limits : Limits) (input offsets : List ℕ) (lines others : List (List ℕ)) → AllZip (IsLineAt limits input) offsets lines →
-    AllZip (IsLineAt limits input) offsets others → lines ≡ others
-same_lines limits input [] [] [] are are_too = refl
-same_lines limits input [] [] (other ∷ others) are are_too = absurd are_too
-same_lines limits input [] (line ∷ lines) others are are_too = absurd are
-same_lines limits input (offset ∷ offsets) [] others are are_too = absurd are
-same_lines limits input (offset ∷ offsets) (line ∷ lines) [] are are_too = absurd are_too
-same_lines limits input (offset ∷ offsets) (line ∷ lines) (other ∷ others) are are_too =
-    ap₂ (λ (line : List ℕ) (lines : List (List ℕ)). line ∷ lines) (one_line limits input offset line other are.0 are_too.0)
-    (same_lines limits input offsets lines others are.1 are_too.1)
+same_lines : OneFileMeaning → (limits : Limits) (input offsets : List ℕ) (lines others : List (List ℕ)) →
+    AllZip (IsLineAt limits input) offsets lines → AllZip (IsLineAt limits input) offsets others → lines ≡ others
+same_lines one_meaning limits input [] [] [] are are_too = refl
+same_lines one_meaning limits input [] [] (other ∷ others) are are_too = absurd are_too
+same_lines one_meaning limits input [] (line ∷ lines) others are are_too = absurd are
+same_lines one_meaning limits input (offset ∷ offsets) [] others are are_too = absurd are
+same_lines one_meaning limits input (offset ∷ offsets) (line ∷ lines) [] are are_too = absurd are_too
+same_lines one_meaning limits input (offset ∷ offsets) (line ∷ lines) (other ∷ others) are are_too =
+    ap₂ (λ (line : List ℕ) (lines : List (List ℕ)). line ∷ lines) (one_line one_meaning limits input offset line other are.0 are_too.0)
+    (same_lines one_meaning limits input offsets lines others are.1 are_too.1)
 
-pub one_scan : OneScan
-one_scan limits input one other is other_is =
+pub one_scan : OneFileMeaning → OneScan
+one_scan one_meaning limits input one other is other_is =
     is.has.is_text
-    ∙ ap concat (same_lines limits input (input_offsets input) is.has.lines other_is.has.lines is.has.are_lines other_is.has.are_lines)
+    ∙ ap concat (same_lines one_meaning limits input (input_offsets input) is.has.lines other_is.has.lines is.has.are_lines other_is.has.are_lines)
     ∙ sym other_is.has.is_text

@@ -40,9 +40,13 @@ pub fn scanned_images_are_whole()
 /// no other line.
 pub fn each_image_has_its_line()
     ensures { EachImageHasItsLine }
-{}
+{
+    bi_norm::laws::one_meaning();
+}
 
 /// A file has at most one scan within limits.
 pub fn one_scan()
     ensures { OneScan }
-{}
+{
+    bi_norm::laws::one_meaning();
+}
