@@ -63,3 +63,5 @@ pub mod ConcernTexts
 pub mod OffsetLists
 pub mod ScanClaims
 pub mod ScannedLines
+pub mod ScanLaws
+pub mod CutImages

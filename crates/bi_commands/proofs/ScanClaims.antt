@@ -1,6 +1,6 @@
-use Rattle.std.proofs.Common.{◌≡◌, ◌⊎◌, ℕ, zero, suc, ◌+◌, ◌-◌, ◌<◌, ◌≤◌, List, [], ◌∷◌, ◌++◌, length, inl, inr, refl, arith}
+use Rattle.std.proofs.Common.{◌≡◌, ◌⊎◌, ℕ, zero, suc, ◌+◌, ◌-◌, ◌<◌, ◌≤◌, List, [], ◌∷◌, ◌++◌, length, inl, inr, refl, subst, arith}
 use Rattle.std.specs.List.{AllZip, range_with_len, sum}
-use Rattle.std.proofs.lemmas.List.Sums.{sum_by-append}
+use Rattle.std.proofs.lemmas.List.Sums.{sum_by_push}
 use Rattle.std.proofs.lemmas.Bool.{cases_eq}
 use Rattle.bi_base.specs.Cells.{u32_at}
 use Rattle.bi_base.specs.Checks.{HasNoFault}
@@ -15,9 +15,9 @@ use Rattle.bi_norm.specs.declared.kind.Kind.{Kind}
 use Rattle.bi_norm.specs.declared.kind.Kind.TheVariants as kind
 use Rattle.bi_norm.specs.Kinds.{BeginsAs, IsKindFault, TooShort, OfNoKind, magic_of}
 use Rattle.bi_commands.specs.Offsets.{input_from}
-use Rattle.bi_commands.specs.Scanning.{AreClaims, HasBlobClaim, HasLegacyClaim, IsClaim, IsOverClaims, OfBlob, OfData, OfNothing}
+use Rattle.bi_commands.specs.Scanning.{HasBlobClaim, HasLegacyClaim, IsClaim, IsOverClaims, OfBlob, OfData, OfNothing}
 use Rattle.bi_commands.specs.Scanning.{blob_claim_checks, legacy_claim_checks}
-use Rattle.bi_commands.proofs.OffsetLists.{all_offsets}
+use Rattle.bi_commands.proofs.OffsetLists.{next_offset}
 
 -- Each image has a claim, so those of the first offsets are some of those of all offsets.
 
@@ -72,22 +72,35 @@ claim_of_image image = by (legacy_decided image) (blob_decided image) where
   by (inr fails) (inl claim) = (totalsize image, OfBlob claim refl)
   by (inr fails) (inr none) = (0, OfNothing fails none refl)
 
--- So have those at offsets in a row.
-claims_from : (input : List ℕ) (begin count : ℕ) →
-    (claims : List ℕ) × AllZip (λ offset. IsClaim (input_from offset input)) (range_with_len begin count) claims
-claims_from input begin zero = ([], tt)
-claims_from input begin (suc count) =
-    let first = claim_of_image (input_from begin input) in
-    let later = claims_from input (begin + 1) count in
-    (first.0 ∷ later.0, (first.1, later.1))
+-- The claims of the first images are some of those of more images,
+more_claims : (input claims : List ℕ) (count more : ℕ) →
+    AllZip (λ offset. IsClaim (input_from offset input)) (range_with_len 0 count) claims →
+    (all : List ℕ) × AllZip (λ offset. IsClaim (input_from offset input)) (range_with_len 0 (count + more)) all × (sum claims ≤ sum all)
+more_claims input claims count zero are = (
+  claims,
+  subst (λ (count : ℕ). AllZip (λ offset. IsClaim (input_from offset input)) (range_with_len 0 count) claims)
+      (let same : count ≡ count + zero = omega arith in same) are,
+  omega arith,
+)
+more_claims input claims count (suc more) are =
+    let next = claim_of_image (input_from count input) in
+    let all = more_claims input (claims ++ next.0 ∷ []) (count + 1) more
+    (next_offset (λ offset. IsClaim (input_from offset input)) count claims next.0 are next.1) in (
+      all.0,
+      subst (λ (count : ℕ). AllZip (λ offset. IsClaim (input_from offset input)) (range_with_len 0 count) all.0)
+          (let same : count + 1 + more ≡ count + suc more = omega arith in same) all.1,
+      omega (arith, all.2, sum_by_push (λ (claim : ℕ). claim) claims next.0),
+    )
 
--- If the images at the first offsets claim more than the limit, all do.
+-- so if the first images claim more than the limit, all do.
 pub over_claims : (limits : Limits) (input claims : List ℕ) (count : ℕ) → count ≤ length input →
-    AllZip (λ offset. IsClaim (input_from offset input)) (range_with_len 0 count) claims → limits.file < sum claims → IsOverClaims limits input
+    AllZip (λ offset. IsClaim (input_from offset input)) (range_with_len 0 count) claims → limits.file < sum claims →
+    IsOverClaims limits input
 over_claims limits input claims count within are over =
-    let later = claims_from input count (length input - count) in
+    let all = more_claims input claims count (length input - count) are in
     record {
-      claims = claims ++ later.0;
-      are_claims = all_offsets (λ offset. IsClaim (input_from offset input)) count (length input) claims later.0 within are later.1;
-      over = omega (arith, over, sum_by-append (λ (claim : ℕ). claim) claims later.0);
+      claims = all.0;
+      are_claims = subst (λ (count : ℕ). AllZip (λ offset. IsClaim (input_from offset input)) (range_with_len 0 count) all.0)
+          (let same : count + (length input - count) ≡ length input = omega (arith, within) in same) all.1;
+      over = omega (arith, over, all.2);
     }
