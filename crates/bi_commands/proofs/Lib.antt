@@ -15,6 +15,7 @@ pub mod PartLines
 pub mod ShownBytes
 pub mod CheckedConfigurations
 pub mod CheckedFiles
+pub mod CheckErrors
 pub mod CheckedHashes
 pub mod UpdatedFiles
 pub mod CleanLaws

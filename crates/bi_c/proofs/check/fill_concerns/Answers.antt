@@ -1,6 +1,6 @@
 use Rattle.std.proofs.Common.{◌≡◌, ◌++◌, List, ℕ, refl, subst, sym, ap, ◌∙◌}
 use Rattle.bi_commands.specs.CheckedFiles.{IsCheckOutput}
-use Rattle.bi_commands.proofs.CheckedFiles.{not_checked_in_memory}
+use Rattle.bi_commands.proofs.CheckErrors.{not_checked_in_memory}
 use Rattle.bi_c.specs.Answers.{FilledNothing}
 use Rattle.bi_c.proofs.CallAnswers.{byte_is_flag, buffer_is_filled}
 use Rattle.bi_c.proofs.check.fill_concerns.Goals as goal

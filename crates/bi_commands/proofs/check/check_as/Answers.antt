@@ -4,7 +4,7 @@ use Rattle.std.proofs.lemmas.Result.{err_from_is_err_and}
 use Rattle.bi_commands.specs.CheckedFiles.{IsCheckOutput}
 use Rattle.bi_commands.proofs.AsciiReports.{checked_is_ascii}
 use Rattle.bi_commands.proofs.AsciiTexts.{appended_utf8}
-use Rattle.bi_commands.proofs.CheckedFiles.{not_checked_in_memory}
+use Rattle.bi_commands.proofs.CheckErrors.{not_checked_in_memory}
 use Rattle.bi_commands.proofs.check.check_as.Goals as goal
 
 pub returns-in_err-_clean-clause-failed : goal.returns-in_err-_clean-clause-failed
