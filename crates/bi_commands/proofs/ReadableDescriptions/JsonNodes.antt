@@ -163,7 +163,8 @@ read_last own other children others x y same =
     all (property ∷ later) = (tt, all later)
 
 -- A node without its name, but for its children.
-pub read_members : (own other : DescribedNode) (children others : List JsonText) (x y : List ℕ) → IsSmall own.payload → IsSmall other.payload →
+pub read_members : (own other : DescribedNode) (children others : List JsonText) (x y : List ℕ)
+    → IsSmall own.payload → IsSmall other.payload →
     members_after_name own children ++ (125 ∷ x) ≡ members_after_name other others ++ (125 ∷ y) →
     (own ≡ other) × (with_commas false children ++ (93 ∷ 125 ∷ x) ≡ with_commas false others ++ (93 ∷ 125 ∷ y))
 read_members own other children others x y small also same =
