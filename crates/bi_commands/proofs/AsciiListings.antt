@@ -423,8 +423,7 @@ reservations_ascii : (reservations : List Reservation) → AllByRecursion HasAsc
 reservations_ascii [] = tt
 reservations_ascii (reservation ∷ later) = (
   object_ascii
-      ((codes "address", json_string (hexadecimal_64 reservation.address)) ∷ (codes "size", json_string (hexadecimal_64 reservation.size)) ∷ [])
-      (
+      ((codes "address", json_string (hexadecimal_64 reservation.address)) ∷ (codes "size", json_string (hexadecimal_64 reservation.size)) ∷ []) (
         (by_test (codes "address") refl, string_ascii (hexadecimal_64 reservation.address) (address_64 reservation.address)),
         ((by_test (codes "size") refl, string_ascii (hexadecimal_64 reservation.size) (address_64 reservation.size)), tt),
       ),
@@ -524,7 +523,7 @@ fit_ascii file tree is =
                 (
                   by_test (codes "configurations") refl,
                   array_ascii configurations (configurations_ascii tree good (names (configuration_nodes tree))
-                  (node_names_bytes (configuration_nodes tree) (configurations_are_nodes tree good).1)),
+                      (node_names_bytes (configuration_nodes tree) (configurations_are_nodes tree good).1)),
                 ),
                 ((by_test (codes "default") refl, maybe_name_ascii (default_of tree) (default_bytes tree good)), tt),
               ),
