@@ -7,7 +7,7 @@ use Rattle.std.proofs.lemmas.Bool.{and_parts}
 use Rattle.bi_base.specs.Cells.{AreBytes}
 use Rattle.bi_blob.specs.Tree.{Nodes, none, node, Property}
 use Rattle.bi_fit.specs.Content.{FitModel, IsHeld, tree_of}
-use Rattle.bi_fit.specs.ImageTree.{ImageTree, IsImageTree, IsProperty}
+use Rattle.bi_fit.specs.ImageTree.{ImageTree, IsImageTree}
 use Rattle.bi_fit.specs.Judgement.{listed_names}
 use Rattle.bi_fit.proofs.NormalTrees.{held_means}
 use Rattle.bi_fit.proofs.TextLaws.{file_means_image_tree}
@@ -18,10 +18,9 @@ use Rattle.bi_commands.specs.declared.format.Format.{Format}
 use Rattle.bi_commands.specs.declared.format.Format.TheVariants.{Lines, Json}
 use Rattle.bi_commands.specs.Describing.{description_text}
 use Rattle.bi_commands.specs.DescriptionJson.{digest_object, fit_object, legacy_object, node_members, node_objects, payload_members}
-use Rattle.bi_commands.specs.DescriptionJson.{payload_or_null, property_object, value_member}
+use Rattle.bi_commands.specs.DescriptionJson.{property_object, value_member}
 use Rattle.bi_commands.specs.Descriptions.{PayloadDigest, DescribedNode, NodePayload, NotAnImage, OfImage, digest_of_payload, plain_node}
 use Rattle.bi_commands.specs.Descriptions.{described_nodes}
-use Rattle.bi_commands.specs.FitListing.{hexadecimal_64}
 use Rattle.bi_commands.specs.Json.{JsonText, Member, json_array, json_null, json_object, json_string}
 use Rattle.bi_commands.specs.ListingJson.{header_members, name_member, reservation_object}
 use Rattle.bi_commands.specs.ValueTexts.{are_quotable_texts, hexadecimal_digits, is_quotable}

@@ -154,9 +154,10 @@ read_last own other children others x y same =
     (all (entries own.properties)) (all (entries other.properties))
     (append_cancel_left (codes "\"properties\":[") (one_list ++ (93 ∷ (codes ",\"children\":[" ++ rest)))
     (other_list ++ (93 ∷ (codes ",\"children\":[" ++ other_rest)))
-    (sym (last_parts own children x) ∙ same ∙ last_parts other others y)) in
-    (same_entries_map own.properties other.properties properties.0,
-    append_cancel_left (codes ",\"children\":[") rest other_rest properties.1)
+    (sym (last_parts own children x) ∙ same ∙ last_parts other others y)) in (
+      same_entries_map own.properties other.properties properties.0,
+      append_cancel_left (codes ",\"children\":[") rest other_rest properties.1,
+    )
   where
     all : (properties : List Property) → AllByRecursion (λ (property : Property). ⊤) properties
     all [] = tt

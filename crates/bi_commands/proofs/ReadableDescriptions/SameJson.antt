@@ -10,7 +10,7 @@ use Rattle.bi_fit.proofs.TextLaws.{file_means_image_tree}
 use Rattle.bi_legacy.specs.Codes.{CodeName, os_names, arch_names, type_names, compression_names, name_of_code}
 use Rattle.bi_legacy.specs.File.{IsLegacyFile}
 use Rattle.bi_legacy.specs.Meaning.{LegacyImage}
-use Rattle.bi_norm.specs.Meaning.{Meaning, OfLegacy, OfFit}
+use Rattle.bi_norm.specs.Meaning.{OfLegacy, OfFit}
 use Rattle.bi_commands.specs.DescriptionJson.{description_json, digest_object, node_objects}
 use Rattle.bi_commands.specs.DescriptionLaws.{AreSimilarImages, AreSimilarTrees}
 use Rattle.bi_commands.specs.Descriptions.{DescribedNode, described_nodes, digest_of_payload, plain_node}
@@ -136,8 +136,8 @@ pub similar_json_images : (file other_file : List ℕ) (one other : LegacyImage)
     description_json (OfLegacy one) ≡ description_json (OfLegacy other) → AreSimilarImages one other
 similar_json_images file other_file one other is also same =
     let text : members_from 1 one ++ end_of_line ≡ members_from 1 other ++ end_of_line =
-        append_cancel_left (codes "{\"kind\":\"legacy\",") (members_from 1 one ++ end_of_line) (members_from 1 other ++ end_of_line)
-        (sym (image_json one) ∙ same ∙ image_json other) in
+    append_cancel_left (codes "{\"kind\":\"legacy\",") (members_from 1 one ++ end_of_line) (members_from 1 other ++ end_of_line)
+    (sym (image_json one) ∙ same ∙ image_json other) in
     let name = string (codes "\"name\":") (shown_text one.name) (shown_text other.name) (members_from 2 one) (members_from 2 other) text in
     let time = number (codes "\"time\":") one.time other.time (members_from 3 one) (members_from 3 other) is.ranges.time also.ranges.time name.1 in
     let load = number (codes "\"load\":") one.load other.load (members_from 4 one) (members_from 4 other) is.ranges.load also.ranges.load time.1 in
