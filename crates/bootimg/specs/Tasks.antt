@@ -46,7 +46,8 @@ abbrev pub TaskDone : Task → Limits → Done → (input output : List ℕ) →
 TaskDone (Normalise form) limits done input output =
     IsNormaliseOutput limits form done.signatures input output × (done.status ≡ 0)
 TaskDone ListImage limits done input output = IsListing limits input output × EndedWith 0 done
-TaskDone Describe limits done input output = IsDescription Lines limits input output × EndedWith 0 done
+TaskDone Describe limits done input output =
+    IsDescription Lines limits input output × EndedWith 0 done
 TaskDone Verify limits done input output =
     (good : Bool) × IsVerifyOutput Lines limits good input output × EndedWith (status_of good) done
 TaskDone (Check allowed) limits done input output =
