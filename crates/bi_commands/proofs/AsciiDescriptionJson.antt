@@ -61,7 +61,8 @@ strings_ascii value is =
 value_ascii : (value : List ℕ) → AreBytes value → IsAsciiMember (value_member value)
 value_ascii value bytes = by (are_quotable_texts value) refl
   where
-    by : (b : Bool) → are_quotable_texts value ≡ b → IsAsciiMember (cond b (codes "strings", json_array (map json_string (listed_names value)))
+    by : (b : Bool) → are_quotable_texts value ≡ b →
+        IsAsciiMember (cond b (codes "strings", json_array (map json_string (listed_names value)))
         (codes "hex", json_string (hexadecimal_digits value)))
     by true is = (by_test (codes "strings") refl, strings_ascii value is)
     by false is = (by_test (codes "hex") refl, string_ascii (hexadecimal_digits value) (bytes_digits value bytes))
@@ -100,8 +101,11 @@ members_ascii own children bytes are = by own.payload bytes.1
 nodes_ascii : (nodes : Nodes DescribedNode) → AreByteNodes nodes → AllByRecursion HasAscii (node_objects nodes)
 nodes_ascii none bytes = tt
 nodes_ascii (node name own children later) bytes = (
-  object_ascii (name_member (codes "name") name ∷ node_members own (node_objects children))
-      ((by_test (codes "name") refl, name_ascii name bytes.0), members_ascii own (node_objects children) bytes.1 (nodes_ascii children bytes.2)),
+  object_ascii (name_member (codes "name") name ∷ node_members own (node_objects children)) (
+    (by_test (codes "name") refl, name_ascii name bytes.0),
+    members_ascii own (node_objects children) bytes.1
+        (nodes_ascii children bytes.2),
+  ),
   nodes_ascii later bytes.3,
 )
 
