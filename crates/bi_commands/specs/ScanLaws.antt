@@ -1,10 +1,11 @@
 use Rattle.std.specs.Prelude.{ℕ, ◌≡◌, ◌≢◌, ◌+◌, ◌≤◌, List, [], length}
 use Rattle.std.specs.List.{Contains}
 use Rattle.bi_base.specs.Cells.{slice}
+use Rattle.bi_base.specs.declared.fault.Fault.{Fault}
 use Rattle.bi_base.specs.Limits.{Limits}
 use Rattle.bi_norm.specs.Meaning.{Meaning, Means}
 use Rattle.bi_commands.specs.Offsets.{input_from}
-use Rattle.bi_commands.specs.Scanning.{IsImageAt, IsScanText, scan_line}
+use Rattle.bi_commands.specs.Scanning.{IsImageAt, IsScanFault, IsScanText, scan_line}
 
 -- Laws of the boot images inside a file. Each is the contract of a function in `laws`.
 
@@ -44,3 +45,9 @@ abbrev pub OneScan : Type 0
 OneScan =
     (limits : Limits) (input one other : List ℕ)
     → IsScanText limits input one → IsScanText limits input other → one ≡ other
+
+-- An input with a scan has no fault.
+abbrev pub ScanHasNoFault : Type 0
+ScanHasNoFault =
+    (limits : Limits) (input text : List ℕ) (fault : Fault)
+    → IsScanText limits input text → ¬ (IsScanFault limits input fault)
