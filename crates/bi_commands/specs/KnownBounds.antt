@@ -16,8 +16,8 @@ abbrev pub three_payloads : Meaning
 three_payloads = OfFit (shared_tree shared_region)
 
 -- An image with a payload of 100 bytes, one with an empty payload, and one without a payload.
-abbrev pub one_payload : ImageTree
-one_payload =
+abbrev pub payload_of_100 : ImageTree
+payload_of_100 =
     plain_tree
     (codes "a" ∷ codes "b" ∷ codes "c" ∷ [])
     (Some (replicate 100 7) ∷ Some [] ∷ None ∷ [])
@@ -27,8 +27,8 @@ one_payload =
 pub record PayloadBoundsAreKnown : Type 0 where
   pub three : IsOverPayloadBound (limited_to 2999) three_payloads
   pub three_within : ¬ (IsOverPayloadBound (limited_to 3000) three_payloads)
-  pub one : IsOverPayloadBound (limited_to 99) (OfFit one_payload)
-  pub one_within : ¬ (IsOverPayloadBound (limited_to 100) (OfFit one_payload))
+  pub one : IsOverPayloadBound (limited_to 99) (OfFit payload_of_100)
+  pub one_within : ¬ (IsOverPayloadBound (limited_to 100) (OfFit payload_of_100))
   pub parts_within : ¬ (IsOverPayloadBound (limited_to 7) (OfLegacy multi_image))
   pub hashes : HashesTooMuch only_hashes (limited_to 2999) three_payloads
   pub hashes_within : ¬ (HashesTooMuch only_hashes (limited_to 3000) three_payloads)
