@@ -125,7 +125,7 @@ shorter_length = rw no_entries refl
 pub description_bounds_are_known : DescriptionBoundsAreKnown
 description_bounds_are_known = record {
   as_long = record { payloads = λ over. over; short = omega (arith, longer_length) };
-  as_long_is_within = λ is. elim is [ | inl over ↦ over | inr over ↦ omega (arith, over, longer_length) ];
+  as_long_is_within = λ is. elim is [ inl over ↦ over | inr over ↦ omega (arith, over, longer_length) ];
   longer = λ can. omega (arith, can.short, longer_length);
   longer_is_over = inr (omega (arith, longer_length));
   payloads = λ can. can.payloads (lit< tt);
@@ -145,7 +145,7 @@ shorter_can : CanBeDescribed (limited_to 88) shorter_meaning
 shorter_can = record { payloads = λ over. omega (arith, over); short = omega (arith, shorter_length) }
 
 shorter_is_not : ¬ (IsTooLongToDescribe (limited_to 88) shorter_meaning)
-shorter_is_not is = elim is [ | inl over ↦ omega (arith, over) | inr over ↦ omega (arith, over, shorter_length) ]
+shorter_is_not is = elim is [ inl over ↦ omega (arith, over) | inr over ↦ omega (arith, over, shorter_length) ]
 
 -- Neither of two short ones is refused.
 neither_fails : (error : CompareError) → ¬ (FailsDescribing shorter_meaning shorter_meaning error)
