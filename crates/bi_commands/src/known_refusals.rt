@@ -1,7 +1,7 @@
 //! Small boot images with what the commands refuse of them. Each function does nothing: what it
 //! ensures is a fact about the definitions.
 
-ghost use Rattle.bi_commands.specs.KnownBounds.{PayloadBoundsAreKnown};
+ghost use Rattle.bi_commands.specs.KnownBounds.{PayloadBoundsAreKnown, UpdateBoundsAreKnown};
 ghost use Rattle.bi_commands.specs.KnownRefusals.{DescriptionBoundsAreKnown};
 ghost use Rattle.bi_commands.specs.KnownRefusals.{DescribingErrorsAreKnown, ReadingErrorsAreKnown};
 
@@ -9,6 +9,11 @@ ghost use Rattle.bi_commands.specs.KnownRefusals.{DescribingErrorsAreKnown, Read
 /// payloads count once for each image. An update only of the time has no such bound.
 pub fn payload_bounds_are_known()
     ensures { PayloadBoundsAreKnown }
+{}
+
+/// An update whose text is as long as the limit is not refused, and a longer one is.
+pub fn update_bounds_are_known()
+    ensures { UpdateBoundsAreKnown }
 {}
 
 /// An image whose description is as long as the limit can be described, and one whose description
