@@ -15,7 +15,6 @@ pub mod PartLines
 pub mod ShownBytes
 pub mod CheckedConfigurations
 pub mod CheckedFiles
-pub mod CheckErrors
 pub mod CheckedHashes
 pub mod UpdatedFiles
 pub mod CleanLaws

@@ -1,12 +1,7 @@
 use Rattle.std.proofs.Common.{◌≡◌, ◌++◌, List, ℕ, refl, subst, sym, ap, ◌∙◌}
-<<<<<<< HEAD
-use Rattle.bi_commands.specs.CheckedFiles.{IsCheckOutput}
-use Rattle.bi_commands.proofs.CheckErrors.{not_checked_in_memory}
-=======
 use Rattle.bi_fit.proofs.AppendedTexts.{error_in_memory}
 use Rattle.bi_norm.proofs.NormalForms.{needs_memory}
 use Rattle.bi_commands.specs.CheckedFiles.{IsChecked, IsCheckError, IsCheckOutput}
->>>>>>> w-cstruct
 use Rattle.bi_c.specs.Answers.{FilledNothing}
 use Rattle.bi_c.proofs.CallAnswers.{byte_is_flag, buffer_is_filled}
 use Rattle.bi_c.proofs.check.fill_concerns.Goals as goal
