@@ -133,7 +133,8 @@ fit_pieces format content blob images default same_blob same_images same_default
 -- ---- errors
 
 -- Memory may run out for a file that has a listing.
-listing_needs_memory : (format : Format) (limits : Limits) (file text : List ℕ) → IsListing format limits file text → NeedsMemory limits file
+listing_needs_memory : (format : Format) (limits : Limits) (file text : List ℕ) → IsListing format limits file text
+    → NeedsMemory limits file
 listing_needs_memory format limits file text (OfLegacyImage parsed is same) = ForLegacyImage parsed.image is.means
 listing_needs_memory format limits file text (OfImageTree is) = needs_memory limits file (OfFit is.tree) is.means
 
