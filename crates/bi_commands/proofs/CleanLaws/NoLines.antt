@@ -97,7 +97,7 @@ any_is_found {X = X} test (first ∷ others) is = by (test first) refl (λ left.
       (rest.0, Contains-others first others rest.0 rest.1, rest.2)
 
 -- One of two tests.
-second_passes : (a b : Bool) → b ≡ true → (a || b) ≡ true
+pub second_passes : (a b : Bool) → b ≡ true → (a || b) ≡ true
 second_passes true b is = refl
 second_passes false b is = is
 
