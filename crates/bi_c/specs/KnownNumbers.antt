@@ -41,27 +41,27 @@ pub record StatusNumbersAreKnown : Type 0 where
   pub not_found : status_of_failure (NotFound 1 0) ≡ 5
 
 -- The numbers of the struct, in their order.
-abbrev pub numbers_of : Answer → List ℕ
-numbers_of answer =
+abbrev pub struct_numbers : Answer → List ℕ
+struct_numbers answer =
     answer.size ∷ answer.value ∷ answer.cause ∷ answer.offset ∷ answer.file ∷ answer.reason ∷ []
 
 -- The struct after an output, after each failure, and after each error of a call: size, value,
 -- cause, offset, file and reason.
 pub record AnswersAreKnown : Type 0 where
-  pub output : numbers_of (answer_of 5 1) ≡ 5 ∷ 1 ∷ 0 ∷ 0 ∷ 0 ∷ 0 ∷ []
-  pub refused : numbers_of (answer_of_failure (failure_of_error (error.Refused cell_fault)))
+  pub output : struct_numbers (answer_of 5 1) ≡ 5 ∷ 1 ∷ 0 ∷ 0 ∷ 0 ∷ 0 ∷ []
+  pub refused : struct_numbers (answer_of_failure (failure_of_error (error.Refused cell_fault)))
       ≡ 0 ∷ 0 ∷ 18 ∷ 160 ∷ 1 ∷ 0 ∷ []
   pub first_refused :
-      numbers_of (answer_of_failure (failure_of_compare_error (compare.One cell_fault)))
+      struct_numbers (answer_of_failure (failure_of_compare_error (compare.One cell_fault)))
       ≡ 0 ∷ 0 ∷ 18 ∷ 160 ∷ 1 ∷ 0 ∷ []
   pub second_refused :
-      numbers_of (answer_of_failure (failure_of_compare_error (compare.Other cell_fault)))
+      struct_numbers (answer_of_failure (failure_of_compare_error (compare.Other cell_fault)))
       ≡ 0 ∷ 0 ∷ 18 ∷ 160 ∷ 2 ∷ 0 ∷ []
-  pub out_of_memory : numbers_of (answer_of_failure OutOfMemory)
+  pub out_of_memory : struct_numbers (answer_of_failure OutOfMemory)
       ≡ 0 ∷ 0 ∷ 0 ∷ 0 ∷ 0 ∷ 0 ∷ []
-  pub wrong_argument : numbers_of (answer_of_failure WrongArgument)
+  pub wrong_argument : struct_numbers (answer_of_failure WrongArgument)
       ≡ 0 ∷ 0 ∷ 0 ∷ 0 ∷ 0 ∷ 0 ∷ []
-  pub missing : numbers_of (answer_of_failure (NotFound 7 3)) ≡ 0 ∷ 3 ∷ 0 ∷ 0 ∷ 0 ∷ 7 ∷ []
+  pub missing : struct_numbers (answer_of_failure (NotFound 7 3)) ≡ 0 ∷ 3 ∷ 0 ∷ 0 ∷ 0 ∷ 7 ∷ []
 
 -- The choice has this reason, and the index of the first name that no image has, and no other.
 pub record HasReason (choice : Choice) (reason index : ℕ) : Type 0 where

@@ -1,4 +1,4 @@
-use Rattle.std.proofs.Common.{◌≡◌, ◌<◌, ◌⊎◌, ℕ, ◌*◌, ◌+◌, List, [], ◌∷◌, ◌++◌, length, map, codes, inl, inr, lit≤, lit<, refl, ap, ◌∙◌, arith}
+use Rattle.std.proofs.Common.{◌≡◌, ◌<◌, ◌⊎◌, ℕ, ◌*◌, ◌+◌, List, [], ◌∷◌, ◌++◌, length, codes, inl, inr, lit<, refl, ap, ◌∙◌, arith}
 use Rattle.std.specs.Fmt.{digits}
 use Rattle.std.proofs.lemmas.List.{length-append}
 use Rattle.bi_base.specs.Cells.{cell}

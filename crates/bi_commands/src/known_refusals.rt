@@ -23,13 +23,13 @@ pub fn description_bounds_are_known()
 {}
 
 /// If two images are too long to describe, the error names the first, and no error names the
-/// second. If one is, the error names that one.
+/// second. If one is too long, the error names that one.
 pub fn describing_errors_are_known()
     ensures { DescribingErrorsAreKnown }
 {}
 
-/// If two files mean nothing, the error names the first, and no error names the second. If one does,
-/// the error names that one.
+/// If two files mean nothing, the error names the first, and no error names the second. If one
+/// means nothing, the error names that one.
 pub fn reading_errors_are_known()
     ensures { ReadingErrorsAreKnown }
 {}

@@ -1,6 +1,6 @@
 //! Small boot images with what the commands write of them. Each function does nothing: what it
-//! ensures is a fact about the definitions. One calls the function of a law, from which its fact
-//! follows.
+//! ensures is a fact about the definitions. One of them calls the function of a law, from which its
+//! fact follows.
 
 ghost use Rattle.bi_commands.specs.KnownConcerns.{ConcernsAreKnown, StrongAlgorithmsAreKnown};
 ghost use Rattle.bi_commands.specs.KnownConcerns.{TrailingBytesAreKnown, LegacyConcernsAreKnown};

@@ -57,7 +57,10 @@ pub record DefaultsAreKnown : Type 0 where
   pub list : GivesValues (codes "list") (codes "list") only_defaults
   pub describe : GivesValues (codes "describe") (codes "describe") only_defaults
   pub compare : GivesValues (codes "compare a b") (codes "compare")
-      (with_value (codes "quiet") (codes "false") ∷ default_limit ∷ without_value (codes "output") ∷ [])
+      (with_value (codes "quiet") (codes "false")
+      ∷ default_limit
+      ∷ without_value (codes "output")
+      ∷ [])
   pub verify : GivesValues (codes "verify") (codes "verify") only_defaults
   pub check : GivesValues (codes "check") (codes "check")
       (without_value (codes "allow") ∷ only_defaults)
@@ -179,7 +182,9 @@ pub record OptionsAreKnown : Type 0 where
       ∷ (codes "images", codes "a:b" ∷ codes "c" ∷ [])
       ∷ [])
   pub explain : GivesValues (codes "explain -o out BadMagic") (codes "explain")
-      (with_value (codes "output") (codes "out") ∷ with_value (codes "cause") (codes "BadMagic") ∷ [])
+      (with_value (codes "output") (codes "out")
+      ∷ with_value (codes "cause") (codes "BadMagic")
+      ∷ [])
 
 -- Command lines that clap rejects, each for the first thing that is wrong.
 pub record MistakesAreKnown : Type 0 where
