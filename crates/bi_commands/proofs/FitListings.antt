@@ -78,7 +78,8 @@ image_object_of file name source image named is placed =
     ap₂ object named (ap (placed_payload image.payload) placed ∙ placed_object file source image.payload is)
 
 -- The objects of images that were read.
-objects_of_images : (file : List ℕ) (nodes : Nodes FileNode) (images : List ImageModel) → AllZip (IsReadImage file) (siblings nodes) images →
+objects_of_images : (file : List ℕ) (nodes : Nodes FileNode) (images : List ImageModel)
+    → AllZip (IsReadImage file) (siblings nodes) images →
     map read_image_object images ≡ image_objects file nodes (map (λ (image : ImageModel). image.payload) images)
 objects_of_images file none [] is = refl
 objects_of_images file none (image ∷ images) is = absurd is
