@@ -1,4 +1,4 @@
-use Rattle.std.proofs.Common.{◌≡◌, ◌<◌, ◌^◌, true, false, length, List, [], ◌∷◌, ◌++◌, ℕ, arith, inl, rules, refl, sym, ap, subst, ◌∙◌}
+use Rattle.std.proofs.Common.{◌≡◌, ◌<◌, ◌^◌, true, false, List, [], ◌∷◌, ◌++◌, ℕ, arith, inl, rules, refl, sym, ap, subst, ◌∙◌}
 use Rattle.std.specs.Iterator.Adapters.{enumerate_source, enumerate_count}
 use Rattle.bi_base.proofs.SinkLaws.{passed_on}
 use Rattle.bi_legacy.specs.PlacedParts.{part_model, placed_parts}
