@@ -43,7 +43,12 @@ pub fn listing_json(alloc: Global, file: &[u8], limits: Limits) -> Result<String
 }
 
 /// Returns the listing of a boot image, in a form.
-fn listing_as(alloc: Global, file: &[u8], limits: Limits, format: Format) -> Result<String, Error>
+fn listing_as(
+    alloc: Global,
+    file: &[u8],
+    limits: Limits,
+    format: Format,
+) -> Result<String, Error>
     ensures lists { IfOk result (λ text. IsListing format limits file.now (string_bytes text)) }
     ensures failed { IfErr result (IsBootImageReadError limits file.now) }
 {
