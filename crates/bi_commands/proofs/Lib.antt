@@ -58,3 +58,4 @@ pub mod ScannedLines
 pub mod ScanLaws
 pub mod CutImages
 pub mod ScanFacts
+pub mod ScanCounts
