@@ -66,3 +66,4 @@ pub mod ScannedLines
 pub mod ScanLaws
 pub mod CutImages
 pub mod ScanFacts
+pub mod ScanCounts

@@ -113,7 +113,7 @@ begins_once : (image : List ℕ) → BeginsAs image kind.Legacy → ¬ (BeginsAs
 begins_once image begins other = omega (arith, begins.magic, other.magic)
 
 -- An image has one claim.
-one_claim : (image : List ℕ) (one other : ℕ) → IsClaim image one → IsClaim image other → one ≡ other
+pub one_claim : (image : List ℕ) (one other : ℕ) → IsClaim image one → IsClaim image other → one ≡ other
 one_claim image one other (OfData claims is) (OfData claims_too is_too) = is ∙ sym is_too
 one_claim image one other (OfData claims is) (OfBlob claims_too is_too) = absurd (begins_once image claims.begins claims_too.begins)
 one_claim image one other (OfData claims is) (OfNothing fails none is_too) = absurd (fails claims)

@@ -1,4 +1,5 @@
-use Rattle.std.specs.Prelude.{ℕ, ◌≡◌, ◌≢◌, ◌+◌, ◌≤◌, List, [], length}
+use Rattle.std.specs.Prelude.{ℕ, ◌≡◌, ◌≢◌, ◌+◌, ◌*◌, ◌≤◌, List, [], length, bytes_eq, count_by}
+use Rattle.std.specs.Prelude.{not}
 use Rattle.std.specs.List.{Contains}
 use Rattle.bi_base.specs.Cells.{slice}
 use Rattle.bi_base.specs.declared.fault.Fault.{Fault}
@@ -51,3 +52,14 @@ abbrev pub ScanHasNoFault : Type 0
 ScanHasNoFault =
     (limits : Limits) (input text : List ℕ) (fault : Fault)
     → IsScanText limits input text → ¬ (IsScanFault limits input fault)
+
+-- How many of these lines are not empty.
+abbrev pub line_count : List (List ℕ) → ℕ
+line_count lines = count_by (λ text. not (bytes_eq text [])) lines
+
+-- A scan has at most as many lines as an input of the limit's length has room for headers of legacy
+-- images.
+abbrev pub LinesAreFew : Type 0
+LinesAreFew =
+    (limits : Limits) (input text : List ℕ) (is : IsScanText limits input text)
+    → 64 * line_count is.has.lines ≤ limits.file
