@@ -94,13 +94,8 @@ only_blob_claim : (image : List ℕ) → u32_at image 0 ≡ blob_magic → ¬ (H
 only_blob_claim image magic fails = OfNothing (λ claim. omega (arith, magic, claim.begins.magic)) fails refl
 
 -- The header of a blob passes its checks, or one of them fails.
-<<<<<<< HEAD
 blob_passes : (image : List ℕ) → list_all (test widest image) blob_claim_checks ≡ true
     → HasNoFault (HeaderPasses widest image) blob_claim_checks
-=======
-blob_passes : (image : List ℕ) → list_all (test widest image) blob_claim_checks ≡ true →
-    HasNoFault (HeaderPasses widest image) blob_claim_checks
->>>>>>> w-scan
 blob_passes image = (all_decide (HeaderPasses widest image) (test widest image) (header_decides widest image) blob_claim_checks).0
 
 pub claims_are_known : ClaimsAreKnown
