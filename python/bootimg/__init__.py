@@ -28,6 +28,7 @@ else libbootimg.so next to this file, if it is there, or else libbootimg.so.0 of
 import argparse
 import contextlib
 import ctypes
+import io
 import mmap
 import os
 import re
@@ -40,14 +41,26 @@ __all__ = [
     "BootimgError",
     "CONCERNS",
     "Comparison",
+    "Concern",
+    "Configuration",
     "DEPTH",
+    "FitHeader",
+    "FitImage",
+    "Hash",
+    "Image",
     "KEYS",
     "LIMIT",
+    "LegacyHeader",
+    "Node",
     "NotFound",
     "OutOfMemory",
+    "Part",
     "REASONS",
     "Refused",
     "Report",
+    "Reservation",
+    "VERDICTS",
+    "Verification",
     "WrongArgument",
     "cause_name",
     "check",
@@ -65,6 +78,7 @@ __all__ = [
     "listing_json",
     "normalise",
     "normalise_and_count",
+    "open",
     "same_meaning",
     "update",
     "update_and_count",
@@ -79,6 +93,7 @@ Buffer = bytes | bytearray | memoryview | mmap.mmap
 LIMIT = 0x7FFFFFFF
 DEPTH = 64
 CONCERNS = ("bad-hash", "unhashed", "weak-hash", "bad-list", "missing", "bad-default", "trailing")
+VERDICTS = ("good", "bad", "unknown-algorithm", "no-payload", "malformed")
 KEYS = ("kernel", "fdt", "ramdisk", "firmware", "loadables", "script")
 REASONS = (
     "the selection does not fit this kind of image",
@@ -411,7 +426,7 @@ def extract_config(
 
 
 def _name_of(name: bytes | str) -> bytes:
-    return name.encode() if isinstance(name, str) else name
+    return name.encode("utf-8", "surrogateescape") if isinstance(name, str) else name
 
 
 def _text(name: str, files: tuple[Buffer, ...], *numbers: int) -> tuple[str, int]:
@@ -509,6 +524,23 @@ def compare_json(
     return Comparison(value == 1, text)
 
 
+# These use what is above.
+from bootimg.image import (  # noqa: E402
+    Concern,
+    Configuration,
+    FitHeader,
+    FitImage,
+    Hash,
+    Image,
+    LegacyHeader,
+    Node,
+    Part,
+    Reservation,
+    Verification,
+    open,
+)
+
+
 def _whole_number(text: str) -> int:
     """Returns the number of an argument, as the program reads numbers."""
     if not re.fullmatch(r"[0-9]+|0x[0-9a-fA-F]+", text):
@@ -561,6 +593,8 @@ def _parser() -> argparse.ArgumentParser:
             selection.add_argument("--default", action="store_true")
             command.add_argument("--key", choices=KEYS, default=KEYS[0])
             command.add_argument("--index", type=_whole_number, default=0, metavar="N")
+        if name in ("list", "describe", "verify", "check", "compare"):
+            command.add_argument("--json", action="store_true")
         if name == "check":
             command.add_argument("--allow", type=_kinds, default=[], metavar="KINDS")
         if name == "compare":
@@ -579,7 +613,7 @@ def _read(path: str) -> bytes:
         except OSError:
             raise _Unread("read failed") from None
     try:
-        file = open(path, "rb")
+        file = io.open(path, "rb")
     except IsADirectoryError:
         raise _Unread(f"{_shown(path)}: read failed") from None
     except OSError:
@@ -617,18 +651,27 @@ def _run(options: argparse.Namespace, files: list[bytes]) -> tuple[bytes, int]:
     if options.command == "compare":
         if options.quiet:
             return b"", int(not same_meaning(files[0], files[1], limit))
-        compared = compare(files[0], files[1], limit)
+        compared = (compare_json if options.json else compare)(files[0], files[1], limit)
         return compared.differences.encode("ascii"), int(not compared.same)
-    if options.command == "verify":
-        report = verify(files[0], limit)
-        return report.text.encode("ascii"), int(not report.all_good)
-    if options.command == "check":
-        concerns = check(files[0], options.allow, limit)
-        return concerns.encode("ascii"), int(concerns != "")
     if options.command == "convert":
         return convert(files[0], limit), 0
-    text = listing(files[0], limit) if options.command == "list" else describe(files[0], limit)
-    return text.encode("ascii"), 0
+    text, status = _printed(options, files[0])
+    return text.encode("ascii"), status
+
+
+def _printed(options: argparse.Namespace, file: bytes) -> tuple[str, int]:
+    """Returns what a command prints about one file, and the exit status."""
+    limit = options.limit
+    if options.command == "verify":
+        report = (verify_json if options.json else verify)(file, limit)
+        return report.text, int(not report.all_good)
+    if options.command == "check":
+        call, none = (check_json, '{"concerns":[]}\n') if options.json else (check, "")
+        concerns = call(file, options.allow, limit)
+        return concerns, int(concerns != none)
+    if options.command == "list":
+        return (listing_json if options.json else listing)(file, limit), 0
+    return (describe_json if options.json else describe)(file, limit), 0
 
 
 def main(arguments: list[str] | None = None) -> int:

@@ -12,8 +12,8 @@ use Rattle.bi_c.proofs.CallAnswers.{failed_by}
 -- A call from C with valid numbers returns the concerns about a file under the limits, except those of the kinds of these numbers, or
 -- fails as checking it does.
 
-pub checked_as : (format : Format) (limit depth kinds : ℕ) (limits : Limits) (allowed : Allowed) (file : List ℕ) → HasKinds limit depth kinds
-    → limits ≡ bounds limit depth → allowed ≡ allowed_of kinds → (text : List ℕ) (value : ℕ)
+pub checked_as : (format : Format) (limit depth kinds : ℕ) (limits : Limits) (allowed : Allowed) (file : List ℕ)
+    → HasKinds limit depth kinds → limits ≡ bounds limit depth → allowed ≡ allowed_of kinds → (text : List ℕ) (value : ℕ)
     → IsConcernsText (record { allowed = allowed; format = format }) limits file text value
     → IsCheckText format limit depth kinds file text value
 checked_as format limit depth kinds limits allowed file valid same_limits same_allowed text value is = record {
@@ -22,9 +22,9 @@ checked_as format limit depth kinds limits allowed file valid same_limits same_a
       (subst (λ (l : Limits). IsConcernsText (record { allowed = allowed; format = format }) l file text value) same_limits is);
 }
 
-pub not_checked : (limit depth kinds : ℕ) (limits : Limits) (file : List ℕ) → HasKinds limit depth kinds → limits ≡ bounds limit depth
+pub call_not_checked : (limit depth kinds : ℕ) (limits : Limits) (file : List ℕ) → HasKinds limit depth kinds → limits ≡ bounds limit depth
     → (failure : Failure) → IsFailureBy (IsCheckError limits file) failure
     → IsFailure (HasKinds limit depth kinds) (IsCheckError (bounds limit depth) file) failure
-not_checked limit depth kinds limits file valid same_limits failure is =
+call_not_checked limit depth kinds limits file valid same_limits failure is =
     failed_by (HasKinds limit depth kinds) (IsCheckError (bounds limit depth) file) is.cause failure valid is.is_failure (λ no. no)
     (λ no. no) (subst (λ (l : Limits). IsCheckError l file is.cause) same_limits is.is_error)

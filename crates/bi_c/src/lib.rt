@@ -10,6 +10,7 @@ mod compare;
 mod extract;
 mod failure;
 mod kind;
+mod known_numbers;
 mod normalise;
 mod regions;
 mod texts;

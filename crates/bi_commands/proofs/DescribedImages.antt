@@ -87,6 +87,7 @@ refused_text format limits meaning sink new text error limit room is failed =
     rw (failed.is) (inr (omega (arith, failed.longer, room, ap length is)), ap too_large limit)
 
 -- A text for which it has room is short.
-pub short_text : (format : Format) (limits : Limits) (meaning : Meaning) (sink new : LimitedSink) (text : List ℕ) → sink.room ≡ limits.file →
+pub short_text : (format : Format) (limits : Limits) (meaning : Meaning) (sink new : LimitedSink) (text : List ℕ) →
+    sink.room ≡ limits.file →
     text ≡ description_text format meaning → Takes sink text new → length (description_text format meaning) ≤ limits.file
 short_text format limits meaning sink new text room is taken = omega (arith, taken.room, room, ap length is)

@@ -65,3 +65,5 @@ pub mod ScanClaims
 pub mod ScannedLines
 pub mod ScanLaws
 pub mod CutImages
+pub mod ScanFacts
+pub mod ScanCounts

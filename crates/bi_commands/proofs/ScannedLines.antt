@@ -153,9 +153,16 @@ all_lines limits input old new count is (lines, are, same) = record {
 ascii_line_at : (limits : Limits) (input : List ℕ) (offset : ℕ) (text : List ℕ) → IsLineAt limits input offset text → HasAscii text
 ascii_line_at limits input offset text (WithImage extent (OfLegacy image) is same) =
     subst HasAscii (sym same)
-    (ascii_line (decimal offset ∷ codes "legacy" ∷ decimal extent ∷ shown_text image.name ∷ [])
-    (decimal_shown offset, (by_test (codes "legacy") refl, (decimal_shown extent,
-    (name_shown image.name (image_of_file (input_from offset input) image is.means.is_file).name_bytes, tt)))))
+    (ascii_line (decimal offset ∷ codes "legacy" ∷ decimal extent ∷ shown_text image.name ∷ []) (
+      decimal_shown offset,
+      (
+        by_test (codes "legacy") refl,
+        (
+          decimal_shown extent,
+          (name_shown image.name (image_of_file (input_from offset input) image is.means.is_file).name_bytes, tt),
+        ),
+      ),
+    ))
 ascii_line_at limits input offset text (WithImage extent (OfFit tree) is same) =
     subst HasAscii (sym same)
     (ascii_line (decimal offset ∷ codes "fit" ∷ decimal extent ∷ decimal (length tree.payloads) ∷ [])

@@ -4,7 +4,8 @@
 ghost use Rattle.bi_commands.specs.CleanFiles.{EmptyIsClean};
 ghost use Rattle.bi_commands.specs.DescriptionLaws.{SameDescriptionIsSimilar};
 ghost use Rattle.bi_commands.specs.Parts.{LengthsAreCut};
-ghost use Rattle.bi_commands.specs.ScanLaws.{EachImageHasItsLine, OneScan, ScannedImagesAreWhole};
+ghost use Rattle.bi_commands.specs.ScanLaws.{EachImageHasItsLine, LinesAreFew, OneScan};
+ghost use Rattle.bi_commands.specs.ScanLaws.{ScanHasNoFault, ScannedImagesAreWhole};
 ghost use Rattle.bi_commands.specs.UpdatedFileLaws.{NoChangeNormalises};
 
 /// Files with one description, as lines or in JSON, have meanings that are the same once each
@@ -50,3 +51,14 @@ pub fn one_scan()
 {
     bi_norm::laws::one_meaning();
 }
+
+/// A file with a scan within limits has no fault of a scan within them.
+pub fn scan_has_no_fault()
+    ensures { ScanHasNoFault }
+{}
+
+/// A scan has at most one line for each 64 bytes of the limit: so many bytes each boot image claims
+/// at least.
+pub fn lines_are_few()
+    ensures { LinesAreFew }
+{}

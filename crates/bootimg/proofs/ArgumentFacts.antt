@@ -7,6 +7,7 @@ use Rattle.std.specs.Char.{digit_value}
 use Rattle.std.specs.Str.Parse.{AllDigits, digits_value, IsNumeral}
 use Rattle.std.proofs.lemmas.Bool.{and_parts, true≢false, eqb-true}
 use Rattle.std.proofs.lemmas.Slice.Eq.{bytes_eq-Decides}
+use Rattle.std.proofs.Math.Bool.{or-true}
 use Rattle.bi_blob.proofs.CheckDecisions.{both_decide, lt_decides}
 use Rattle.bi_legacy.specs.Codes.{CodeName, name_of_code}
 use Rattle.bootimg.specs.CodeWords.{codes_of, IsCode, Named, Numbered}
@@ -123,10 +124,6 @@ abbrev names_only : List CodeName → (name : List ℕ) → (wanted : ℕ) → B
 names_only [] name wanted = true
 names_only (entry ∷ later) name wanted = (not (bytes_eq entry.name name) || entry.code == wanted) && names_only later name wanted
 
-either_true : (one other : Bool) → other ≡ true → (one || other) ≡ true
-either_true true other holds = refl
-either_true false other holds = holds
-
 -- The name of a code is the name of one.
 code_has_name : (entries : List CodeName) (code : ℕ) (name : List ℕ) → name_of_code entries code ≡ Some name → has_name entries name ≡ true
 code_has_name [] code name is = absurd cc
@@ -137,7 +134,8 @@ code_has_name (entry ∷ later) code name is = by (entry.code == code) refl (λ 
       let found : Some entry.name ≡ Some name = rw same at is in
       let equal : entry.name ≡ name = cc in
       ap (λ b. b || has_name later name) ((bytes_eq-Decides entry.name name).1 equal)
-  by false other rest = either_true (bytes_eq entry.name name) (has_name later name) (rest (rw other at is))
+  by false other rest =
+      ap (λ b. bytes_eq entry.name name || b) (rest (rw other at is)) ∙ or-true (bytes_eq entry.name name)
 
 -- A code with this name is the wanted one.
 code_is_wanted : (entries : List CodeName) (code wanted : ℕ) (name : List ℕ) → names_only entries name wanted ≡ true
@@ -200,7 +198,8 @@ codes_are_known = record {
 -- ---- limits
 
 -- A number in range is this limit and no other.
-limit_in_range : (argument : List ℕ) (limit : ℕ) → IsOnlyNumber argument limit → 64 ≤ limit → limit ≤ 0x7fffffff → IsOnlyLimit argument limit
+limit_in_range : (argument : List ℕ) (limit : ℕ) → IsOnlyNumber argument limit → 64 ≤ limit → limit ≤ 0x7fffffff
+    → IsOnlyLimit argument limit
 limit_in_range argument limit number least most = (
   record { file = number.0; least = least; most = most; depth = refl },
   λ limits is. (λ i. record { file = number.1 limits.file is.file i; depth = is.depth i }),

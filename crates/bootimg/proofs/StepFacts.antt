@@ -1,5 +1,5 @@
-use Rattle.std.proofs.Common.{◌≡◌, ◌≢◌, ◌++◌, ◌∷◌, [], ◌∙◌, ◌<◌, ◌⊎◌, ℕ, zero, suc, List, Option, Some, map, length, codes, get_or, ap, refl, sym}
-use Rattle.std.proofs.Common.{inl, inr, lit<, arith}
+use Rattle.std.proofs.Common.{◌≡◌, ◌≢◌, ◌++◌, ◌∷◌, [], ◌∙◌, ◌<◌, ℕ, zero, suc, List, Some, map, length, codes, get_or, ap, refl, sym}
+use Rattle.std.proofs.Common.{inl, inr, arith}
 use Rattle.std.specs.Fmt.{decimal, digits}
 use Rattle.std.proofs.lemmas.List.{append_assoc}
 use Rattle.bootimg.specs.Files.{Closed, FileStep, IsBeside, IsSaved, KnownFiles, Made, NameTaken, Renamed, TookSteps}
@@ -27,7 +27,8 @@ slash_in_ab (byte ∷ other ∷ third ∷ fourth ∷ before) last same = absurd 
 directory_of_b : (number : ℕ) (beside : List ℕ) (is : IsBeside (codes "b") number beside) → is.directory ≡ []
 directory_of_b number beside is = elim is.ends_with_slash [
   | inl none ↦ none
-  | inr slash ↦ absurd (no_slash_in_b slash.0 is.last (is.is_name ∙ ap (λ l. l ++ is.last) slash.1 ∙ append_assoc slash.0 (47 ∷ []) is.last))
+  | inr slash ↦ absurd (no_slash_in_b slash.0 is.last
+      (is.is_name ∙ ap (λ l. l ++ is.last) slash.1 ∙ append_assoc slash.0 (47 ∷ []) is.last))
 ]
 
 directory_of_ab : (number : ℕ) (beside : List ℕ) (is : IsBeside (codes "a/b") number beside) → is.directory ≡ codes "a/"

@@ -1,19 +1,18 @@
 use Rattle.std.specs.Prelude.{◌≡◌, ℕ, true, false, List, [], ◌∷◌, Some, codes, map}
-use Rattle.std.specs.Prelude.{option_map, unwrap_or}
-use Rattle.std.specs.Option.{option_map_or}
+use Rattle.std.specs.Prelude.{option_map}
 use Rattle.bi_base.specs.Limits.{Limits}
 use Rattle.bi_commands.specs.Differences.{words_of_line}
 use Rattle.bi_commands.specs.KnownTexts.{lent}
 use Rattle.bi_legacy.specs.KnownFaults.{limited_to}
 use Rattle.clap.specs.Faults.{fault_of}
 use Rattle.clap.specs.Simple.{subcommand_of}
-use Rattle.clap.specs.Walk.{all_of}
 use Rattle.clap.specs.declared.error.kind.ErrorKind.TheVariants.{ArgumentConflict, InvalidValue}
 use Rattle.clap.specs.declared.error.kind.ErrorKind.TheVariants.{MissingRequiredArgument}
 use Rattle.clap.specs.declared.error.kind.ErrorKind.TheVariants.{MissingSubcommand}
 use Rattle.clap.specs.declared.error.kind.ErrorKind.TheVariants.{UnknownArgument}
+use Rattle.clap.specs.declared.parser.matches.ArgMatches.{ArgMatches}
 use Rattle.bootimg.specs.CodeWords.{IsCode}
-use Rattle.bootimg.specs.CommandLine.{NoneIs, IsLimits, reads_input}
+use Rattle.bootimg.specs.CommandLine.{Gives, IsLimits, NoneIs, reads_input, values_of}
 use Rattle.bootimg.specs.Numbers.{IsNumber}
 use Rattle.bootimg.specs.Program.{program_app}
 use Rattle.bootimg.specs.declared.codes.CodeField.{CodeField}
@@ -23,13 +22,6 @@ use Rattle.bootimg.specs.declared.command_line.part.PartSource.TheVariants.{Inpu
 -- Small command lines with what they give, by which a reader can judge the definitions.
 
 -- ---- options
-
--- The values that a command line, whose words have a space between each two, gives an option or a
--- positional argument of its command.
-abbrev pub given_values : (line id : List ℕ) → List (List ℕ)
-given_values line id =
-    option_map_or (λ command. unwrap_or (all_of id command.1) [])
-    (subcommand_of program_app (words_of_line line)) []
 
 -- An option or a positional argument, and its values.
 abbrev pub ValuesOf : Type 0
@@ -41,12 +33,14 @@ without_value id = (id, [])
 abbrev pub with_value : (id value : List ℕ) → ValuesOf
 with_value id value = (id, value ∷ [])
 
--- clap accepts a command line, which gives this command these values.
+-- clap accepts a command line, whose words have a space between each two. It gives this command
+-- these values.
 pub record GivesValues (line name : List ℕ) (values : List ValuesOf) : Type 0 where
   pub is_accepted : fault_of program_app (words_of_line line) ≡ []
   pub is_name : option_map (λ command. command.0) (subcommand_of program_app (words_of_line line))
       ≡ Some name
-  pub are_values : map (λ entry. (entry.0, given_values line entry.0)) values ≡ values
+  pub are_values : (options : ArgMatches) → Gives (words_of_line line) name options
+      → map (λ entry. (entry.0, values_of options entry.0)) values ≡ values
 
 -- The default of `--limit`.
 abbrev pub default_limit : ValuesOf
@@ -63,7 +57,10 @@ pub record DefaultsAreKnown : Type 0 where
   pub list : GivesValues (codes "list") (codes "list") only_defaults
   pub describe : GivesValues (codes "describe") (codes "describe") only_defaults
   pub compare : GivesValues (codes "compare a b") (codes "compare")
-      (with_value (codes "quiet") (codes "false") ∷ default_limit ∷ without_value (codes "output") ∷ [])
+      (with_value (codes "quiet") (codes "false")
+      ∷ default_limit
+      ∷ without_value (codes "output")
+      ∷ [])
   pub verify : GivesValues (codes "verify") (codes "verify") only_defaults
   pub check : GivesValues (codes "check") (codes "check")
       (without_value (codes "allow") ∷ only_defaults)
@@ -185,7 +182,9 @@ pub record OptionsAreKnown : Type 0 where
       ∷ (codes "images", codes "a:b" ∷ codes "c" ∷ [])
       ∷ [])
   pub explain : GivesValues (codes "explain -o out BadMagic") (codes "explain")
-      (with_value (codes "output") (codes "out") ∷ with_value (codes "cause") (codes "BadMagic") ∷ [])
+      (with_value (codes "output") (codes "out")
+      ∷ with_value (codes "cause") (codes "BadMagic")
+      ∷ [])
 
 -- Command lines that clap rejects, each for the first thing that is wrong.
 pub record MistakesAreKnown : Type 0 where

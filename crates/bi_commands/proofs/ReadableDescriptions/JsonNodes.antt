@@ -1,4 +1,5 @@
-use Rattle.std.proofs.Common.{◌≡◌, ℕ, ◌<◌, ◌^◌, Bool, true, false, cond, List, [], ◌∷◌, ◌++◌, map, Option, None, Some, refl, sym, ap, ap₂, ◌∙◌, codes}
+use Rattle.std.proofs.Common.{◌≡◌, ℕ, ◌<◌, ◌^◌, Bool, true, false, cond, List, [], ◌∷◌, ◌++◌, map, Option, None, Some, refl, sym, ap, ap₂}
+use Rattle.std.proofs.Common.{◌∙◌, codes}
 use Rattle.std.specs.Prelude.{⊤, nat_eq}
 use Rattle.std.specs.FinMap.{entries, same_entries_map}
 use Rattle.std.specs.Fmt.{decimal}
@@ -36,7 +37,8 @@ read_hex one other x y same =
 
 -- A digest.
 digest_parts : (digest : PayloadDigest) (x : List ℕ) → digest_object digest ++ x
-    ≡ codes "{\"size\":" ++ (decimal digest.size ++ (44 ∷ (codes "\"sha256\":" ++ (json_string (hexadecimal_digits digest.sha256) ++ (125 ∷ x)))))
+    ≡ codes "{\"size\":" ++ (decimal digest.size
+    ++ (44 ∷ (codes "\"sha256\":" ++ (json_string (hexadecimal_digits digest.sha256) ++ (125 ∷ x)))))
 digest_parts digest x = around (decimal digest.size) (json_string (hexadecimal_digits digest.sha256))
   where
     around : (size sha256 : List ℕ)
@@ -75,7 +77,8 @@ read_value one other x y same = by (are_quotable_texts one) (are_quotable_texts 
         (one ≡ other) × (x ≡ y)
     by true true is also same =
         let texts = read_array (λ (name : List ℕ). ⊤) json_string (λ a b x y good too. read_quoted a b x y)
-        (λ a x y at_end. begin_apart 34 93 _ y refl at_end) (listed_names one) (listed_names other) (125 ∷ x) (125 ∷ y) (all (listed_names one))
+        (λ a x y at_end. begin_apart 34 93 _ y refl at_end) (listed_names one) (listed_names other) (125 ∷ x) (125 ∷ y)
+        (all (listed_names one))
         (all (listed_names other))
         (append_cancel_left (codes "\"strings\":") (strings one ++ (125 ∷ x)) (strings other ++ (125 ∷ y)) same) in
         (sym (whole one is) ∙ ap strings_of texts.0 ∙ whole other also, later_same texts.1)
@@ -100,7 +103,8 @@ property_parts property x = around (json_string (shown_text property.0)) (member
         ≡ codes "{\"name\":" ++ (name ++ (44 ∷ (value ++ (125 ∷ x))))
     around name value = simp append_assoc refl
 
-read_property : (one other : Property) (x y : List ℕ) → ⊤ → ⊤ → property_object one ++ x ≡ property_object other ++ y → (one ≡ other) × (x ≡ y)
+read_property : (one other : Property) (x y : List ℕ) → ⊤ → ⊤ → property_object one ++ x ≡ property_object other ++ y →
+    (one ≡ other) × (x ≡ y)
 read_property one other x y good also same =
     let value : List ℕ = member_text (value_member one.1) ++ (125 ∷ x) in
     let other_value : List ℕ = member_text (value_member other.1) ++ (125 ∷ y) in
@@ -149,21 +153,24 @@ read_last own other children others x y same =
     let other_rest : List ℕ = with_commas false others ++ (93 ∷ 125 ∷ y) in
     let one_list : List ℕ = with_commas false (map property_object (entries own.properties)) in
     let other_list : List ℕ = with_commas false (map property_object (entries other.properties)) in
-    let properties = read_values (λ (property : Property). ⊤) property_object read_property (λ a x y at_end. begin_apart 123 93 _ y refl at_end)
+    let properties = read_values (λ (property : Property). ⊤) property_object read_property
+    (λ a x y at_end. begin_apart 123 93 _ y refl at_end)
     false (entries own.properties) (entries other.properties) (codes ",\"children\":[" ++ rest) (codes ",\"children\":[" ++ other_rest)
     (all (entries own.properties)) (all (entries other.properties))
     (append_cancel_left (codes "\"properties\":[") (one_list ++ (93 ∷ (codes ",\"children\":[" ++ rest)))
     (other_list ++ (93 ∷ (codes ",\"children\":[" ++ other_rest)))
-    (sym (last_parts own children x) ∙ same ∙ last_parts other others y)) in
-    (same_entries_map own.properties other.properties properties.0,
-    append_cancel_left (codes ",\"children\":[") rest other_rest properties.1)
+    (sym (last_parts own children x) ∙ same ∙ last_parts other others y)) in (
+      same_entries_map own.properties other.properties properties.0,
+      append_cancel_left (codes ",\"children\":[") rest other_rest properties.1,
+    )
   where
     all : (properties : List Property) → AllByRecursion (λ (property : Property). ⊤) properties
     all [] = tt
     all (property ∷ later) = (tt, all later)
 
 -- A node without its name, but for its children.
-pub read_members : (own other : DescribedNode) (children others : List JsonText) (x y : List ℕ) → IsSmall own.payload → IsSmall other.payload →
+pub read_members : (own other : DescribedNode) (children others : List JsonText) (x y : List ℕ) → IsSmall own.payload →
+    IsSmall other.payload →
     members_after_name own children ++ (125 ∷ x) ≡ members_after_name other others ++ (125 ∷ y) →
     (own ≡ other) × (with_commas false children ++ (93 ∷ 125 ∷ x) ≡ with_commas false others ++ (93 ∷ 125 ∷ y))
 read_members own other children others x y small also same =
@@ -236,6 +243,7 @@ read_nodes is_later (node name own children later) (node other_name other_own ot
     ∙ node_parts other_name other_own other_objects (other_rest ++ (93 ∷ y)))) in
     let owns = read_members own other_own objects other_objects (rest ++ (93 ∷ x)) (other_rest ++ (93 ∷ y)) good.0.is_small also.0.is_small
     (later_same names.1) in
-    let below = read_nodes false children other_children (125 ∷ (rest ++ (93 ∷ x))) (125 ∷ (other_rest ++ (93 ∷ y))) good.1.0 also.1.0 owns.1 in
+    let below = read_nodes false children other_children (125 ∷ (rest ++ (93 ∷ x))) (125 ∷ (other_rest ++ (93 ∷ y))) good.1.0 also.1.0
+    owns.1 in
     let after = read_nodes true later other_later x y good.1.1 also.1.1 (later_same below.1) in
     (same_node (same_shown name other_name names.0) owns.0 below.0 after.0, after.1)

@@ -1,12 +1,13 @@
-use Rattle.std.proofs.Common.{◌≡◌, ℕ, ◌<◌, ◌^◌, Bool, true, false, eqb, List, [], ◌∷◌, ◌++◌, map, Option, None, Some, refl, sym, ap, ap₂, ◌∙◌}
-use Rattle.std.proofs.Common.{arith, codes, unwrap_or}
+use Rattle.std.proofs.Common.{◌≡◌, ℕ, ◌<◌, ◌^◌, Bool, true, false, eqb, List, [], ◌∷◌, ◌++◌, map, Option, None, Some, refl, sym, ap, ap₂}
+use Rattle.std.proofs.Common.{◌∙◌}
+use Rattle.std.proofs.Common.{arith, unwrap_or}
 use Rattle.std.specs.Fmt.{decimal}
 use Rattle.std.specs.List.{AllByRecursion, join_with_byte}
 use Rattle.std.proofs.lemmas.Bool.{ne_eqb}
 use Rattle.std.proofs.lemmas.Fmt.{decimal_injective}
 use Rattle.std.proofs.lemmas.List.{append_assoc}
 use Rattle.bi_legacy.specs.Codes.{CodeName, name_of_code}
-use Rattle.bi_commands.specs.Json.{JsonText, comma, json_array, json_string, with_commas}
+use Rattle.bi_commands.specs.Json.{JsonText, comma, json_array, with_commas}
 use Rattle.bi_commands.specs.Listing.{code_word}
 use Rattle.bi_commands.specs.ListingJson.{named_code}
 use Rattle.bi_commands.proofs.JsonTexts.{commas_between}

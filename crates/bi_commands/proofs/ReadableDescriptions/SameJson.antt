@@ -10,7 +10,7 @@ use Rattle.bi_fit.proofs.TextLaws.{file_means_image_tree}
 use Rattle.bi_legacy.specs.Codes.{CodeName, os_names, arch_names, type_names, compression_names, name_of_code}
 use Rattle.bi_legacy.specs.File.{IsLegacyFile}
 use Rattle.bi_legacy.specs.Meaning.{LegacyImage}
-use Rattle.bi_norm.specs.Meaning.{Meaning, OfLegacy, OfFit}
+use Rattle.bi_norm.specs.Meaning.{OfLegacy, OfFit}
 use Rattle.bi_commands.specs.DescriptionJson.{description_json, digest_object, node_objects}
 use Rattle.bi_commands.specs.DescriptionLaws.{AreSimilarImages, AreSimilarTrees}
 use Rattle.bi_commands.specs.Descriptions.{DescribedNode, described_nodes, digest_of_payload, plain_node}
@@ -95,7 +95,8 @@ similar_json_trees file other_file one other is also same =
     (append_cancel_left (codes "\"reservations\":[") _ _ numbers.1) in
     let root = read_members (plain_node one.root.own) (plain_node other.root.own) (node_objects nodes) (node_objects other_nodes)
     (125 ∷ 10 ∷ []) (125 ∷ 10 ∷ []) tt tt
-    (append_cancel_left (codes ",\"root\":{") (root_members one ++ (125 ∷ 125 ∷ 10 ∷ [])) (root_members other ++ (125 ∷ 125 ∷ 10 ∷ [])) reserved.1) in
+    (append_cancel_left (codes ",\"root\":{") (root_members one ++ (125 ∷ 125 ∷ 10 ∷ [])) (root_members other ++ (125 ∷ 125 ∷ 10 ∷ []))
+    reserved.1) in
     let described = read_nodes false nodes other_nodes (125 ∷ 125 ∷ 10 ∷ []) (125 ∷ 125 ∷ 10 ∷ []) (readable file one is)
     (readable other_file other also) root.1 in
     similar_parts file other_file one other is also numbers.0 reserved.0 root.0 described.0
@@ -136,12 +137,15 @@ pub similar_json_images : (file other_file : List ℕ) (one other : LegacyImage)
     description_json (OfLegacy one) ≡ description_json (OfLegacy other) → AreSimilarImages one other
 similar_json_images file other_file one other is also same =
     let text : members_from 1 one ++ end_of_line ≡ members_from 1 other ++ end_of_line =
-        append_cancel_left (codes "{\"kind\":\"legacy\",") (members_from 1 one ++ end_of_line) (members_from 1 other ++ end_of_line)
-        (sym (image_json one) ∙ same ∙ image_json other) in
+    append_cancel_left (codes "{\"kind\":\"legacy\",") (members_from 1 one ++ end_of_line) (members_from 1 other ++ end_of_line)
+    (sym (image_json one) ∙ same ∙ image_json other) in
     let name = string (codes "\"name\":") (shown_text one.name) (shown_text other.name) (members_from 2 one) (members_from 2 other) text in
-    let time = number (codes "\"time\":") one.time other.time (members_from 3 one) (members_from 3 other) is.ranges.time also.ranges.time name.1 in
-    let load = number (codes "\"load\":") one.load other.load (members_from 4 one) (members_from 4 other) is.ranges.load also.ranges.load time.1 in
-    let entry = number (codes "\"entry\":") one.entry other.entry (members_from 5 one) (members_from 5 other) is.ranges.entry also.ranges.entry
+    let time = number (codes "\"time\":") one.time other.time (members_from 3 one) (members_from 3 other) is.ranges.time also.ranges.time
+    name.1 in
+    let load = number (codes "\"load\":") one.load other.load (members_from 4 one) (members_from 4 other) is.ranges.load also.ranges.load
+    time.1 in
+    let entry = number (codes "\"entry\":") one.entry other.entry (members_from 5 one) (members_from 5 other) is.ranges.entry
+    also.ranges.entry
     load.1 in
     let os = code (codes "\"os\":") os_names one.os other.os (members_from 6 one) (members_from 6 other) entry.1 in
     let arch = code (codes "\"arch\":") arch_names one.arch other.arch (members_from 7 one) (members_from 7 other) os.1 in
@@ -150,7 +154,8 @@ similar_json_images file other_file one other is also same =
     (members_from 9 other) of_type.1 in
     let parts = read_values HasSmallSize digest_object read_digest (λ a x y at_end. begin_apart 123 93 _ y refl at_end) false
     (map digest_of_payload one.parts) (map digest_of_payload other.parts) end_of_line end_of_line
-    (parts_small one.image_type is.body one.parts is.parts is.size) (parts_small other.image_type also.body other.parts also.parts also.size)
+    (parts_small one.image_type is.body one.parts is.parts is.size) (parts_small other.image_type also.body other.parts also.parts
+    also.size)
     (append_cancel_left (codes "\"parts\":[") (part_texts_of one ++ (93 ∷ end_of_line)) (part_texts_of other ++ (93 ∷ end_of_line))
     (sym (last_member one) ∙ compression.1 ∙ last_member other)) in
     record {

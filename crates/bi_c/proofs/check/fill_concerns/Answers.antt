@@ -1,6 +1,7 @@
 use Rattle.std.proofs.Common.{◌≡◌, ◌++◌, List, ℕ, refl, subst, sym, ap, ◌∙◌}
-use Rattle.bi_commands.specs.CheckedFiles.{IsCheckOutput}
-use Rattle.bi_commands.proofs.CheckedFiles.{not_checked_in_memory}
+use Rattle.bi_fit.proofs.AppendedTexts.{error_in_memory}
+use Rattle.bi_norm.proofs.NormalForms.{needs_memory}
+use Rattle.bi_commands.specs.CheckedFiles.{IsChecked, IsCheckError, IsCheckOutput}
 use Rattle.bi_c.specs.Answers.{FilledNothing}
 use Rattle.bi_c.proofs.CallAnswers.{byte_is_flag, buffer_is_filled}
 use Rattle.bi_c.proofs.check.fill_concerns.Goals as goal
@@ -21,8 +22,12 @@ returns-in-Ok c =
 
 pub returns-in-Err : goal.returns-in-Err
 returns-in-Err c =
+    let checker = c.args.checker in
+    let limits = c.args.limits in
+    let file = c.args.file.now in
     FilledNothing c.failure_of.result (record {
       cause = c.in-Err.error;
       is_failure = c.failure_of.ensures;
-      is_error = not_checked_in_memory c.args.checker c.args.limits c.args.file.now _ _ c.in-Err.error c.in-Err.ensures.failed;
+      is_error = error_in_memory _ (IsChecked checker.format checker.allowed limits file) (IsCheckError limits file) _ _ c.in-Err.error
+          (λ text failed. failed.1) (λ text is. needs_memory limits file is.meaning is.means.means) c.in-Err.ensures.failed;
     }) refl c.fail.ensures.answer c.fail.ensures.status
