@@ -2,3 +2,6 @@ pub mod Answers
 pub mod Arguments
 pub mod Calls
 pub mod Extracting
+pub mod ImageElements
+pub mod LegacyElements
+pub mod TreeRegions
