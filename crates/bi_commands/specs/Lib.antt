@@ -48,3 +48,13 @@ pub mod Formats
 pub mod JsonValues
 pub mod VerifiedFiles
 pub mod ListedFiles
+pub mod Dates
+pub mod Pages
+pub mod Rows
+pub mod CodeNames
+pub mod AllCodes
+pub mod PageCells
+pub mod LegacyPages
+pub mod FitPages
+pub mod ReadPages
+pub mod ShownFiles

@@ -11,9 +11,9 @@ ghost use Rattle.bi_commands.specs.Checking.{kind_word, allows as allows_kind};
 pub(crate) mod concern;
 mod concern_json;
 mod configurations;
-mod fit;
+pub(crate) mod fit;
 mod images;
-mod trailing;
+pub(crate) mod trailing;
 
 use crate::format::Format;
 use bi_base::{Command, Error, Limits, Sink, VecSink, pipe_to};

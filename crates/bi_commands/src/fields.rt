@@ -19,6 +19,7 @@ use crate::shown::is_plain;
 use bi_base::{Error, Sink};
 use itoa::Buffer;
 use values::put_value;
+pub(crate) use values::{is_printable, put_bytes};
 
 /// A field of a line: a word, or the words for a value.
 #[derive(Clone, Copy)]

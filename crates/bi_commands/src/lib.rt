@@ -21,6 +21,7 @@ pub mod list;
 mod listed;
 pub mod parts;
 mod payload_bounds;
+pub mod show;
 pub mod shown;
 pub mod unshown;
 pub mod update;
