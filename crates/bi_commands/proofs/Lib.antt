@@ -52,3 +52,5 @@ pub mod JsonTexts
 pub mod TextsInTurn
 pub mod AsciiJson
 pub mod ConcernTexts
+pub mod DateFacts
+pub mod TableFacts

@@ -1,7 +1,8 @@
 //! Dates in the Gregorian calendar.
 
-ghost use Rattle.std.specs.Prelude.{◌≡◌, ◌<◌, ◌^◌, ◌++◌, ◌/◌, IfOk, OnOk, string_bytes};
+ghost use Rattle.std.specs.Prelude.{◌≡◌, ◌+◌, ◌-◌, ◌<◌, ◌≤◌, ◌++◌, IfOk, OnOk, string_bytes};
 ghost use Rattle.bi_commands.specs.Dates.{IsDate, IsTimeText, clock_text, date_text};
+ghost use Rattle.bi_commands.specs.Dates.{days_of_years};
 ghost use Rattle.bi_commands.specs.Dates.{is_leap_year as is_leap, month_lengths as lengths_of};
 ghost use Rattle.bi_commands.specs.Dates.{two_digits, year_length as length_of_year};
 
@@ -47,22 +48,26 @@ fn date_of(days: u32) -> Date
     date_in_year(year, left)
 }
 
-/// Returns the date in a year, by how many days of the year come before it.
-fn date_in_year(year: u32, days: u32) -> Date {
+/// Returns the date in a year from 1970 on, by how many days of the year come before it.
+fn date_in_year(year: u32, days: u32) -> Date
+    requires from_1970 { 1970 ≤ year }
+    requires in_year { days < length_of_year year }
+    ensures { IsDate (days_of_years (year - 1970) + days) result }
+{
     let mut left = days;
     let mut month = 1;
     for length in month_lengths(year) {
         if left < length {
-            break;
+            return Date {
+                year,
+                month,
+                day: left + 1,
+            };
         }
         left -= length;
         month += 1;
     }
-    Date {
-        year,
-        month,
-        day: left + 1,
-    }
+    unreachable!()
 }
 
 /// Returns how many days a year has.

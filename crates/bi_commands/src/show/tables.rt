@@ -99,12 +99,12 @@ fn add_later_cells(
     ensures { OnOk result (string_bytes page.new
         ≡ string_bytes page.old ++ later_cells left widths.now (texts_of cells.now)) }
 {
-    let mut left = left;
+    let mut spaces = left;
     for (width, cell) in widths.iter().zip(cells) {
-        add_spaces(page, left)?;
+        add_spaces(page, spaces)?;
         page.push_str("  ")?;
         page.push_str(cell)?;
-        left = width.saturating_sub(cell.len());
+        spaces = width.saturating_sub(cell.len());
     }
     Ok(())
 }
