@@ -54,3 +54,6 @@ pub mod AsciiJson
 pub mod ConcernTexts
 pub mod DateFacts
 pub mod TableFacts
+pub mod ShownCells
+pub mod ShownRows
+pub mod ShownPages

@@ -105,17 +105,13 @@ fn head_rows(alloc: Global, file: &[u8], fit: &Fit, time: String) -> Result<Vec<
         ≡ fit_head file.now (root_of fit.now.blob) (tree_of fit.now) (string_bytes time)) }
 {
     let root = fit.blob().root();
+    let kind = String::from_str(alloc, "flattened image tree")?;
     let description = property_cell(alloc, root, "description", CellForm::Value)?;
     let size = size_cell(alloc, file.len() as u64)?;
     let processor = number_cell(alloc, Some(u64::from(fit.blob().boot_cpu())))?;
     let default = name_cell(alloc, fit.default_config())?;
     let mut rows = Vec::new(alloc);
-    add_pair(
-        alloc,
-        &mut rows,
-        "kind",
-        String::from_str(alloc, "flattened image tree")?,
-    )?;
+    add_pair(alloc, &mut rows, "kind", kind)?;
     add_pair(alloc, &mut rows, "description", description)?;
     add_pair(alloc, &mut rows, "date", time)?;
     add_pair(alloc, &mut rows, "size", size)?;

@@ -2,10 +2,11 @@
 
 ghost use Rattle.std.specs.Prelude.{◌≡◌, ◌++◌, [], IfOk, OnOk, string_bytes};
 ghost use Rattle.bi_legacy.specs.Meaning.{image_of};
-ghost use Rattle.bi_legacy.specs.PlacedParts.{part_model};
+ghost use Rattle.bi_legacy.specs.PlacedParts.{part_model, placed_parts};
 ghost use Rattle.bi_legacy.specs.Reading.{IsReadLegacy};
 ghost use Rattle.bi_commands.specs.LegacyPages.{code_rows, legacy_head, legacy_last_rows};
 ghost use Rattle.bi_commands.specs.LegacyPages.{part_row as row_of_part, parts_table};
+ghost use Rattle.bi_commands.specs.LegacyPages.{part_rows as rows_of_parts};
 ghost use Rattle.bi_commands.specs.Rows.{cells_of, texts_of};
 ghost use Rattle.bi_commands.specs.ShownFiles.{AreConcernLines, IsLegacyPage};
 
@@ -67,21 +68,14 @@ fn head_rows(
         ≡ legacy_head file.now image.now.image (string_bytes time)) }
 {
     let fields = image.fields();
+    let kind = String::from_str(alloc, "legacy image")?;
+    let name = text_cell(alloc, fields.name)?;
+    let size = size_cell(alloc, file.len() as u64)?;
     let mut rows = Vec::new(alloc);
-    add_pair(
-        alloc,
-        &mut rows,
-        "kind",
-        String::from_str(alloc, "legacy image")?,
-    )?;
-    add_pair(alloc, &mut rows, "name", text_cell(alloc, fields.name)?)?;
+    add_pair(alloc, &mut rows, "kind", kind)?;
+    add_pair(alloc, &mut rows, "name", name)?;
     add_pair(alloc, &mut rows, "date", time)?;
-    add_pair(
-        alloc,
-        &mut rows,
-        "size",
-        size_cell(alloc, file.len() as u64)?,
-    )?;
+    add_pair(alloc, &mut rows, "size", size)?;
     add_codes(alloc, &mut rows, fields)?;
     add_last_rows(alloc, &mut rows, fields)?;
     Ok(rows)
@@ -103,7 +97,8 @@ fn add_codes(alloc: Global, rows: &mut Vec<Row>, fields: Fields) -> Result<(), A
     add_pair(alloc, rows, "type", image_type)?;
     add_pair(alloc, rows, "os", os)?;
     add_pair(alloc, rows, "arch", arch)?;
-    add_pair(alloc, rows, "compression", compression)
+    add_pair(alloc, rows, "compression", compression)?;
+    Ok(())
 }
 
 /// Appends the rows of the addresses and the checksums, which are good.
@@ -113,15 +108,13 @@ fn add_last_rows(alloc: Global, rows: &mut Vec<Row>, fields: Fields) -> Result<(
 {
     let load = field_cell(alloc, Field::Hexadecimal(fields.load))?;
     let entry = field_cell(alloc, Field::Hexadecimal(fields.entry))?;
+    let header = String::from_str(alloc, "good")?;
+    let data = String::from_str(alloc, "good")?;
     add_pair(alloc, rows, "load", load)?;
     add_pair(alloc, rows, "entry", entry)?;
-    add_pair(
-        alloc,
-        rows,
-        "header crc32",
-        String::from_str(alloc, "good")?,
-    )?;
-    add_pair(alloc, rows, "data crc32", String::from_str(alloc, "good")?)
+    add_pair(alloc, rows, "header crc32", header)?;
+    add_pair(alloc, rows, "data crc32", data)?;
+    Ok(())
 }
 
 /// Returns the table of the parts.
@@ -129,10 +122,20 @@ fn part_rows(alloc: Global, image: &Legacy) -> Result<Vec<Row>, AllocError>
     ensures { IfOk result (λ rows. cells_of rows.items ≡ parts_table image.now.image) }
 {
     let mut rows = vec![in alloc; words_row(alloc, &["part", "size", "offset"])?]?;
+    add_parts(alloc, &mut rows, image)?;
+    Ok(rows)
+}
+
+/// Appends the rows of the parts.
+fn add_parts(alloc: Global, rows: &mut Vec<Row>, image: &Legacy) -> Result<(), AllocError>
+    ensures { OnOk result (cells_of rows.new.items
+        ≡ cells_of rows.old.items ++ rows_of_parts 0 (placed_parts image.now.image)) }
+{
+    rows.reserve(image.part_count())?;
     for (index, part) in image.parts().enumerate() {
         rows.push(part_row(alloc, index, &part)?)?;
     }
-    Ok(rows)
+    Ok(())
 }
 
 /// Returns the row of a part.

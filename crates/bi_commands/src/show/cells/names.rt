@@ -28,10 +28,11 @@ fn listed_cell(alloc: Global, value: &[u8]) -> Result<String, AllocError>
         ≡ join_with_byte 32 (map shown_text (listed_names value.now))) }
 {
     let mut text = String::new(alloc);
-    if let Some((first, later)) = split_name(value) {
-        text.push_str(&shown_name(alloc, first)?)?;
-        add_later_names(alloc, &mut text, later)?;
-    }
+    let Some((first, later)) = split_name(value) else {
+        return Ok(text);
+    };
+    text.push_str(&shown_name(alloc, first)?)?;
+    add_later_names(alloc, &mut text, later)?;
     Ok(text)
 }
 
