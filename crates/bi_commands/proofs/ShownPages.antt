@@ -1,15 +1,32 @@
-use Rattle.std.proofs.Common.{◌≡◌, ◌++◌, ℕ, ◌-◌, List, [], ap, append-nil, append_assoc, drop, length, refl, subst, sym, ◌∙◌}
+use Rattle.std.proofs.Common.{◌≡◌, ◌∷◌, ◌++◌, ℕ, ◌-◌, List, [], inl, inr, ap, ap₂, append-nil, append_assoc, drop, length, map, refl, subst, sym, ◌∙◌}
 use Rattle.std.specs.Prelude.{IsAscii}
+use Rattle.std.specs.List.{AllZip}
+use Rattle.bi_base.specs.declared.fault.Error.{Error}
 use Rattle.bi_base.specs.Limits.{Limits}
 use Rattle.bi_base.specs.VecSinks.{Grows}
+use Rattle.bi_blob.specs.Lookups.{Sibling, siblings}
+use Rattle.bi_blob.specs.Tree.{FileNode, Root}
+use Rattle.bi_fdt.specs.Content.{root_of}
+use Rattle.bi_fit.specs.Content.{FitModel, ImageModel, IsReadImage, offset_of_place, place_of, tree_of}
+use Rattle.bi_fit.specs.HashNodes.{file_configurations, file_images}
+use Rattle.bi_fit.specs.Payloads.{PayloadSource, NoSource, Data, DataOffset, DataPosition, payload_place, source_of}
+use Rattle.bi_fit.specs.Reading.{IsReadFit}
 use Rattle.bi_legacy.specs.Reading.{LegacyModel, IsReadLegacy}
-use Rattle.bi_commands.specs.CheckedFiles.{concerns_text}
+use Rattle.bi_norm.specs.Meaning.{OfFit}
+use Rattle.bi_commands.specs.CheckedFiles.{IsCheckError, concerns_text}
 use Rattle.bi_commands.specs.Checking.{trailing_concerns}
 use Rattle.bi_commands.specs.declared.check.Checker.{Checker}
 use Rattle.bi_commands.specs.declared.format.Format.TheVariants.{Lines}
+use Rattle.bi_commands.specs.FitPages.{configurations_table, fit_head, fit_tables, image_heading, image_row, image_rows, reservations_table}
+use Rattle.bi_commands.specs.FitPages.{signatures_table}
+use Rattle.bi_commands.specs.Pages.{Table}
+use Rattle.bi_commands.specs.PayloadBounds.{IsOverPayloadBound}
+use Rattle.bi_commands.specs.ReadChecking.{IsReadCheckError, read_concerns}
+use Rattle.bi_commands.specs.ReadPages.{read_image_rows}
 use Rattle.bi_commands.specs.ShownFiles.{AreConcernLines, nothing_allowed}
 use Rattle.bi_commands.proofs.AsciiReports.{checked_is_ascii}
-use Rattle.bi_commands.proofs.CheckedFiles.{legacy_checked}
+use Rattle.bi_commands.proofs.CheckedFiles.{legacy_checked, tree_checked}
+use Rattle.bi_commands.proofs.ImageCalls.{tree_needs_memory}
 
 -- The parts of a page.
 
@@ -37,6 +54,51 @@ pub legacy_lines : (limits : Limits) (file : List ℕ) (parsed : LegacyModel) �
     AreConcernLines limits file (concerns_text Lines nothing_allowed (trailing_concerns (drop (length file - parsed.unused) file)))
 legacy_lines limits file parsed is = legacy_checked checker limits file parsed is
 
+-- Those of a flattened image tree.
+pub tree_lines_of_concerns : (limits : Limits) (file : List ℕ) (content : FitModel) → IsReadFit limits file content →
+    ¬ (IsOverPayloadBound limits (OfFit (tree_of content))) →
+    AreConcernLines limits file (concerns_text Lines nothing_allowed (read_concerns file content))
+tree_lines_of_concerns limits file content is within =
+    tree_checked checker limits file _ content is (record { within = within; is_text = refl })
+
+-- The offset of a payload, by its source.
+offset_found : (file : List ℕ) (source : PayloadSource) → offset_of_place (place_of file source) ≡ payload_place file source
+offset_found file NoSource = refl
+offset_found file (Data data_property) = refl
+offset_found file (DataOffset offset size) = refl
+offset_found file (DataPosition position size) = refl
+
+-- The rows of images that were read are those of the images of the file.
+rows_of_images : (file : List ℕ) (entries : List (Sibling FileNode)) (images : List ImageModel) → AllZip (IsReadImage file) entries images →
+    read_image_rows entries images ≡ image_rows file entries (map (λ (image : ImageModel). image.payload) images)
+rows_of_images file [] [] are = refl
+rows_of_images file [] (image ∷ images) are = absurd are
+rows_of_images file (entry ∷ entries) [] are = refl
+rows_of_images file (entry ∷ entries) (image ∷ images) are =
+    ap₂ (λ (row : List (List ℕ)) (rows : Table). row ∷ rows)
+    (ap (image_row entry image.payload) (ap offset_of_place are.0.place ∙ offset_found file (source_of entry.own)))
+    (rows_of_images file entries images are.1)
+
+-- The tables of a flattened image tree that was read from a file are those of the file.
+pub tables_of_file : (limits : Limits) (file : List ℕ) (content : FitModel) (is : IsReadFit limits file content) (time : List ℕ) →
+    fit_head file (root_of content.blob) (tree_of content) time
+    ∷ reservations_table content.blob.reservations
+    ∷ (image_heading ∷ read_image_rows (siblings (file_images content.blob)) content.images)
+    ∷ configurations_table (siblings (file_configurations content.blob))
+    ∷ signatures_table (siblings (file_images content.blob)) (siblings (file_configurations content.blob)) ∷ []
+    ≡ fit_tables file is.means.is_file.root (tree_of content) time
+tables_of_file limits file content is time =
+    let entries = siblings (file_images content.blob) in
+    let images : AllZip (IsReadImage file) entries content.images =
+    subst (λ (f : List ℕ). AllZip (IsReadImage f) entries content.images) is.is_file is.held.images in
+    ap (λ (rows : Table). fit_head file (root_of content.blob) (tree_of content) time
+    ∷ reservations_table content.blob.reservations
+    ∷ (image_heading ∷ rows)
+    ∷ configurations_table (siblings (file_configurations content.blob))
+    ∷ signatures_table (siblings (file_images content.blob)) (siblings (file_configurations content.blob)) ∷ [])
+    (rows_of_images file entries content.images images)
+    ∙ ap (λ (root : Root FileNode). fit_tables file root (tree_of content) time) (sym is.same_root)
+
 -- A page of two tables.
 pub two_tables : (first second lines start one two page : List ℕ) → start ≡ [] → one ≡ start ++ first → two ≡ one ++ second →
     page ≡ two ++ lines → page ≡ (first ++ (second ++ [])) ++ lines
@@ -46,3 +108,31 @@ two_tables first second lines start one two page empty is_one is_two is_page =
     (is_two
     ∙ ap (λ (l : List ℕ). l ++ second) (is_one ∙ ap (λ (l : List ℕ). l ++ first) empty)
     ∙ ap (λ (l : List ℕ). first ++ l) (sym (append-nil second)))
+
+-- A page of five tables.
+pub five_tables : (first second third fourth fifth lines start one two three four five page : List ℕ) → start ≡ [] → one ≡ start ++ first →
+    two ≡ one ++ second → three ≡ two ++ third → four ≡ three ++ fourth → five ≡ four ++ fifth → page ≡ five ++ lines →
+    page ≡ (first ++ (second ++ (third ++ (fourth ++ (fifth ++ []))))) ++ lines
+five_tables first second third fourth fifth lines start one two three four five page empty is_one is_two is_three is_four is_five is_page =
+    is_page
+    ∙ ap (λ (l : List ℕ). l ++ lines)
+    (is_five
+    ∙ ap (λ (l : List ℕ). l ++ fifth)
+    (is_four
+    ∙ ap (λ (l : List ℕ). l ++ fourth)
+    (is_three
+    ∙ ap (λ (l : List ℕ). l ++ third)
+    (is_two ∙ ap (λ (l : List ℕ). l ++ second) (is_one ∙ ap (λ (l : List ℕ). l ++ first) empty))))
+    ∙ regroup first second third fourth fifth)
+  where
+    regroup : (a b c d e : List ℕ) → (((a ++ b) ++ c) ++ d) ++ e ≡ a ++ (b ++ (c ++ (d ++ (e ++ []))))
+    regroup a b c d e = simp (append_assoc, append-nil)
+
+-- An error of showing what was read from a file is one of showing the file.
+pub error_of_tree : (limits : Limits) (file : List ℕ) (content : FitModel) (error : Error) → IsReadFit limits file content →
+    IsReadCheckError limits content error → IsCheckError limits file error
+error_of_tree limits file content error is (inl refused) =
+    subst (IsCheckError limits file) (sym refused.0)
+    (inr (record { meaning = OfFit (tree_of content); means = is.means; is_over = refused.1 }, refl))
+error_of_tree limits file content error is (inr short) =
+    subst (IsCheckError limits file) (sym short) (tree_needs_memory limits file content is)

@@ -1,10 +1,15 @@
-use Rattle.std.proofs.Common.{◌≡◌, ℕ, ◌+◌, List, [], ◌∷◌, ◌++◌, String, Vec, append_assoc, ap, ap₂, sym, ◌∙◌}
+use Rattle.std.proofs.Common.{◌≡◌, ℕ, ◌+◌, ◌<◌, List, [], ◌∷◌, ◌++◌, Option, Some, String, Vec, string_bytes, append_assoc, ap, ap₂, sym, ◌∙◌}
+use Rattle.std.proofs.Common.{drop, get_or, length, map}
 use Rattle.std.specs.declared.alloc.Global.{Global}
-use Rattle.std.proofs.lemmas.List.{map-append}
+use Rattle.std.specs.List.{slice_get}
+use Rattle.std.proofs.lemmas.List.{drop_more, map-append}
+use Rattle.bi_blob.specs.Blob.{Reservation, end_pair}
 use Rattle.bi_legacy.specs.PlacedParts.{PartModel}
+use Rattle.bi_commands.specs.FitPages.{reservation_row}
 use Rattle.bi_commands.specs.LegacyPages.{part_row, part_rows}
 use Rattle.bi_commands.specs.Pages.{Table}
 use Rattle.bi_commands.specs.Rows.{cells_of, texts_of}
+use Rattle.bi_commands.proofs.FitLines.{numbers_of, reservation_found, reservation_of}
 
 -- The rows of a table, one after the other.
 
@@ -38,3 +43,22 @@ next_pair base done before after word cell shown so_far is same =
 pub next_rows : (base done before after more : Table) → before ≡ base ++ done → after ≡ before ++ more → after ≡ base ++ (done ++ more)
 next_rows base done before after more so_far is =
     is ∙ ap (λ (b : Table). b ++ more) so_far ∙ append_assoc base done more
+
+-- One more cell of a row.
+pub last_cell : (row new : List (String Global)) (cell : String Global) (before : List (List ℕ)) (text : List ℕ) → new ≡ row ++ cell ∷ [] →
+    texts_of row ≡ before → string_bytes cell ≡ text → texts_of new ≡ before ++ text ∷ []
+last_cell row new cell before text is same shown =
+    ap texts_of is
+    ∙ map-append string_bytes row (cell ∷ [])
+    ∙ ap₂ (λ (b : List (List ℕ)) (t : List ℕ). b ++ t ∷ []) same shown
+
+-- The rows from a reservation on are its row and those of the later ones.
+pub rows_from_reservation : (reservations : List Reservation) (index : ℕ) (found : Option (ℕ × ℕ)) (numbers : ℕ × ℕ) →
+    index < length reservations → found ≡ slice_get (map numbers_of reservations) index → found ≡ Some numbers →
+    map reservation_row (drop index reservations)
+    ≡ reservation_row (reservation_of (Some numbers)) ∷ map reservation_row (drop (index + 1) reservations)
+rows_from_reservation reservations index found numbers within is some =
+    let same : Some numbers ≡ Some (numbers_of (get_or reservations index end_pair)) = sym some
+    ∙ reservation_found reservations index found within is in
+    ap (map reservation_row) (drop_more reservations index end_pair within)
+    ∙ ap (λ (o : Option (ℕ × ℕ)). reservation_row (reservation_of o) ∷ map reservation_row (drop (index + 1) reservations)) (sym same)

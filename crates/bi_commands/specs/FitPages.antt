@@ -43,12 +43,15 @@ fit_head file root tree time =
     ∷ (codes "boot processor" ∷ decimal tree.cpu ∷ [])
     ∷ (codes "default" ∷ shown_or_none (default_of tree) ∷ []) ∷ []
 
+-- A memory reservation.
+abbrev pub reservation_row : Reservation → List (List ℕ)
+reservation_row reservation =
+    hexadecimal_64 reservation.address ∷ hexadecimal_64 reservation.size ∷ []
+
 -- The memory reservations.
 abbrev pub reservations_table : List Reservation → Table
 reservations_table reservations =
-    (codes "reservation" ∷ codes "size" ∷ [])
-    ∷ map (λ reservation. hexadecimal_64 reservation.address ∷ hexadecimal_64 reservation.size ∷ [])
-    reservations
+    (codes "reservation" ∷ codes "size" ∷ []) ∷ map reservation_row reservations
 
 -- ---- images
 

@@ -1,6 +1,6 @@
 //! The table of the configurations of a flattened image tree.
 
-ghost use Rattle.std.specs.Prelude.{◌≡◌, IfOk};
+ghost use Rattle.std.specs.Prelude.{◌≡◌, ◌++◌, IfOk, OnOk, map};
 ghost use Rattle.std.specs.List.{list_any};
 ghost use Rattle.bi_blob.specs.Lookups.{siblings};
 ghost use Rattle.bi_fdt.specs.Views.{node_of};
@@ -25,10 +25,24 @@ pub(super) fn configuration_rows(alloc: Global, fit: &Fit) -> Result<Vec<Row>, A
 {
     let keys = used_keys(alloc, fit)?;
     let mut rows = vec![in alloc; heading(alloc, &keys)?]?;
-    for node in configuration_nodes(fit) {
-        rows.push(configuration_row(alloc, node, &keys)?)?;
-    }
+    add_configurations(alloc, &mut rows, fit, &keys)?;
     Ok(rows)
+}
+
+/// Appends the rows of the configurations, with these keys.
+fn add_configurations(
+    alloc: Global,
+    rows: &mut Vec<Row>,
+    fit: &Fit,
+    keys: &[Key],
+) -> Result<(), AllocError>
+    ensures { OnOk result (cells_of rows.new.items ≡ cells_of rows.old.items
+        ++ map (row_of_configuration keys.now) (siblings (file_configurations fit.now.blob))) }
+{
+    for node in configuration_nodes(fit) {
+        rows.push(configuration_row(alloc, node, keys)?)?;
+    }
+    Ok(())
 }
 
 /// Returns the keys that a configuration has.

@@ -1,12 +1,13 @@
 //! The page of a flattened image tree.
 
-ghost use Rattle.std.specs.Prelude.{◌≡◌, ◌∷◌, [], IfOk, IfErr, string_bytes};
+ghost use Rattle.std.specs.Prelude.{◌≡◌, ◌++◌, IfOk, IfErr, OnOk, map, string_bytes};
+ghost use Rattle.bi_blob.specs.Blob.{Reservation};
 ghost use Rattle.bi_fdt.specs.Content.{root_of};
 ghost use Rattle.bi_fit.specs.Content.{AreAtTheirPlaces, tree_of};
 ghost use Rattle.bi_fit.specs.Reading.{IsReadFit};
 ghost use Rattle.bi_norm.specs.Meaning.{OfFit};
-ghost use Rattle.bi_commands.specs.FitListing.{hexadecimal_64};
 ghost use Rattle.bi_commands.specs.FitPages.{fit_head, reservations_table};
+ghost use Rattle.bi_commands.specs.FitPages.{reservation_row as row_of_reservation};
 ghost use Rattle.bi_commands.specs.PayloadBounds.{IsOverPayloadBound};
 ghost use Rattle.bi_commands.specs.ReadChecking.{IsReadCheckError};
 ghost use Rattle.bi_commands.specs.Rows.{cells_of, texts_of};
@@ -126,18 +127,27 @@ fn reservation_rows(alloc: Global, blob: &Blob) -> Result<Vec<Row>, AllocError>
         ≡ reservations_table blob.now.reservations) }
 {
     let mut rows = vec![in alloc; words_row(alloc, &["reservation", "size"])?]?;
+    add_reservations(alloc, &mut rows, blob)?;
+    Ok(rows)
+}
+
+/// Appends the rows of the memory reservations.
+fn add_reservations(alloc: Global, rows: &mut Vec<Row>, blob: &Blob) -> Result<(), AllocError>
+    ensures { OnOk result (cells_of rows.new.items
+        ≡ cells_of rows.old.items ++ map row_of_reservation blob.now.reservations) }
+{
     for index in 0..blob.reservation_count() {
         if let Some((address, size)) = blob.reservation(index) {
             rows.push(reservation_row(alloc, address, size)?)?;
         }
     }
-    Ok(rows)
+    Ok(())
 }
 
 /// Returns the row of a memory reservation.
 fn reservation_row(alloc: Global, address: u64, size: u64) -> Result<Row, AllocError>
-    ensures { IfOk result (λ row. texts_of row.items
-        ≡ hexadecimal_64 address ∷ hexadecimal_64 size ∷ []) }
+    ensures { let reservation : Reservation = record { address = address; size = size } in
+        IfOk result (λ row. texts_of row.items ≡ row_of_reservation reservation) }
 {
     let address = field_cell(alloc, Field::Hexadecimal64(address))?;
     let size = field_cell(alloc, Field::Hexadecimal64(size))?;

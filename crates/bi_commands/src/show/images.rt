@@ -1,6 +1,6 @@
 //! The table of the images of a flattened image tree.
 
-ghost use Rattle.std.specs.Prelude.{◌≡◌, ◌∷◌, IfOk, length, option_map};
+ghost use Rattle.std.specs.Prelude.{◌≡◌, ◌∷◌, ◌++◌, IfOk, OnOk, length, option_map};
 ghost use Rattle.bi_blob.specs.Lookups.{siblings};
 ghost use Rattle.bi_fdt.specs.Views.{node_of};
 ghost use Rattle.bi_fit.specs.Content.{AreAtTheirPlaces, IsAtItsPlace, image_model};
@@ -41,15 +41,30 @@ pub(super) fn image_rows<'a>(
         "hashes",
     ];
     let mut rows = vec![in alloc; words_row(alloc, &heading)?]?;
+    add_images(alloc, &mut rows, fit, digests)?;
+    Ok(rows)
+}
+
+/// Appends the rows of the images.
+fn add_images<'a>(
+    alloc: Global,
+    rows: &mut Vec<Row>,
+    fit: &Fit<'a>,
+    digests: &RegionDigests<'a>,
+) -> Result<(), AllocError>
+    requires placed { AreAtTheirPlaces digests.now fit.now.images }
+    ensures { OnOk result (cells_of rows.new.items ≡ cells_of rows.old.items
+        ++ read_image_rows (siblings (file_images fit.now.blob)) fit.now.images) }
+{
     let mut next = fit.images_node().first_child();
     for image in fit.images() {
         let Some(node) = next else {
-            return Ok(rows);
+            return Ok(());
         };
         rows.push(image_row(alloc, node, image, digests)?)?;
         next = node.next_sibling();
     }
-    Ok(rows)
+    Ok(())
 }
 
 /// Returns the row of the image of a node.

@@ -1,11 +1,12 @@
 //! The table of the signature nodes of a flattened image tree.
 
-ghost use Rattle.std.specs.Prelude.{◌≡◌, ◌++◌, IfOk, OnOk, map};
+ghost use Rattle.std.specs.Prelude.{◌≡◌, ◌∷◌, ◌++◌, [], IfOk, OnOk, map, string_bytes};
 ghost use Rattle.bi_blob.specs.Lookups.{siblings};
 ghost use Rattle.bi_fdt.specs.Views.{node_of};
 ghost use Rattle.bi_fit.specs.HashNodes.{file_configurations, file_images, file_signatures};
 ghost use Rattle.bi_fit.specs.Names.{is_signature_name};
 ghost use Rattle.bi_commands.specs.Children.{children_left};
+ghost use Rattle.bi_commands.specs.Descriptions.{path};
 ghost use Rattle.bi_commands.specs.FitPages.{signature_row as row_of_signature};
 ghost use Rattle.bi_commands.specs.FitPages.{signature_rows as rows_of_signatures};
 ghost use Rattle.bi_commands.specs.FitPages.{signatures_table};
@@ -92,9 +93,23 @@ fn signature_row(
     ensures { IfOk result (λ row. texts_of row.items
         ≡ row_of_signature parent.now name.now (node_of signature.entry)) }
 {
-    let path = field_cell(alloc, Field::Path(&[parent, name, signature.name()]))?;
+    let path = path_cell(alloc, parent, name, signature.name())?;
     let algorithm = property_cell(alloc, signature, "algo", CellForm::Value)?;
     let key = property_cell(alloc, signature, "key-name-hint", CellForm::Value)?;
     let verdict = String::from_str(alloc, "not verified")?;
     Ok(vec![in alloc; path, algorithm, key, verdict]?)
+}
+
+/// Returns the path of a child of a node, by the names of the node's parent, the node and the
+/// child. The parent is a child of the root.
+fn path_cell(
+    alloc: Global,
+    parent: &[u8],
+    node: &[u8],
+    child: &[u8],
+) -> Result<String, AllocError>
+    ensures { IfOk result (λ text. string_bytes text
+        ≡ path (parent.now ∷ node.now ∷ child.now ∷ [])) }
+{
+    field_cell(alloc, Field::Path(&[parent, node, child]))
 }
