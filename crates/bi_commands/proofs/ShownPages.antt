@@ -1,5 +1,6 @@
-use Rattle.std.proofs.Common.{◌≡◌, ◌∷◌, ◌++◌, ℕ, ◌-◌, List, [], inl, inr, ap, ap₂, append-nil, append_assoc, drop, length, map, refl, subst, sym, ◌∙◌}
+use Rattle.std.proofs.Common.{◌≡◌, ◌∷◌, ◌++◌, ℕ, ◌-◌, List, [], inl, inr, String, Vec, Result, Ok, Err, IfErr, ap, ap₂, append-nil, append_assoc, drop, length, map, refl, subst, sym, ◌∙◌}
 use Rattle.std.specs.Prelude.{IsAscii}
+use Rattle.std.specs.declared.alloc.Global.{Global}
 use Rattle.std.specs.List.{AllZip}
 use Rattle.bi_base.specs.declared.fault.Error.{Error}
 use Rattle.bi_base.specs.Limits.{Limits}
@@ -19,10 +20,11 @@ use Rattle.bi_commands.specs.declared.check.Checker.{Checker}
 use Rattle.bi_commands.specs.declared.format.Format.TheVariants.{Lines}
 use Rattle.bi_commands.specs.FitPages.{configurations_table, fit_head, fit_tables, image_heading, image_row, image_rows, reservations_table}
 use Rattle.bi_commands.specs.FitPages.{signatures_table}
-use Rattle.bi_commands.specs.Pages.{Table}
+use Rattle.bi_commands.specs.Pages.{Table, table_text}
 use Rattle.bi_commands.specs.PayloadBounds.{IsOverPayloadBound}
 use Rattle.bi_commands.specs.ReadChecking.{IsReadCheckError, read_concerns}
 use Rattle.bi_commands.specs.ReadPages.{read_image_rows}
+use Rattle.bi_commands.specs.Rows.{cells_of}
 use Rattle.bi_commands.specs.ShownFiles.{AreConcernLines, nothing_allowed}
 use Rattle.bi_commands.proofs.AsciiReports.{checked_is_ascii}
 use Rattle.bi_commands.proofs.CheckedFiles.{legacy_checked, tree_checked}
@@ -99,6 +101,12 @@ tables_of_file limits file content is time =
     (rows_of_images file entries content.images images)
     ∙ ap (λ (root : Root FileNode). fit_tables file root (tree_of content) time) (sym is.same_root)
 
+-- A table that was appended.
+pub shown_table : (old new : List ℕ) (slice rows : List (Vec (String Global) Global)) (table : Table) → new ≡ old ++ table_text (cells_of slice) →
+    slice ≡ rows → cells_of rows ≡ table → new ≡ old ++ table_text table
+shown_table old new slice rows table is same cells =
+    is ∙ ap (λ (t : Table). old ++ table_text t) (ap (λ (l : List (Vec (String Global) Global)). cells_of l) same ∙ cells)
+
 -- A page of two tables.
 pub two_tables : (first second lines start one two page : List ℕ) → start ≡ [] → one ≡ start ++ first → two ≡ one ++ second →
     page ≡ two ++ lines → page ≡ (first ++ (second ++ [])) ++ lines
@@ -136,3 +144,8 @@ error_of_tree limits file content error is (inl refused) =
     (inr (record { meaning = OfFit (tree_of content); means = is.means; is_over = refused.1 }, refl))
 error_of_tree limits file content error is (inr short) =
     subst (IsCheckError limits file) (sym short) (tree_needs_memory limits file content is)
+
+pub tree_not_shown : {V : Type 0} (limits : Limits) (file : List ℕ) (content : FitModel) (result : Result V Error) → IsReadFit limits file content →
+    IfErr result (IsReadCheckError limits content) → IfErr result (IsCheckError limits file)
+tree_not_shown limits file content (Ok value) is failed = tt
+tree_not_shown limits file content (Err error) is failed = error_of_tree limits file content error is failed
