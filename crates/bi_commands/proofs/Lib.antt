@@ -57,3 +57,4 @@ pub mod TableFacts
 pub mod ShownCells
 pub mod ShownRows
 pub mod ShownPages
+pub mod LayoutFacts

@@ -15,6 +15,8 @@ use Rattle.bi_commands.specs.declared.show.cells.CellForm.{CellForm}
 use Rattle.bi_commands.specs.declared.show.cells.CellForm.TheVariants.{Value, Address, Names}
 use Rattle.bi_commands.specs.Descriptions.{path}
 use Rattle.bi_commands.specs.FitListing.{hexadecimal_64}
+use Rattle.bi_commands.specs.declared.show.layout.LayoutRegion.{LayoutRegion}
+use Rattle.bi_commands.specs.Layouts.{blob_regions, payload_regions}
 use Rattle.bi_commands.specs.PageCells.{hashes_cell, number_cell, property_cell, size_cell}
 use Rattle.bi_commands.specs.Pages.{Table}
 use Rattle.bi_commands.specs.Reports.{shown_or_none}
@@ -146,11 +148,19 @@ abbrev pub configurations_below : Root FileNode → List (Sibling FileNode)
 configurations_below root =
     siblings (nodes_or_none (children_of configurations_name root.children))
 
--- The tables of a flattened image tree.
-abbrev pub fit_tables : (file : List ℕ) → Root FileNode → ImageTree → (time : List ℕ) → List Table
-fit_tables file root tree time =
+-- The regions of its file.
+abbrev pub fit_regions : (file : List ℕ) → Root FileNode → ImageTree → List LayoutRegion
+fit_regions file root tree =
+    blob_regions file tree.reservations
+    ++ payload_regions file 0 (images_below root) tree.payloads
+
+-- The tables of a flattened image tree. That of its regions is given.
+abbrev pub fit_tables : (file : List ℕ) → Root FileNode → ImageTree → (time : List ℕ)
+    → (regions : Table) → List Table
+fit_tables file root tree time regions =
     fit_head file root tree time
     ∷ reservations_table tree.reservations
     ∷ (image_heading ∷ image_rows file (images_below root) tree.payloads)
     ∷ configurations_table (configurations_below root)
-    ∷ signatures_table (images_below root) (configurations_below root) ∷ []
+    ∷ signatures_table (images_below root) (configurations_below root)
+    ∷ regions ∷ []

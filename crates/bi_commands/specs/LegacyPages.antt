@@ -56,6 +56,8 @@ abbrev pub parts_table : LegacyImage → Table
 parts_table image =
     (codes "part" ∷ codes "size" ∷ codes "offset" ∷ []) ∷ part_rows 0 (placed_parts image)
 
--- The tables of a legacy image.
-abbrev pub legacy_tables : (file : List ℕ) → LegacyImage → (time : List ℕ) → List Table
-legacy_tables file image time = legacy_head file image time ∷ parts_table image ∷ []
+-- The tables of a legacy image. That of its regions is given.
+abbrev pub legacy_tables : (file : List ℕ) → LegacyImage → (time : List ℕ) → (regions : Table)
+    → List Table
+legacy_tables file image time regions =
+    legacy_head file image time ∷ parts_table image ∷ regions ∷ []

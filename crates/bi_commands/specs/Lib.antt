@@ -56,5 +56,6 @@ pub mod AllCodes
 pub mod PageCells
 pub mod LegacyPages
 pub mod FitPages
+pub mod Layouts
 pub mod ReadPages
 pub mod ShownFiles

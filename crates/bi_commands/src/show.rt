@@ -7,6 +7,7 @@ mod configurations;
 mod dates;
 mod fit;
 mod images;
+mod layout;
 mod legacy;
 mod signatures;
 mod tables;
@@ -40,23 +41,26 @@ const CHECKER: Checker = Checker {
 };
 
 /// Returns the page of a boot image, for a person: what it is, its description, date and size; its
-/// images or parts, with the verdict on each hash; its configurations and signature nodes; and the
-/// lines that `check` gives.
+/// images or parts, with the verdict on each hash; its configurations and signature nodes; if
+/// `layout`, the regions of the file by their offsets; and the lines that `check` gives.
 ///
 /// Errors, the first that applies: those of `check`.
-pub fn show(alloc: Global, file: &[u8], limits: Limits) -> Result<String, Error>
-    ensures shown { IfOk result (λ text. IsPage limits file.now (string_bytes text)) }
+pub fn show(alloc: Global, file: &[u8], layout: bool, limits: Limits) -> Result<String, Error>
+    ensures shown { IfOk result (λ text. IsPage layout limits file.now (string_bytes text)) }
     ensures failed { IfErr result (IsCheckError limits file.now) }
 {
     match BootImage::read(alloc, file, limits)? {
-        BootImage::Legacy(image) => Ok(legacy_page(alloc, file, &image, limits)?),
-        BootImage::Fit(image) => fit_page(alloc, file, &image, limits),
+        BootImage::Legacy(image) => Ok(legacy_page(alloc, file, &image, layout, limits)?),
+        BootImage::Fit(image) => fit_page(alloc, file, &image, layout, limits),
     }
 }
 
 /// Showing, as a command: `show`.
 #[derive(Clone, Copy, Debug, PartialEq, Eq)]
-pub struct Presenter;
+pub struct Presenter {
+    /// Whether the page has the layout of the file.
+    pub layout: bool,
+}
 
 impl Command for Presenter {
     type Value = ();
@@ -65,7 +69,7 @@ impl Command for Presenter {
 
     ghost can_run = { λ _. ⊤ };
 
-    ghost promise = { λ _. show_promise };
+    ghost promise = { λ presenter. show_promise presenter.layout };
 
     /// Appends the page. Each refusal and each allocation comes before the first byte.
     fn run<S: Sink>(
@@ -75,14 +79,14 @@ impl Command for Presenter {
         limits: Limits,
         sink: &mut S,
     ) -> Result<(), Error> {
-        let page = show(alloc, input, limits)?;
+        let page = show(alloc, input, self.layout, limits)?;
         sink.put(page.as_bytes())?;
         Ok(())
     }
 
     ghost wraps_from = { λ _ _ _ _ same. same };
 
-    ghost laws = { λ _. show_laws };
+    ghost laws = { λ presenter. show_laws presenter.layout };
 }
 
 /// Reads a boot image to its end, writes its page, and flushes: `pipe_to` with a `Presenter`.
@@ -92,10 +96,12 @@ pub fn show_to<R: Read, W: Write>(
     alloc: Global,
     reader: &mut R,
     writer: &mut W,
+    layout: bool,
     limits: Limits,
 ) -> Result<(), Error>
-    ensures { IsPiped (show_promise limits) limits (R.remaining reader.old)
+    ensures { IsPiped (show_promise layout limits) limits (R.remaining reader.old)
         (R.remaining reader.new) (W.contents writer.old) (W.contents writer.new) result }
 {
-    pipe_to(alloc, &Presenter, reader, writer, limits)
+    let presenter = Presenter { layout };
+    pipe_to(alloc, &presenter, reader, writer, limits)
 }

@@ -19,6 +19,7 @@ use super::cells::{
 };
 use super::configurations::configuration_rows;
 use super::images::image_rows;
+use super::layout::fit::fit_layout;
 use super::signatures::signature_rows;
 use super::tables::{Row, add_concerns, add_pair, add_table, words_row};
 use crate::check::fit::put_text;
@@ -38,16 +39,17 @@ pub(super) fn fit_page(
     alloc: Global,
     file: &[u8],
     fit: &Fit,
+    layout: bool,
     limits: Limits,
 ) -> Result<String, Error>
     requires read { IsReadFit limits file.now fit.now }
-    ensures shown { IfOk result (λ text. IsFitPage limits file.now (string_bytes text)) }
+    ensures shown { IfOk result (λ text. IsFitPage layout limits file.now (string_bytes text)) }
     ensures failed { IfErr result (IsReadCheckError limits fit.now) }
 {
     check_payloads(fit.images(), limits.file())?;
     let mut digests = fit.region_digests(alloc);
     let _ = count_verdicts(fit, &mut digests)?;
-    let page = page_of(alloc, file, fit, &digests, limits)?;
+    let page = page_of(alloc, file, fit, &digests, layout, limits)?;
     Ok(page)
 }
 
@@ -58,12 +60,13 @@ fn page_of<'a>(
     file: &[u8],
     fit: &Fit<'a>,
     digests: &RegionDigests<'a>,
+    layout: bool,
     limits: Limits,
 ) -> Result<String, AllocError>
     requires read { IsReadFit limits file.now fit.now }
     requires placed { AreAtTheirPlaces digests.now fit.now.images }
     requires within { ¬ (IsOverPayloadBound limits (OfFit (tree_of fit.now))) }
-    ensures { IfOk result (λ text. IsFitPage limits file.now (string_bytes text)) }
+    ensures { IfOk result (λ text. IsFitPage layout limits file.now (string_bytes text)) }
 {
     let mut page = String::new(alloc);
     let time = time_cell(alloc, fit.blob().root().property(b"timestamp"))?;
@@ -72,6 +75,7 @@ fn page_of<'a>(
     add_table(alloc, &mut page, &image_rows(alloc, fit, digests)?)?;
     add_table(alloc, &mut page, &configuration_rows(alloc, fit)?)?;
     add_table(alloc, &mut page, &signature_rows(alloc, fit)?)?;
+    add_table(alloc, &mut page, &fit_layout(alloc, fit, layout)?)?;
     add_concerns(
         &mut page,
         &concern_lines(alloc, file, fit, digests, limits)?,

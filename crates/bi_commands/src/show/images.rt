@@ -1,6 +1,7 @@
 //! The table of the images of a flattened image tree.
 
-ghost use Rattle.std.specs.Prelude.{◌≡◌, ◌∷◌, ◌++◌, IfOk, OnOk, length, option_map};
+ghost use Rattle.std.specs.Prelude.{◌≡◌, ◌^◌, ◌<◌, ◌∷◌, ◌++◌, IfOk, IfSome, OnOk, length};
+ghost use Rattle.std.specs.Prelude.{option_map};
 ghost use Rattle.bi_blob.specs.Lookups.{siblings};
 ghost use Rattle.bi_fdt.specs.Views.{node_of};
 ghost use Rattle.bi_fit.specs.Content.{AreAtTheirPlaces, IsAtItsPlace, image_model};
@@ -110,8 +111,9 @@ fn size_of(image: &Image) -> Option<u64>
 }
 
 /// Returns the offset of the payload of an image, if there is one.
-fn offset_of(image: &Image) -> Option<u64>
-    ensures { result ≡ offset_of_place image.now.place }
+pub(super) fn offset_of(image: &Image) -> Option<u64>
+    ensures offset { result ≡ offset_of_place image.now.place }
+    ensures small { IfSome result (λ offset. offset < 2 ^ 32) }
 {
     match image.place {
         Place::Absent => None,

@@ -14,6 +14,7 @@ use super::CHECKER;
 use super::cells::{code_cell, field_cell, number_cell, size_cell, text_cell, text_of};
 use super::codes::{any_arch_name, any_os_name, any_type_name};
 use super::dates::time_text;
+use super::layout::legacy::legacy_layout;
 use super::tables::{Row, add_concerns, add_pair, add_table, words_row};
 use crate::check::trailing::check_legacy;
 use crate::fields::Field;
@@ -27,15 +28,21 @@ pub(super) fn legacy_page(
     alloc: Global,
     file: &[u8],
     image: &Legacy,
+    layout: bool,
     limits: Limits,
 ) -> Result<String, AllocError>
     requires read { IsReadLegacy limits file.now image.now }
-    ensures { IfOk result (λ text. IsLegacyPage limits file.now (string_bytes text)) }
+    ensures { IfOk result (λ text. IsLegacyPage layout limits file.now (string_bytes text)) }
 {
     let mut page = String::new(alloc);
     let time = time_text(alloc, image.fields().time)?;
     add_table(alloc, &mut page, &head_rows(alloc, file, image, time)?)?;
     add_table(alloc, &mut page, &part_rows(alloc, image)?)?;
+    add_table(
+        alloc,
+        &mut page,
+        &legacy_layout(alloc, file, image, layout)?,
+    )?;
     add_concerns(&mut page, &concern_lines(alloc, file, image, limits)?)?;
     Ok(page)
 }

@@ -102,12 +102,7 @@ fn signature_row(
 
 /// Returns the path of a child of a node, by the names of the node's parent, the node and the
 /// child. The parent is a child of the root.
-fn path_cell(
-    alloc: Global,
-    parent: &[u8],
-    node: &[u8],
-    child: &[u8],
-) -> Result<String, AllocError>
+fn path_cell(alloc: Global, parent: &[u8], node: &[u8], child: &[u8]) -> Result<String, AllocError>
     ensures { IfOk result (λ text. string_bytes text
         ≡ path (parent.now ∷ node.now ∷ child.now ∷ [])) }
 {
