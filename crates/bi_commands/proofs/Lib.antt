@@ -58,3 +58,4 @@ pub mod ShownCells
 pub mod ShownRows
 pub mod ShownPages
 pub mod LayoutFacts
+pub mod LayoutsOfFiles

@@ -64,7 +64,7 @@ tree_lines_of_concerns limits file content is within =
     tree_checked checker limits file _ content is (record { within = within; is_text = refl })
 
 -- The offset of a payload, by its source.
-offset_found : (file : List ℕ) (source : PayloadSource) → offset_of_place (place_of file source) ≡ payload_place file source
+pub offset_found : (file : List ℕ) (source : PayloadSource) → offset_of_place (place_of file source) ≡ payload_place file source
 offset_found file NoSource = refl
 offset_found file (Data data_property) = refl
 offset_found file (DataOffset offset size) = refl
@@ -81,25 +81,29 @@ rows_of_images file (entry ∷ entries) (image ∷ images) are =
     (ap (image_row entry image.payload) (ap offset_of_place are.0.place ∙ offset_found file (source_of entry.own)))
     (rows_of_images file entries images are.1)
 
+-- Its images are those of its file.
+pub images_of_file : (limits : Limits) (file : List ℕ) (content : FitModel) → IsReadFit limits file content →
+    AllZip (IsReadImage file) (siblings (file_images content.blob)) content.images
+images_of_file limits file content is =
+    subst (λ (f : List ℕ). AllZip (IsReadImage f) (siblings (file_images content.blob)) content.images) is.is_file is.held.images
+
 -- The tables of a flattened image tree that was read from a file are those of the file.
-pub tables_of_file : (limits : Limits) (file : List ℕ) (content : FitModel) (is : IsReadFit limits file content) (time : List ℕ) →
+pub tables_of_file : (limits : Limits) (file : List ℕ) (content : FitModel) (is : IsReadFit limits file content) (time : List ℕ) (regions : Table) →
     fit_head file (root_of content.blob) (tree_of content) time
     ∷ reservations_table content.blob.reservations
     ∷ (image_heading ∷ read_image_rows (siblings (file_images content.blob)) content.images)
     ∷ configurations_table (siblings (file_configurations content.blob))
-    ∷ signatures_table (siblings (file_images content.blob)) (siblings (file_configurations content.blob)) ∷ []
-    ≡ fit_tables file is.means.is_file.root (tree_of content) time
-tables_of_file limits file content is time =
+    ∷ signatures_table (siblings (file_images content.blob)) (siblings (file_configurations content.blob)) ∷ regions ∷ []
+    ≡ fit_tables file is.means.is_file.root (tree_of content) time regions
+tables_of_file limits file content is time regions =
     let entries = siblings (file_images content.blob) in
-    let images : AllZip (IsReadImage file) entries content.images =
-    subst (λ (f : List ℕ). AllZip (IsReadImage f) entries content.images) is.is_file is.held.images in
     ap (λ (rows : Table). fit_head file (root_of content.blob) (tree_of content) time
     ∷ reservations_table content.blob.reservations
     ∷ (image_heading ∷ rows)
     ∷ configurations_table (siblings (file_configurations content.blob))
-    ∷ signatures_table (siblings (file_images content.blob)) (siblings (file_configurations content.blob)) ∷ [])
-    (rows_of_images file entries content.images images)
-    ∙ ap (λ (root : Root FileNode). fit_tables file root (tree_of content) time) (sym is.same_root)
+    ∷ signatures_table (siblings (file_images content.blob)) (siblings (file_configurations content.blob)) ∷ regions ∷ [])
+    (rows_of_images file entries content.images (images_of_file limits file content is))
+    ∙ ap (λ (root : Root FileNode). fit_tables file root (tree_of content) time regions) (sym is.same_root)
 
 -- A table that was appended.
 pub shown_table : (old new : List ℕ) (slice rows : List (Vec (String Global) Global)) (table : Table) → new ≡ old ++ table_text (cells_of slice) →
@@ -107,34 +111,40 @@ pub shown_table : (old new : List ℕ) (slice rows : List (Vec (String Global) G
 shown_table old new slice rows table is same cells =
     is ∙ ap (λ (t : Table). old ++ table_text t) (ap (λ (l : List (Vec (String Global) Global)). cells_of l) same ∙ cells)
 
--- A page of two tables.
-pub two_tables : (first second lines start one two page : List ℕ) → start ≡ [] → one ≡ start ++ first → two ≡ one ++ second →
-    page ≡ two ++ lines → page ≡ (first ++ (second ++ [])) ++ lines
-two_tables first second lines start one two page empty is_one is_two is_page =
+-- A page of three tables.
+pub three_tables : (first second third lines start one two three page : List ℕ) → start ≡ [] → one ≡ start ++ first → two ≡ one ++ second →
+    three ≡ two ++ third → page ≡ three ++ lines → page ≡ (first ++ (second ++ (third ++ []))) ++ lines
+three_tables first second third lines start one two three page empty is_one is_two is_three is_page =
     is_page
     ∙ ap (λ (l : List ℕ). l ++ lines)
-    (is_two
-    ∙ ap (λ (l : List ℕ). l ++ second) (is_one ∙ ap (λ (l : List ℕ). l ++ first) empty)
-    ∙ ap (λ (l : List ℕ). first ++ l) (sym (append-nil second)))
+    (is_three
+    ∙ ap (λ (l : List ℕ). l ++ third)
+    (is_two ∙ ap (λ (l : List ℕ). l ++ second) (is_one ∙ ap (λ (l : List ℕ). l ++ first) empty))
+    ∙ regroup first second third)
+  where
+    regroup : (a b c : List ℕ) → (a ++ b) ++ c ≡ a ++ (b ++ (c ++ []))
+    regroup a b c = simp (append_assoc, append-nil)
 
--- A page of five tables.
-pub five_tables : (first second third fourth fifth lines start one two three four five page : List ℕ) → start ≡ [] → one ≡ start ++ first →
-    two ≡ one ++ second → three ≡ two ++ third → four ≡ three ++ fourth → five ≡ four ++ fifth → page ≡ five ++ lines →
-    page ≡ (first ++ (second ++ (third ++ (fourth ++ (fifth ++ []))))) ++ lines
-five_tables first second third fourth fifth lines start one two three four five page empty is_one is_two is_three is_four is_five is_page =
+-- A page of six tables.
+pub six_tables : (first second third fourth fifth sixth lines start one two three four five six page : List ℕ) → start ≡ [] →
+    one ≡ start ++ first → two ≡ one ++ second → three ≡ two ++ third → four ≡ three ++ fourth → five ≡ four ++ fifth → six ≡ five ++ sixth →
+    page ≡ six ++ lines → page ≡ (first ++ (second ++ (third ++ (fourth ++ (fifth ++ (sixth ++ [])))))) ++ lines
+six_tables first second third fourth fifth sixth lines start one two three four five six page empty is_one is_two is_three is_four is_five is_six is_page =
     is_page
     ∙ ap (λ (l : List ℕ). l ++ lines)
+    (is_six
+    ∙ ap (λ (l : List ℕ). l ++ sixth)
     (is_five
     ∙ ap (λ (l : List ℕ). l ++ fifth)
     (is_four
     ∙ ap (λ (l : List ℕ). l ++ fourth)
     (is_three
     ∙ ap (λ (l : List ℕ). l ++ third)
-    (is_two ∙ ap (λ (l : List ℕ). l ++ second) (is_one ∙ ap (λ (l : List ℕ). l ++ first) empty))))
-    ∙ regroup first second third fourth fifth)
+    (is_two ∙ ap (λ (l : List ℕ). l ++ second) (is_one ∙ ap (λ (l : List ℕ). l ++ first) empty)))))
+    ∙ regroup first second third fourth fifth sixth)
   where
-    regroup : (a b c d e : List ℕ) → (((a ++ b) ++ c) ++ d) ++ e ≡ a ++ (b ++ (c ++ (d ++ (e ++ []))))
-    regroup a b c d e = simp (append_assoc, append-nil)
+    regroup : (a b c d e f : List ℕ) → ((((a ++ b) ++ c) ++ d) ++ e) ++ f ≡ a ++ (b ++ (c ++ (d ++ (e ++ (f ++ [])))))
+    regroup a b c d e f = simp (append_assoc, append-nil)
 
 -- An error of showing what was read from a file is one of showing the file.
 pub error_of_tree : (limits : Limits) (file : List ℕ) (content : FitModel) (error : Error) → IsReadFit limits file content →

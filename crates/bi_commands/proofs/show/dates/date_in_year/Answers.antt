@@ -1,4 +1,4 @@
-use Rattle.std.proofs.Common.{◌≡◌, ◌+◌, ◌-◌, suc, sym, ◌∙◌, take, drop, get_or, length, arith}
+use Rattle.std.proofs.Common.{◌-◌, suc, sym, ◌∙◌, take, drop, get_or, arith}
 use Rattle.std.proofs.lemmas.List.{length-take}
 use Rattle.std.proofs.Math.Seq.{split_at}
 use Rattle.bi_commands.proofs.show.dates.date_in_year.Goals as goal

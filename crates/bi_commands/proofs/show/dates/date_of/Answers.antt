@@ -1,5 +1,5 @@
 use Rattle.std.proofs.Common.{◌≡◌, ◌+◌, suc, ap, ◌∙◌, arith}
-use Rattle.bi_commands.specs.Dates.{days_of_years, year_length}
+use Rattle.bi_commands.specs.Dates.{year_length}
 use Rattle.bi_commands.proofs.DateFacts.{year_has_days}
 use Rattle.bi_commands.proofs.show.dates.date_of.Goals as goal
 

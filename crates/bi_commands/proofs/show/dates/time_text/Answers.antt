@@ -1,4 +1,4 @@
-use Rattle.std.proofs.Common.{◌<◌, ◌/◌, arith}
+use Rattle.std.proofs.Common.{◌/◌, arith}
 use Rattle.bi_commands.proofs.DateFacts.{date_is_short}
 use Rattle.bi_commands.proofs.show.dates.time_text.Goals as goal
 

@@ -1,4 +1,4 @@
-use Rattle.std.proofs.Common.{◌<◌, ◌+◌, ◌++◌, ℕ, List, Some, Vec, String, ap, sym, ◌∙◌, arith, drop, length, map}
+use Rattle.std.proofs.Common.{◌<◌, ◌+◌, ◌++◌, ℕ, Some, Vec, String, ap, sym, ◌∙◌, arith, drop, length, map}
 use Rattle.std.specs.declared.alloc.Global.{Global}
 use Rattle.bi_commands.specs.FitPages.{reservation_row}
 use Rattle.bi_commands.specs.Pages.{Table}

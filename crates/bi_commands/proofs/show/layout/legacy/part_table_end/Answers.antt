@@ -1,4 +1,4 @@
-use Rattle.std.proofs.Common.{sym, ◌∙◌}
+use Rattle.std.proofs.Common.{◌∙◌}
 use Rattle.bi_commands.proofs.LayoutFacts.{table_before_part, table_without_parts}
 use Rattle.bi_commands.proofs.show.layout.legacy.part_table_end.Goals as goal
 
