@@ -32,13 +32,13 @@ elements_count file (node ∷ nodes) (image ∷ images) read = ap suc (elements_
 
 module _ (file : List ℕ) (all : List ImageElement) (images : List Image) (before : List ImageElement) where
   -- These image nodes are left, with the images from an index on.
-  pub record AreLeft (left : List (Sibling FileNode)) (index : ℕ) (now : List ImageElement) : Type 0 where
+  pub record AreElementsLeft (left : List (Sibling FileNode)) (index : ℕ) (now : List ImageElement) : Type 0 where
     pub read : AllZip (IsReadImage file) left (map image_model (drop index images))
     pub filling :
         IsFilling all (image_elements file left (payloads_of_models (map image_model (drop index images)))) index before now
 
   module _ (first : Sibling FileNode) (later : List (Sibling FileNode)) (index : ℕ) (now : List ImageElement)
-      (are : AreLeft (first ∷ later) index now) where
+      (are : AreElementsLeft (first ∷ later) index now) where
     -- There is an image for the next node.
     pub image_there : index < length images
     image_there = by (drop index images) refl are.read
@@ -68,7 +68,7 @@ module _ (file : List ℕ) (all : List ImageElement) (images : List Image) (befo
       -- An image that was read from the node has its element there.
       pub one_more_image : (element : ImageElement) → (IsReadImage file first (image_model (get_or images index default))
           → element ≡ element_of_image file first (image_model (get_or images index default)).payload) →
-          AreLeft later (index + 1) (set now index element)
+          AreElementsLeft later (index + 1) (set now index element)
       one_more_image element same = record {
         read = read.1;
         filling = subst (λ (it : ImageElement). IsFilling all others (index + 1) before (set now index it)) (sym (same read.0))
