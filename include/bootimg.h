@@ -30,9 +30,9 @@
  *   BOOTIMG_NO_ROOM         The output is larger than the buffer. `size` and `value` are as for
  *                           BOOTIMG_DONE.
  *   BOOTIMG_WRONG_ARGUMENT  A number is out of the range of its argument.
- *   BOOTIMG_NOT_FOUND       There is nothing to extract or to list. `reason` is one of BOOTIMG_WRONG_KIND to
- *                           BOOTIMG_NO_PAYLOAD. `value` is the index of the first name that no
- *                           image has for BOOTIMG_MISSING, and otherwise 0.
+ *   BOOTIMG_NOT_FOUND       There is nothing to extract or to list. `reason` is one of
+ *                           BOOTIMG_WRONG_KIND to BOOTIMG_NO_PAYLOAD. `value` is the index of the
+ *                           first name that no image has for BOOTIMG_MISSING, and otherwise 0.
  *
  * Numbers without meaning for the status or the call are 0. If the status is BOOTIMG_DONE, the
  * output is at the beginning of the buffer, and the bytes after it are unchanged. After any other
@@ -260,9 +260,9 @@ uint32_t bootimg_configurations(const uint8_t *file, size_t file_size, uint32_t 
                                 uint32_t depth, bootimg_region *names, size_t names_count,
                                 bootimg_answer *answer);
 
-/* Writes the indices of the images that the configuration with the given name lists under a key, one
- * of BOOTIMG_KERNEL to BOOTIMG_SCRIPT, in the order of the list. An index is that in the array of
- * bootimg_images. The name is not NUL-terminated. If nothing is listed, the status is
+/* Writes the indices of the images that the configuration with the given name lists under a key,
+ * one of BOOTIMG_KERNEL to BOOTIMG_SCRIPT, in the order of the list. An index is that in the array
+ * of bootimg_images. The name is not NUL-terminated. If nothing is listed, the status is
  * BOOTIMG_NOT_FOUND, and `reason` is one of BOOTIMG_NO_CONFIG to BOOTIMG_MISSING. */
 uint32_t bootimg_listed(const uint8_t *file, size_t file_size, const uint8_t *name,
                         size_t name_size, uint32_t key, uint32_t limit, uint32_t depth,

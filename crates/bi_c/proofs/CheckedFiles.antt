@@ -22,9 +22,9 @@ checked_as format limit depth kinds limits allowed file valid same_limits same_a
       (subst (λ (l : Limits). IsConcernsText (record { allowed = allowed; format = format }) l file text value) same_limits is);
 }
 
-pub check_failed_as : (limit depth kinds : ℕ) (limits : Limits) (file : List ℕ) → HasKinds limit depth kinds → limits ≡ bounds limit depth
+pub call_not_checked : (limit depth kinds : ℕ) (limits : Limits) (file : List ℕ) → HasKinds limit depth kinds → limits ≡ bounds limit depth
     → (failure : Failure) → IsFailureBy (IsCheckError limits file) failure
     → IsFailure (HasKinds limit depth kinds) (IsCheckError (bounds limit depth) file) failure
-check_failed_as limit depth kinds limits file valid same_limits failure is =
+call_not_checked limit depth kinds limits file valid same_limits failure is =
     failed_by (HasKinds limit depth kinds) (IsCheckError (bounds limit depth) file) is.cause failure valid is.is_failure (λ no. no)
     (λ no. no) (subst (λ (l : Limits). IsCheckError l file is.cause) same_limits is.is_error)

@@ -4,5 +4,6 @@ pub mod Calls
 pub mod Extracting
 pub mod FitElements
 pub mod ImageElements
+pub mod KnownNumbers
 pub mod LegacyElements
 pub mod TreeRegions

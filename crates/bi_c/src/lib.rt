@@ -13,6 +13,7 @@ mod failure;
 mod fit;
 mod images;
 mod kind;
+mod known_numbers;
 mod legacy;
 mod nodes;
 mod normalise;

@@ -7,7 +7,7 @@ use Rattle.std.proofs.lemmas.Bool.{and_parts}
 use Rattle.bi_base.specs.Cells.{AreBytes}
 use Rattle.bi_blob.specs.Tree.{Nodes, none, node, Property}
 use Rattle.bi_fit.specs.Content.{FitModel, IsHeld, tree_of}
-use Rattle.bi_fit.specs.ImageTree.{ImageTree, IsImageTree, IsProperty}
+use Rattle.bi_fit.specs.ImageTree.{ImageTree, IsImageTree}
 use Rattle.bi_fit.specs.Judgement.{listed_names}
 use Rattle.bi_fit.proofs.NormalTrees.{held_means}
 use Rattle.bi_fit.proofs.TextLaws.{file_means_image_tree}
@@ -18,10 +18,9 @@ use Rattle.bi_commands.specs.declared.format.Format.{Format}
 use Rattle.bi_commands.specs.declared.format.Format.TheVariants.{Lines, Json}
 use Rattle.bi_commands.specs.Describing.{description_text}
 use Rattle.bi_commands.specs.DescriptionJson.{digest_object, fit_object, legacy_object, node_members, node_objects, payload_members}
-use Rattle.bi_commands.specs.DescriptionJson.{payload_or_null, property_object, value_member}
+use Rattle.bi_commands.specs.DescriptionJson.{property_object, value_member}
 use Rattle.bi_commands.specs.Descriptions.{PayloadDigest, DescribedNode, NodePayload, NotAnImage, OfImage, digest_of_payload, plain_node}
 use Rattle.bi_commands.specs.Descriptions.{described_nodes}
-use Rattle.bi_commands.specs.FitListing.{hexadecimal_64}
 use Rattle.bi_commands.specs.Json.{JsonText, Member, json_array, json_null, json_object, json_string}
 use Rattle.bi_commands.specs.ListingJson.{header_members, name_member, reservation_object}
 use Rattle.bi_commands.specs.ValueTexts.{are_quotable_texts, hexadecimal_digits, is_quotable}
@@ -62,7 +61,8 @@ strings_ascii value is =
 value_ascii : (value : List ℕ) → AreBytes value → IsAsciiMember (value_member value)
 value_ascii value bytes = by (are_quotable_texts value) refl
   where
-    by : (b : Bool) → are_quotable_texts value ≡ b → IsAsciiMember (cond b (codes "strings", json_array (map json_string (listed_names value)))
+    by : (b : Bool) → are_quotable_texts value ≡ b →
+        IsAsciiMember (cond b (codes "strings", json_array (map json_string (listed_names value)))
         (codes "hex", json_string (hexadecimal_digits value)))
     by true is = (by_test (codes "strings") refl, strings_ascii value is)
     by false is = (by_test (codes "hex") refl, string_ascii (hexadecimal_digits value) (bytes_digits value bytes))
@@ -101,8 +101,11 @@ members_ascii own children bytes are = by own.payload bytes.1
 nodes_ascii : (nodes : Nodes DescribedNode) → AreByteNodes nodes → AllByRecursion HasAscii (node_objects nodes)
 nodes_ascii none bytes = tt
 nodes_ascii (node name own children later) bytes = (
-  object_ascii (name_member (codes "name") name ∷ node_members own (node_objects children))
-      ((by_test (codes "name") refl, name_ascii name bytes.0), members_ascii own (node_objects children) bytes.1 (nodes_ascii children bytes.2)),
+  object_ascii (name_member (codes "name") name ∷ node_members own (node_objects children)) (
+    (by_test (codes "name") refl, name_ascii name bytes.0),
+    members_ascii own (node_objects children) bytes.1
+        (nodes_ascii children bytes.2),
+  ),
   nodes_ascii later bytes.3,
 )
 

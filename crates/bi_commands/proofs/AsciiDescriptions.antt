@@ -190,10 +190,10 @@ fit_shown tree is = (
 )
 
 -- The lines of the description of what a file means.
-pub lines_shown : (limits : Limits) (file : List ℕ) (meaning : Meaning) → Means limits file meaning →
+pub lines_are_ascii : (limits : Limits) (file : List ℕ) (meaning : Meaning) → Means limits file meaning →
     AreAsciiLines (description_lines meaning)
-lines_shown limits file (OfLegacy image) means = legacy_shown image (image_of_file file image means.is_file).name_bytes
-lines_shown limits file (OfFit tree) means = fit_shown tree (file_means_image_tree file tree means.is_file)
+lines_are_ascii limits file (OfLegacy image) means = legacy_shown image (image_of_file file image means.is_file).name_bytes
+lines_are_ascii limits file (OfFit tree) means = fit_shown tree (file_means_image_tree file tree means.is_file)
 
 -- The description of a legacy image whose name is bytes is ASCII.
 pub legacy_description_shown : (image : LegacyImage) → AreBytes image.name → HasAscii (description (OfLegacy image))

@@ -13,7 +13,7 @@ use Rattle.bi_commands.specs.Differences.{added_line, counterpart, differences, 
 use Rattle.bi_commands.specs.Differences.{lines_for_second, signed_line}
 use Rattle.bi_commands.specs.ComparisonJson.{comparison_object, difference_object, lines_of_text, pieces_of_text, signed_object}
 use Rattle.bi_commands.specs.Json.{json_array, json_bool, json_line, json_string}
-use Rattle.bi_commands.proofs.AsciiDescriptions.{lines_shown}
+use Rattle.bi_commands.proofs.AsciiDescriptions.{lines_are_ascii}
 use Rattle.bi_commands.proofs.AsciiJson.{array_ascii, line_ascii, object_ascii, string_ascii}
 use Rattle.bi_commands.proofs.AsciiTexts.{AreAsciiLines, AreAsciiWords, HasAscii, both, by_test, each_text, is_ascii, words_ascii}
 
@@ -115,8 +115,8 @@ differences_are_ascii limits one other same text is =
     by lines false (AreDifferent described other_described differ) =
         subst HasAscii (sym differ)
         (comparison_ascii is.compared.meaning is.compared.other_meaning
-        (lines_shown limits one is.compared.meaning is.compared.means.means)
-        (lines_shown limits other is.compared.other_meaning is.compared.other_means.means))
+        (lines_are_ascii limits one is.compared.meaning is.compared.means.means)
+        (lines_are_ascii limits other is.compared.other_meaning is.compared.other_means.means))
 
 -- The lines of a text.
 has_ascii : (text : List ℕ) → IsAscii text → HasAscii text

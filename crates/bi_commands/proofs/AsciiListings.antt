@@ -423,7 +423,8 @@ pub reservations_ascii : (reservations : List Reservation) → AllByRecursion Ha
 reservations_ascii [] = tt
 reservations_ascii (reservation ∷ later) = (
   object_ascii
-      ((codes "address", json_string (hexadecimal_64 reservation.address)) ∷ (codes "size", json_string (hexadecimal_64 reservation.size)) ∷ []) (
+      ((codes "address", json_string (hexadecimal_64 reservation.address)) ∷ (codes "size", json_string (hexadecimal_64 reservation.size))
+      ∷ []) (
         (by_test (codes "address") refl, string_ascii (hexadecimal_64 reservation.address) (address_64 reservation.address)),
         ((by_test (codes "size") refl, string_ascii (hexadecimal_64 reservation.size) (address_64 reservation.size)), tt),
       ),
@@ -481,7 +482,8 @@ all_keys_ascii tree is configuration [] = tt
 all_keys_ascii tree is configuration (key ∷ later) =
     each-append HasAscii (key_objects key (listed_of tree configuration key))
     (flat_map (λ key. key_objects key (listed_of tree configuration key)) later)
-    (keys_ascii key (listed_of tree configuration key) (listed_of_bytes tree is configuration key)) (all_keys_ascii tree is configuration later)
+    (keys_ascii key (listed_of tree configuration key) (listed_of_bytes tree is configuration key))
+    (all_keys_ascii tree is configuration later)
 
 configurations_ascii : (tree : ImageTree) → IsImageTree tree → (configurations : List (List ℕ)) → AllByRecursion AreBytes configurations →
     AllByRecursion HasAscii (map (configuration_object tree) configurations)

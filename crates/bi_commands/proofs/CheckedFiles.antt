@@ -120,15 +120,6 @@ not_checked fails checker limits file content old new error is (WasRefused (inr 
 not_checked fails checker limits file content old new error is (SinkFailed text cause is_text failed same) =
     SinkFailed text cause (tree_checked checker limits file text content is is_text) failed same
 
--- So it is if the lines are made in memory.
-pub not_checked_in_memory : (checker : Checker) (limits : Limits) (file old new : List ℕ) (error : Error) →
-    AppendFailed (FailsWithin Grows IsOutOfMemory) (IsChecked checker.format checker.allowed limits file)
-    (IsCheckError limits file) old new error →
-    IsCheckError limits file error
-not_checked_in_memory checker limits file old new error (WasRefused is kept) = is
-not_checked_in_memory checker limits file old new error (SinkFailed text cause is failed same) =
-    subst (IsCheckError limits file) (sym (same ∙ failed.1)) (needs_memory limits file is.meaning is.means.means)
-
 -- What a call on what was read from a file did is what it did with the file.
 pub legacy_appended : {S : Type 0} (appends : S → List ℕ → S → Type 0) (fails : S → List ℕ → S → Error → Type 0) (checker : Checker)
     (limits : Limits) (file : List ℕ) (parsed : LegacyModel) (old new : S) (result : Result Bool Error) → IsReadLegacy limits file parsed →

@@ -77,8 +77,10 @@ pub error_of_one : (limits : Limits) (image other_image : BootImage) (error : Co
 error_of_one limits image other_image error (inl memory) = inl memory
 error_of_one limits image other_image error (inr describing) = inr (describing (meaning_of other_image))
 
-pub error_of_other : (limits : Limits) (image other_image : BootImage) (error : CompareError) → CanBeDescribed Lines limits (meaning_of image)
-    → (error ≡ OutOfMemory) ⊎ ((one : Meaning) → CanBeDescribed Lines limits one → IsDescribingError limits one (meaning_of other_image) error)
+pub error_of_other : (limits : Limits) (image other_image : BootImage) (error : CompareError)
+    → CanBeDescribed Lines limits (meaning_of image)
+    → (error ≡ OutOfMemory)
+    ⊎ ((one : Meaning) → CanBeDescribed Lines limits one → IsDescribingError limits one (meaning_of other_image) error)
     → (error ≡ OutOfMemory) ⊎ IsDescribingError limits (meaning_of image) (meaning_of other_image) error
 error_of_other limits image other_image error described (inl memory) = inl memory
 error_of_other limits image other_image error described (inr describing) = inr (describing (meaning_of image) described)

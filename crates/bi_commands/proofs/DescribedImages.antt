@@ -31,7 +31,7 @@ digests_of_bytes [] = refl
 digests_of_bytes (part ∷ later) = ap (λ digests. digest_of_payload part.bytes ∷ digests) (digests_of_bytes later)
 
 -- The objects of parts are those of their digests.
-objects_of_parts : (parts : List (List ℕ)) →
+pub objects_of_parts : (parts : List (List ℕ)) →
     map (λ part. digest_object (digest_of_payload part)) parts ≡ map digest_object (map digest_of_payload parts)
 objects_of_parts [] = refl
 objects_of_parts (part ∷ later) = ap (λ (texts : List (List ℕ)). digest_object (digest_of_payload part) ∷ texts) (objects_of_parts later)
@@ -87,6 +87,7 @@ refused_text format limits meaning sink new text error limit room is failed =
     rw (failed.is) (inr (omega (arith, failed.longer, room, ap length is)), ap too_large limit)
 
 -- A text for which it has room is short.
-pub short_text : (format : Format) (limits : Limits) (meaning : Meaning) (sink new : LimitedSink) (text : List ℕ) → sink.room ≡ limits.file →
+pub short_text : (format : Format) (limits : Limits) (meaning : Meaning) (sink new : LimitedSink) (text : List ℕ) →
+    sink.room ≡ limits.file →
     text ≡ description_text format meaning → Takes sink text new → length (description_text format meaning) ≤ limits.file
 short_text format limits meaning sink new text room is taken = omega (arith, taken.room, room, ap length is)

@@ -1,5 +1,5 @@
-use Rattle.std.proofs.Common.{◌≡◌, ℕ, Bool, true, false, List, [], ◌∷◌, ◌++◌, codes, drop, flat_map, get_or, length, map, refl, sym, ap, ◌∙◌}
-use Rattle.std.proofs.Common.{append_assoc, append-nil, ◌<◌, ◌+◌}
+use Rattle.std.proofs.Common.{◌≡◌, ℕ, Bool, true, false, List, [], ◌∷◌, ◌++◌, codes, drop, flat_map, get_or, length, map, refl, sym, ap}
+use Rattle.std.proofs.Common.{◌∙◌, append_assoc, append-nil, ◌<◌, ◌+◌}
 use Rattle.std.specs.FinMap.{entries}
 use Rattle.std.specs.List.{join_with_byte}
 use Rattle.bi_blob.specs.Tree.{Nodes, none, node, Property}
@@ -23,7 +23,8 @@ use Rattle.bi_commands.specs.Json.{JsonText, Member, comma, json_array, json_num
 use Rattle.bi_commands.specs.ListingJson.{name_member, reservation_object}
 use Rattle.bi_commands.specs.ReadDescription.{before_root, head_lines, processor_members, read_json, read_text}
 use Rattle.bi_commands.specs.Shown.{line, shown_text}
-use Rattle.bi_commands.specs.TreeEntries.{EntryModel, NodeEnds, PropertyEntry, as_entry, node_entries, own_entries, payload_entries, tree_entries}
+use Rattle.bi_commands.specs.TreeEntries.{EntryModel, NodeEnds, PropertyEntry, as_entry, node_entries, own_entries, payload_entries}
+use Rattle.bi_commands.specs.TreeEntries.{tree_entries}
 use Rattle.bi_commands.specs.ValueTexts.{are_quotable_texts, hexadecimal_digits}
 use Rattle.bi_commands.proofs.EntryLines.{entries_from, no_entry}
 use Rattle.bi_commands.proofs.FitLines.{joined_after}
@@ -69,7 +70,7 @@ properties_json (property ∷ properties) more rest at_head at_properties =
     (sym (append_assoc first others after) ∙ ap (λ (l : List ℕ). l ++ after) (sym (joined_after 44 first (map property_object properties))))
 
 -- The last two members of a node, and what follows them.
-last_members : (properties children later : List ℕ)
+pub last_members : (properties children later : List ℕ)
     → ((codes "\"properties\":[" ++ (properties ++ 93 ∷ [])) ++ (44 ∷ (codes "\"children\":[" ++ (children ++ 93 ∷ [])))) ++ (125 ∷ later)
     ≡ codes "\"properties\":[" ++ (properties ++ (codes "],\"children\":[" ++ (children ++ (codes "]}" ++ later))))
 last_members properties children later = simp append_assoc refl
@@ -153,7 +154,8 @@ nodes_json (node name own children others) rest later ends part =
     let written = nodes_json children (NodeEnds ∷ after) (entries_json Children after) (λ (part : NodePart). refl) in
     ap (λ (entries : List EntryModel). (before_child part ++ node_begin name) ++ entries_json Head entries)
     (append_assoc (own_entries own) (node_entries children ++ (NodeEnds ∷ node_entries others)) rest
-    ∙ ap (λ (entries : List EntryModel). own_entries own ++ entries) (append_assoc (node_entries children) (NodeEnds ∷ node_entries others) rest))
+    ∙ ap (λ (entries : List EntryModel). own_entries own ++ entries) (append_assoc (node_entries children)
+    (NodeEnds ∷ node_entries others) rest))
     ∙ ap (λ (l : List ℕ). (before_child part ++ node_begin name) ++ l)
     (members_json own objects more (entries_json Children after) (written Head) (written Properties)
     ∙ ap (λ (l : List ℕ). members_after_name own objects ++ (125 ∷ l)) (nodes_json others rest later ends Children))
@@ -202,7 +204,8 @@ tree_pieces processor reservations root =
     ∙ sym (append_assoc processor (codes ",\"reservations\":[" ++ (reservations ++ codes "],\"root\":{")) end))
 
 -- The text of the entries of a tree that was read is its description in JSON.
-pub json_of_tree : (content : FitModel) → read_json content.blob (tree_entries (tree_of content)) ≡ description_json (OfFit (tree_of content))
+pub json_of_tree : (content : FitModel) →
+    read_json content.blob (tree_entries (tree_of content)) ≡ description_json (OfFit (tree_of content))
 json_of_tree content =
     let tree : ImageTree = tree_of content in
     let cpu : ℕ = content.blob.cpu in

@@ -1,4 +1,5 @@
-use Rattle.std.proofs.Common.{◌≡◌, ℕ, List, [], ◌∷◌, ◌++◌, map, sym, ap, ◌∙◌, Option, None, Some, ◌<◌, ◌+◌, drop, length, get_or, append_assoc}
+use Rattle.std.proofs.Common.{◌≡◌, ℕ, List, [], ◌∷◌, ◌++◌, map, sym, ap, ◌∙◌, Option, None, Some, ◌<◌, ◌+◌}
+use Rattle.std.proofs.Common.{drop, length, get_or, append_assoc}
 use Rattle.std.specs.List.{join_with_byte, flat_map, slice_get}
 use Rattle.std.specs.Option.{option_map}
 use Rattle.std.proofs.lemmas.Option.{slice_get-map, slice_get-get_or}
@@ -37,10 +38,10 @@ reservation_of None = end_pair
 reservation_of (Some numbers) = record { address = numbers.0; size = numbers.1 }
 
 -- Values for the reservations from an index on: that for this reservation, and those for the later ones.
-pub reservations_from : {B : Type 0} (f : Reservation → B) (reservations : List Reservation) (index : ℕ) (found : Option (ℕ × ℕ))
+pub reservation_and_later : {B : Type 0} (f : Reservation → B) (reservations : List Reservation) (index : ℕ) (found : Option (ℕ × ℕ))
     (numbers : ℕ × ℕ) → index < length reservations → found ≡ slice_get (map numbers_of reservations) index → found ≡ Some numbers →
     map f (drop index reservations) ≡ f (reservation_of (Some numbers)) ∷ map f (drop (index + 1) reservations)
-reservations_from f reservations index found numbers within is some =
+reservation_and_later f reservations index found numbers within is some =
     let same : Some numbers ≡ Some (numbers_of (get_or reservations index end_pair)) = sym some
     ∙ reservation_found reservations index found within is in
     ap (map f) (drop_more reservations index end_pair within)

@@ -1,4 +1,5 @@
-use Rattle.std.proofs.Common.{◌≡◌, ℕ, List, [], ◌∷◌, ◌++◌, Option, Some, None, append_assoc, codes, false, map, refl, sym, ap, ap₂, subst, ◌∙◌}
+use Rattle.std.proofs.Common.{◌≡◌, ℕ, List, [], ◌∷◌, ◌++◌, Option, Some, None, append_assoc, codes, false, map, refl, sym}
+use Rattle.std.proofs.Common.{ap, ap₂, subst, ◌∙◌}
 use Rattle.std.specs.Fmt.{decimal}
 use Rattle.std.specs.List.{AllZip, flat_map, join_with_byte}
 use Rattle.std.specs.Option.{option_map}
@@ -74,17 +75,20 @@ image_object_of : (file : List ℕ) (name : List ℕ) (source : PayloadSource) (
     IsPayload file source image.payload → image.place ≡ place_of file source →
     read_image_object image ≡ image_object file name source image.payload
 image_object_of file name source image named is placed =
-    let object : List ℕ → List ℕ → List ℕ = λ name payload. json_object (name_member (codes "name") name ∷ (codes "payload", payload) ∷ []) in
+    let object : List ℕ → List ℕ → List ℕ = λ name payload.
+    json_object (name_member (codes "name") name ∷ (codes "payload", payload) ∷ []) in
     ap₂ object named (ap (placed_payload image.payload) placed ∙ placed_object file source image.payload is)
 
 -- The objects of images that were read.
-objects_of_images : (file : List ℕ) (nodes : Nodes FileNode) (images : List ImageModel) → AllZip (IsReadImage file) (siblings nodes) images →
+objects_of_images : (file : List ℕ) (nodes : Nodes FileNode) (images : List ImageModel) →
+    AllZip (IsReadImage file) (siblings nodes) images →
     map read_image_object images ≡ image_objects file nodes (map (λ (image : ImageModel). image.payload) images)
 objects_of_images file none [] is = refl
 objects_of_images file none (image ∷ images) is = absurd is
 objects_of_images file (node name own children later) [] is = refl
 objects_of_images file (node name own children later) (image ∷ images) is =
-    ap₂ (λ (first : List ℕ) (rest : List (List ℕ)). first ∷ rest) (image_object_of file name (source_of own) image is.0.name is.0.payload is.0.place)
+    ap₂ (λ (first : List ℕ) (rest : List (List ℕ)). first ∷ rest)
+    (image_object_of file name (source_of own) image is.0.name is.0.payload is.0.place)
     (objects_of_images file later images is.1)
 
 -- Three lines, and what follows them.

@@ -122,7 +122,8 @@ object_with_list first members name values =
     let texts : List ℕ = join_with_byte 44 (map member_text (first ∷ members)) in
     ap (λ (l : List ℕ). 123 ∷ (l ++ 125 ∷ [])) (members_joined (first ∷ members) ((name, json_array values) ∷ []) (omega arith))
     ∙ around_values texts (json_string name) (join_with_byte 44 values)
-    ∙ ap (λ (l : List ℕ). 123 ∷ (texts ++ ((44 ∷ (json_string name ++ 58 ∷ 91 ∷ [])) ++ (l ++ 93 ∷ 125 ∷ [])))) (sym (commas_between values))
+    ∙ ap (λ (l : List ℕ). 123 ∷ (texts ++ ((44 ∷ (json_string name ++ 58 ∷ 91 ∷ [])) ++ (l ++ 93 ∷ 125 ∷ []))))
+    (sym (commas_between values))
 
 -- An object with one more member, in its parts.
 around_value : (members name value : List ℕ) →

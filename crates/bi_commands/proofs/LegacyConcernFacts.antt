@@ -44,8 +44,8 @@ module _ (one_legacy : OneLegacyMeaning) (file : List ℕ) (image : LegacyImage)
   -- No other number of bytes is unused.
   same_unused : (other : LegacyModel) → IsReadLegacy widest file other → other.unused ≡ unused
   same_unused other read =
-      let same = ap (λ (i : LegacyImage). parts_end i.image_type i.parts) (one_legacy file other.image image read.means.is_file means.is_file) in
-      omega (arith, same, ends, read.unused)
+      let same = one_legacy file other.image image read.means.is_file means.is_file in
+      omega (arith, ap (λ (i : LegacyImage). parts_end i.image_type i.parts) same, ends, read.unused)
 
   only_these : (others : List Concern) → AreConcerns widest file others → others ≡ trailing_concerns bytes_after
   only_these others (OfLegacyImage other read is) =

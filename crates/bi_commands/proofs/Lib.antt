@@ -63,3 +63,7 @@ pub mod ConcernTexts
 pub mod OffsetLists
 pub mod ScanClaims
 pub mod ScannedLines
+pub mod ScanLaws
+pub mod CutImages
+pub mod ScanFacts
+pub mod ScanCounts

@@ -26,8 +26,8 @@ use Rattle.bi_commands.specs.Json.{Member, json_array, json_line, json_number, m
 use Rattle.bi_commands.specs.ListedFiles.{IsListing, OfLegacyImage, OfImageTree}
 use Rattle.bi_commands.specs.Listing.{code_word, legacy_listing, part_line, part_lines, parts_lines}
 use Rattle.bi_commands.specs.ListingJson.{header_members, legacy_listing_object, part_object}
-use Rattle.bi_commands.specs.ReadListing.{after_configurations, before_parts, before_reservations, configuration_texts, image_text, json_only, part_texts}
-use Rattle.bi_commands.specs.ReadListing.{read_listing_text, reservation_text}
+use Rattle.bi_commands.specs.ReadListing.{after_configurations, before_parts, before_reservations, configuration_texts, image_text}
+use Rattle.bi_commands.specs.ReadListing.{json_only, part_texts, read_listing_text, reservation_text}
 use Rattle.bi_commands.specs.Shown.{line, shown_text, hexadecimal}
 use Rattle.bi_commands.proofs.JsonTexts.{commas_between, members_joined}
 
@@ -133,7 +133,8 @@ fit_pieces format content blob images default same_blob same_images same_default
 -- ---- errors
 
 -- Memory may run out for a file that has a listing.
-listing_needs_memory : (format : Format) (limits : Limits) (file text : List ℕ) → IsListing format limits file text → NeedsMemory limits file
+listing_needs_memory : (format : Format) (limits : Limits) (file text : List ℕ) → IsListing format limits file text →
+    NeedsMemory limits file
 listing_needs_memory format limits file text (OfLegacyImage parsed is same) = ForLegacyImage parsed.image is.means
 listing_needs_memory format limits file text (OfImageTree is) = needs_memory limits file (OfFit is.tree) is.means
 

@@ -98,8 +98,10 @@ pub key_as_line : (format : Format) (is_later : Bool) (configuration : List ℕ)
     × (true ≡ is_later_after is_later (key_texts format configuration key result))
 key_as_line format is_later configuration key result found lines is some =
     subst (λ (form : Format). (in_turn form is_later (key_texts form configuration key result) ≡ key_line configuration key result)
-    × (true ≡ is_later_after is_later (key_texts form configuration key result))) (sym lines)
-    (ap (in_turn Lines is_later) (by found is some) ∙ append-nil (key_line configuration key result), ap (is_later_after is_later) (sym (by found is some)))
+    × (true ≡ is_later_after is_later (key_texts form configuration key result))) (sym lines) (
+      ap (in_turn Lines is_later) (by found is some) ∙ append-nil (key_line configuration key result),
+      ap (is_later_after is_later) (sym (by found is some)),
+    )
   where
     by : (other : KeyList) → IsListed result other → ¬ (other ≡ listed.NoKey) →
         key_texts Lines configuration key result ≡ key_line configuration key result ∷ []
@@ -111,7 +113,8 @@ key_as_line format is_later configuration key result found lines is some =
 -- or one object.
 pub key_as_object : (format : Format) (is_later : Bool) (configuration : List ℕ) (key : Key) (result : ListResult) (found : KeyList) →
     format ≡ Json → IsListed result found → ¬ (found ≡ listed.NoKey) →
-    (in_turn format is_later (key_texts format configuration key result) ≡ comma is_later ++ flat_map (λ text. text) (key_objects key result))
+    (in_turn format is_later (key_texts format configuration key result)
+    ≡ comma is_later ++ flat_map (λ text. text) (key_objects key result))
     × (true ≡ is_later_after is_later (key_texts format configuration key result))
 key_as_object format is_later configuration key result found json is some =
     let object : List ℕ = flat_map (λ text. text) (key_objects key result) in

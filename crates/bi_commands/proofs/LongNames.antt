@@ -39,8 +39,8 @@ bytes_shown (byte ∷ later) =
     omega (arith, both, first, rest)
 
 -- and a name as no fewer bytes than it has.
-pub name_shown : (name : List ℕ) → length name ≤ length (shown_text name)
-name_shown name = by_name (bytes_eq name []) refl (bytes_eq name (codes "-")) refl
+pub shown_as_long : (name : List ℕ) → length name ≤ length (shown_text name)
+shown_as_long name = by_name (bytes_eq name []) refl (bytes_eq name (codes "-")) refl
   where
     by_name : (a : Bool) → bytes_eq name [] ≡ a → (b : Bool) → bytes_eq name (codes "-") ≡ b → length name ≤ length (shown_text name)
     by_name true is b dash =
@@ -89,7 +89,7 @@ properties_long path (property ∷ later) =
     let names = length-append (name_if_long property.0) (flat_map name_if_long (map (λ property. property.0) later)) in
     let lines = length-append (line written) (flat_map line (map (property_words path) later)) in
     let short = length-name_if_long property.0 in
-    let shown = name_shown property.0 in
+    let shown = shown_as_long property.0 in
     let one = third_word (codes "property") path (shown_text property.0) (value_words property.1) in
     let rest = properties_long path later in
     omega (arith, names, lines, short, shown, one, rest)

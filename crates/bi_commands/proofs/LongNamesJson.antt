@@ -1,5 +1,5 @@
 use Rattle.std.proofs.Common.{◌≡◌, ◌+◌, ◌≤◌, ◌||◌, ◌==◌, ℕ, Bool, true, false, cond, inr, List, [], ◌∷◌, ◌++◌, codes, length, map, flat_map}
-use Rattle.std.proofs.Common.{refl, sym, ap, ◌∙◌, arith, length-append}
+use Rattle.std.proofs.Common.{ap, ◌∙◌, arith, length-append}
 use Rattle.std.specs.FinMap.{entries}
 use Rattle.std.specs.List.{join_with_byte}
 use Rattle.bi_base.specs.declared.fault.Error.{Error}
@@ -31,7 +31,7 @@ use Rattle.bi_commands.specs.Shown.{shown_text}
 use Rattle.bi_commands.specs.TreeEntries.{tree_entries}
 use Rattle.bi_commands.specs.ValueTexts.{escaped_byte}
 use Rattle.bi_commands.proofs.EntryJson.{json_of_tree, members_after_name, name_first, root_json}
-use Rattle.bi_commands.proofs.LongNames.{long_bytes, long_bytes_of_node, long_names_described, name_shown, properties_by_node}
+use Rattle.bi_commands.proofs.LongNames.{long_bytes, long_bytes_of_node, long_names_described, shown_as_long, properties_by_node}
 use Rattle.bi_commands.proofs.LongNames.{properties_shown}
 
 -- The description of an image tree in JSON is at least as long as the long names of its properties together, too.
@@ -61,7 +61,7 @@ property_long : (property : Property) → length property.0 ≤ length (property
 property_long property =
     let name : List ℕ = flat_map escaped_byte (shown_text property.0) in
     let value : List ℕ = member_text (value_member property.1) in
-    let shown = name_shown property.0 in
+    let shown = shown_as_long property.0 in
     let escaped = escaped_long (shown_text property.0) in
     let first = length-append name (34 ∷ []) in
     let two = length-append (codes "\"name\":\"" ++ (name ++ 34 ∷ [])) (44 ∷ value) in
@@ -105,7 +105,8 @@ members_long own children = by own.payload
         let objects : List ℕ = join_with_byte 44 children in
         let one = length-append properties (93 ∷ []) in
         let other = length-append objects (93 ∷ []) in
-        let both = length-append (codes "\"properties\":[" ++ (properties ++ 93 ∷ [])) (44 ∷ (codes "\"children\":[" ++ (objects ++ 93 ∷ []))) in
+        let both = length-append (codes "\"properties\":[" ++ (properties ++ 93 ∷ []))
+        (44 ∷ (codes "\"children\":[" ++ (objects ++ 93 ∷ []))) in
         omega (arith, one, other, both)
 
     by : (payload : NodePayload) → length properties + length (join_with_byte 44 children)
@@ -148,7 +149,8 @@ long_names_in_json content is =
     let tree : ImageTree = tree_of content in
     let nodes : Nodes DescribedNode = described_nodes tree.root.children tree.payloads in
     let root : List ℕ = members_after_name (plain_node tree.root.own) (node_objects nodes) in
-    let shown = properties_shown ArePropertiesByName tree.root.children is.images tree.payloads is.is_tree.children is.has_images is.apart in
+    let shown = properties_shown ArePropertiesByName tree.root.children is.images tree.payloads is.is_tree.children is.has_images
+    is.apart in
     let same = ap (λ nodes. long_bytes (names_of_nodes nodes)) shown in
     let names = long_bytes_of_node [] tree.root.own tree.root.children none in
     let one = properties_long (entries tree.root.own) in
@@ -166,7 +168,8 @@ long_names_in_text Lines content is = long_names_described (tree_of content) is
 long_names_in_text Json content is = long_names_in_json content is
 
 -- An image with different long names that are together longer than the limit is too long to describe.
-pub refused_names : (format : Format) (limits : Limits) (content : FitModel) (limit : ℕ) (e : Error) → IsHeld content → limit ≡ limits.file →
+pub refused_names : (format : Format) (limits : Limits) (content : FitModel) (limit : ℕ) (e : Error) → IsHeld content →
+    limit ≡ limits.file →
     IsFaultOrNoMemory (λ fault. (fault ≡ too_large limit) × HasLongerNames limit (root_of content.blob)) e
     → IsImageError format limits (OfFit (tree_of content)) e
 refused_names format limits content limit (error.Refused fault) held is (is_fault, (names, distinct, are, longer)) =

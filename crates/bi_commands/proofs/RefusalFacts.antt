@@ -1,24 +1,35 @@
-use Rattle.std.proofs.Common.{◌≡◌, ℕ, ◌*◌, ◌+◌, List, [], ◌∷◌, ◌++◌, length, map, codes, inl, inr, lit≤, lit<, refl, ap, ◌∙◌, arith}
+use Rattle.std.proofs.Common.{◌≡◌, ◌<◌, ◌⊎◌, ℕ, ◌*◌, ◌+◌, List, [], ◌∷◌, ◌++◌, length, codes, inl, inr, lit<, refl, ap, ◌∙◌, arith}
 use Rattle.std.specs.Fmt.{digits}
 use Rattle.std.proofs.lemmas.List.{length-append}
 use Rattle.bi_base.specs.Cells.{cell}
 use Rattle.bi_base.specs.declared.fault.Fault.{Fault}
-use Rattle.bi_fit.proofs.FileFacts.{no_entries}
+use Rattle.bi_fit.specs.declared.form.Form.TheVariants.{Embedded}
+use Rattle.bi_fit.specs.File.{IsFitFile}
+use Rattle.bi_fit.specs.ImageTree.{ImageTree}
+use Rattle.bi_fit.specs.KnownFiles.{shared_file, shared_region, shared_tree}
+use Rattle.bi_fit.specs.Text.{fit_text}
+use Rattle.bi_fit.proofs.FileFacts.{no_entries, shared_region_is_repeated}
+use Rattle.bi_fit.proofs.Meanings.{one_fit_meaning}
 use Rattle.bi_hash.specs.declared.algo.Algo.TheVariants.{Sha256}
 use Rattle.bi_hash.specs.Digests.{digest_of}
 use Rattle.bi_hash.proofs.DigestBytes.{length-digest_of}
 use Rattle.bi_legacy.specs.KnownFaults.{limited_to}
 use Rattle.bi_legacy.specs.KnownImages.{kernel_image}
-use Rattle.bi_norm.specs.Meaning.{Meaning, OfLegacy}
-use Rattle.bi_norm.proofs.ComparisonFacts.{ends_early_is_error, kernel_means, no_magic_is_error}
+use Rattle.bi_norm.specs.Meaning.{Meaning, Means, OfFit, OfLegacy, normal_text}
+use Rattle.bi_norm.proofs.ComparisonFacts.{kernel_means, no_magic_is_error}
+use Rattle.bi_norm.proofs.KindLaws.{one_kind}
+use Rattle.bi_norm.proofs.TextBoundFacts.{shared_means}
 use Rattle.bi_commands.specs.declared.compare.CompareError.{CompareError}
 use Rattle.bi_commands.specs.declared.compare.CompareError.TheVariants.{One, Other, OutOfMemory}
+use Rattle.bi_commands.specs.declared.format.Format.TheVariants.{Lines}
 use Rattle.bi_commands.specs.Describing.{CanBeDescribed, IsTooLongToDescribe}
 use Rattle.bi_commands.specs.Descriptions.{description, description_lines, description_texts}
-use Rattle.bi_commands.specs.KnownBounds.{PayloadBoundsAreKnown}
+use Rattle.bi_commands.specs.KnownBounds.{PayloadBoundsAreKnown, UpdateBoundsAreKnown, three_payloads}
 use Rattle.bi_commands.specs.KnownRefusals.{longer_meaning, shorter_meaning, DescriptionBoundsAreKnown}
 use Rattle.bi_commands.specs.KnownRefusals.{DescribingErrorsAreKnown, ReadingErrorsAreKnown, FailsDescribing}
 use Rattle.bi_commands.specs.KnownTexts.{lines}
+use Rattle.bi_commands.specs.KnownUpdates.{no_changes}
+use Rattle.bi_commands.specs.UpdatedFiles.{HashesTooMuch, IsTooLongToUpdate, updated_meaning}
 use Rattle.bi_commands.specs.ValueTexts.{hexadecimal_digits}
 use Rattle.bi_commands.proofs.DifferenceFacts.{lines_of_texts}
 
@@ -36,6 +47,36 @@ payload_bounds_are_known = record {
   hashes_within = λ too_much. omega (arith, too_much.is_over);
   time = λ too_much. let bad = too_much.hashes in absurd cc;
 }
+
+-- ---- the lengths of updated texts
+
+shared_is_updated : IsTooLongToUpdate no_changes (limited_to 3167) Embedded (shared_file 0 1000)
+shared_is_updated =
+    let longer : 3167 < length (fit_text Embedded (shared_tree shared_region)) =
+    omega (arith, shared_region_is_repeated.embedded_length) in
+    record { meaning = three_payloads; means = shared_means 3167 (omega arith); is_too_long = inr longer }
+
+-- The length of the text of what the file means.
+shared_length : (tree : ImageTree) → IsFitFile (shared_file 0 1000) tree → length (fit_text Embedded tree) ≡ 3168
+shared_length tree is =
+    ap (λ (t : ImageTree). length (fit_text Embedded t))
+    (one_fit_meaning (shared_file 0 1000) tree (shared_tree shared_region) is shared_region_is_repeated.means)
+    ∙ shared_region_is_repeated.embedded_length
+
+shared_is_within : ¬ (IsTooLongToUpdate no_changes (limited_to 3168) Embedded (shared_file 0 1000))
+shared_is_within is = by is.meaning is.means is.is_too_long where
+  by : (meaning : Meaning) → Means (limited_to 3168) (shared_file 0 1000) meaning
+      → HashesTooMuch no_changes (limited_to 3168) meaning ⊎ (3168 < length (normal_text Embedded (updated_meaning no_changes meaning)))
+      → ⊥
+  by meaning means (inl too_much) = let bad = too_much.hashes in cc
+  by (OfLegacy image) means (inr longer) =
+      one_kind (shared_file 0 1000) image (shared_tree shared_region) means.is_file shared_region_is_repeated.means
+  by (OfFit tree) means (inr longer) =
+      let text_is_longer : 3168 < length (fit_text Embedded tree) = longer in
+      omega (arith, text_is_longer, shared_length tree means.is_file)
+
+pub update_bounds_are_known : UpdateBoundsAreKnown
+update_bounds_are_known = record { text = shared_is_updated; text_within = shared_is_within }
 
 -- ---- the lengths of descriptions
 
@@ -85,7 +126,7 @@ shorter_length = rw no_entries refl
 pub description_bounds_are_known : DescriptionBoundsAreKnown
 description_bounds_are_known = record {
   as_long = record { payloads = λ over. over; short = omega (arith, longer_length) };
-  as_long_is_within = λ is. elim is [ | inl over ↦ over | inr over ↦ omega (arith, over, longer_length) ];
+  as_long_is_within = λ is. elim is [ inl over ↦ over | inr over ↦ omega (arith, over, longer_length) ];
   longer = λ can. omega (arith, can.short, longer_length);
   longer_is_over = inr (omega (arith, longer_length));
   payloads = λ can. can.payloads (lit< tt);
@@ -95,17 +136,17 @@ description_bounds_are_known = record {
 -- ---- errors
 
 -- The first meaning is too long for 88 bytes, and the second is not.
-longer_cannot : ¬ (CanBeDescribed (limited_to 88) longer_meaning)
+longer_cannot : ¬ (CanBeDescribed Lines (limited_to 88) longer_meaning)
 longer_cannot can = omega (arith, can.short, longer_length)
 
-longer_is_too_long : IsTooLongToDescribe (limited_to 88) longer_meaning
+longer_is_too_long : IsTooLongToDescribe Lines (limited_to 88) longer_meaning
 longer_is_too_long = inr (omega (arith, longer_length))
 
-shorter_can : CanBeDescribed (limited_to 88) shorter_meaning
+shorter_can : CanBeDescribed Lines (limited_to 88) shorter_meaning
 shorter_can = record { payloads = λ over. omega (arith, over); short = omega (arith, shorter_length) }
 
-shorter_is_not : ¬ (IsTooLongToDescribe (limited_to 88) shorter_meaning)
-shorter_is_not is = elim is [ | inl over ↦ omega (arith, over) | inr over ↦ omega (arith, over, shorter_length) ]
+shorter_is_not : ¬ (IsTooLongToDescribe Lines (limited_to 88) shorter_meaning)
+shorter_is_not is = elim is [ inl over ↦ omega (arith, over) | inr over ↦ omega (arith, over, shorter_length) ]
 
 -- Neither of two short ones is refused.
 neither_fails : (error : CompareError) → ¬ (FailsDescribing shorter_meaning shorter_meaning error)

@@ -1,6 +1,6 @@
-use Rattle.std.proofs.Common.{◌≡◌, ◌⊎◌, ℕ, zero, suc, ◌+◌, ◌-◌, ◌<◌, ◌≤◌, List, [], ◌∷◌, ◌++◌, length, inl, inr, refl, arith}
+use Rattle.std.proofs.Common.{◌≡◌, ◌⊎◌, ℕ, zero, suc, ◌+◌, ◌-◌, ◌<◌, ◌≤◌, List, [], ◌∷◌, ◌++◌, length, inl, inr, refl, sym, ap, ap₂, subst, ◌∙◌, arith}
 use Rattle.std.specs.List.{AllZip, range_with_len, sum}
-use Rattle.std.proofs.lemmas.List.Sums.{sum_by-append}
+use Rattle.std.proofs.lemmas.List.Sums.{sum_by_push}
 use Rattle.std.proofs.lemmas.Bool.{cases_eq}
 use Rattle.bi_base.specs.Cells.{u32_at}
 use Rattle.bi_base.specs.Checks.{HasNoFault}
@@ -15,9 +15,10 @@ use Rattle.bi_norm.specs.declared.kind.Kind.{Kind}
 use Rattle.bi_norm.specs.declared.kind.Kind.TheVariants as kind
 use Rattle.bi_norm.specs.Kinds.{BeginsAs, IsKindFault, TooShort, OfNoKind, magic_of}
 use Rattle.bi_commands.specs.Offsets.{input_from}
-use Rattle.bi_commands.specs.Scanning.{AreClaims, HasBlobClaim, HasLegacyClaim, IsClaim, IsOverClaims, OfBlob, OfData, OfNothing}
-use Rattle.bi_commands.specs.Scanning.{blob_claim_checks, legacy_claim_checks}
-use Rattle.bi_commands.proofs.OffsetLists.{all_offsets}
+use Rattle.bi_commands.specs.Scanning.{HasBlobClaim, HasLegacyClaim, IsClaim, IsOverClaims, OfBlob, OfData, OfNothing}
+use Rattle.bi_commands.specs.ScanLaws.{ScanHasNoFault}
+use Rattle.bi_commands.specs.Scanning.{blob_claim_checks, input_offsets, legacy_claim_checks}
+use Rattle.bi_commands.proofs.OffsetLists.{next_offset}
 
 -- Each image has a claim, so those of the first offsets are some of those of all offsets.
 
@@ -72,22 +73,76 @@ claim_of_image image = by (legacy_decided image) (blob_decided image) where
   by (inr fails) (inl claim) = (totalsize image, OfBlob claim refl)
   by (inr fails) (inr none) = (0, OfNothing fails none refl)
 
--- So have those at offsets in a row.
-claims_from : (input : List ℕ) (begin count : ℕ) →
-    (claims : List ℕ) × AllZip (λ offset. IsClaim (input_from offset input)) (range_with_len begin count) claims
-claims_from input begin zero = ([], tt)
-claims_from input begin (suc count) =
-    let first = claim_of_image (input_from begin input) in
-    let later = claims_from input (begin + 1) count in
-    (first.0 ∷ later.0, (first.1, later.1))
+-- The claims of the first images are some of those of more images,
+more_claims : (input claims : List ℕ) (count more : ℕ) →
+    AllZip (λ offset. IsClaim (input_from offset input)) (range_with_len 0 count) claims →
+    (all : List ℕ) × AllZip (λ offset. IsClaim (input_from offset input)) (range_with_len 0 (count + more)) all × (sum claims ≤ sum all)
+more_claims input claims count zero are = (
+  claims,
+  subst (λ (count : ℕ). AllZip (λ offset. IsClaim (input_from offset input)) (range_with_len 0 count) claims)
+      (let same : count ≡ count + zero = omega arith in same) are,
+  omega arith,
+)
+more_claims input claims count (suc more) are =
+    let next = claim_of_image (input_from count input) in
+    let all = more_claims input (claims ++ next.0 ∷ []) (count + 1) more
+    (next_offset (λ offset. IsClaim (input_from offset input)) count claims next.0 are next.1) in (
+      all.0,
+      subst (λ (count : ℕ). AllZip (λ offset. IsClaim (input_from offset input)) (range_with_len 0 count) all.0)
+          (let same : count + 1 + more ≡ count + suc more = omega arith in same) all.1,
+      omega (arith, all.2, sum_by_push (λ (claim : ℕ). claim) claims next.0),
+    )
 
--- If the images at the first offsets claim more than the limit, all do.
+-- so if the first images claim more than the limit, all do.
 pub over_claims : (limits : Limits) (input claims : List ℕ) (count : ℕ) → count ≤ length input →
-    AllZip (λ offset. IsClaim (input_from offset input)) (range_with_len 0 count) claims → limits.file < sum claims → IsOverClaims limits input
+    AllZip (λ offset. IsClaim (input_from offset input)) (range_with_len 0 count) claims → limits.file < sum claims →
+    IsOverClaims limits input
 over_claims limits input claims count within are over =
-    let later = claims_from input count (length input - count) in
+    let all = more_claims input claims count (length input - count) are in
     record {
-      claims = claims ++ later.0;
-      are_claims = all_offsets (λ offset. IsClaim (input_from offset input)) count (length input) claims later.0 within are later.1;
-      over = omega (arith, over, sum_by-append (λ (claim : ℕ). claim) claims later.0);
+      claims = all.0;
+      are_claims = subst (λ (count : ℕ). AllZip (λ offset. IsClaim (input_from offset input)) (range_with_len 0 count) all.0)
+          (let same : count + (length input - count) ≡ length input = omega (arith, within) in same) all.1;
+      over = omega (arith, over, all.2);
     }
+
+-- ---- one claim
+
+-- An image begins as one kind.
+begins_once : (image : List ℕ) → BeginsAs image kind.Legacy → ¬ (BeginsAs image kind.Fit)
+begins_once image begins other = omega (arith, begins.magic, other.magic)
+
+-- An image has one claim.
+pub one_claim : (image : List ℕ) (one other : ℕ) → IsClaim image one → IsClaim image other → one ≡ other
+one_claim image one other (OfData claims is) (OfData claims_too is_too) = is ∙ sym is_too
+one_claim image one other (OfData claims is) (OfBlob claims_too is_too) = absurd (begins_once image claims.begins claims_too.begins)
+one_claim image one other (OfData claims is) (OfNothing fails none is_too) = absurd (fails claims)
+one_claim image one other (OfBlob claims is) (OfData claims_too is_too) = absurd (begins_once image claims_too.begins claims.begins)
+one_claim image one other (OfBlob claims is) (OfBlob claims_too is_too) = is ∙ sym is_too
+one_claim image one other (OfBlob claims is) (OfNothing fails none is_too) = absurd (none claims)
+one_claim image one other (OfNothing fails none is) (OfData claims is_too) = absurd (fails claims)
+one_claim image one other (OfNothing fails none is) (OfBlob claims is_too) = absurd (none claims)
+one_claim image one other (OfNothing fails none is) (OfNothing fails_too none_too is_too) = is ∙ sym is_too
+
+-- So have those at some offsets.
+same_claims : (input offsets claims others : List ℕ) → AllZip (λ offset. IsClaim (input_from offset input)) offsets claims →
+    AllZip (λ offset. IsClaim (input_from offset input)) offsets others → claims ≡ others
+same_claims input [] [] [] are are_too = refl
+same_claims input [] [] (other ∷ others) are are_too = absurd are_too
+same_claims input [] (claim ∷ claims) others are are_too = absurd are
+same_claims input (offset ∷ offsets) [] others are are_too = absurd are
+same_claims input (offset ∷ offsets) (claim ∷ claims) [] are are_too = absurd are_too
+same_claims input (offset ∷ offsets) (claim ∷ claims) (other ∷ others) are are_too =
+    ap₂ (λ (claim : ℕ) (claims : List ℕ). claim ∷ claims) (one_claim (input_from offset input) claim other are.0 are_too.0)
+    (same_claims input offsets claims others are.1 are_too.1)
+
+-- An input that can be scanned has no fault.
+pub scan_has_no_fault : ScanHasNoFault
+scan_has_no_fault limits input text fault is faulty = by faulty.cause where
+  by : (limits.file < length input) ⊎ IsOverClaims limits input → ⊥
+  by (inl longer) = omega (arith, longer, is.can.short)
+  by (inr over) =
+      let within = is.can.within in
+      let same : sum within.claims ≡ sum over.claims =
+      ap sum (same_claims input (input_offsets input) within.claims over.claims within.are_claims over.are_claims) in
+      omega (arith, same, within.within, over.over)

@@ -12,7 +12,7 @@ use Rattle.bi_base.specs.Commands.{Appended}
 use Rattle.bi_base.specs.Limits.{Limits}
 use Rattle.bi_base.specs.Sinks.{FailsWithin, Wrote}
 use Rattle.bi_base.specs.VecSinks.{Grows, IsOutOfMemory, grows_nothing}
-use Rattle.bi_blob.specs.Blob.{header_length, lacks_structure_size}
+use Rattle.bi_blob.proofs.Blobs.Headers.{Header-HasNoHeaderFault}
 use Rattle.bi_fit.specs.Content.{FitModel, ImageModel, tree_of}
 use Rattle.bi_fit.specs.Reading.{IsReadFit}
 use Rattle.bi_fit.proofs.Meanings.{begins_with_magic}
@@ -33,20 +33,13 @@ use Rattle.bi_commands.proofs.OffsetLists.{next_offset}
 
 -- What was read at an offset of a file has the line of the image there.
 
--- A header is longer than the magic number.
-long_header : (file : List ℕ) → 4 ≤ header_length file
-long_header file = by (lacks_structure_size file) refl where
-  by : (short : Bool) → lacks_structure_size file ≡ short → 4 ≤ header_length file
-  by true is = rw is (omega arith)
-  by false is = rw is (omega arith)
-
 -- What means something begins as an image of some kind.
 pub means_kind : (limits : Limits) (image : List ℕ) (meaning : Meaning) → Means limits image meaning → (found : Kind) × BeginsAs image found
 means_kind limits image (OfLegacy legacy_image) means = (kind.Legacy, means_legacy limits image legacy_image means)
 means_kind limits image (OfFit tree) means = (
   kind.Fit,
   record {
-    whole = omega (arith, long_header image, means.is_file.blob.header.whole);
+    whole = (Header-HasNoHeaderFault limits image means.within.short means.is_file.blob.header).1.0;
     magic = begins_with_magic image tree means.is_file;
   },
 )
@@ -59,8 +52,9 @@ no_kind_means_nothing limits image fault (OfNoKind whole none is) meaning means 
     let begins = means_kind limits image meaning means in none begins.0 begins.1
 
 -- There is no line for it.
-pub no_kind_no_line : (limits : Limits) (input image lines : List ℕ) (offset : ℕ) (result : Result Kind Fault) → image ≡ input_from offset input →
-    is_err result ≡ true → IfErr result (IsKindFault image) → Appended Grows (IsLineAt limits input offset) lines lines
+pub no_kind_no_line : (limits : Limits) (input image lines : List ℕ) (offset : ℕ) (result : Result Kind Fault) →
+    image ≡ input_from offset input → is_err result ≡ true → IfErr result (IsKindFault image) →
+    Appended Grows (IsLineAt limits input offset) lines lines
 no_kind_no_line limits input image lines offset (Ok found) is err fault = absurd cc
 no_kind_no_line limits input image lines offset (Err fault) is err faulty = record {
   text = [];
@@ -129,8 +123,8 @@ abbrev pub HasFirstLines : Limits → (input : List ℕ) → (count : ℕ) → (
 HasFirstLines limits input count old new =
     (lines : List (List ℕ)) × AllZip (IsLineAt limits input) (range_with_len 0 count) lines × (new ≡ old ++ concat lines)
 
-pub no_lines : (limits : Limits) (input lines : List ℕ) → HasFirstLines limits input 0 lines lines
-no_lines limits input lines = ([], tt, sym (append-nil lines))
+pub before_lines : (limits : Limits) (input lines : List ℕ) → HasFirstLines limits input 0 lines lines
+before_lines limits input lines = ([], tt, sym (append-nil lines))
 
 pub next_line : (limits : Limits) (input old lines new : List ℕ) (count : ℕ) → HasFirstLines limits input count old lines →
     Appended Grows (IsLineAt limits input count) lines new → HasFirstLines limits input (count + 1) old new
@@ -159,9 +153,16 @@ all_lines limits input old new count is (lines, are, same) = record {
 ascii_line_at : (limits : Limits) (input : List ℕ) (offset : ℕ) (text : List ℕ) → IsLineAt limits input offset text → HasAscii text
 ascii_line_at limits input offset text (WithImage extent (OfLegacy image) is same) =
     subst HasAscii (sym same)
-    (ascii_line (decimal offset ∷ codes "legacy" ∷ decimal extent ∷ shown_text image.name ∷ [])
-    (decimal_shown offset, (by_test (codes "legacy") refl, (decimal_shown extent,
-    (name_shown image.name (image_of_file (input_from offset input) image is.means.is_file).name_bytes, tt)))))
+    (ascii_line (decimal offset ∷ codes "legacy" ∷ decimal extent ∷ shown_text image.name ∷ []) (
+      decimal_shown offset,
+      (
+        by_test (codes "legacy") refl,
+        (
+          decimal_shown extent,
+          (name_shown image.name (image_of_file (input_from offset input) image is.means.is_file).name_bytes, tt),
+        ),
+      ),
+    ))
 ascii_line_at limits input offset text (WithImage extent (OfFit tree) is same) =
     subst HasAscii (sym same)
     (ascii_line (decimal offset ∷ codes "fit" ∷ decimal extent ∷ decimal (length tree.payloads) ∷ [])

@@ -1,10 +1,8 @@
-use Rattle.std.proofs.Common.{◌≡◌, ℕ, ◌+◌, ◌-◌, ◌<◌, ◌≤◌, List, [], ◌∷◌, ◌++◌, Option, Some, codes, flat_map, drop, get_or, take, length}
+use Rattle.std.proofs.Common.{◌≡◌, ℕ, ◌-◌, ◌<◌, ◌≤◌, List, [], ◌∷◌, ◌++◌, codes, take, length}
 use Rattle.std.proofs.Common.{map, refl, sym, ap, ◌∙◌, arith, append_assoc, append-nil, length-append}
 use Rattle.std.specs.FinMap.{entries}
-use Rattle.std.specs.List.{slice_get}
-use Rattle.std.proofs.lemmas.List.{drop_more, take-append-le}
+use Rattle.std.proofs.lemmas.List.{take-append-le}
 use Rattle.std.proofs.Math.Seq.{take-length}
-use Rattle.bi_blob.specs.Blob.{Reservation, end_pair}
 use Rattle.bi_blob.specs.Tree.{Nodes, none, node, Property}
 use Rattle.bi_base.specs.Limits.{Limits}
 use Rattle.bi_fit.specs.NormalNodes.{payloads_of}
@@ -13,10 +11,9 @@ use Rattle.bi_fit.specs.Content.{FitModel, ImageModel, image_model, tree_of}
 use Rattle.bi_fit.specs.ImageTree.{ImageTree}
 use Rattle.bi_norm.specs.Meaning.{OfFit}
 use Rattle.bi_commands.specs.Descriptions.{Words, DescribedNode, NodePayload, NotAnImage, OfImage, described_nodes, node_lines, path}
-use Rattle.bi_commands.specs.Descriptions.{payload_words, property_words, reservation_words, tree_lines}
+use Rattle.bi_commands.specs.Descriptions.{payload_words, property_words, tree_lines}
 use Rattle.bi_commands.specs.PayloadBounds.{IsOverPayloadBound, payloads_length}
 use Rattle.bi_commands.specs.ReadDescription.{root_lines}
-use Rattle.bi_commands.specs.Shown.{line}
 use Rattle.bi_commands.specs.TreeEntries.{EntryModel, NodeEnds, PropertyEntry, entry_lines, node_entries, own_entries, payload_entries}
 use Rattle.bi_commands.specs.TreeEntries.{tree_entries}
 

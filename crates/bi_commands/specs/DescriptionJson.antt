@@ -1,13 +1,11 @@
-use Rattle.std.specs.Prelude.{◌≡◌, ℕ, List, [], ◌∷◌, ◌++◌, Option, None, Some, map, codes}
+use Rattle.std.specs.Prelude.{ℕ, List, [], ◌∷◌, ◌++◌, Option, None, Some, map, codes}
 use Rattle.std.specs.Prelude.{if◌then◌else◌}
 use Rattle.std.specs.FinMap.{entries}
-use Rattle.bi_base.specs.Limits.{Limits}
 use Rattle.bi_blob.specs.Tree.{Nodes, none, node, Property}
 use Rattle.bi_fit.specs.ImageTree.{ImageTree}
 use Rattle.bi_fit.specs.Judgement.{listed_names}
 use Rattle.bi_legacy.specs.Meaning.{LegacyImage}
-use Rattle.bi_norm.specs.Meaning.{Meaning, OfLegacy, OfFit, Means}
-use Rattle.bi_commands.specs.DescriptionLaws.{AreSimilar}
+use Rattle.bi_norm.specs.Meaning.{Meaning, OfLegacy, OfFit}
 use Rattle.bi_commands.specs.Descriptions.{PayloadDigest, digest_of_payload, NodePayload}
 use Rattle.bi_commands.specs.Descriptions.{NotAnImage, OfImage, DescribedNode, plain_node}
 use Rattle.bi_commands.specs.Descriptions.{described_nodes}
@@ -96,11 +94,3 @@ meaning_object (OfFit tree) = fit_object tree
 -- The text of the description of a meaning in JSON.
 abbrev pub description_json : Meaning → List ℕ
 description_json meaning = json_line (meaning_object meaning)
-
--- Files with one description in JSON have meanings that are the same once each payload is replaced
--- by its length and its SHA-256, whatever the limits.
-abbrev pub SameJsonIsSimilar : Type 0
-SameJsonIsSimilar =
-    (limits other_limits : Limits) (file other_file : List ℕ) (one other : Meaning)
-    → Means limits file one → Means other_limits other_file other
-    → description_json one ≡ description_json other → AreSimilar one other

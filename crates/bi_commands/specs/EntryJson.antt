@@ -1,6 +1,7 @@
 use Rattle.std.specs.Prelude.{ℕ, List, [], ◌∷◌, ◌++◌, codes}
 use Rattle.bi_commands.specs.declared.describe.json.NodePart.{NodePart}
-use Rattle.bi_commands.specs.declared.describe.json.NodePart.TheVariants.{Head, Properties, Children}
+use Rattle.bi_commands.specs.declared.describe.json.NodePart.TheVariants.{Head, Properties}
+use Rattle.bi_commands.specs.declared.describe.json.NodePart.TheVariants.{Children}
 use Rattle.bi_commands.specs.DescriptionJson.{payload_or_null, property_object}
 use Rattle.bi_commands.specs.Json.{JsonText, json_string}
 use Rattle.bi_commands.specs.Shown.{shown_text}

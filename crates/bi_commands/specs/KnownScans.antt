@@ -1,9 +1,10 @@
-use Rattle.std.specs.Prelude.{ℕ, ◌≡◌, List, [], ◌∷◌, ◌++◌, length, replicate, codes}
+use Rattle.std.specs.Prelude.{ℕ, ◌≡◌, List, [], ◌∷◌, ◌++◌, length, replicate, take, codes}
 use Rattle.bi_base.specs.Cells.{cell}
 use Rattle.bi_base.specs.Crc.{crc32}
 use Rattle.bi_base.specs.Limits.{Limits}
 use Rattle.bi_base.specs.Reading.{too_large}
 use Rattle.bi_blob.specs.Blob.{blob_magic}
+use Rattle.bi_blob.specs.KnownBlobs.{with_cell}
 use Rattle.bi_blob.specs.KnownTexts.{smallest_text}
 use Rattle.bi_fit.specs.KnownFiles.{three_external}
 use Rattle.bi_legacy.specs.File.{header_cells, legacy_magic}
@@ -52,20 +53,27 @@ two_lines = codes "0 legacy 73 k" ++ 10 ∷ (codes "74 fit 88 0" ++ 10 ∷ [])
 abbrev pub nested_lines : List ℕ
 nested_lines = codes "0 legacy 152 k" ++ 10 ∷ (codes "64 fit 88 0" ++ 10 ∷ [])
 
--- What images claim, also if bytes follow them. A header whose data is not all there claims
--- nothing, and neither does a magic number alone, nor no magic number.
+-- What images claim, also if bytes follow them: a legacy image whose data checksum is wrong, and a
+-- blob of version 16, too. A header that fails a check claims nothing, and neither does an image of
+-- no kind.
 pub record ClaimsAreKnown : Type 0 where
   pub legacy : IsClaim two_images 73
-  pub tree : IsClaim (smallest_text ++ 0xff ∷ []) 88
+  pub wrong_data : IsClaim (with_cell kernel_file 64 0) 73
+  pub wrong_header : IsClaim (with_cell kernel_file 4 0) 0
+  pub cut_legacy : IsClaim (take 72 kernel_file) 0
   pub great : IsClaim great_header 0
+  pub tree : IsClaim (smallest_text ++ 0xff ∷ []) 88
+  pub version_16 : IsClaim (with_cell smallest_text 20 16) 88
+  pub version_15 : IsClaim (with_cell smallest_text 20 15) 0
+  pub cut_tree : IsClaim (take 87 smallest_text) 0
   pub legacy_alone : IsClaim (cell legacy_magic) 0
   pub blob_alone : IsClaim (cell blob_magic) 0
   pub other : IsClaim (codes "hello") 0
   pub empty : IsClaim [] 0
 
 -- The texts of scans: two images one after the other, one inside the other, external payloads, and
--- no image at all. The claims of the first are 161 together, of the second 240, and a limit below
--- that refuses the file.
+-- no image at all. The claims of the first are 161 together, and of the second 240: a lower limit
+-- refuses the file.
 pub record ScansAreKnown : Type 0 where
   pub two : IsScanText (scan_limits 162) two_images two_lines
   pub nested : IsScanText (scan_limits 240) nested_images nested_lines

@@ -10,7 +10,10 @@ use Rattle.bi_commands.specs.UpdatedFiles.{updated_meaning}
 -- Small boot images with what they mean after an update, by which a reader can judge the
 -- definitions.
 
--- An update of the time, and one of the digests.
+-- No change, an update of the time, and one of the digests.
+abbrev pub no_changes : Changes
+no_changes = record { time = None; hashes = false }
+
 abbrev pub only_time : (time : ℕ) → Changes
 only_time time = record { time = Some time; hashes = false }
 

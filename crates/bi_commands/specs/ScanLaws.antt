@@ -1,10 +1,12 @@
-use Rattle.std.specs.Prelude.{ℕ, ◌≡◌, ◌≢◌, ◌+◌, ◌≤◌, List, [], length}
+use Rattle.std.specs.Prelude.{ℕ, ◌≡◌, ◌≢◌, ◌+◌, ◌*◌, ◌≤◌, List, [], length, bytes_eq, count_by}
+use Rattle.std.specs.Prelude.{not}
 use Rattle.std.specs.List.{Contains}
 use Rattle.bi_base.specs.Cells.{slice}
+use Rattle.bi_base.specs.declared.fault.Fault.{Fault}
 use Rattle.bi_base.specs.Limits.{Limits}
 use Rattle.bi_norm.specs.Meaning.{Meaning, Means}
 use Rattle.bi_commands.specs.Offsets.{input_from}
-use Rattle.bi_commands.specs.Scanning.{IsImageAt, IsScanText, scan_line}
+use Rattle.bi_commands.specs.Scanning.{IsImageAt, IsScanFault, IsScanText, scan_line}
 
 -- Laws of the boot images inside a file. Each is the contract of a function in `laws`.
 
@@ -44,3 +46,20 @@ abbrev pub OneScan : Type 0
 OneScan =
     (limits : Limits) (input one other : List ℕ)
     → IsScanText limits input one → IsScanText limits input other → one ≡ other
+
+-- An input with a scan has no fault.
+abbrev pub ScanHasNoFault : Type 0
+ScanHasNoFault =
+    (limits : Limits) (input text : List ℕ) (fault : Fault)
+    → IsScanText limits input text → ¬ (IsScanFault limits input fault)
+
+-- How many of these lines are not empty.
+abbrev pub line_count : List (List ℕ) → ℕ
+line_count lines = count_by (λ text. not (bytes_eq text [])) lines
+
+-- A scan has at most as many lines as an input of the limit's length has room for headers of legacy
+-- images.
+abbrev pub LinesAreFew : Type 0
+LinesAreFew =
+    (limits : Limits) (input text : List ℕ) (is : IsScanText limits input text)
+    → 64 * line_count is.has.lines ≤ limits.file

@@ -34,7 +34,8 @@ impl<C: Command> Command for At<C> {
         limits: Limits,
         sink: &mut S,
     ) -> Result<C::Value, C::Failure> {
-        self.command.run(alloc, image_at(input, self.offset as usize), limits, sink)
+        self.command
+            .run(alloc, image_at(input, self.offset as usize), limits, sink)
     }
 
     ghost wraps_from = { λ at. C.wraps_from at.command };

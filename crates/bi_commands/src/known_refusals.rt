@@ -1,7 +1,7 @@
 //! Small boot images with what the commands refuse of them. Each function does nothing: what it
 //! ensures is a fact about the definitions.
 
-ghost use Rattle.bi_commands.specs.KnownBounds.{PayloadBoundsAreKnown};
+ghost use Rattle.bi_commands.specs.KnownBounds.{PayloadBoundsAreKnown, UpdateBoundsAreKnown};
 ghost use Rattle.bi_commands.specs.KnownRefusals.{DescriptionBoundsAreKnown};
 ghost use Rattle.bi_commands.specs.KnownRefusals.{DescribingErrorsAreKnown, ReadingErrorsAreKnown};
 
@@ -11,6 +11,11 @@ pub fn payload_bounds_are_known()
     ensures { PayloadBoundsAreKnown }
 {}
 
+/// An update whose text is as long as the limit is not refused, and a longer one is.
+pub fn update_bounds_are_known()
+    ensures { UpdateBoundsAreKnown }
+{}
+
 /// An image whose description is as long as the limit can be described, and one whose description
 /// or whose payloads are longer cannot.
 pub fn description_bounds_are_known()
@@ -18,13 +23,13 @@ pub fn description_bounds_are_known()
 {}
 
 /// If two images are too long to describe, the error names the first, and no error names the
-/// second. If one is, the error names that one.
+/// second. If one is too long, the error names that one.
 pub fn describing_errors_are_known()
     ensures { DescribingErrorsAreKnown }
 {}
 
-/// If two files mean nothing, the error names the first, and no error names the second. If one does,
-/// the error names that one.
+/// If two files mean nothing, the error names the first, and no error names the second. If one
+/// means nothing, the error names that one.
 pub fn reading_errors_are_known()
     ensures { ReadingErrorsAreKnown }
 {}

@@ -1,5 +1,5 @@
-//! Small boot images with what they mean after an update. The function does nothing: what it ensures
-//! is a fact about the definitions.
+//! Small boot images with what they mean after an update. The function does nothing: what it
+//! ensures is a fact about the definitions.
 
 ghost use Rattle.bi_commands.specs.KnownUpdates.{UpdatedMeaningsAreKnown};
 

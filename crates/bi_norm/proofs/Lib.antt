@@ -10,5 +10,6 @@ pub mod Comparisons
 pub mod ImageChecks
 pub mod BuildFaultFacts
 pub mod ComparisonFacts
+pub mod TextBoundFacts
 pub mod BuiltChecks
 pub mod BuiltTexts

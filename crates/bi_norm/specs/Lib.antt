@@ -13,5 +13,6 @@ pub mod Comparing
 pub mod KnownConversions
 pub mod KnownPieces
 pub mod KnownBuildFaults
+pub mod KnownBounds
 pub mod KnownComparisons
 pub mod Laws

@@ -1,10 +1,11 @@
 //! Small legacy images with what they are converted to, small inputs with their pieces, small trees
-//! that cannot be built, and small files that are compared. Each function does nothing: what it
-//! ensures is a fact about the definitions. One calls the function of a law, from which its fact
-//! follows.
+//! that cannot be built, and small files that are compared or whose normal texts are too long. Each
+//! function does nothing: what it ensures is a fact about the definitions. One of them calls the
+//! function of a law, from which its fact follows.
 
 ghost use Rattle.bi_norm.specs.KnownConversions.{ConversionsAreKnown, ConvertFaultsAreKnown};
 ghost use Rattle.bi_norm.specs.KnownConversions.{TypesHaveTheirKeys};
+ghost use Rattle.bi_norm.specs.KnownBounds.{TextBoundsAreKnown};
 ghost use Rattle.bi_norm.specs.KnownComparisons.{ComparedFilesAreKnown, CompareErrorsAreKnown};
 ghost use Rattle.bi_norm.specs.KnownPieces.{CutsAreKnown, CutFaultsAreKnown};
 ghost use Rattle.bi_norm.specs.KnownBuildFaults.{BuildFaultsAreKnown, RefusalsAreKnown};
@@ -48,7 +49,8 @@ pub fn refusals_need_no_memory()
     ensures { RefusalsAreKnown }
 {}
 
-/// A kernel image means the same as one with bytes after it, and not the same as a multi-file image.
+/// A kernel image means the same as one with bytes after it, and not the same as a multi-file
+/// image.
 pub fn compared_files_are_known()
     ensures { ComparedFilesAreKnown }
 {
@@ -59,4 +61,10 @@ pub fn compared_files_are_known()
 /// means anything, the error has the fault of the first, and no error has that of the second.
 pub fn compare_errors_are_known()
     ensures { CompareErrorsAreKnown }
+{}
+
+/// A file is refused for its normal text if that is longer than the limit, and not if it is as long
+/// as that.
+pub fn text_bounds_are_known()
+    ensures { TextBoundsAreKnown }
 {}

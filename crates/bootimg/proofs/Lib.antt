@@ -17,3 +17,7 @@ pub mod FilesAfter
 pub mod LeftFiles
 pub mod MemoryLogs
 pub mod JobStatuses
+pub mod ArgumentFacts
+pub mod OptionFacts
+pub mod RunLines
+pub mod StepFacts

@@ -15,3 +15,6 @@ pub mod ErrorLines
 pub mod FilesAfter
 pub mod LeftFiles
 pub mod MemoryFiles
+pub mod KnownArguments
+pub mod KnownRuns
+pub mod KnownSteps

@@ -10,6 +10,7 @@ mod explanations;
 mod failure;
 mod files;
 mod jobs;
+mod known_runs;
 mod memory_files;
 mod new_file;
 mod no_input;

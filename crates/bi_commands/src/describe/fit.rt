@@ -50,8 +50,8 @@ pub(super) fn describe_fit<S: Sink>(
     Ok(())
 }
 
-/// Appends a flattened image tree with these entries, in a form. Fails as the sink does. `names` has
-/// room for the names of all nodes that are open at once.
+/// Appends a flattened image tree with these entries, in a form. Fails as the sink does. `names`
+/// has room for the names of all nodes that are open at once.
 fn put_fit<'a, S: Sink>(
     blob: &Blob,
     entries: &[Entry<'a>],

@@ -4,7 +4,7 @@ use Rattle.bi_c.specs.declared.failure.Failure.TheVariants.{WrongArgument}
 use Rattle.bi_c.specs.Answers.{FilledNothing}
 use Rattle.bi_c.specs.Calls.{HasKinds}
 use Rattle.bi_c.proofs.CallAnswers.{not_so, is_so, fills_as}
-use Rattle.bi_c.proofs.CheckedFiles.{checked_as, check_failed_as}
+use Rattle.bi_c.proofs.CheckedFiles.{checked_as, call_not_checked}
 use Rattle.bi_c.proofs.check.bootimg_check.Goals as goal
 
 pub returns-in_default : goal.returns-in_default
@@ -25,5 +25,5 @@ returns c =
     fills_as _ _ _ _ _ _ _ _
     (checked_as Lines c.args.limit c.args.depth c.args.kinds c.in-Some.limits c.in-Some-allowed_of.allowed c.args.file.now valid
     c.in-Some.ensures.value c.in-Some-allowed_of.ensures.value)
-    (check_failed_as c.args.limit c.args.depth c.args.kinds c.in-Some.limits c.args.file.now valid c.in-Some.ensures.value)
+    (call_not_checked c.args.limit c.args.depth c.args.kinds c.in-Some.limits c.args.file.now valid c.in-Some.ensures.value)
     c.fill_concerns.ensures

@@ -15,7 +15,8 @@ returns-in_ok-put_comma-in-Json g c =
     let S = g.S.Sink in
     let laws = g.met.S.Sink in
     let reservation : Reservation = record { address = c.args.address; size = c.args.size } in
-    subst (λ (format : Format). Wrote S.appends S.fails c.args.sink.now (in_turn format c.args.is_later (reservation_text format reservation ∷ []))
+    subst (λ (format : Format). Wrote S.appends S.fails c.args.sink.now
+    (in_turn format c.args.is_later (reservation_text format reservation ∷ []))
     c.put_reservation_object.result c.put_reservation_object.new.sink) (sym c.in-Json.is)
     (last_writes S.appends S.fails laws.appends_in_turn laws.fails_after c.args.sink.now c.put_comma.new.sink
     c.put_reservation_object.new.sink (comma c.args.is_later) (reservation_object reservation) _ c.put_reservation_object.result

@@ -1,10 +1,11 @@
-use Rattle.std.proofs.Common.{◌≡◌, ◌<◌, ◌≤◌, ◌+◌, ◌==◌, not, true, false, length, drop, map, List, [], ◌∷◌, sym, ap, subst, arith, ℕ, Some, refl}
+use Rattle.std.proofs.Common.{◌≡◌, ◌<◌, ◌≤◌, ◌+◌, ◌==◌, not, true, false, length, drop, map, List, [], ◌∷◌, sym, ap, subst}
+use Rattle.std.proofs.Common.{arith, ℕ, Some, refl}
 use Rattle.std.proofs.lemmas.Bool.{ne_eqb}
 use Rattle.std.proofs.lemmas.List.{drop_all}
 use Rattle.bi_base.proofs.SinkLaws.{passed_on}
 use Rattle.bi_commands.specs.Formats.{in_turn}
 use Rattle.bi_commands.specs.ReadListing.{reservation_text}
-use Rattle.bi_commands.proofs.FitLines.{no_more_reservation, reservation_of, reservations_from}
+use Rattle.bi_commands.proofs.FitLines.{no_more_reservation, reservation_and_later, reservation_of}
 use Rattle.bi_commands.proofs.TextsInTurn.{turn_begins, turn_ends, turn_fails, turn_goes_on}
 use Rattle.bi_commands.proofs.common_lines.put_reservations.Goals as goal
 use Rattle.bi_commands.proofs.common_lines.put_reservations.Goals.{in-Some+in_ok-put_reservation, in_default}
@@ -24,7 +25,8 @@ returns-in_err-put_reservation g c =
     passed_on S.appends S.fails c.args.sink.now _ _ c.from_residual.result c.put_reservation.new.sink c.from_residual.ensures.1
     (turn_fails S.appends S.fails laws.fails_after laws.fails_before c.args.sink.now c.loop-index.sink c.put_reservation.new.sink
     c.args.format false (not (index == 0)) (text (reservation_of (Some numbers)) ∷ []) (map text (drop (index + 1) reservations)) _ _ _
-    c.loop-index.invariant (reservations_from text reservations index c.reservation.result numbers within c.reservation.ensures c.in-Some.is)
+    c.loop-index.invariant
+    (reservation_and_later text reservations index c.reservation.result numbers within c.reservation.ensures c.in-Some.is)
     c.in_err-put_reservation.ensures)
 
 pub loop-index-preserved : goal.loop-index-preserved
@@ -42,7 +44,7 @@ loop-index-preserved g c =
           let one : List (List ℕ) = text (reservation_of (Some numbers)) ∷ [] in
           turn_goes_on S.appends g.met.S.Sink.appends_in_turn c.args.sink.now c.loop-index.sink c.match-reservation.sink format false
           (not (index == 0)) _ one (map text (drop (index + 1) reservations)) _ _ c.loop-index.invariant
-          (reservations_from text reservations index c.reservation.result numbers within c.reservation.ensures w.in-Some.is) later
+          (reservation_and_later text reservations index c.reservation.result numbers within c.reservation.ensures w.in-Some.is) later
           (subst (λ sink. S.appends c.loop-index.sink (in_turn format (not (index == 0)) one) sink) (sym w.sink-is)
           w.in_ok-put_reservation.ensures)
       | in_default w ↦ no_more_reservation reservations index c.reservation.result within c.reservation.ensures w.in_default.is

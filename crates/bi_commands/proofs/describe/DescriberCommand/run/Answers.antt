@@ -14,7 +14,8 @@ pub returns-in_err-describe_into-clause-failed : goal.returns-in_err-describe_in
 returns-in_err-describe_into-clause-failed g c =
     let p = err_from_is_err_and c.from_residual-in_err-describe_into.result c.from_residual-in_err-describe_into.ensures.1 in
     rw (p.1, p.2)
-    (describe_failed_of_file g.S.Sink.fails c.args.self.now.format c.args.limits c.args.input.now c.in_ok-image.image c.args.sink.now c.describe_into.new.sink
+    (describe_failed_of_file g.S.Sink.fails c.args.self.now.format c.args.limits c.args.input.now c.in_ok-image.image c.args.sink.now
+    c.describe_into.new.sink
     c.in_err-describe_into.field-0.0 c.in_ok-image.ensures.read
     c.in_err-describe_into.ensures.failed)
 

@@ -13,7 +13,8 @@ use Rattle.bi_commands.proofs.describe.fit.describe_fit.Goals as goal
 pub returns-in_err-order-clause-failed : goal.returns-in_err-order-clause-failed
 returns-in_err-order-clause-failed g c =
     let p = err_from_is_err_and c.from_residual-in_err-order.result c.from_residual-in_err-order.ensures.1 in
-    rw (p.1, p.2) (WasRefused (refused_names c.args.format c.args.limits c.args.fit.now c.file-2.result c.in_err-order.field-0.0 c.requires.held
+    rw (p.1, p.2) (WasRefused (refused_names c.args.format c.args.limits c.args.fit.now c.file-2.result c.in_err-order.field-0.0
+    c.requires.held
     c.file-2.ensures.value c.in_err-order.ensures.failed) refl)
 
 pub returns-in_err-put_fit-clause-failed : goal.returns-in_err-put_fit-clause-failed

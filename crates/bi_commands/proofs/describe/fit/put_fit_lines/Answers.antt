@@ -14,8 +14,10 @@ returns-in_err-put_head-clause-wrote g c =
     let head : List Words = head_lines c.boot_cpu.result in
     let reservations : List Words = map reservation_words c.args.blob.now.reservations in
     let nodes : List Words = root_lines (map as_entry c.args.entries.now) in
-    first_of_all_fails S.appends S.fails laws.fails_before c.args.sink.now c.put_head.new.sink (flat_map line head) (flat_map line (reservations ++ nodes)) _ _ c.from_residual.result
-    (ap (λ cpu. flat_map line (head_lines cpu ++ (reservations ++ nodes))) (sym c.boot_cpu.ensures) ∙ first_of_three head reservations nodes)
+    first_of_all_fails S.appends S.fails laws.fails_before c.args.sink.now c.put_head.new.sink (flat_map line head)
+    (flat_map line (reservations ++ nodes)) _ _ c.from_residual.result
+    (ap (λ cpu. flat_map line (head_lines cpu ++ (reservations ++ nodes))) (sym c.boot_cpu.ensures) ∙ first_of_three head reservations
+    nodes)
     c.from_residual.ensures.1 c.in_err-put_head.ensures
 
 pub returns-in_err-put_reservation_lines-clause-wrote : goal.returns-in_err-put_reservation_lines-clause-wrote
@@ -25,7 +27,8 @@ returns-in_err-put_reservation_lines-clause-wrote g c =
     let head : List Words = head_lines c.boot_cpu.result in
     let reservations : List Words = map reservation_words c.args.blob.now.reservations in
     let nodes : List Words = root_lines (map as_entry c.args.entries.now) in
-    next_fails S.appends S.fails laws.fails_after laws.fails_before c.args.sink.now c.put_head.new.sink c.put_reservation_lines.new.sink (flat_map line head) (flat_map line reservations) (flat_map line nodes) _ _ c.from_residual-in_err-put_reservation_lines.result
+    next_fails S.appends S.fails laws.fails_after laws.fails_before c.args.sink.now c.put_head.new.sink c.put_reservation_lines.new.sink
+    (flat_map line head) (flat_map line reservations) (flat_map line nodes) _ _ c.from_residual-in_err-put_reservation_lines.result
     (ap (λ cpu. flat_map line (head_lines cpu ++ (reservations ++ nodes))) (sym c.boot_cpu.ensures) ∙ three_texts head reservations nodes)
     c.from_residual-in_err-put_reservation_lines.ensures.1 c.in_ok-put_head.ensures c.in_err-put_reservation_lines.ensures
 
@@ -36,7 +39,9 @@ returns-clause-wrote g c =
     let head : List Words = head_lines c.boot_cpu.result in
     let reservations : List Words = map reservation_words c.args.blob.now.reservations in
     let nodes : List Words = root_lines (map as_entry c.args.entries.now) in
-    last_writes S.appends S.fails laws.appends_in_turn laws.fails_after c.args.sink.now c.put_reservation_lines.new.sink c.put_tree.new.sink (flat_map line head ++ flat_map line reservations) (flat_map line nodes) _ c.put_tree.result
+    last_writes S.appends S.fails laws.appends_in_turn laws.fails_after c.args.sink.now c.put_reservation_lines.new.sink
+    c.put_tree.new.sink (flat_map line head ++ flat_map line reservations) (flat_map line nodes) _ c.put_tree.result
     (ap (λ cpu. flat_map line (head_lines cpu ++ (reservations ++ nodes))) (sym c.boot_cpu.ensures) ∙ three_texts head reservations nodes)
-    (laws.appends_in_turn c.args.sink.now c.put_head.new.sink c.put_reservation_lines.new.sink (flat_map line head) (flat_map line reservations) c.in_ok-put_head.ensures c.in_ok-put_reservation_lines.ensures)
+    (laws.appends_in_turn c.args.sink.now c.put_head.new.sink c.put_reservation_lines.new.sink (flat_map line head)
+    (flat_map line reservations) c.in_ok-put_head.ensures c.in_ok-put_reservation_lines.ensures)
     c.put_tree.ensures.wrote

@@ -17,7 +17,8 @@ returns-in_err-put g c =
     let three : List ℕ = codes ",\"reservations\":[" in
     let four : List ℕ = in_turn Json false (map reservation_object c.args.blob.now.reservations) in
     let five : List ℕ = codes "],\"root\":{" in
-    first_of_all_fails S.appends S.fails laws.fails_before c.args.sink.now c.put.new.self one (two ++ (three ++ (four ++ five))) _ _ c.from_residual.result
+    first_of_all_fails S.appends S.fails laws.fails_before c.args.sink.now c.put.new.self one (two ++ (three ++ (four ++ five))) _ _
+    c.from_residual.result
     (refl) c.from_residual.ensures.1 c.in_err-put.ensures
 
 pub returns-in_err-put_processor_members : goal.returns-in_err-put_processor_members
@@ -46,7 +47,8 @@ returns-in_err-put-2 g c =
     next_fails S.appends S.fails laws.fails_after laws.fails_before c.args.sink.now c.put_processor_members.new.sink c.put-2.new.self
     (one ++ two) three (four ++ five) _ _ c.from_residual-in_err-put-2.result
     (refl ∙ sym (append_assoc one two (three ++ (four ++ five))) ∙ sym (append_assoc (one ++ two) three (four ++ five)))
-    c.from_residual-in_err-put-2.ensures.1 (laws.appends_in_turn c.args.sink.now c.put.new.self c.put_processor_members.new.sink one two c.in_ok-put.ensures c.in_ok-put_processor_members.ensures) c.in_err-put-2.ensures
+    c.from_residual-in_err-put-2.ensures.1 (laws.appends_in_turn c.args.sink.now c.put.new.self c.put_processor_members.new.sink one two
+    c.in_ok-put.ensures c.in_ok-put_processor_members.ensures) c.in_err-put-2.ensures
 
 pub returns-in_err-put_reservations : goal.returns-in_err-put_reservations
 returns-in_err-put_reservations g c =
@@ -59,8 +61,11 @@ returns-in_err-put_reservations g c =
     let five : List ℕ = codes "],\"root\":{" in
     next_fails S.appends S.fails laws.fails_after laws.fails_before c.args.sink.now c.put-2.new.self c.put_reservations.new.sink
     ((one ++ two) ++ three) four five _ _ c.from_residual-in_err-put_reservations.result
-    (refl ∙ sym (append_assoc one two (three ++ (four ++ five))) ∙ sym (append_assoc (one ++ two) three (four ++ five)) ∙ sym (append_assoc ((one ++ two) ++ three) four five))
-    c.from_residual-in_err-put_reservations.ensures.1 (laws.appends_in_turn c.args.sink.now c.put_processor_members.new.sink c.put-2.new.self (one ++ two) three (laws.appends_in_turn c.args.sink.now c.put.new.self c.put_processor_members.new.sink one two c.in_ok-put.ensures c.in_ok-put_processor_members.ensures) c.in_ok-put-2.ensures) c.in_err-put_reservations.ensures
+    (refl ∙ sym (append_assoc one two (three ++ (four ++ five))) ∙ sym (append_assoc (one ++ two) three (four ++ five)) ∙ sym
+    (append_assoc ((one ++ two) ++ three) four five))
+    c.from_residual-in_err-put_reservations.ensures.1 (laws.appends_in_turn c.args.sink.now c.put_processor_members.new.sink
+    c.put-2.new.self (one ++ two) three (laws.appends_in_turn c.args.sink.now c.put.new.self c.put_processor_members.new.sink one two
+    c.in_ok-put.ensures c.in_ok-put_processor_members.ensures) c.in_ok-put-2.ensures) c.in_err-put_reservations.ensures
 
 pub returns : goal.returns
 returns g c =
@@ -73,5 +78,9 @@ returns g c =
     let five : List ℕ = codes "],\"root\":{" in
     last_writes S.appends S.fails laws.appends_in_turn laws.fails_after c.args.sink.now c.put_reservations.new.sink c.put-3.new.self
     (((one ++ two) ++ three) ++ four) five _ c.put-3.result
-    (refl ∙ sym (append_assoc one two (three ++ (four ++ five))) ∙ sym (append_assoc (one ++ two) three (four ++ five)) ∙ sym (append_assoc ((one ++ two) ++ three) four five))
-    (laws.appends_in_turn c.args.sink.now c.put-2.new.self c.put_reservations.new.sink ((one ++ two) ++ three) four (laws.appends_in_turn c.args.sink.now c.put_processor_members.new.sink c.put-2.new.self (one ++ two) three (laws.appends_in_turn c.args.sink.now c.put.new.self c.put_processor_members.new.sink one two c.in_ok-put.ensures c.in_ok-put_processor_members.ensures) c.in_ok-put-2.ensures) c.in_ok-put_reservations.ensures) c.put-3.ensures
+    (refl ∙ sym (append_assoc one two (three ++ (four ++ five))) ∙ sym (append_assoc (one ++ two) three (four ++ five)) ∙ sym
+    (append_assoc ((one ++ two) ++ three) four five))
+    (laws.appends_in_turn c.args.sink.now c.put-2.new.self c.put_reservations.new.sink ((one ++ two) ++ three) four
+    (laws.appends_in_turn c.args.sink.now c.put_processor_members.new.sink c.put-2.new.self (one ++ two) three
+    (laws.appends_in_turn c.args.sink.now c.put.new.self c.put_processor_members.new.sink one two c.in_ok-put.ensures
+    c.in_ok-put_processor_members.ensures) c.in_ok-put-2.ensures) c.in_ok-put_reservations.ensures) c.put-3.ensures

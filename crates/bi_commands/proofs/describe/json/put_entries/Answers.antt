@@ -32,7 +32,8 @@ returns-in_err-put_entry g c =
     let (done, written, is) = c.loop-entry.invariant in
     next_fails S.appends S.fails laws.fails_after laws.fails_before c.args.sink.now c.loop-entry.sink c.put_entry.new.sink done
     (entry_json c.loop-entry.part entry) (entries_json (part_after entry) (map as_entry (drop (i + 1) entries))) _ _ c.from_residual.result
-    (sym (json_after done _ c.loop-entry.part entries i c.loop-entry-test.true is)) c.from_residual.ensures.1 written c.in_err-put_entry.ensures
+    (sym (json_after done _ c.loop-entry.part entries i c.loop-entry-test.true is)) c.from_residual.ensures.1 written
+    c.in_err-put_entry.ensures
 
 pub returns : goal.returns
 returns g c =

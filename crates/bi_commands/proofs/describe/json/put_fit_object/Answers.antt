@@ -13,7 +13,8 @@ returns-in_err-put_before_root g c =
     let one : List ℕ = before_root c.args.blob.now in
     let two : List ℕ = entries_json Head (map as_entry c.args.entries.now) in
     let three : List ℕ = codes "}\n" in
-    first_of_all_fails S.appends S.fails laws.fails_before c.args.sink.now c.put_before_root.new.sink one (two ++ three) _ _ c.from_residual.result
+    first_of_all_fails S.appends S.fails laws.fails_before c.args.sink.now c.put_before_root.new.sink one (two ++ three) _ _
+    c.from_residual.result
     (refl) c.from_residual.ensures.1 c.in_err-put_before_root.ensures
 
 pub returns-in_err-put_entries : goal.returns-in_err-put_entries
@@ -38,4 +39,5 @@ returns g c =
     last_writes S.appends S.fails laws.appends_in_turn laws.fails_after c.args.sink.now c.put_entries.new.sink c.put.new.self
     (one ++ two) three _ c.put.result
     (refl ∙ sym (append_assoc one two three))
-    (laws.appends_in_turn c.args.sink.now c.put_before_root.new.sink c.put_entries.new.sink one two c.in_ok-put_before_root.ensures c.in_ok-put_entries.ensures) c.put.ensures
+    (laws.appends_in_turn c.args.sink.now c.put_before_root.new.sink c.put_entries.new.sink one two c.in_ok-put_before_root.ensures
+    c.in_ok-put_entries.ensures) c.put.ensures

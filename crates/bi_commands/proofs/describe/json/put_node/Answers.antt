@@ -10,7 +10,8 @@ returns-in_err-put g c =
     let one : List ℕ = c.as_bytes.result.now in
     let two : List ℕ = node_begin c.args.name.now in
     first_of_all_fails S.appends S.fails laws.fails_before c.args.sink.now c.put.new.self one two _ _ c.from_residual.result
-    (ap (λ (l : List ℕ). l ++ node_begin c.args.name.now) (sym (c.as_bytes.ensures.value ∙ c.before_child.ensures))) c.from_residual.ensures.1 c.in_err-put.ensures
+    (ap (λ (l : List ℕ). l ++ node_begin c.args.name.now) (sym (c.as_bytes.ensures.value ∙ c.before_child.ensures)))
+    c.from_residual.ensures.1 c.in_err-put.ensures
 
 pub returns : goal.returns
 returns g c =

@@ -37,4 +37,5 @@ returns g c =
     last_writes S.appends S.fails laws.appends_in_turn laws.fails_after c.args.sink.now c.put_payload_value.new.sink c.put-2.new.self
     (one ++ two) three _ c.put-2.result
     (refl ∙ sym (append_assoc one two three))
-    (laws.appends_in_turn c.args.sink.now c.put.new.self c.put_payload_value.new.sink one two c.in_ok-put.ensures c.in_ok-put_payload_value.ensures) c.put-2.ensures
+    (laws.appends_in_turn c.args.sink.now c.put.new.self c.put_payload_value.new.sink one two c.in_ok-put.ensures
+    c.in_ok-put_payload_value.ensures) c.put-2.ensures

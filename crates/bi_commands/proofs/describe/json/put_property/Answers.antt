@@ -10,7 +10,8 @@ returns-in_err-put g c =
     let one : List ℕ = c.as_bytes.result.now in
     let two : List ℕ = property_object (c.args.name.now, c.args.value.now) in
     first_of_all_fails S.appends S.fails laws.fails_before c.args.sink.now c.put.new.self one two _ _ c.from_residual.result
-    (ap (λ (l : List ℕ). l ++ property_object (c.args.name.now, c.args.value.now)) (sym (c.as_bytes.ensures.value ∙ c.before_property.ensures))) c.from_residual.ensures.1 c.in_err-put.ensures
+    (ap (λ (l : List ℕ). l ++ property_object (c.args.name.now, c.args.value.now))
+    (sym (c.as_bytes.ensures.value ∙ c.before_property.ensures))) c.from_residual.ensures.1 c.in_err-put.ensures
 
 pub returns : goal.returns
 returns g c =
@@ -20,5 +21,6 @@ returns g c =
     let two : List ℕ = property_object (c.args.name.now, c.args.value.now) in
     last_writes S.appends S.fails laws.appends_in_turn laws.fails_after c.args.sink.now c.put.new.self c.put_property_object.new.sink
     one two _ c.put_property_object.result
-    (ap (λ (l : List ℕ). l ++ property_object (c.args.name.now, c.args.value.now)) (sym (c.as_bytes.ensures.value ∙ c.before_property.ensures)))
+    (ap (λ (l : List ℕ). l ++ property_object (c.args.name.now, c.args.value.now))
+    (sym (c.as_bytes.ensures.value ∙ c.before_property.ensures)))
     c.in_ok-put.ensures c.put_property_object.ensures

@@ -12,7 +12,8 @@ loop-text-init g c = turn_begins g.S.Sink.appends g.met.S.Sink.appends_nothing c
 pub loop-text-preserved : goal.loop-text-preserved
 loop-text-preserved g c =
     let one : List (List ℕ) = json_string c.in-Some.text.now ∷ [] in
-    turn_goes_on g.S.Sink.appends g.met.S.Sink.appends_in_turn c.args.sink.now c.loop-text.sink c.put_next.new.sink Json false c.loop-text.is_later true
+    turn_goes_on g.S.Sink.appends g.met.S.Sink.appends_in_turn c.args.sink.now c.loop-text.sink c.put_next.new.sink Json false
+    c.loop-text.is_later true
     one (map json_string (listed_names c.in-Some.later.now)) _ _ c.loop-text.invariant (ap (map json_string) c.in-Some.ensures.listed) refl
     c.in_ok-put_next.ensures
 
@@ -22,7 +23,8 @@ returns-in_err-put_next g c =
     let laws = g.met.S.Sink in
     let one : List (List ℕ) = json_string c.in-Some.text.now ∷ [] in
     passed_on S.appends S.fails c.args.sink.now _ _ c.from_residual.result c.put_next.new.sink c.from_residual.ensures.1
-    (turn_fails S.appends S.fails laws.fails_after laws.fails_before c.args.sink.now c.loop-text.sink c.put_next.new.sink Json false c.loop-text.is_later
+    (turn_fails S.appends S.fails laws.fails_after laws.fails_before c.args.sink.now c.loop-text.sink c.put_next.new.sink Json false
+    c.loop-text.is_later
     one (map json_string (listed_names c.in-Some.later.now)) _ _ _ c.loop-text.invariant (ap (map json_string) c.in-Some.ensures.listed)
     c.in_err-put_next.ensures)
 

@@ -16,8 +16,10 @@ returns-in_err-put g c =
     let three : List ℕ = codes ",\"strings\":[" in
     let four : List ℕ = with_commas false (map json_string (listed_names c.args.value.now)) in
     let five : List ℕ = codes "]}" in
-    first_of_all_fails S.appends S.fails laws.fails_before c.args.sink.now c.put.new.self one (two ++ (three ++ (four ++ five))) _ _ c.from_residual.result
-    (object_with_list (name_member (codes "name") c.args.name.now) [] (codes "strings") (map json_string (listed_names c.args.value.now))) c.from_residual.ensures.1 c.in_err-put.ensures
+    first_of_all_fails S.appends S.fails laws.fails_before c.args.sink.now c.put.new.self one (two ++ (three ++ (four ++ five))) _ _
+    c.from_residual.result
+    (object_with_list (name_member (codes "name") c.args.name.now) [] (codes "strings")
+    (map json_string (listed_names c.args.value.now))) c.from_residual.ensures.1 c.in_err-put.ensures
 
 pub returns-in_err-put_members : goal.returns-in_err-put_members
 returns-in_err-put_members g c =
@@ -30,7 +32,8 @@ returns-in_err-put_members g c =
     let five : List ℕ = codes "]}" in
     next_fails S.appends S.fails laws.fails_after laws.fails_before c.args.sink.now c.put.new.self c.put_members.new.sink
     one two (three ++ (four ++ five)) _ _ c.from_residual-in_err-put_members.result
-    (object_with_list (name_member (codes "name") c.args.name.now) [] (codes "strings") (map json_string (listed_names c.args.value.now)) ∙ sym (append_assoc one two (three ++ (four ++ five))))
+    (object_with_list (name_member (codes "name") c.args.name.now) [] (codes "strings") (map json_string (listed_names c.args.value.now))
+    ∙ sym (append_assoc one two (three ++ (four ++ five))))
     c.from_residual-in_err-put_members.ensures.1 c.in_ok-put.ensures c.in_err-put_members.ensures
 
 pub returns-in_err-put-2 : goal.returns-in_err-put-2
@@ -44,8 +47,10 @@ returns-in_err-put-2 g c =
     let five : List ℕ = codes "]}" in
     next_fails S.appends S.fails laws.fails_after laws.fails_before c.args.sink.now c.put_members.new.sink c.put-2.new.self
     (one ++ two) three (four ++ five) _ _ c.from_residual-in_err-put-2.result
-    (object_with_list (name_member (codes "name") c.args.name.now) [] (codes "strings") (map json_string (listed_names c.args.value.now)) ∙ sym (append_assoc one two (three ++ (four ++ five))) ∙ sym (append_assoc (one ++ two) three (four ++ five)))
-    c.from_residual-in_err-put-2.ensures.1 (laws.appends_in_turn c.args.sink.now c.put.new.self c.put_members.new.sink one two c.in_ok-put.ensures c.in_ok-put_members.ensures) c.in_err-put-2.ensures
+    (object_with_list (name_member (codes "name") c.args.name.now) [] (codes "strings") (map json_string (listed_names c.args.value.now))
+    ∙ sym (append_assoc one two (three ++ (four ++ five))) ∙ sym (append_assoc (one ++ two) three (four ++ five)))
+    c.from_residual-in_err-put-2.ensures.1 (laws.appends_in_turn c.args.sink.now c.put.new.self c.put_members.new.sink one two
+    c.in_ok-put.ensures c.in_ok-put_members.ensures) c.in_err-put-2.ensures
 
 pub returns-in_err-put_strings : goal.returns-in_err-put_strings
 returns-in_err-put_strings g c =
@@ -58,8 +63,12 @@ returns-in_err-put_strings g c =
     let five : List ℕ = codes "]}" in
     next_fails S.appends S.fails laws.fails_after laws.fails_before c.args.sink.now c.put-2.new.self c.put_strings.new.sink
     ((one ++ two) ++ three) four five _ _ c.from_residual-in_err-put_strings.result
-    (object_with_list (name_member (codes "name") c.args.name.now) [] (codes "strings") (map json_string (listed_names c.args.value.now)) ∙ sym (append_assoc one two (three ++ (four ++ five))) ∙ sym (append_assoc (one ++ two) three (four ++ five)) ∙ sym (append_assoc ((one ++ two) ++ three) four five))
-    c.from_residual-in_err-put_strings.ensures.1 (laws.appends_in_turn c.args.sink.now c.put_members.new.sink c.put-2.new.self (one ++ two) three (laws.appends_in_turn c.args.sink.now c.put.new.self c.put_members.new.sink one two c.in_ok-put.ensures c.in_ok-put_members.ensures) c.in_ok-put-2.ensures) c.in_err-put_strings.ensures
+    (object_with_list (name_member (codes "name") c.args.name.now) [] (codes "strings") (map json_string (listed_names c.args.value.now))
+    ∙ sym (append_assoc one two (three ++ (four ++ five))) ∙ sym (append_assoc (one ++ two) three (four ++ five)) ∙ sym
+    (append_assoc ((one ++ two) ++ three) four five))
+    c.from_residual-in_err-put_strings.ensures.1 (laws.appends_in_turn c.args.sink.now c.put_members.new.sink c.put-2.new.self
+    (one ++ two) three (laws.appends_in_turn c.args.sink.now c.put.new.self c.put_members.new.sink one two c.in_ok-put.ensures
+    c.in_ok-put_members.ensures) c.in_ok-put-2.ensures) c.in_err-put_strings.ensures
 
 pub returns : goal.returns
 returns g c =
@@ -72,5 +81,10 @@ returns g c =
     let five : List ℕ = codes "]}" in
     last_writes S.appends S.fails laws.appends_in_turn laws.fails_after c.args.sink.now c.put_strings.new.sink c.put-3.new.self
     (((one ++ two) ++ three) ++ four) five _ c.put-3.result
-    (object_with_list (name_member (codes "name") c.args.name.now) [] (codes "strings") (map json_string (listed_names c.args.value.now)) ∙ sym (append_assoc one two (three ++ (four ++ five))) ∙ sym (append_assoc (one ++ two) three (four ++ five)) ∙ sym (append_assoc ((one ++ two) ++ three) four five))
-    (laws.appends_in_turn c.args.sink.now c.put-2.new.self c.put_strings.new.sink ((one ++ two) ++ three) four (laws.appends_in_turn c.args.sink.now c.put_members.new.sink c.put-2.new.self (one ++ two) three (laws.appends_in_turn c.args.sink.now c.put.new.self c.put_members.new.sink one two c.in_ok-put.ensures c.in_ok-put_members.ensures) c.in_ok-put-2.ensures) c.in_ok-put_strings.ensures) c.put-3.ensures
+    (object_with_list (name_member (codes "name") c.args.name.now) [] (codes "strings") (map json_string (listed_names c.args.value.now))
+    ∙ sym (append_assoc one two (three ++ (four ++ five))) ∙ sym (append_assoc (one ++ two) three (four ++ five)) ∙ sym
+    (append_assoc ((one ++ two) ++ three) four five))
+    (laws.appends_in_turn c.args.sink.now c.put-2.new.self c.put_strings.new.sink ((one ++ two) ++ three) four
+    (laws.appends_in_turn c.args.sink.now c.put_members.new.sink c.put-2.new.self (one ++ two) three
+    (laws.appends_in_turn c.args.sink.now c.put.new.self c.put_members.new.sink one two c.in_ok-put.ensures c.in_ok-put_members.ensures)
+    c.in_ok-put-2.ensures) c.in_ok-put_strings.ensures) c.put-3.ensures

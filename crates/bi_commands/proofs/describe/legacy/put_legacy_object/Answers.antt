@@ -17,7 +17,8 @@ returns-in_err-put g c =
     let three : List ℕ = codes ",\"parts\":[" in
     let four : List ℕ = with_commas false (map digest_object (map digest_made c.args.parts.now)) in
     let five : List ℕ = codes "]}\n" in
-    first_of_all_fails S.appends S.fails laws.fails_before c.args.sink.now c.put.new.self one (two ++ (three ++ (four ++ five))) _ _ c.from_residual.result
+    first_of_all_fails S.appends S.fails laws.fails_before c.args.sink.now c.put.new.self one (two ++ (three ++ (four ++ five))) _ _
+    c.from_residual.result
     (refl) c.from_residual.ensures.1 c.in_err-put.ensures
 
 pub returns-in_err-put_header_members : goal.returns-in_err-put_header_members
@@ -46,7 +47,8 @@ returns-in_err-put-2 g c =
     next_fails S.appends S.fails laws.fails_after laws.fails_before c.args.sink.now c.put_header_members.new.sink c.put-2.new.self
     (one ++ two) three (four ++ five) _ _ c.from_residual-in_err-put-2.result
     (refl ∙ sym (append_assoc one two (three ++ (four ++ five))) ∙ sym (append_assoc (one ++ two) three (four ++ five)))
-    c.from_residual-in_err-put-2.ensures.1 (laws.appends_in_turn c.args.sink.now c.put.new.self c.put_header_members.new.sink one two c.in_ok-put.ensures c.in_ok-put_header_members.ensures) c.in_err-put-2.ensures
+    c.from_residual-in_err-put-2.ensures.1 (laws.appends_in_turn c.args.sink.now c.put.new.self c.put_header_members.new.sink one two
+    c.in_ok-put.ensures c.in_ok-put_header_members.ensures) c.in_err-put-2.ensures
 
 pub returns-in_err-put_part_objects : goal.returns-in_err-put_part_objects
 returns-in_err-put_part_objects g c =
@@ -59,8 +61,11 @@ returns-in_err-put_part_objects g c =
     let five : List ℕ = codes "]}\n" in
     next_fails S.appends S.fails laws.fails_after laws.fails_before c.args.sink.now c.put-2.new.self c.put_part_objects.new.sink
     ((one ++ two) ++ three) four five _ _ c.from_residual-in_err-put_part_objects.result
-    (refl ∙ sym (append_assoc one two (three ++ (four ++ five))) ∙ sym (append_assoc (one ++ two) three (four ++ five)) ∙ sym (append_assoc ((one ++ two) ++ three) four five))
-    c.from_residual-in_err-put_part_objects.ensures.1 (laws.appends_in_turn c.args.sink.now c.put_header_members.new.sink c.put-2.new.self (one ++ two) three (laws.appends_in_turn c.args.sink.now c.put.new.self c.put_header_members.new.sink one two c.in_ok-put.ensures c.in_ok-put_header_members.ensures) c.in_ok-put-2.ensures) c.in_err-put_part_objects.ensures
+    (refl ∙ sym (append_assoc one two (three ++ (four ++ five))) ∙ sym (append_assoc (one ++ two) three (four ++ five)) ∙ sym
+    (append_assoc ((one ++ two) ++ three) four five))
+    c.from_residual-in_err-put_part_objects.ensures.1 (laws.appends_in_turn c.args.sink.now c.put_header_members.new.sink
+    c.put-2.new.self (one ++ two) three (laws.appends_in_turn c.args.sink.now c.put.new.self c.put_header_members.new.sink one two
+    c.in_ok-put.ensures c.in_ok-put_header_members.ensures) c.in_ok-put-2.ensures) c.in_err-put_part_objects.ensures
 
 pub returns : goal.returns
 returns g c =
@@ -73,5 +78,9 @@ returns g c =
     let five : List ℕ = codes "]}\n" in
     last_writes S.appends S.fails laws.appends_in_turn laws.fails_after c.args.sink.now c.put_part_objects.new.sink c.put-3.new.self
     (((one ++ two) ++ three) ++ four) five _ c.put-3.result
-    (refl ∙ sym (append_assoc one two (three ++ (four ++ five))) ∙ sym (append_assoc (one ++ two) three (four ++ five)) ∙ sym (append_assoc ((one ++ two) ++ three) four five))
-    (laws.appends_in_turn c.args.sink.now c.put-2.new.self c.put_part_objects.new.sink ((one ++ two) ++ three) four (laws.appends_in_turn c.args.sink.now c.put_header_members.new.sink c.put-2.new.self (one ++ two) three (laws.appends_in_turn c.args.sink.now c.put.new.self c.put_header_members.new.sink one two c.in_ok-put.ensures c.in_ok-put_header_members.ensures) c.in_ok-put-2.ensures) c.in_ok-put_part_objects.ensures) c.put-3.ensures
+    (refl ∙ sym (append_assoc one two (three ++ (four ++ five))) ∙ sym (append_assoc (one ++ two) three (four ++ five)) ∙ sym
+    (append_assoc ((one ++ two) ++ three) four five))
+    (laws.appends_in_turn c.args.sink.now c.put-2.new.self c.put_part_objects.new.sink ((one ++ two) ++ three) four
+    (laws.appends_in_turn c.args.sink.now c.put_header_members.new.sink c.put-2.new.self (one ++ two) three
+    (laws.appends_in_turn c.args.sink.now c.put.new.self c.put_header_members.new.sink one two c.in_ok-put.ensures
+    c.in_ok-put_header_members.ensures) c.in_ok-put-2.ensures) c.in_ok-put_part_objects.ensures) c.put-3.ensures

@@ -1,11 +1,8 @@
-use Rattle.std.proofs.Common.{List, ℕ, ◌++◌, flat_map, sym, ap, subst, ◌∙◌}
+use Rattle.std.proofs.Common.{sym, ap, subst, ◌∙◌}
 use Rattle.bi_fdt.specs.Views.{node_of}
 use Rattle.bi_fit.specs.HashNodes.{file_listed}
 use Rattle.bi_commands.specs.FitListing.{key_line}
-use Rattle.bi_commands.specs.Json.{comma}
-use Rattle.bi_commands.specs.ListingJson.{key_objects}
-use Rattle.bi_commands.proofs.LineChains.{one_more_appended}
-use Rattle.bi_commands.proofs.ListedNames.{key_as_line, key_as_object}
+use Rattle.bi_commands.proofs.ListedNames.{key_as_line}
 use Rattle.bi_commands.proofs.TextsInTurn.{turn_passed}
 use Rattle.bi_commands.proofs.list.configurations.put_key.Goals as goal
 

@@ -11,5 +11,6 @@ returns-in-Images g c result is =
     let names = listed_names c.in-Images.value.now in
     let are = subst (IsListed result) c.in-Images.is is in
     subst (λ text. Wrote g.S.Sink.appends g.S.Sink.fails c.args.sink.now text c.put_listed_object.result c.put_listed_object.new.sink)
-    (sym (ap (flat_map (λ (text : List ℕ). text)) (images_object c.args.key result names are) ∙ append-nil (listed_object c.args.key names)))
+    (sym (ap (flat_map (λ (text : List ℕ). text)) (images_object c.args.key result names are)
+    ∙ append-nil (listed_object c.args.key names)))
     c.put_listed_object.ensures

@@ -9,8 +9,11 @@ pub returns-in_err-put : goal.returns-in_err-put
 returns-in_err-put g c =
     let S = g.S.Sink in
     let laws = g.met.S.Sink in
-    let members : ℕ → ℕ → List ℕ = λ cpu size. join_with_byte 44 (map member_text ((codes "kind", json_string (codes "fit")) ∷ (codes
-    "boot_cpu", json_number cpu) ∷ (codes "total_size", json_number size) ∷ [])) in
+    let members : ℕ → ℕ → List ℕ = λ cpu size. join_with_byte 44 (map member_text ((codes "kind", json_string (codes "fit")) ∷ (
+      codes
+          "boot_cpu",
+      json_number cpu,
+    ) ∷ (codes "total_size", json_number size) ∷ [])) in
     let one : List ℕ = 123 ∷ [] in
     let two : List ℕ = members c.from.result c.from-2.result in
     let three : List ℕ = codes ",\"reservations\":[" in
@@ -22,8 +25,11 @@ pub returns-in_err-put_members : goal.returns-in_err-put_members
 returns-in_err-put_members g c =
     let S = g.S.Sink in
     let laws = g.met.S.Sink in
-    let members : ℕ → ℕ → List ℕ = λ cpu size. join_with_byte 44 (map member_text ((codes "kind", json_string (codes "fit")) ∷ (codes
-    "boot_cpu", json_number cpu) ∷ (codes "total_size", json_number size) ∷ [])) in
+    let members : ℕ → ℕ → List ℕ = λ cpu size. join_with_byte 44 (map member_text ((codes "kind", json_string (codes "fit")) ∷ (
+      codes
+          "boot_cpu",
+      json_number cpu,
+    ) ∷ (codes "total_size", json_number size) ∷ [])) in
     let one : List ℕ = 123 ∷ [] in
     let two : List ℕ = members c.from.result c.from-2.result in
     let three : List ℕ = codes ",\"reservations\":[" in
@@ -37,8 +43,11 @@ pub returns : goal.returns
 returns g c =
     let S = g.S.Sink in
     let laws = g.met.S.Sink in
-    let members : ℕ → ℕ → List ℕ = λ cpu size. join_with_byte 44 (map member_text ((codes "kind", json_string (codes "fit")) ∷ (codes
-    "boot_cpu", json_number cpu) ∷ (codes "total_size", json_number size) ∷ [])) in
+    let members : ℕ → ℕ → List ℕ = λ cpu size. join_with_byte 44 (map member_text ((codes "kind", json_string (codes "fit")) ∷ (
+      codes
+          "boot_cpu",
+      json_number cpu,
+    ) ∷ (codes "total_size", json_number size) ∷ [])) in
     let one : List ℕ = 123 ∷ [] in
     let two : List ℕ = members c.from.result c.from-2.result in
     let three : List ℕ = codes ",\"reservations\":[" in

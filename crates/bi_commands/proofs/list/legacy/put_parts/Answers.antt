@@ -1,4 +1,4 @@
-use Rattle.std.proofs.Common.{◌≡◌, ◌<◌, ◌^◌, true, false, length, List, [], ◌∷◌, ◌++◌, ℕ, arith, inl, rules, refl, sym, ap, subst, ◌∙◌}
+use Rattle.std.proofs.Common.{◌≡◌, ◌<◌, ◌^◌, true, false, List, [], ◌∷◌, ◌++◌, ℕ, arith, inl, rules, refl, sym, ap, subst, ◌∙◌}
 use Rattle.std.specs.Iterator.Adapters.{enumerate_source, enumerate_count}
 use Rattle.bi_base.proofs.SinkLaws.{passed_on}
 use Rattle.bi_legacy.specs.PlacedParts.{part_model, placed_parts}
@@ -15,7 +15,8 @@ returns-in_err-put_before_parts g c =
     let texts : List ℕ = in_turn format false (part_texts format 0 (placed_parts c.args.image.now.image)) in
     first_of_all_fails g.S.Sink.appends g.S.Sink.fails g.met.S.Sink.fails_before c.args.sink.now c.put_before_parts.new.sink
     (before_parts format c.part_count.result) texts _ _ c.from_residual.result
-    (ap (λ count. before_parts format count ++ texts) (sym c.part_count.ensures)) c.from_residual.ensures.1 c.in_err-put_before_parts.ensures
+    (ap (λ count. before_parts format count ++ texts) (sym c.part_count.ensures)) c.from_residual.ensures.1
+    c.in_err-put_before_parts.ensures
 
 pub loop-index-init : goal.loop-index-init
 loop-index-init g c =
@@ -61,8 +62,8 @@ returns-in_err-put_part g c =
     (subst (λ count. S.fails c.args.sink.now (before_parts format count ++ all) c.put_part.new.sink error) c.part_count.ensures
     (laws.fails_after c.args.sink.now c.put_before_parts.new.sink c.put_part.new.sink (before_parts format c.part_count.result) all error
     c.in_ok-put_before_parts.ensures
-    (turn_fails S.appends S.fails laws.fails_after laws.fails_before c.put_before_parts.new.sink c.loop-index.sink c.put_part.new.sink format
-    false c.loop-index.is_later one left _ _ _ c.loop-index.invariant.written
+    (turn_fails S.appends S.fails laws.fails_after laws.fails_before c.put_before_parts.new.sink c.loop-index.sink c.put_part.new.sink
+    format false c.loop-index.is_later one left _ _ _ c.loop-index.invariant.written
     (texts_from_part format _ _ _ _ _ _ steps.0 steps.1 steps.2) c.in_err-put_part.ensures)))
 
 pub returns : goal.returns

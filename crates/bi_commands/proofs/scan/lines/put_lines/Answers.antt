@@ -1,9 +1,9 @@
 use Rattle.std.proofs.Common.{arith}
-use Rattle.bi_commands.proofs.ScannedLines.{all_lines, next_line, no_lines}
+use Rattle.bi_commands.proofs.ScannedLines.{all_lines, before_lines, next_line}
 use Rattle.bi_commands.proofs.scan.lines.put_lines.Goals as goal
 
 pub loop-offset-init : goal.loop-offset-init
-loop-offset-init c = no_lines c.args.limits c.args.file.now c.args.lines.now
+loop-offset-init c = before_lines c.args.limits c.args.file.now c.args.lines.now
 
 pub loop-offset-preserved : goal.loop-offset-preserved
 loop-offset-preserved c =

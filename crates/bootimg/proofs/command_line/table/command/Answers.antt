@@ -38,7 +38,7 @@ loop-option-init c =
 
 pub loop-option-preserved : goal.loop-option-preserved
 loop-option-preserved c =
-    let added = c.in_ok-arg.ensures in
+    let added = c.in_ok-command-2.ensures in
     let so_far = c.loop-option.invariant in
     let text = c.args.text.now in (
       added.shape c.argument.ensures.local ∙ ap₂ with_rule so_far.0 c.argument.ensures.rule

@@ -1,0 +1,135 @@
+use Rattle.std.specs.Prelude.{◌≡◌, ℕ, true, false, List, [], ◌∷◌, None, Some, codes, map}
+use Rattle.bi_base.specs.declared.fault.Cause.TheVariants.{BadCell}
+use Rattle.bi_base.specs.declared.fault.Error.TheVariants as error
+use Rattle.bi_base.specs.declared.fault.Fault.{Fault}
+use Rattle.bi_commands.specs.declared.compare.CompareError.TheVariants as compare
+use Rattle.bi_commands.specs.declared.extract.ExtractError.TheVariants as extract
+use Rattle.bi_commands.specs.Extracting.{Choice, OfOtherKind, NoSuchPart, NoSuchImage}
+use Rattle.bi_commands.specs.Extracting.{NoSuchConfiguration, NoSuchKey, HasBadList}
+use Rattle.bi_commands.specs.Extracting.{HasMissingImage, NoSuchEntry, HasNoPayload}
+use Rattle.bi_commands.specs.KnownConcerns.{allowed_words}
+use Rattle.bi_fit.specs.Names.{key_name}
+use Rattle.bi_fit.specs.declared.configurations.ConfigError.TheVariants as list
+use Rattle.bi_fit.specs.declared.form.Form.TheVariants.{Embedded, External}
+use Rattle.bi_norm.specs.declared.kind.Kind.TheVariants.{Legacy, Fit}
+use Rattle.bi_c.specs.Answers.{answer_of, answer_of_failure, done, failure_of_error, no_room}
+use Rattle.bi_c.specs.Answers.{status_of_failure}
+use Rattle.bi_c.specs.Arguments.{allowed_of, bounds, changes_of, form_of, key_of}
+use Rattle.bi_c.specs.Calls.{failure_of_compare_error, flag, kind_number}
+use Rattle.bi_c.specs.Extracting.{IsReasonNumber, failure_of_extract_error}
+use Rattle.bi_c.specs.declared.answer.Answer.{Answer}
+use Rattle.bi_c.specs.declared.failure.Failure.TheVariants.{WrongArgument, Refused, OutOfMemory}
+use Rattle.bi_c.specs.declared.failure.Failure.TheVariants.{NotFound}
+
+-- The numbers of the library for C, as its header has them, by which a reader can judge the
+-- definitions.
+
+-- ---- what a call returns
+
+-- The fault of a cell at offset 160.
+abbrev pub cell_fault : Fault
+cell_fault = record { cause = BadCell; offset = 160 }
+
+-- The statuses.
+pub record StatusNumbersAreKnown : Type 0 where
+  pub succeeded : done ≡ 0
+  pub refused : status_of_failure (Refused 1 cell_fault) ≡ 1
+  pub out_of_memory : status_of_failure OutOfMemory ≡ 2
+  pub without_room : no_room ≡ 3
+  pub wrong_argument : status_of_failure WrongArgument ≡ 4
+  pub not_found : status_of_failure (NotFound 1 0) ≡ 5
+
+-- The numbers of the struct, in their order.
+abbrev pub struct_numbers : Answer → List ℕ
+struct_numbers answer =
+    answer.size ∷ answer.value ∷ answer.cause ∷ answer.offset ∷ answer.file ∷ answer.reason ∷ []
+
+-- The struct after an output, after each failure, and after each error of a call: size, value,
+-- cause, offset, file and reason.
+pub record AnswersAreKnown : Type 0 where
+  pub output : struct_numbers (answer_of 5 1) ≡ 5 ∷ 1 ∷ 0 ∷ 0 ∷ 0 ∷ 0 ∷ []
+  pub refused : struct_numbers (answer_of_failure (failure_of_error (error.Refused cell_fault)))
+      ≡ 0 ∷ 0 ∷ 18 ∷ 160 ∷ 1 ∷ 0 ∷ []
+  pub first_refused :
+      struct_numbers (answer_of_failure (failure_of_compare_error (compare.One cell_fault)))
+      ≡ 0 ∷ 0 ∷ 18 ∷ 160 ∷ 1 ∷ 0 ∷ []
+  pub second_refused :
+      struct_numbers (answer_of_failure (failure_of_compare_error (compare.Other cell_fault)))
+      ≡ 0 ∷ 0 ∷ 18 ∷ 160 ∷ 2 ∷ 0 ∷ []
+  pub out_of_memory : struct_numbers (answer_of_failure OutOfMemory)
+      ≡ 0 ∷ 0 ∷ 0 ∷ 0 ∷ 0 ∷ 0 ∷ []
+  pub wrong_argument : struct_numbers (answer_of_failure WrongArgument)
+      ≡ 0 ∷ 0 ∷ 0 ∷ 0 ∷ 0 ∷ 0 ∷ []
+  pub missing : struct_numbers (answer_of_failure (NotFound 7 3)) ≡ 0 ∷ 3 ∷ 0 ∷ 0 ∷ 0 ∷ 7 ∷ []
+
+-- The choice has this reason, and the index of the first name that no image has, and no other.
+pub record HasReason (choice : Choice) (reason index : ℕ) : Type 0 where
+  pub is : IsReasonNumber reason index choice
+  pub only : (other other_index : ℕ) → IsReasonNumber other other_index choice
+      → (other ≡ reason) × (other_index ≡ index)
+
+-- Each reason why nothing is extracted.
+pub record ReasonsAreKnown : Type 0 where
+  pub other_kind : HasReason OfOtherKind 1 0
+  pub no_part : HasReason NoSuchPart 2 0
+  pub no_image : HasReason NoSuchImage 3 0
+  pub no_configuration : HasReason NoSuchConfiguration 4 0
+  pub no_key : HasReason NoSuchKey 5 0
+  pub bad_list : HasReason HasBadList 6 0
+  pub missing : HasReason (HasMissingImage 3) 7 3
+  pub no_entry : HasReason NoSuchEntry 8 0
+  pub no_payload : HasReason HasNoPayload 9 0
+
+-- The failure for each error of extracting.
+pub record ExtractFailuresAreKnown : Type 0 where
+  pub refused : failure_of_extract_error (extract.Failed (error.Refused cell_fault))
+      ≡ Refused 1 cell_fault
+  pub out_of_memory : failure_of_extract_error (extract.Failed error.OutOfMemory) ≡ OutOfMemory
+  pub other_kind : failure_of_extract_error extract.WrongKind ≡ NotFound 1 0
+  pub no_part : failure_of_extract_error extract.NoPart ≡ NotFound 2 0
+  pub no_image : failure_of_extract_error extract.NoImage ≡ NotFound 3 0
+  pub no_configuration : failure_of_extract_error (extract.Config list.NoConfig) ≡ NotFound 4 0
+  pub no_key : failure_of_extract_error (extract.Config list.NoKey) ≡ NotFound 5 0
+  pub bad_list : failure_of_extract_error (extract.Config list.BadList) ≡ NotFound 6 0
+  pub missing : failure_of_extract_error (extract.Config (list.Missing 3)) ≡ NotFound 7 3
+  pub list_out_of_memory : failure_of_extract_error (extract.Config list.OutOfMemory)
+      ≡ OutOfMemory
+  pub no_index : failure_of_extract_error extract.NoIndex ≡ NotFound 8 0
+  pub no_payload : failure_of_extract_error extract.NoPayload ≡ NotFound 9 0
+
+-- The kinds of images, and a yes and a no.
+pub record ValuesAreKnown : Type 0 where
+  pub legacy : kind_number Legacy ≡ 1
+  pub fit : kind_number Fit ≡ 2
+  pub no : flag false ≡ 0
+  pub yes : flag true ≡ 1
+
+-- ---- arguments
+
+-- The forms, the keys by their names, the changes and the limits.
+pub record ArgumentsAreKnown : Type 0 where
+  pub embedded : form_of 0 ≡ Embedded
+  pub external : form_of 1 ≡ External
+  pub keys : map (λ number. key_name (key_of number)) (0 ∷ 1 ∷ 2 ∷ 3 ∷ 4 ∷ 5 ∷ [])
+      ≡ codes "kernel" ∷ codes "fdt" ∷ codes "ramdisk" ∷ codes "firmware" ∷ codes "loadables"
+      ∷ codes "script" ∷ []
+  pub no_change : changes_of 0 5 ≡ record { time = None; hashes = false }
+  pub time : changes_of 1 5 ≡ record { time = Some 5; hashes = false }
+  pub hashes : changes_of 2 5 ≡ record { time = None; hashes = true }
+  pub time_and_hashes : changes_of 3 5 ≡ record { time = Some 5; hashes = true }
+  pub limits : bounds 128 7 ≡ record { file = 128; depth = 7 }
+
+-- The kinds of lines that each bit of a number allows, and that all of them do.
+pub record AllowedBitsAreKnown : Type 0 where
+  pub nothing : allowed_words (allowed_of 0) ≡ []
+  pub bad_hash : allowed_words (allowed_of 1) ≡ codes "bad-hash" ∷ []
+  pub unhashed : allowed_words (allowed_of 2) ≡ codes "unhashed" ∷ []
+  pub weak_hash : allowed_words (allowed_of 4) ≡ codes "weak-hash" ∷ []
+  pub bad_list : allowed_words (allowed_of 8) ≡ codes "bad-list" ∷ []
+  pub missing : allowed_words (allowed_of 16) ≡ codes "missing" ∷ []
+  pub bad_default : allowed_words (allowed_of 32) ≡ codes "bad-default" ∷ []
+  pub trailing : allowed_words (allowed_of 64) ≡ codes "trailing" ∷ []
+  pub two : allowed_words (allowed_of 68) ≡ codes "weak-hash" ∷ codes "trailing" ∷ []
+  pub all : allowed_words (allowed_of 127)
+      ≡ codes "bad-hash" ∷ codes "unhashed" ∷ codes "weak-hash" ∷ codes "bad-list"
+      ∷ codes "missing" ∷ codes "bad-default" ∷ codes "trailing" ∷ []

@@ -1,0 +1,42 @@
+//! The numbers of the library for C. Each function does nothing: what it ensures is a fact about
+//! the definitions.
+
+ghost use Rattle.bi_c.specs.KnownNumbers.{StatusNumbersAreKnown, AnswersAreKnown};
+ghost use Rattle.bi_c.specs.KnownNumbers.{ReasonsAreKnown, ExtractFailuresAreKnown};
+ghost use Rattle.bi_c.specs.KnownNumbers.{ValuesAreKnown, ArgumentsAreKnown};
+ghost use Rattle.bi_c.specs.KnownNumbers.{AllowedBitsAreKnown};
+
+/// The statuses are the numbers of the header.
+pub fn status_numbers_are_known()
+    ensures { StatusNumbersAreKnown }
+{}
+
+/// The struct has known numbers after an output and after each failure.
+pub fn answers_are_known()
+    ensures { AnswersAreKnown }
+{}
+
+/// The reasons why nothing is extracted are the numbers of the header.
+pub fn reasons_are_known()
+    ensures { ReasonsAreKnown }
+{}
+
+/// Each error of extracting has a known failure.
+pub fn extract_failures_are_known()
+    ensures { ExtractFailuresAreKnown }
+{}
+
+/// The kinds of images, a yes and a no are known numbers.
+pub fn values_are_known()
+    ensures { ValuesAreKnown }
+{}
+
+/// The numbers of forms, keys and changes mean what the header says.
+pub fn arguments_are_known()
+    ensures { ArgumentsAreKnown }
+{}
+
+/// Each bit of the kinds of lines that are allowed is that of the header.
+pub fn allowed_bits_are_known()
+    ensures { AllowedBitsAreKnown }
+{}

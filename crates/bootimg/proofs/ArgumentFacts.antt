@@ -1,0 +1,215 @@
+use Rattle.std.proofs.Common.{◌≡◌, ◌≢◌, ◌++◌, ◌∷◌, [], ◌∙◌, ◌<◌, ◌≤◌, ◌^◌, ◌&&◌, ◌||◌, not, ℕ, Bool, true, false, List, Some, length}
+use Rattle.std.proofs.Common.{take, drop}
+use Rattle.std.proofs.Common.{codes, bytes_eq, ap, refl, subst, sym, inl, inr, lit<, lit≤, arith}
+use Rattle.std.specs.Prelude.{◌==◌, nat_lt}
+use Rattle.std.specs.Bool.{Decides}
+use Rattle.std.specs.Char.{digit_value}
+use Rattle.std.specs.Str.Parse.{AllDigits, digits_value, IsNumeral}
+use Rattle.std.proofs.lemmas.Bool.{and_parts, true≢false, eqb-true}
+use Rattle.std.proofs.lemmas.Slice.Eq.{bytes_eq-Decides}
+use Rattle.std.proofs.Math.Bool.{or-true}
+use Rattle.bi_blob.proofs.CheckDecisions.{both_decide, lt_decides}
+use Rattle.bi_legacy.specs.Codes.{CodeName, name_of_code}
+use Rattle.bootimg.specs.CodeWords.{codes_of, IsCode, Named, Numbered}
+use Rattle.bootimg.specs.CommandLine.{NoneIs}
+use Rattle.bootimg.specs.KnownArguments.{CodesAreKnown, IsOnlyCode, IsOnlyLimit, IsOnlyNumber, LimitsAreKnown, NumbersAreKnown}
+use Rattle.bootimg.specs.Numbers.{IsNumber}
+use Rattle.bootimg.specs.declared.codes.CodeField.{CodeField}
+use Rattle.bootimg.specs.declared.codes.CodeField.TheVariants.{Os, Arch, Compression}
+
+-- Small words are known numbers, codes and limits, or none.
+
+-- ---- numbers
+
+-- Whether a text is a number in a base, of at most 32 bits.
+abbrev are_digits : (base : ℕ) → List ℕ → Bool
+are_digits base [] = true
+are_digits base (digit ∷ later) = nat_lt (digit_value digit) base && are_digits base later
+
+abbrev is_numeral : (base : ℕ) → List ℕ → Bool
+is_numeral base text = (nat_lt 0 (length text) && are_digits base text) && nat_lt (digits_value base text) (2 ^ 32)
+
+are_digits_decides : (base : ℕ) (text : List ℕ) → Decides (are_digits base text) (AllDigits base text)
+are_digits_decides base [] = ((λ e. tt), (λ all. refl))
+are_digits_decides base (digit ∷ later) =
+    both_decide (nat_lt (digit_value digit) base) (are_digits base later) (lt_decides (digit_value digit) base)
+    (are_digits_decides base later)
+
+is_numeral_decides : (base : ℕ) (text : List ℕ) →
+    Decides (is_numeral base text) (((0 < length text) × AllDigits base text) × (digits_value base text < 2 ^ 32))
+is_numeral_decides base text =
+    both_decide (nat_lt 0 (length text) && are_digits base text) (nat_lt (digits_value base text) (2 ^ 32))
+    (both_decide (nat_lt 0 (length text)) (are_digits base text) (lt_decides 0 (length text)) (are_digits_decides base text))
+    (lt_decides (digits_value base text) (2 ^ 32))
+
+-- A text of decimal digits is the number that these say, and no other. It does not begin with `0x`.
+decimal_digits : (text : List ℕ) → is_numeral 10 text ≡ true → bytes_eq (take 2 text) (codes "0x") ≡ false
+    → IsOnlyNumber text (digits_value 10 text)
+decimal_digits text holds plain =
+    let is = (is_numeral_decides 10 text).0 holds in (
+      record { written = inl (record { each = is.0; value = refl }); fits = is.1 },
+      λ other is_other. elim is_other.written [
+        | inl digits ↦ sym digits.value
+        | inr hexadecimal ↦ absurd (begins plain hexadecimal.0 hexadecimal.1)
+      ],
+    )
+  where
+    begins : bytes_eq (take 2 text) (codes "0x") ≡ false → (digits : List ℕ) → text ≡ codes "0x" ++ digits → ⊥
+    begins plain digits same =
+        true≢false (sym ((bytes_eq-Decides (take 2 text) (codes "0x")).1 (ap (λ l. take 2 l) same)) ∙ plain)
+
+-- Hexadecimal digits after `0x` are the number that they say, and no other.
+hexadecimal_digits_after : (digits : List ℕ) → is_numeral 16 digits ≡ true → IsOnlyNumber (codes "0x" ++ digits) (digits_value 16 digits)
+hexadecimal_digits_after digits holds =
+    let is = (is_numeral_decides 16 digits).0 holds in (
+      record { written = inr (digits, refl, record { each = is.0; value = refl }); fits = is.1 },
+      λ other is_other. elim is_other.written [
+        | inl decimal ↦ absurd (no_letter decimal.each.1)
+        | inr hexadecimal ↦ sym hexadecimal.2.value ∙ ap (digits_value 16) (sym (ap (λ l. drop 2 l) hexadecimal.1))
+      ],
+    )
+  where
+    no_letter : AllDigits 10 (codes "0x" ++ digits) → ⊥
+    no_letter all = omega (arith, all.1.0)
+
+-- Any other text is no number.
+no_number : (text : List ℕ) → is_numeral 10 text ≡ false → (bytes_eq (take 2 text) (codes "0x") && is_numeral 16 (drop 2 text)) ≡ false
+    → NoneIs (IsNumber text)
+no_number text not_decimal not_hexadecimal number is = elim is.written [
+  | inl decimal ↦
+      let fits : digits_value 10 text < 2 ^ 32 = subst (λ n. n < 2 ^ 32) (sym decimal.value) is.fits in
+      true≢false (sym ((is_numeral_decides 10 text).1 (decimal.each, fits)) ∙ not_decimal)
+  | inr hexadecimal ↦
+      let rest : drop 2 text ≡ hexadecimal.0 = ap (λ l. drop 2 l) hexadecimal.1 in
+      let begins : take 2 text ≡ codes "0x" = ap (λ l. take 2 l) hexadecimal.1 in
+      let value : digits_value 16 (drop 2 text) ≡ number = ap (digits_value 16) rest ∙ hexadecimal.2.value in
+      let fits : digits_value 16 (drop 2 text) < 2 ^ 32 = subst (λ n. n < 2 ^ 32) (sym value) is.fits in
+      let each : IsNumeral 16 (drop 2 text) = subst (IsNumeral 16) (sym rest) hexadecimal.2.each in
+      true≢false
+      (sym ((both_decide (bytes_eq (take 2 text) (codes "0x")) (is_numeral 16 (drop 2 text))
+      (bytes_eq-Decides (take 2 text) (codes "0x")) (is_numeral_decides 16 (drop 2 text))).1 (begins, (each, fits)))
+      ∙ not_hexadecimal)
+]
+
+pub numbers_are_known : NumbersAreKnown
+numbers_are_known = record {
+  zero = decimal_digits (codes "0") refl refl;
+  leading_zeros = decimal_digits (codes "007") refl refl;
+  greatest = decimal_digits (codes "4294967295") refl refl;
+  hexadecimal = hexadecimal_digits_after (codes "10") refl;
+  both_cases = hexadecimal_digits_after (codes "aBcDeF") refl;
+  greatest_hexadecimal = hexadecimal_digits_after (codes "0ffffffff") refl;
+  no_bytes = no_number [] refl refl;
+  no_digits = no_number (codes "0x") refl refl;
+  other_prefix = no_number (codes "0X10") refl refl;
+  plus = no_number (codes "+1") refl refl;
+  plus_inside = no_number (codes "0x+1") refl refl;
+  minus = no_number (codes "-1") refl refl;
+  space = no_number (codes " 1") refl refl;
+  underscore = no_number (codes "1_000") refl refl;
+  letter = no_number (codes "1f") refl refl;
+  other_letter = no_number (codes "0x1g") refl refl;
+  past_greatest = no_number (codes "4294967296") refl refl;
+  past_greatest_hexadecimal = no_number (codes "0x100000000") refl refl;
+}
+
+-- ---- codes
+
+-- Whether a code of these has this name, and whether each code with this name is the wanted one.
+abbrev has_name : List CodeName → (name : List ℕ) → Bool
+has_name [] name = false
+has_name (entry ∷ later) name = bytes_eq entry.name name || has_name later name
+
+abbrev names_only : List CodeName → (name : List ℕ) → (wanted : ℕ) → Bool
+names_only [] name wanted = true
+names_only (entry ∷ later) name wanted = (not (bytes_eq entry.name name) || entry.code == wanted) && names_only later name wanted
+
+-- The name of a code is the name of one.
+code_has_name : (entries : List CodeName) (code : ℕ) (name : List ℕ) → name_of_code entries code ≡ Some name → has_name entries name ≡ true
+code_has_name [] code name is = absurd cc
+code_has_name (entry ∷ later) code name is = by (entry.code == code) refl (λ found. code_has_name later code name found) where
+  by : (b : Bool) → (entry.code == code) ≡ b → (name_of_code later code ≡ Some name → has_name later name ≡ true)
+      → has_name (entry ∷ later) name ≡ true
+  by true same rest =
+      let found : Some entry.name ≡ Some name = rw same at is in
+      let equal : entry.name ≡ name = cc in
+      ap (λ b. b || has_name later name) ((bytes_eq-Decides entry.name name).1 equal)
+  by false other rest =
+      ap (λ b. bytes_eq entry.name name || b) (rest (rw other at is)) ∙ or-true (bytes_eq entry.name name)
+
+-- A code with this name is the wanted one.
+code_is_wanted : (entries : List CodeName) (code wanted : ℕ) (name : List ℕ) → names_only entries name wanted ≡ true
+    → name_of_code entries code ≡ Some name → code ≡ wanted
+code_is_wanted [] code wanted name all is = absurd cc
+code_is_wanted (entry ∷ later) code wanted name all is =
+    by (entry.code == code) refl (λ rest found. code_is_wanted later code wanted name rest found)
+  where
+    parts : ((not (bytes_eq entry.name name) || entry.code == wanted) ≡ true) × (names_only later name wanted ≡ true)
+    parts = and_parts (not (bytes_eq entry.name name) || entry.code == wanted) (names_only later name wanted) all
+
+    by : (b : Bool) → (entry.code == code) ≡ b
+        → (names_only later name wanted ≡ true → name_of_code later code ≡ Some name → code ≡ wanted) → code ≡ wanted
+    by true same rest =
+        let found : Some entry.name ≡ Some name = rw same at is in
+        let equal : entry.name ≡ name = cc in
+        let test : (entry.code == wanted) ≡ true = rw ((bytes_eq-Decides entry.name name).1 equal) at parts.0 in
+        sym (eqb-true entry.code code same) ∙ eqb-true entry.code wanted test
+    by false other rest = rest parts.1 (rw other at is)
+
+-- A word that is no name.
+no_code_named : (field : CodeField) (argument : List ℕ) → has_name (codes_of field) argument ≡ false
+    → (named : ℕ) → name_of_code (codes_of field) named ≢ Some argument
+no_code_named field argument none named is = true≢false (sym (code_has_name (codes_of field) named argument is) ∙ none)
+
+-- The name of a code is this code and no other.
+named_code : (field : CodeField) (argument : List ℕ) (code : ℕ) → name_of_code (codes_of field) code ≡ Some argument
+    → names_only (codes_of field) argument code ≡ true → IsOnlyCode field argument code
+named_code field argument code is all = (Named is, only) where
+  only : (other : ℕ) → IsCode field argument other → other ≡ code
+  only other (Named named) = code_is_wanted (codes_of field) other code argument all named
+  only other (Numbered none number small) = absurd (none code is)
+
+-- A number that is no name is this code and no other.
+numbered_code : (field : CodeField) (argument : List ℕ) (code : ℕ) → has_name (codes_of field) argument ≡ false
+    → IsOnlyNumber argument code → code < 2 ^ 8 → IsOnlyCode field argument code
+numbered_code field argument code none number small = (Numbered (no_code_named field argument none) number.0 small, only) where
+  only : (other : ℕ) → IsCode field argument other → other ≡ code
+  only other (Named named) = absurd (no_code_named field argument none other named)
+  only other (Numbered no_name is_other fits) = number.1 other is_other
+
+-- A word that is neither is no code.
+no_code : (field : CodeField) (argument : List ℕ) → has_name (codes_of field) argument ≡ false
+    → ((number : ℕ) → IsNumber argument number → ¬ (number < 2 ^ 8)) → NoneIs (IsCode field argument)
+no_code field argument none too_large code (Named named) = no_code_named field argument none code named
+no_code field argument none too_large code (Numbered no_name number small) = too_large code number small
+
+pub codes_are_known : CodesAreKnown
+codes_are_known = record {
+  name = named_code Os (codes "linux") 5 refl refl;
+  zero = named_code Compression (codes "none") 0 refl refl;
+  named_number = numbered_code Os (codes "5") 5 refl (decimal_digits (codes "5") refl refl) (lit< tt);
+  other_number = numbered_code Arch (codes "0xff") 255 refl (hexadecimal_digits_after (codes "ff") refl) (lit< tt);
+  past_greatest = no_code Os (codes "256") refl
+      (λ number is small. omega (arith, small, (decimal_digits (codes "256") refl refl).1 number is));
+  name_of_other_field = no_code Os (codes "arm") refl (λ number is small. no_number (codes "arm") refl refl number is);
+  no_name = no_code Compression (codes "Gzip") refl (λ number is small. no_number (codes "Gzip") refl refl number is);
+}
+
+-- ---- limits
+
+-- A number in range is this limit and no other.
+limit_in_range : (argument : List ℕ) (limit : ℕ) → IsOnlyNumber argument limit → 64 ≤ limit → limit ≤ 0x7fffffff
+    → IsOnlyLimit argument limit
+limit_in_range argument limit number least most = (
+  record { file = number.0; least = least; most = most; depth = refl },
+  λ limits is. (λ i. record { file = number.1 limits.file is.file i; depth = is.depth i }),
+)
+
+pub limits_are_known : LimitsAreKnown
+limits_are_known = record {
+  least = limit_in_range (codes "64") 64 (decimal_digits (codes "64") refl refl) (lit≤ tt) (lit≤ tt);
+  greatest = limit_in_range (codes "0x7fffffff") 2147483647 (hexadecimal_digits_after (codes "7fffffff") refl) (lit≤ tt) (lit≤ tt);
+  below_least = λ limits is. omega (arith, is.least, (decimal_digits (codes "63") refl refl).1 limits.file is.file);
+  past_greatest = λ limits is. omega (arith, is.most, (decimal_digits (codes "2147483648") refl refl).1 limits.file is.file);
+  no_number = λ limits is. no_number (codes "1k") refl refl limits.file is.file;
+}

@@ -1,0 +1,111 @@
+use Rattle.std.proofs.Common.{◌≡◌, ◌≢◌, ◌++◌, ◌∷◌, [], ◌∙◌, ◌<◌, ℕ, zero, suc, List, Some, map, length, codes, get_or, ap, refl, sym}
+use Rattle.std.proofs.Common.{inl, inr, arith}
+use Rattle.std.specs.Fmt.{decimal, digits}
+use Rattle.std.proofs.lemmas.List.{append_assoc}
+use Rattle.bootimg.specs.Files.{Closed, IsBeside, Made, NameTaken, Renamed, TookSteps}
+use Rattle.bootimg.specs.KnownSteps.{BesideNamesAreKnown, HasBesideNames, SavedInSteps}
+use Rattle.bootimg.proofs.NewFiles.{steps_in_turn}
+
+-- A new file is in the directory of the file whose name it takes, and saving takes its steps in their order.
+
+-- ---- names
+
+-- The name `b` has no slash, and `a/b` has one.
+no_slash_in_b : (before last : List ℕ) → ¬ (codes "b" ≡ before ++ 47 ∷ last)
+no_slash_in_b [] last same = omega (arith, ap (λ l. get_or l 0 0) same)
+no_slash_in_b (byte ∷ []) last same = omega (arith, ap (λ l. length l) same)
+no_slash_in_b (byte ∷ other ∷ before) last same = omega (arith, ap (λ l. length l) same)
+
+slash_in_ab : (before last : List ℕ) → codes "a/b" ≡ before ++ 47 ∷ last → before ≡ codes "a"
+slash_in_ab [] last same = absurd (omega (arith, ap (λ l. get_or l 0 0) same))
+slash_in_ab (byte ∷ []) last same = ap (λ n. n ∷ []) (sym (ap (λ l. get_or l 0 0) same))
+slash_in_ab (byte ∷ other ∷ []) last same = absurd (omega (arith, ap (λ l. get_or l 2 0) same))
+slash_in_ab (byte ∷ other ∷ third ∷ []) last same = absurd (omega (arith, ap (λ l. length l) same))
+slash_in_ab (byte ∷ other ∷ third ∷ fourth ∷ before) last same = absurd (omega (arith, ap (λ l. length l) same))
+
+-- The directory of each.
+directory_of_b : (number : ℕ) (beside : List ℕ) (is : IsBeside (codes "b") number beside) → is.directory ≡ []
+directory_of_b number beside is = elim is.ends_with_slash [
+  | inl none ↦ none
+  | inr slash ↦ absurd (no_slash_in_b slash.0 is.last
+      (is.is_name ∙ ap (λ l. l ++ is.last) slash.1 ∙ append_assoc slash.0 (47 ∷ []) is.last))
+]
+
+directory_of_ab : (number : ℕ) (beside : List ℕ) (is : IsBeside (codes "a/b") number beside) → is.directory ≡ codes "a/"
+directory_of_ab number beside is = elim is.ends_with_slash [
+  | inl none ↦ absurd (in_last is.last (is.is_name ∙ ap (λ l. l ++ is.last) none) is.last_has_no_slash)
+  | inr slash ↦ slash.1 ∙ ap (λ l. l ++ 47 ∷ [])
+      (slash_in_ab slash.0 is.last (is.is_name ∙ ap (λ l. l ++ is.last) slash.1 ∙ append_assoc slash.0 (47 ∷ []) is.last))
+]
+  where
+    in_last : (last : List ℕ) → codes "a/b" ≡ last → ¬ ((index : ℕ) → index < length last → get_or last index 0 ≢ 47)
+    in_last last same none = none 1 (omega (arith, ap (λ l. length l) same)) (sym (ap (λ l. get_or l 1 0) same))
+
+-- The last part of a name has no slash.
+no_slash_at : (index : ℕ) → index < 1 → get_or (codes "b") index 0 ≢ 47
+no_slash_at zero inside slash = omega (arith, slash)
+no_slash_at (suc index) inside slash = omega (arith, inside)
+
+beside_b : HasBesideNames (codes "b") []
+beside_b = (
+  λ number. record {
+    directory = [];
+    last = codes "b";
+    is_name = refl;
+    is_beside = refl;
+    ends_with_slash = inl refl;
+    last_has_no_slash = no_slash_at;
+  },
+  λ number beside is. is.is_beside ∙ ap (λ l. l ++ (codes ".bootimg-" ++ decimal number)) (directory_of_b number beside is),
+)
+
+beside_ab : HasBesideNames (codes "a/b") (codes "a/")
+beside_ab = (
+  λ number. record {
+    directory = codes "a/";
+    last = codes "b";
+    is_name = refl;
+    is_beside = refl;
+    ends_with_slash = inr (codes "a", refl);
+    last_has_no_slash = no_slash_at;
+  },
+  λ number beside is. is.is_beside ∙ ap (λ l. l ++ (codes ".bootimg-" ++ decimal number)) (directory_of_ab number beside is),
+)
+
+pub beside_names_are_known : BesideNamesAreKnown
+unfolding digits
+beside_names_are_known = record {
+  in_directory = beside_ab;
+  without_directory = beside_b;
+  numbers = beside_ab.0 12;
+}
+
+-- ---- steps
+
+pub saved_in_steps : SavedInSteps
+saved_in_steps files name bytes old after saved =
+    let put = saved.is_put_in_place in
+    let made = saved.is_made in
+    let taken = map NameTaken made.are_taken.taken in
+    let two = Closed saved.beside put.is_filled.filled ∷ Renamed saved.beside name ∷ [] in
+    let last : TookSteps saved.made (Some after) two =
+    steps_in_turn saved.made put.closed (Some after) (Closed saved.beside put.is_filled.filled ∷ []) (Renamed saved.beside name ∷ [])
+    put.is_filled.closed put.renamed in
+    let three : TookSteps made.tried (Some after) (Made saved.beside saved.file ∷ two) =
+    steps_in_turn made.tried saved.made (Some after) (Made saved.beside saved.file ∷ []) two made.made last in
+    let all : TookSteps old (Some after) (taken ++ Made saved.beside saved.file ∷ two) =
+    steps_in_turn old made.tried (Some after) taken (Made saved.beside saved.file ∷ two) made.are_taken.steps three in (
+      all.0,
+      taken ++ Made saved.beside saved.file ∷ two,
+      all.1,
+      all.2,
+      record {
+        taken = made.are_taken.taken;
+        beside = saved.beside;
+        file = saved.file;
+        filled = put.is_filled.filled;
+        written = put.is_filled.is_filled.written;
+        flushed = put.is_filled.is_filled.flushed;
+        are_steps = refl;
+      },
+    )

@@ -1,0 +1,5 @@
+use Rattle.bootimg.proofs.RunLines.{compare_lines_are_known}
+use Rattle.bootimg.proofs.known_runs.compare_lines_are_known.Goals as goal
+
+pub returns : goal.returns
+returns c = compare_lines_are_known

@@ -1,0 +1,5 @@
+use Rattle.bootimg.proofs.RunLines.{failure_lines_are_known}
+use Rattle.bootimg.proofs.known_runs.failure_lines_are_known.Goals as goal
+
+pub returns : goal.returns
+returns c = failure_lines_are_known

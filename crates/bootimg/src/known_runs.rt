@@ -1,0 +1,81 @@
+//! Small command lines with what they give, and how runs end. Each function does nothing: what it
+//! ensures is a fact about the definitions.
+
+ghost use Rattle.bootimg.specs.KnownArguments.{DefaultsAreKnown, OptionsAreKnown};
+ghost use Rattle.bootimg.specs.KnownArguments.{MistakesAreKnown, NumbersAreKnown, CodesAreKnown};
+ghost use Rattle.bootimg.specs.KnownArguments.{LimitsAreKnown, InputsAreKnown};
+ghost use Rattle.bootimg.specs.KnownRuns.{StatusesAreKnown, FailureLinesAreKnown};
+ghost use Rattle.bootimg.specs.KnownRuns.{ExtractLinesAreKnown, CompareLinesAreKnown};
+ghost use Rattle.bootimg.specs.KnownRuns.{NotesAreKnown};
+ghost use Rattle.bootimg.specs.KnownSteps.{BesideNamesAreKnown, SavedInSteps};
+
+/// Each option of each command has a known value if it is not given.
+pub fn defaults_are_known()
+    ensures { DefaultsAreKnown }
+{}
+
+/// Each option of each command has the value that a command line gives it.
+pub fn options_are_known()
+    ensures { OptionsAreKnown }
+{}
+
+/// Small command lines are rejected for known reasons.
+pub fn mistakes_are_known()
+    ensures { MistakesAreKnown }
+{}
+
+/// Small words are known numbers, or none.
+pub fn numbers_are_known()
+    ensures { NumbersAreKnown }
+{}
+
+/// Small words are known codes of a field, or none.
+pub fn codes_are_known()
+    ensures { CodesAreKnown }
+{}
+
+/// Small words are known limits, or none.
+pub fn limits_are_known()
+    ensures { LimitsAreKnown }
+{}
+
+/// Standard input is read for parts with a length and without parts, and not for files alone.
+pub fn inputs_are_known()
+    ensures { InputsAreKnown }
+{}
+
+/// The exit statuses are 0 and 1 for known results.
+pub fn statuses_are_known()
+    ensures { StatusesAreKnown }
+{}
+
+/// Each failure has a known line, with the name of the file or without it.
+pub fn failure_lines_are_known()
+    ensures { FailureLinesAreKnown }
+{}
+
+/// Each error of extracting has a known line.
+pub fn extract_lines_are_known()
+    ensures { ExtractLinesAreKnown }
+{}
+
+/// The line of an error of comparing has the name of the file that is refused.
+pub fn compare_lines_are_known()
+    ensures { CompareLinesAreKnown }
+{}
+
+/// The notes on signature nodes are known lines.
+pub fn notes_are_known()
+    ensures { NotesAreKnown }
+{}
+
+/// A new file is in the directory of the file whose name it takes.
+pub fn beside_names_are_known()
+    ensures { BesideNamesAreKnown }
+{}
+
+/// An output that is saved was written to a new file, which was made, then flushed and closed, and
+/// then took the name.
+pub fn outputs_are_saved_in_steps()
+    ensures { SavedInSteps }
+{}
