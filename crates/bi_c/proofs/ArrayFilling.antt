@@ -1,4 +1,5 @@
-use Rattle.std.proofs.Common.{◌≡◌, ◌+◌, ◌<◌, ◌≤◌, ◌++◌, ℕ, List, [], ◌∷◌, length, take, drop, refl, sym, ap, ap₂, subst, ◌∙◌, arith, append_assoc}
+use Rattle.std.proofs.Common.{◌≡◌, ◌+◌, ◌<◌, ◌≤◌, ◌++◌, ℕ, List, [], ◌∷◌, length, take, drop, refl, sym, ap, ap₂, subst, ◌∙◌}
+use Rattle.std.proofs.Common.{arith, append_assoc}
 use Rattle.std.proofs.Common.{append-nil, add-one, zero, suc, Some, None}
 use Rattle.std.specs.Prelude.{slice_get}
 use Rattle.std.proofs.Math.ListN.{set, length-set}
@@ -69,7 +70,8 @@ pub found_at : {T : Type 0} (all : List T) (index : ℕ) (value : T) → slice_g
     drop index all ≡ value ∷ drop (index + 1) all
 found_at all index value is = rw add-one (by all index is)
   where
-    by : {T : Type 0} {value : T} (all : List T) (index : ℕ) → slice_get all index ≡ Some value → drop index all ≡ value ∷ drop (suc index) all
+    by : {T : Type 0} {value : T} (all : List T) (index : ℕ) → slice_get all index ≡ Some value →
+        drop index all ≡ value ∷ drop (suc index) all
     by [] index is = absurd cc
     by (first ∷ later) zero is = ap (λ it. it ∷ later) (same_in_some first _ is)
     by (first ∷ later) (suc index) is = by later index is

@@ -22,7 +22,8 @@ pair_of_reservation reservation = (reservation.address, reservation.size)
 -- The reservation at an index is the first of those that are left,
 pub reservation_left : (all : List Reservation) (index address size : ℕ) →
     slice_get (map pair_of_reservation all) index ≡ Some (address, size) →
-    map element_of_reservation (drop index all) ≡ record { address = address; size = size } ∷ map element_of_reservation (drop (index + 1) all)
+    map element_of_reservation (drop index all)
+    ≡ record { address = address; size = size } ∷ map element_of_reservation (drop (index + 1) all)
 reservation_left all index address size is = rw add-one (by all index is)
   where
     by : (all : List Reservation) (index : ℕ) → slice_get (map pair_of_reservation all) index ≡ Some (address, size) →
@@ -61,10 +62,10 @@ pub first_is_not : (name first : List ℕ) (later : List (List ℕ)) → bytes_e
 first_is_not name first later is = rw is refl
 
 -- The index of the default.
-pub default_is : (content : FitModel) (found : Option (Bor (List ℕ))) (default : Bor (List ℕ)) →
+pub default_found : (content : FitModel) (found : Option (Bor (List ℕ))) (default : Bor (List ℕ)) →
     option_map (λ (name : Bor (List ℕ)). name.now) found ≡ default_of (tree_of content) → found ≡ Some default →
     default_index_of (tree_of content) ≡ index_of_first default.now (names (configuration_nodes (tree_of content)))
-default_is content found default is is_found =
+default_found content found default is is_found =
     ap (λ (it : Option (List ℕ)). index_of_default it (names (configuration_nodes (tree_of content))))
     (sym is ∙ ap (option_map (λ (name : Bor (List ℕ)). name.now)) is_found)
 
@@ -78,6 +79,7 @@ no_default content found is is_found =
 -- The image at an index of a list is the first of those that are left.
 pub listed_left : (content : FitModel) (listed : List Named) (index : ℕ) (default : Named) → index < length listed →
     map (index_among content) (map listed_image (drop index listed))
-    ≡ index_among content (listed_image (get_or listed index default)) ∷ map (index_among content) (map listed_image (drop (index + 1) listed))
+    ≡ index_among content (listed_image (get_or listed index default))
+    ∷ map (index_among content) (map listed_image (drop (index + 1) listed))
 listed_left content listed index default within =
     rw add-one (ap (λ (left : List Named). map (index_among content) (map listed_image left)) (drop-cons listed index default within))

@@ -11,7 +11,7 @@ use Rattle.bi_fit.specs.Names.{configurations_name}
 use Rattle.bi_fit.specs.Reading.{IsReadFit, IsFitReadError}
 use Rattle.bi_fit.proofs.ReadErrors.{none_before_tree}
 use Rattle.bi_c.specs.Arguments.{bounds}
-use Rattle.bi_c.specs.FitElements.{configurations_in}
+use Rattle.bi_c.specs.FitElements.{configuration_siblings}
 use Rattle.bi_c.specs.TreeRegions.{HasNameBytes}
 use Rattle.bi_c.proofs.TreeRegions.{blob_names, children_names}
 
@@ -38,7 +38,7 @@ read_needs_memory limits file content read =
 
 -- The configurations of what was read are those of the file, with their names.
 pub configuration_bytes : (limits : Limits) (file : List ℕ) (content : FitModel) (read : IsReadFit limits file content) →
-    AllByRecursion (HasNameBytes file) (configurations_in read.means.is_file.root)
+    AllByRecursion (HasNameBytes file) (configuration_siblings read.means.is_file.root)
 configuration_bytes limits file content read =
     let is = read.means.is_file in
     children_names file configurations_name is.root.children (node_named is.root.children configurations_name) refl

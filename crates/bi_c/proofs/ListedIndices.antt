@@ -1,4 +1,5 @@
-use Rattle.std.proofs.Common.{◌≡◌, ◌+◌, ◌<◌, ℕ, suc, Bool, true, false, List, [], ◌∷◌, Option, Some, None, length, map, bytes_eq, refl, sym, ap, subst}
+use Rattle.std.proofs.Common.{◌≡◌, ◌+◌, ◌<◌, ℕ, suc, Bool, true, false, List, [], ◌∷◌, Option, Some, None, length, map, bytes_eq}
+use Rattle.std.proofs.Common.{refl, sym, ap, subst}
 use Rattle.std.proofs.Common.{◌∙◌, ap₂, nat_eq, arith}
 use Rattle.std.specs.FinMap.{get}
 use Rattle.std.specs.List.{AllByRecursion, AllZip, ends_with}
@@ -26,7 +27,7 @@ use Rattle.bi_c.specs.declared.failure.Failure.{Failure}
 use Rattle.bi_c.specs.declared.failure.Failure.TheVariants.{NotFound, OutOfMemory, Refused, WrongArgument}
 use Rattle.bi_c.specs.Answers.{failure_of_error}
 use Rattle.bi_c.specs.Arguments.{bounds, key_of, HasKey}
-use Rattle.bi_c.specs.FitElements.{AreIndicesListed, AreListedImages, IsListFailure, IsListReason}
+use Rattle.bi_c.specs.FitElements.{AreReadIndices, AreImageIndices, IsListFailure, IsListReason}
 use Rattle.bi_c.specs.FitElements.{IsListRefusal, failure_of_list_error, index_among, index_of_first, index_of_listed, names_of_images}
 
 -- The indices of listed images are those of the images that a tree has under their names.
@@ -49,7 +50,8 @@ same_index file (entry ∷ entries) (image ∷ images) from name read =
         ≡ from + 1 + index_of_first name (names_of_images (images_with (map bare_image entries) (payloads_of_models images))) →
         (found : Bool) → bytes_eq image.name name ≡ found →
         unwrap_or (index_from from name (image ∷ images)) (from + length (image ∷ images))
-        ≡ from + index_of_first name (names_of_images (images_with (map bare_image (entry ∷ entries)) (payloads_of_models (image ∷ images))))
+        ≡ from
+        + index_of_first name (names_of_images (images_with (map bare_image (entry ∷ entries)) (payloads_of_models (image ∷ images))))
     by more true is = rw (is, same ∙ is) (omega arith)
     by more false is =
         let later = index_of_first name (names_of_images (images_with (map bare_image entries) (payloads_of_models images))) in
@@ -91,52 +93,55 @@ found_within (first ∷ later) name image is = by (bytes_eq first.entry.name nam
     by true found is more = rw found (omega arith)
     by false found is more = rw found (let within = more (rw found at is) in omega (arith, within))
 
--- So each listed image has one.
-same_listed : {one other : List ListedImage} → ListedImages one ≡ ListedImages other → one ≡ other
-same_listed is = cc
+-- Two lists of images that are listed are the same list.
+pub same_listed : (one other : List ListedImage) → ListedImages one ≡ ListedImages other → one ≡ other
+same_listed one other is = cc
 
-abbrev pub AreWithin : List Image → List ListedImage → Type 0
-AreWithin images listed =
+-- So each listed image has one.
+abbrev pub HaveImages : List Image → List ListedImage → Type 0
+HaveImages images listed =
     AllByRecursion (λ (one : ListedImage). index_of_first one.name (names_of_images images) < length images) listed
 
 more_within : (images : List Image) (index : ℕ) (name : List ℕ) (rest : ListResult) (listed : List ListedImage) →
-    ((later : List ListedImage) → rest ≡ ListedImages later → AreWithin images later) →
-    (found : Option Image) → image_named name images ≡ found → listed_from index name found rest ≡ ListedImages listed → AreWithin images listed
+    ((later : List ListedImage) → rest ≡ ListedImages later → HaveImages images later) →
+    (found : Option Image) → image_named name images ≡ found → listed_from index name found rest ≡ ListedImages listed →
+    HaveImages images listed
 more_within images index name rest listed have None is_found is = absurd cc
 more_within images index name (ListedImages later) listed have (Some image) is_found is =
-    subst (AreWithin images) (same_listed is) (found_within images name image is_found, have later refl)
+    subst (HaveImages images) (same_listed _ _ is) (found_within images name image is_found, have later refl)
 more_within images index name NoConfig listed have (Some image) is_found is = absurd cc
 more_within images index name NoKey listed have (Some image) is_found is = absurd cc
 more_within images index name BadList listed have (Some image) is_found is = absurd cc
 more_within images index name (Missing missing) listed have (Some image) is_found is = absurd cc
 
 names_within : (images : List Image) (index : ℕ) (names : List (List ℕ)) (listed : List ListedImage) →
-    list_images images index names ≡ ListedImages listed → AreWithin images listed
-names_within images index [] listed is = subst (AreWithin images) (same_listed is) tt
+    list_images images index names ≡ ListedImages listed → HaveImages images listed
+names_within images index [] listed is = subst (HaveImages images) (same_listed _ _ is) tt
 names_within images index (name ∷ later) listed is =
     more_within images index name (list_images images (index + 1) later) listed (names_within images (index + 1) later)
     (image_named name images) refl is
 
 pub listed_within : (tree : ImageTree) (name : List ℕ) (key : Key) (listed : List ListedImage) →
-    listed_of tree name key ≡ ListedImages listed → AreWithin (images_of tree) listed
+    listed_of tree name key ≡ ListedImages listed → HaveImages (images_of tree) listed
 listed_within tree name key listed is = by_node (node_named (configuration_nodes tree) name) is
   where
-    by_value : (value : Option (List ℕ)) → listed_at (images_of tree) value ≡ ListedImages listed → AreWithin (images_of tree) listed
+    by_value : (value : Option (List ℕ)) → listed_at (images_of tree) value ≡ ListedImages listed → HaveImages (images_of tree) listed
     by_value None is = absurd cc
     by_value (Some value) is = by_end (ends_with nat_eq value (0 ∷ [])) refl
       where
-        by_end : (ends : Bool) → ends_with nat_eq value (0 ∷ []) ≡ ends → AreWithin (images_of tree) listed
+        by_end : (ends : Bool) → ends_with nat_eq value (0 ∷ []) ≡ ends → HaveImages (images_of tree) listed
         by_end true ends = names_within (images_of tree) 0 (listed_names value) listed (rw ends at is)
         by_end false ends = absurd (let e : BadList ≡ ListedImages listed = rw ends at is in cc)
 
     by_node : (node : Option (Sibling PropertyMap)) → listed_under (images_of tree) node key ≡ ListedImages listed →
-        AreWithin (images_of tree) listed
+        HaveImages (images_of tree) listed
     by_node None is = absurd cc
     by_node (Some node) is = by_value (get node.own (key_name key)) is
 
 -- The failure for an error of listing images.
 pub list_refusal : (content : FitModel) (name : List ℕ) (key : Key) (cause : ConfigError) (failure : Failure) →
-    failure ≡ failure_of_list_error cause → IsListError (listed_of (tree_of content) name key) cause → IsListRefusal content name key failure
+    failure ≡ failure_of_list_error cause → IsListError (listed_of (tree_of content) name key) cause →
+    IsListRefusal content name key failure
 list_refusal content name key cause failure same is = subst (IsListRefusal content name key) (sym same) (by cause is)
   where
     by : (cause : ConfigError) → IsListError (listed_of (tree_of content) name key) cause →
@@ -148,15 +153,16 @@ list_refusal content name key cause failure same is = subst (IsListRefusal conte
     by list.OutOfMemory is = tt
 
 -- The same of the indices.
-each_index : (tree : ImageTree) (listed : List ListedImage) → AreWithin (images_of tree) listed →
+each_index : (tree : ImageTree) (listed : List ListedImage) → HaveImages (images_of tree) listed →
     AllByRecursion (λ (index : ℕ). index < length (images_of tree)) (map (index_of_listed tree) listed)
 each_index tree [] within = tt
 each_index tree (first ∷ later) within = (within.0, each_index tree later within.1)
 
 -- What a call with valid numbers lists is what the file lists,
-pub listed_as : (limit depth number : ℕ) (file name : List ℕ) (limits : Limits) (key : Key) (content : FitModel) → HasKey limit depth number
-    → limits ≡ bounds limit depth → key ≡ key_of number → IsReadFit limits file content → (indices : List ℕ) (value : ℕ)
-    → AreIndicesListed content name key indices value → AreListedImages limit depth number file name indices value
+pub listed_as : (limit depth number : ℕ) (file name : List ℕ) (limits : Limits) (key : Key) (content : FitModel)
+    → HasKey limit depth number → limits ≡ bounds limit depth → key ≡ key_of number → IsReadFit limits file content
+    → (indices : List ℕ) (value : ℕ) → AreReadIndices content name key indices value
+    → AreImageIndices limit depth number file name indices value
 listed_as limit depth number file name limits key content valid same_limits same_key read indices value is =
     let tree = tree_of content in
     let same = is.are_indices ∙ indices_in_tree content read.held is.listed in
@@ -173,9 +179,9 @@ listed_as limit depth number file name limits key content valid same_limits same
     }
 
 -- or it fails as listing does.
-pub not_listed : (limit depth number : ℕ) (file name : List ℕ) (limits : Limits) (key : Key) (content : FitModel) → HasKey limit depth number
-    → limits ≡ bounds limit depth → key ≡ key_of number → IsReadFit limits file content → (failure : Failure)
-    → IsListRefusal content name key failure → IsListFailure limit depth number file name failure
+pub not_listed : (limit depth number : ℕ) (file name : List ℕ) (limits : Limits) (key : Key) (content : FitModel)
+    → HasKey limit depth number → limits ≡ bounds limit depth → key ≡ key_of number → IsReadFit limits file content
+    → (failure : Failure) → IsListRefusal content name key failure → IsListFailure limit depth number file name failure
 not_listed limit depth number file name limits key content valid same_limits same_key read (NotFound reason index) is = (
   valid,
   record {
@@ -191,8 +197,10 @@ not_listed limit depth number file name limits key content valid same_limits sam
 
 -- So does one that cannot read the file.
 pub read_failed : (limit depth number : ℕ) (file name : List ℕ) (cause : Error) (failure : Failure) → HasKey limit depth number
-    → failure ≡ failure_of_error cause → IsFitReadError (bounds limit depth) file cause → IsListFailure limit depth number file name failure
-read_failed limit depth number file name cause failure valid same is = subst (IsListFailure limit depth number file name) (sym same) (by cause is)
+    → failure ≡ failure_of_error cause → IsFitReadError (bounds limit depth) file cause
+    → IsListFailure limit depth number file name failure
+read_failed limit depth number file name cause failure valid same is =
+    subst (IsListFailure limit depth number file name) (sym same) (by cause is)
   where
     by : (cause : Error) → IsFitReadError (bounds limit depth) file cause →
         IsListFailure limit depth number file name (failure_of_error cause)

@@ -69,8 +69,8 @@ abbrev pub default_index_of : ImageTree → ℕ
 default_index_of tree = index_of_default (default_of tree) (names (configuration_nodes tree))
 
 -- The configuration nodes of a tree in a file.
-abbrev pub configurations_in : Root FileNode → List (Sibling FileNode)
-configurations_in root = children_of_found (node_named root.children configurations_name)
+abbrev pub configuration_siblings : Root FileNode → List (Sibling FileNode)
+configuration_siblings root = children_of_found (node_named root.children configurations_name)
 
 -- The regions are those of the names of the configurations of the file, in their order. The number
 -- is the index of the default one.
@@ -80,9 +80,9 @@ pub record AreConfigurationRegions (limit depth : ℕ) (file : List ℕ) (region
     pub limits : IsInRange limit depth
     pub tree : ImageTree
     pub means : FitMeans (bounds limit depth) file tree
-    pub are_regions : regions ≡ map name_region_of (configurations_in means.is_file.root)
+    pub are_regions : regions ≡ map name_region_of (configuration_siblings means.is_file.root)
     pub have_bytes :
-        AllByRecursion (HasNameBytes file) (configurations_in means.is_file.root)
+        AllByRecursion (HasNameBytes file) (configuration_siblings means.is_file.root)
     pub is_default : value ≡ default_index_of tree
 
 -- The names of images.
@@ -96,7 +96,7 @@ index_of_listed tree listed =
 
 -- The indices are those of the images that the configuration with the given name lists under a key,
 -- in the order of the list. Each is that of an image.
-pub record AreListedImages (limit depth key : ℕ) (file name : List ℕ) (indices : List ℕ)
+pub record AreImageIndices (limit depth key : ℕ) (file name : List ℕ) (indices : List ℕ)
     (value : ℕ) : Type 0
   where
     pub arguments : HasKey limit depth key
@@ -151,7 +151,7 @@ index_among content listed =
     unwrap_or (index_of listed.name content.images) (length content.images)
 
 -- The indices are those of what a flattened image tree that was read lists.
-pub record AreIndicesListed (content : FitModel) (name : List ℕ) (key : Key) (indices : List ℕ)
+pub record AreReadIndices (content : FitModel) (name : List ℕ) (key : Key) (indices : List ℕ)
     (value : ℕ) : Type 0
   where
     pub listed : List ListedImage

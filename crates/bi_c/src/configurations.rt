@@ -11,8 +11,8 @@ ghost use Rattle.bi_fit.specs.Names.{configurations_name};
 ghost use Rattle.bi_fit.specs.Reading.{IsFitReadError};
 ghost use Rattle.bi_c.specs.Answers.{Fills, IsJust};
 ghost use Rattle.bi_c.specs.Calls.{IsFailureOfOne};
-ghost use Rattle.bi_c.specs.FitElements.{AreConfigurationRegions, AreListedImages, IsListFailure};
-ghost use Rattle.bi_c.specs.FitElements.{AreIndicesListed, IsListRefusal};
+ghost use Rattle.bi_c.specs.FitElements.{AreConfigurationRegions, AreImageIndices, IsListFailure};
+ghost use Rattle.bi_c.specs.FitElements.{AreReadIndices, IsListRefusal};
 ghost use Rattle.bi_c.specs.FitElements.{default_index_of, index_among};
 
 use crate::answer::{Answer, DONE, NO_ROOM, answer_with, fail};
@@ -95,7 +95,7 @@ pub extern "C" fn bootimg_listed(
     images: &mut [usize],
     answer: &mut Answer,
 ) -> u32
-    ensures { Fills (AreListedImages limit depth key file.now name.now)
+    ensures { Fills (AreImageIndices limit depth key file.now name.now)
         (IsListFailure limit depth key file.now name.now)
         images.old images.new answer.new result }
 {
@@ -121,7 +121,7 @@ fn list_images(
     indices: &mut [usize],
     answer: &mut Answer,
 ) -> u32
-    ensures { Fills (AreIndicesListed fit.now name.now key) (IsListRefusal fit.now name.now key)
+    ensures { Fills (AreReadIndices fit.now name.now key) (IsListRefusal fit.now name.now key)
         indices.old indices.new answer.new result }
 {
     match fit.config_payloads(alloc, name, key) {

@@ -5,7 +5,7 @@ use Rattle.bi_blob.specs.Tree.{FileNode, Root}
 use Rattle.bi_fit.specs.Reading.{IsFitReadError}
 use Rattle.bi_c.specs.declared.failure.Failure.TheVariants.{WrongArgument}
 use Rattle.bi_c.specs.Answers.{FilledNothing}
-use Rattle.bi_c.specs.FitElements.{configurations_in}
+use Rattle.bi_c.specs.FitElements.{configuration_siblings}
 use Rattle.bi_c.specs.TreeRegions.{children_of_found, name_region_of}
 use Rattle.bi_c.proofs.CallAnswers.{not_so, is_so, fills_as, failed_of_one}
 use Rattle.bi_c.proofs.FitFiles.{means_within, configuration_bytes}
@@ -24,7 +24,7 @@ returns-in-Ok c =
       means = means_within c.args.limit c.args.depth c.args.file.now c.in-Some.limits c.in-Ok.fit c.in-Some.ensures.value read;
       are_regions = just.is_text
           ∙ ap (λ found. map name_region_of (children_of_found found)) c.configurations_node.ensures
-          ∙ ap (λ (root : Root FileNode). map name_region_of (configurations_in root)) (sym read.same_root);
+          ∙ ap (λ (root : Root FileNode). map name_region_of (configuration_siblings root)) (sym read.same_root);
       have_bytes = configuration_bytes c.in-Some.limits c.args.file.now c.in-Ok.fit read;
       is_default = just.is_number ∙ c.default_index.ensures;
     })

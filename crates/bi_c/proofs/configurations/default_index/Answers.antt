@@ -2,7 +2,7 @@ use Rattle.std.proofs.Common.{◌≡◌, ◌+◌, ◌<◌, ◌^◌, ℕ, true, f
 use Rattle.std.proofs.lemmas.List.{length-map}
 use Rattle.bi_fit.specs.JudgementCalls.{ConfigurationModel, configurations_of}
 use Rattle.bi_c.specs.FitElements.{index_of_first}
-use Rattle.bi_c.proofs.FitElements.{configuration_names, first_is, first_is_not, default_is, no_default}
+use Rattle.bi_c.proofs.FitElements.{configuration_names, first_is, first_is_not, default_found, no_default}
 use Rattle.bi_c.proofs.configurations.default_index.Goals as goal
 
 pub returns-in_default : goal.returns-in_default
@@ -33,7 +33,7 @@ returns-then-eq c =
     ap (λ (name : List ℕ). bytes_eq name default) (sym c.name.ensures) ∙ sym c.eq.ensures ∙ c.if-eq.true in
     let here = ap (λ (it : List ConfigurationModel). index_of_first default (map (λ (one : ConfigurationModel). one.name) it)) steps
     ∙ first_is default one.name (map (λ (one : ConfigurationModel). one.name) c.next.new.self) equal in
-    let whole = default_is content c.default_config.result c.in-Some.default c.default_config.ensures c.in-Some.is in
+    let whole = default_found content c.default_config.result c.in-Some.default c.default_config.ensures c.in-Some.is in
     omega (arith, whole, here, c.loop-configuration.invariant.is_later)
 
 pub overflow_add-index : goal.overflow_add-index
@@ -65,7 +65,7 @@ returns c =
     let none = c.in-None.ensures.steps.0 in
     let here = ap (λ (it : List ConfigurationModel). index_of_first default (map (λ (one : ConfigurationModel). one.name) it)) none in
     let count = ap length none in
-    let whole = default_is c.args.fit.now c.default_config.result c.in-Some.default c.default_config.ensures c.in-Some.is in
+    let whole = default_found c.args.fit.now c.default_config.result c.in-Some.default c.default_config.ensures c.in-Some.is in
     omega (
       arith,
       whole,

@@ -23,7 +23,8 @@ bounds-elements-index c =
     let left = reservation_left all index c.in-Some.address c.in-Some.size (sym c.reservation.ensures ∙ c.in-Some.is) in
     filling_fits (map element_of_reservation all) (map element_of_reservation (drop (index + 1) all))
     (record { address = c.in-Some.address; size = c.in-Some.size }) index c.args.elements.now c.loop-address.elements
-    (subst (λ (it : List ReservationElement). IsFilling (map element_of_reservation all) it index c.args.elements.now c.loop-address.elements)
+    (subst (λ (it : List ReservationElement).
+    IsFilling (map element_of_reservation all) it index c.args.elements.now c.loop-address.elements)
     left c.loop-address.invariant)
 
 pub loop-address-smaller : goal.loop-address-smaller
@@ -40,7 +41,8 @@ loop-address-preserved c =
     let left = reservation_left all index c.in-Some.address c.in-Some.size (sym c.reservation.ensures ∙ c.in-Some.is) in
     filling_goes_on (map element_of_reservation all) (map element_of_reservation (drop (index + 1) all))
     (record { address = c.in-Some.address; size = c.in-Some.size }) index c.args.elements.now c.loop-address.elements
-    (subst (λ (it : List ReservationElement). IsFilling (map element_of_reservation all) it index c.args.elements.now c.loop-address.elements)
+    (subst (λ (it : List ReservationElement).
+    IsFilling (map element_of_reservation all) it index c.args.elements.now c.loop-address.elements)
     left c.loop-address.invariant)
 
 pub returns : goal.returns
