@@ -11,7 +11,6 @@ use Rattle.bi_fit.specs.JudgementCalls.{ConfigurationModel, configurations_of, l
 use Rattle.bi_fit.specs.declared.configurations.Named.{Named}
 use Rattle.bi_fit.proofs.Meanings.{same_in_some}
 use Rattle.bi_c.specs.FitElements.{default_index_of, element_of_reservation, index_among, index_of_default, index_of_first}
-use Rattle.bi_c.specs.declared.fit.ReservationElement.{ReservationElement}
 
 -- The elements of a flattened image tree that are left are those after an index.
 

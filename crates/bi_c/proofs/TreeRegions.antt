@@ -1,21 +1,20 @@
-use Rattle.std.proofs.Common.{◌≡◌, ◌+◌, ◌<◌, ◌≤◌, ◌++◌, ◌^◌, ℕ, List, [], ◌∷◌, Bool, true, false, Option, Some, None, map, length}
-use Rattle.std.proofs.Common.{take, drop, bytes_eq, refl, sym, ap, subst, ◌∙◌, arith, length-append}
+use Rattle.std.proofs.Common.{◌≡◌, ◌+◌, ◌++◌, ℕ, List, [], ◌∷◌, Bool, true, false, Option, Some, None, map, length}
+use Rattle.std.proofs.Common.{bytes_eq, refl, ap, subst, arith, length-append}
 use Rattle.std.specs.Prelude.{⊤}
 use Rattle.std.specs.List.{AllByRecursion}
 use Rattle.std.specs.Option.{option_map}
-use Rattle.bi_base.specs.Cells.{cell, slice, u32_at}
+use Rattle.bi_base.specs.Cells.{cell}
 use Rattle.bi_base.proofs.CellLaws.{length-cell}
-use Rattle.bi_base.proofs.ListMembers.{each-front, each-back, each-map_back}
-use Rattle.bi_blob.specs.Tokens.{Token, BeginNode, EndNode, Prop, Nop, End, token_bytes, width, IsTokenAt, IsNameAt}
+use Rattle.bi_base.proofs.ListMembers.{each-front, each-back}
+use Rattle.bi_blob.specs.Tokens.{Token, BeginNode, EndNode, Prop, Nop, End, token_bytes, width, IsTokenAt}
 use Rattle.bi_blob.specs.Lookups.{Sibling, siblings, node_named}
-use Rattle.bi_blob.specs.Tree.{Nodes, none, node, Root, FileProperty, FileNode, as_nodes}
+use Rattle.bi_blob.specs.Tree.{Nodes, none, node, Root, FileNode, as_nodes}
 use Rattle.bi_blob.specs.Events.{FileEvent, FileNodeStart, FileNodeProperty, FileNodeEnd, file_events, file_events_of, EncodeEvents}
-use Rattle.bi_blob.specs.Blob.{Reservation, tree_blocks, off_dt_strings, size_dt_strings, IsBlob}
-use Rattle.bi_blob.proofs.Blobs.Cells.{BytesAt, BytesAt-from, BytesAt-left, BytesAt-right, BytesAt-within, u32_at-BytesAt}
+use Rattle.bi_blob.specs.Blob.{Reservation, tree_blocks, IsBlob}
+use Rattle.bi_blob.proofs.Blobs.Cells.{BytesAt, BytesAt-left, BytesAt-right, BytesAt-within}
 use Rattle.bi_blob.proofs.Blobs.TokenEncoding.{AllStand}
 use Rattle.bi_blob.proofs.Blobs.OneBlob.{HoldsTree-stand}
-use Rattle.bi_fit.specs.ImageTree.{children_of, image_nodes}
-use Rattle.bi_fit.specs.Names.{images_name}
+use Rattle.bi_fit.specs.ImageTree.{children_of}
 use Rattle.bi_fit.specs.Payloads.{IsAt}
 use Rattle.bi_c.specs.TreeRegions.{AreBytesAt, HasNameBytes, children_of_found, node_name_region}
 

@@ -1,6 +1,4 @@
-use Rattle.std.proofs.Common.{◌≡◌, List, refl, sym, ap, map, ◌∙◌}
-use Rattle.std.specs.Option.{option_map}
-use Rattle.bi_blob.specs.Lookups.{Sibling}
+use Rattle.std.proofs.Common.{refl, sym, ap, map, ◌∙◌}
 use Rattle.bi_blob.specs.Tree.{FileNode, Root}
 use Rattle.bi_fit.specs.Reading.{IsFitReadError}
 use Rattle.bi_c.specs.declared.failure.Failure.TheVariants.{WrongArgument}

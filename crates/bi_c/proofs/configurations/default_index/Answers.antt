@@ -1,6 +1,6 @@
-use Rattle.std.proofs.Common.{◌≡◌, ◌+◌, ◌<◌, ◌^◌, ℕ, true, false, List, ◌∷◌, length, map, bytes_eq, refl, sym, ap, ◌∙◌, arith, rules}
+use Rattle.std.proofs.Common.{◌≡◌, ◌<◌, ◌^◌, ℕ, true, false, List, length, map, bytes_eq, sym, ap, ◌∙◌, arith, rules}
 use Rattle.std.proofs.lemmas.List.{length-map}
-use Rattle.bi_fit.specs.JudgementCalls.{ConfigurationModel, configurations_of}
+use Rattle.bi_fit.specs.JudgementCalls.{ConfigurationModel}
 use Rattle.bi_c.specs.FitElements.{index_of_first}
 use Rattle.bi_c.proofs.FitElements.{configuration_names, first_is, first_is_not, default_found, no_default}
 use Rattle.bi_c.proofs.configurations.default_index.Goals as goal

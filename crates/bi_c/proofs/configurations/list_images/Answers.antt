@@ -1,4 +1,4 @@
-use Rattle.std.proofs.Common.{◌≡◌, List, map, refl, ap, ◌∙◌}
+use Rattle.std.proofs.Common.{List, map, refl, ap, ◌∙◌}
 use Rattle.bi_fit.specs.declared.configurations.Named.{Named}
 use Rattle.bi_fit.specs.JudgementCalls.{listed_image}
 use Rattle.bi_c.specs.Answers.{FilledNothing}

@@ -1,6 +1,5 @@
-use Rattle.std.proofs.Common.{◌≡◌, ℕ, refl, subst, ◌∙◌, ap, List}
-use Rattle.bi_base.specs.Limits.{Limits}
-use Rattle.bi_blob.specs.Blob.{totalsize, IsWithin}
+use Rattle.std.proofs.Common.{refl, ◌∙◌, ap}
+use Rattle.bi_blob.specs.Blob.{totalsize}
 use Rattle.bi_fit.specs.Reading.{IsFitReadError}
 use Rattle.bi_c.specs.declared.failure.Failure.TheVariants.{WrongArgument}
 use Rattle.bi_c.specs.Answers.{WasSet, WasNotSet}

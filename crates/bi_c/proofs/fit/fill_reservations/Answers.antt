@@ -1,6 +1,5 @@
-use Rattle.std.proofs.Common.{◌≡◌, ◌+◌, ◌<◌, ℕ, suc, List, [], ◌∷◌, length, map, drop, refl, sym, ap, subst, ◌∙◌, arith}
+use Rattle.std.proofs.Common.{◌≡◌, ◌+◌, ℕ, List, length, map, drop, sym, ap, subst, ◌∙◌, arith}
 use Rattle.std.proofs.lemmas.List.{length-map}
-use Rattle.bi_blob.specs.Blob.{Reservation}
 use Rattle.bi_c.specs.Answers.{answer_of}
 use Rattle.bi_c.specs.FitElements.{element_of_reservation}
 use Rattle.bi_c.specs.declared.fit.ReservationElement.{ReservationElement}

@@ -1,4 +1,4 @@
-use Rattle.std.proofs.Common.{length, map}
+use Rattle.std.proofs.Common.{length}
 use Rattle.std.specs.Option.{option_map}
 use Rattle.bi_blob.specs.Lookups.{siblings, siblings_from}
 use Rattle.bi_fdt.specs.Content.{root_of}
