@@ -4,7 +4,8 @@
 # numbers. tests/tools/c_library/calls.c makes each call, as gcc and clang compile it with their sanitizers: on the examples and the
 # vectors of tests/conformance, it and the module do what the program does. The module takes files in any buffer, without a copy
 # (tests/tools/c_library/buffers.py), what `bootimg.open` returns is what the vectors say (tests/tools/c_library/objects.py), and what the
-# calls for C that take images apart return is the same (tests/tools/c_library/structure.c). mypy finds nothing wrong in its types. The programs in docs/LIBRARY.md print what the document shows. The script needs gcc, g++, clang, nm,
+# calls for C that take images apart return is the same (tests/tools/c_library/structure.c). mypy finds nothing wrong in its types. The
+# programs in docs/LIBRARY.md print what the document shows; that in Rust is left out without cargo. The script needs gcc, g++, clang, nm,
 # pkg-config and python3, and installs Debian's if one is missing and it runs as root, and so it does mypy, without which it leaves out the
 # types.
 set -u

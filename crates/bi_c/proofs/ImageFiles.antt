@@ -1,7 +1,6 @@
-use Rattle.std.proofs.Common.{◌≡◌, ℕ, List, [], ◌∷◌, Option, None, Some, map, refl, sym, ap, subst, ◌∙◌}
+use Rattle.std.proofs.Common.{◌≡◌, ℕ, List, [], ◌∷◌, Option, None, Some, refl, sym, ap, ◌∙◌}
 use Rattle.std.specs.List.{AllZip}
 use Rattle.bi_base.specs.Limits.{Limits, IsInRange}
-use Rattle.bi_blob.specs.Blob.{IsWithin}
 use Rattle.bi_blob.specs.Lookups.{siblings}
 use Rattle.bi_blob.specs.Tree.{Nodes, none, node, FileNode, Root}
 use Rattle.bi_fdt.specs.Content.{root_of}
@@ -15,6 +14,7 @@ use Rattle.bi_c.specs.declared.images.ImageElement.{ImageElement}
 use Rattle.bi_c.specs.Answers.{IsJust}
 use Rattle.bi_c.specs.Arguments.{bounds}
 use Rattle.bi_c.specs.ImageElements.{AreImageElements, HaveImageBytes, HasPayloadBytes, image_elements, payload_region}
+use Rattle.bi_c.proofs.FitFiles.{means_within}
 use Rattle.bi_c.proofs.TreeRegions.{HaveNames, blob_names, found_names}
 
 -- The elements of the images that were read of a file are those of the images that the file means.
@@ -53,7 +53,7 @@ are_image_elements limit depth file limits content elements value in_range same 
     record {
       limits = in_range;
       tree = tree;
-      means = record { is_file = is; within = subst (λ (l : Limits). IsWithin l file is.root) same read.means.within };
+      means = means_within limit depth file limits content same read;
       are_elements = just.is_text
           ∙ ap (λ (bytes : List ℕ). image_elements bytes (siblings (nodes_or_none (image_nodes (root_of content.blob)))) tree.payloads)
           read.is_file

@@ -1,20 +1,22 @@
-use Rattle.std.proofs.Common.{◌≡◌, ◌+◌, ◌<◌, ◌≤◌, ◌++◌, ◌^◌, ℕ, List, [], ◌∷◌, Bool, true, false, Option, Some, None, map, length, take, drop, bytes_eq, refl, sym, ap, subst, ◌∙◌, arith, length-append}
+use Rattle.std.proofs.Common.{◌≡◌, ◌+◌, ◌++◌, ℕ, List, [], ◌∷◌, Bool, true, false, Option, Some, None, map, length}
+use Rattle.std.proofs.Common.{bytes_eq, refl, ap, subst, arith, length-append}
 use Rattle.std.specs.Prelude.{⊤}
 use Rattle.std.specs.List.{AllByRecursion}
-use Rattle.bi_base.specs.Cells.{cell, slice, u32_at}
+use Rattle.std.specs.Option.{option_map}
+use Rattle.bi_base.specs.Cells.{cell}
 use Rattle.bi_base.proofs.CellLaws.{length-cell}
-use Rattle.bi_base.proofs.ListMembers.{each-front, each-back, each-map_back}
-use Rattle.bi_blob.specs.Tokens.{Token, BeginNode, EndNode, Prop, Nop, End, token_bytes, width, IsTokenAt, IsNameAt}
-use Rattle.bi_blob.specs.Tree.{Nodes, none, node, Root, FileProperty, FileNode, as_nodes}
+use Rattle.bi_base.proofs.ListMembers.{each-front, each-back}
+use Rattle.bi_blob.specs.Tokens.{Token, BeginNode, EndNode, Prop, Nop, End, token_bytes, width, IsTokenAt}
+use Rattle.bi_blob.specs.Lookups.{Sibling, siblings, node_named}
+use Rattle.bi_blob.specs.Tree.{Nodes, none, node, Root, FileNode, as_nodes}
 use Rattle.bi_blob.specs.Events.{FileEvent, FileNodeStart, FileNodeProperty, FileNodeEnd, file_events, file_events_of, EncodeEvents}
-use Rattle.bi_blob.specs.Blob.{Reservation, tree_blocks, off_dt_strings, size_dt_strings, IsBlob}
-use Rattle.bi_blob.proofs.Blobs.Cells.{BytesAt, BytesAt-from, BytesAt-left, BytesAt-right, BytesAt-within, u32_at-BytesAt}
+use Rattle.bi_blob.specs.Blob.{Reservation, tree_blocks, IsBlob}
+use Rattle.bi_blob.proofs.Blobs.Cells.{BytesAt, BytesAt-left, BytesAt-right, BytesAt-within}
 use Rattle.bi_blob.proofs.Blobs.TokenEncoding.{AllStand}
 use Rattle.bi_blob.proofs.Blobs.OneBlob.{HoldsTree-stand}
-use Rattle.bi_fit.specs.ImageTree.{children_of, image_nodes}
-use Rattle.bi_fit.specs.Names.{images_name}
+use Rattle.bi_fit.specs.ImageTree.{children_of}
 use Rattle.bi_fit.specs.Payloads.{IsAt}
-use Rattle.bi_c.specs.TreeRegions.{AreBytesAt, node_name_region}
+use Rattle.bi_c.specs.TreeRegions.{AreBytesAt, HasNameBytes, children_of_found, node_name_region}
 
 -- The names of a tree are in its file at their places.
 
@@ -90,3 +92,17 @@ found_names file wanted (node name own children later) inner has have =
         let found : children ≡ inner = cc (rw is at has) in
         subst (HaveNames file) found have.1
     where_first false is has rest = rest (rw is at has)
+
+-- The siblings among nodes that have their names have them.
+each_name : (file : List ℕ) (nodes : Nodes FileNode) → HaveNames file nodes → AllByRecursion (HasNameBytes file) (siblings nodes)
+each_name file none have = tt
+each_name file (node name own children later) have = (have.0, each_name file later have.2)
+
+-- So do the children of a node that is found.
+pub children_names : (file wanted : List ℕ) (nodes : Nodes FileNode) (found : Option (Sibling FileNode)) → node_named nodes wanted ≡ found →
+    HaveNames file nodes → AllByRecursion (HasNameBytes file) (children_of_found found)
+children_names file wanted nodes None is have = tt
+children_names file wanted nodes (Some found) is have =
+    each_name file found.children
+    (found_names file wanted nodes found.children
+    (ap (λ (it : Option (Sibling FileNode)). option_map (λ (one : Sibling FileNode). one.children) it) is) have)

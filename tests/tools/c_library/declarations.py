@@ -12,11 +12,13 @@ import sys
 from pathlib import Path
 
 # The numbers and the structs of the source in C.
-NUMBERS = {"u8": "uint8_t", "u32": "uint32_t", "usize": "size_t"}
+NUMBERS = {"u8": "uint8_t", "u32": "uint32_t", "u64": "uint64_t", "usize": "size_t"}
 STRUCTS = {
     "Answer": "bootimg_answer",
     "Region": "bootimg_region",
+    "FitFields": "bootimg_fit_fields",
     "LegacyFields": "bootimg_legacy_fields",
+    "ReservationElement": "bootimg_reservation",
     "ImageElement": "bootimg_image",
 }
 # What a parameter of the source is in C.
@@ -57,7 +59,7 @@ for source in sources.values():
         ]
 
 # The structs have the layout of C: each field is at the next multiple of its size, or of that of a size_t if it is a struct. Each struct
-# has a size_t.
+# is as long as some size_t.
 found = {}
 for source in sources.values():
     found |= dict(re.findall(r"#\[repr\(C\)\]\n[^{]*?pub struct (\w+) \{(.*?)\n\}", source, re.S))
@@ -79,7 +81,8 @@ FOUND = [
     ("", "answer.rt", r"const (?P<name>[A-Z_]+): u32 = (?P<number>\d+);"),
     ("", "kind.rt", r"Ok\(Kind::(?P<name>\w+)\) => succeed\(0, (?P<number>\d+), answer\)"),
     ("", "arguments.rt", r"(?P<number>\d+) => Some\((?:Form|Key)::(?P<name>\w+)\)"),
-    ("", "extract.rt", r"Error::(?:Config\(ConfigError::)?(?P<name>\w+)[()a-z]* => Failure::NotFound\((?P<number>\d+), "),
+    ("", "extract.rt", r"ExtractError::(?P<name>\w+) => Failure::NotFound\((?P<number>\d+), "),
+    ("", "failure.rt", r"ConfigError::(?P<name>\w+)[()a-z]* => Failure::NotFound\((?P<number>\d+), "),
     ("PLACE_", "images.rt", r"Place::(?P<name>\w+)(?:\(offset\))? => \((?:0|offset as usize), (?P<number>\d+)\)"),
     ("CHANGE_", "update.rt", r"let new_(?P<name>time) = if has_bit\((?P<number>\d+), changes\)"),
     ("CHANGE_", "update.rt", r"(?P<name>hashes): has_bit\((?P<number>\d+), changes\)"),

@@ -54,7 +54,11 @@ static uint32_t make(int call, uint8_t *buffer, bootimg_answer *answer)
     case 17: return bootimg_describe_json(file, size, BOOTIMG_LIMIT, 64, buffer, sizeof text, answer);
     case 18: return bootimg_compare_json(file, size, file, size - 1, BOOTIMG_LIMIT, 64, buffer, sizeof text, answer);
     case 19: return bootimg_parts(file, size, BOOTIMG_LIMIT, 64, (void *)buffer, 100, answer);
-    default: return bootimg_images(file, size, BOOTIMG_LIMIT, 64, (void *)buffer, 100, answer);
+    case 20: return bootimg_images(file, size, BOOTIMG_LIMIT, 64, (void *)buffer, 100, answer);
+    case 21: return bootimg_fit(file, size, BOOTIMG_LIMIT, 64, (void *)buffer, answer);
+    case 22: return bootimg_reservations(file, size, BOOTIMG_LIMIT, 64, (void *)buffer, 100, answer);
+    case 23: return bootimg_configurations(file, size, BOOTIMG_LIMIT, 64, (void *)buffer, 100, answer);
+    default: return bootimg_listed(file, size, name, 6, BOOTIMG_KERNEL, BOOTIMG_LIMIT, 64, (void *)buffer, 100, answer);
     }
 }
 
@@ -89,7 +93,7 @@ int main(int count, char **words)
     size = input == NULL ? 0 : fread(file, 1, sizeof file, input);
     if (size == 0)
         return 2;
-    for (int call = 0; call <= 20; call++) {
+    for (int call = 0; call <= 24; call++) {
         bootimg_answer expected;
         uint32_t status;
         memset(wanted, 0xa5, sizeof wanted);
