@@ -11,9 +11,9 @@ use Rattle.bi_blob.proofs.CheckDecisions.{both_decide, lt_decides}
 use Rattle.bi_commands.proofs.CleanLaws.NoLines.{second_passes}
 use Rattle.bi_legacy.specs.Codes.{CodeName, name_of_code}
 use Rattle.bootimg.specs.CodeWords.{codes_of, IsCode, Named, Numbered}
-use Rattle.bootimg.specs.CommandLine.{NoneIs, IsLimits}
+use Rattle.bootimg.specs.CommandLine.{NoneIs}
 use Rattle.bootimg.specs.KnownArguments.{CodesAreKnown, IsOnlyCode, IsOnlyLimit, IsOnlyNumber, LimitsAreKnown, NumbersAreKnown}
-use Rattle.bootimg.specs.Numbers.{AreDigitsOf, IsNumber}
+use Rattle.bootimg.specs.Numbers.{IsNumber}
 use Rattle.bootimg.specs.declared.codes.CodeField.{CodeField}
 use Rattle.bootimg.specs.declared.codes.CodeField.TheVariants.{Os, Arch, Compression}
 
