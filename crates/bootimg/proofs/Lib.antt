@@ -19,5 +19,5 @@ pub mod MemoryLogs
 pub mod JobStatuses
 pub mod ArgumentFacts
 pub mod OptionFacts
-pub mod RunLines
+pub mod RunEnds
 pub mod StepFacts

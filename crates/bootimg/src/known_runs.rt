@@ -44,7 +44,7 @@ pub fn inputs_are_known()
     ensures { InputsAreKnown }
 {}
 
-/// The exit statuses are 0 and 1 for known results.
+/// The exit status is 0 or 1 for known results, and 2 after a failure.
 pub fn statuses_are_known()
     ensures { StatusesAreKnown }
 {}
