@@ -36,10 +36,11 @@ _bootimg() {
         *)
             files=yes
             case ${COMP_WORDS[1]} in
-            normalise) words="--external --limit -o --output" ;;
-            list | describe | verify | convert) words="--limit -o --output" ;;
-            compare) words="--quiet --limit -o --output" ;;
-            check) words="--allow --limit -o --output" ;;
+            normalise | normalize) words="--external --limit -o --output" ;;
+            list | describe | verify) words="--json --limit -o --output" ;;
+            convert) words="--limit -o --output" ;;
+            compare | diff) words="--quiet --json --limit -o --output" ;;
+            check) words="--allow --json --limit -o --output" ;;
             update) words="--time --hashes --external --limit -o --output" ;;
             extract) words="--part --image --config --default --key --index --escaped --limit -o --output" ;;
             build-legacy) files= words="--os --arch --type --compression --name --time --load --entry --limit -o --output" ;;

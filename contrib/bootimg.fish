@@ -36,16 +36,17 @@ complete $first -a explain -d 'Explain the causes of refusals'
 complete $first -a help -d 'Print help'
 
 # What several commands have.
-set -l reading normalise list describe compare verify check update extract convert
+set -l reading normalise normalize list describe compare diff verify check update extract convert
 complete -c bootimg -n "__bootimg_is $reading" -F
 complete -c bootimg -n "__bootimg_is $reading build-legacy build-fit" -l limit -x -d 'Refuse an image of more than N bytes'
 complete -c bootimg -n "__bootimg_is $reading build-legacy build-fit explain" -s o -l output -r -F -d 'Write the output to a file'
-complete -c bootimg -n '__bootimg_is normalise update build-fit' -l external -d 'Write the payloads after the tree'
+complete -c bootimg -n '__bootimg_is list describe compare diff verify check' -l json -d 'Write JSON instead of lines'
+complete -c bootimg -n '__bootimg_is normalise normalize update build-fit' -l external -d 'Write the payloads after the tree'
 complete -c bootimg -n '__bootimg_is update build-legacy build-fit' -l time -x -d 'The time of creation, in seconds since 1970'
 complete -c bootimg -n '__bootimg_is build-legacy build-fit' -a '(__bootimg_part)'
 
 # What one command has.
-complete -c bootimg -n '__bootimg_is compare' -l quiet -d 'Write nothing'
+complete -c bootimg -n '__bootimg_is compare diff' -l quiet -d 'Write nothing'
 complete -c bootimg -n '__bootimg_is check' -l allow -x -d 'Leave out the lines of these kinds' \
     -a '(__fish_complete_list , "printf %s\n bad-hash unhashed weak-hash bad-list missing bad-default trailing")'
 complete -c bootimg -n '__bootimg_is update' -l hashes -d 'Compute the digests'

@@ -95,6 +95,12 @@ extern "C" {
 #define BOOTIMG_NO_INDEX 8u
 #define BOOTIMG_NO_PAYLOAD 9u
 
+/* `place` of an image: the property that places its payload. */
+#define BOOTIMG_PLACE_ABSENT 0u
+#define BOOTIMG_PLACE_DATA 1u
+#define BOOTIMG_PLACE_DATA_OFFSET 2u
+#define BOOTIMG_PLACE_DATA_POSITION 3u
+
 /* `kinds` of bootimg_check: the lines that are left out. */
 #define BOOTIMG_ALLOW_BAD_HASH 1u
 #define BOOTIMG_ALLOW_UNHASHED 2u
@@ -113,6 +119,34 @@ typedef struct bootimg_answer {
     uint32_t file;
     uint32_t reason;
 } bootimg_answer;
+
+/* Where bytes of a file are: the offset of the first one, and their number. */
+typedef struct bootimg_region {
+    size_t offset;
+    size_t size;
+} bootimg_region;
+
+/* The fields of the header of a legacy image. `time` is in seconds since 1970, and `load` and
+ * `entry` are addresses. The others are codes of U-Boot. */
+typedef struct bootimg_legacy_fields {
+    bootimg_region name;
+    uint32_t time;
+    uint32_t load;
+    uint32_t entry;
+    uint8_t os;
+    uint8_t arch;
+    uint8_t image_type;
+    uint8_t compression;
+} bootimg_legacy_fields;
+
+/* An image of a FIT. `place` is one of BOOTIMG_PLACE_ABSENT to BOOTIMG_PLACE_DATA_POSITION. If the
+ * image has no payload (an empty one counts as one), it is the first, and both numbers of `payload`
+ * are 0. */
+typedef struct bootimg_image {
+    bootimg_region name;
+    bootimg_region payload;
+    uint32_t place;
+} bootimg_image;
 
 /* Returns the kind of a file in `value`, by its first four bytes: BOOTIMG_LEGACY or BOOTIMG_FIT.
  * The other bytes are not examined. The call fails with Truncated at 0 for a file of fewer than
@@ -177,6 +211,28 @@ uint32_t bootimg_extract_default(const uint8_t *file, size_t file_size, uint32_t
                                  uint32_t index, uint32_t limit, uint32_t depth,
                                  bootimg_answer *answer);
 
+/* The calls that take an image apart copy nothing: names and payloads are regions of the caller's
+ * file, and inside it. Each call reads the whole file again. An array of the caller's is a buffer:
+ * it is followed by its length, and `size` is the number of elements. The output is at its
+ * beginning, and the elements after it are unchanged. If there is no room for all elements, the
+ * status is BOOTIMG_NO_ROOM, and the array is unchanged. */
+
+/* Sets the fields of the header of a legacy image. They are unchanged unless the status is
+ * BOOTIMG_DONE. The call fails with BadMagic at 0 for a file that is not a legacy image. */
+uint32_t bootimg_legacy(const uint8_t *file, size_t file_size, uint32_t limit, uint32_t depth,
+                        bootimg_legacy_fields *fields, bootimg_answer *answer);
+
+/* Writes where the parts of a legacy image are, in their order. `value` is the number of bytes of
+ * the file after the last part, or after the part table if there are no parts. The call fails as
+ * bootimg_legacy does. */
+uint32_t bootimg_parts(const uint8_t *file, size_t file_size, uint32_t limit, uint32_t depth,
+                       bootimg_region *parts, size_t parts_count, bootimg_answer *answer);
+
+/* Writes the images of a FIT, in their order. The call fails with BadMagic at 0 for a file that is
+ * not a FIT. */
+uint32_t bootimg_images(const uint8_t *file, size_t file_size, uint32_t limit, uint32_t depth,
+                        bootimg_image *images, size_t images_count, bootimg_answer *answer);
+
 /* Returns in `value` whether two files mean the same thing: 1 if they do, otherwise 0. */
 uint32_t bootimg_same_meaning(const uint8_t *one, size_t one_size, const uint8_t *other,
                               size_t other_size, uint32_t limit, uint32_t depth,
@@ -211,6 +267,27 @@ uint32_t bootimg_check(const uint8_t *file, size_t file_size, uint32_t kinds, ui
 uint32_t bootimg_compare(const uint8_t *one, size_t one_size, const uint8_t *other,
                          size_t other_size, uint32_t limit, uint32_t depth, uint8_t *buffer,
                          size_t buffer_size, bootimg_answer *answer);
+
+/* The calls `.._json` write what the call without `_json` writes, as one JSON text (RFC 8259) in
+ * ASCII and a newline. Their arguments, `value` and errors are those of that call. There is always
+ * an output, even if there are no concerns. */
+uint32_t bootimg_list_json(const uint8_t *file, size_t file_size, uint32_t limit, uint32_t depth,
+                           uint8_t *buffer, size_t buffer_size, bootimg_answer *answer);
+
+uint32_t bootimg_describe_json(const uint8_t *file, size_t file_size, uint32_t limit,
+                               uint32_t depth, uint8_t *buffer, size_t buffer_size,
+                               bootimg_answer *answer);
+
+uint32_t bootimg_verify_json(const uint8_t *file, size_t file_size, uint32_t limit, uint32_t depth,
+                             uint8_t *buffer, size_t buffer_size, bootimg_answer *answer);
+
+uint32_t bootimg_check_json(const uint8_t *file, size_t file_size, uint32_t kinds, uint32_t limit,
+                            uint32_t depth, uint8_t *buffer, size_t buffer_size,
+                            bootimg_answer *answer);
+
+uint32_t bootimg_compare_json(const uint8_t *one, size_t one_size, const uint8_t *other,
+                              size_t other_size, uint32_t limit, uint32_t depth, uint8_t *buffer,
+                              size_t buffer_size, bootimg_answer *answer);
 
 /* Writes the FIT that a legacy image is converted to. The call fails with BadMagic at 0 for a file
  * that is not a legacy image, for example a FIT; with NoCodeName at the offset of the first code

@@ -81,7 +81,8 @@ def write(directory: str, path: str | None) -> str:
     seconds = int(os.environ.get("SOURCE_DATE_EPOCH") or 0)
     # A time in an archive is at least that of the first day of 1980.
     moment = time.gmtime(max(seconds, 315532800))[:6]
-    with zipfile.ZipFile(Path(directory) / name, "w", zipfile.ZIP_DEFLATED, compresslevel=9) as archive:
+    wheel = Path(directory) / name
+    with zipfile.ZipFile(wheel, "w", zipfile.ZIP_DEFLATED, compresslevel=9) as archive:
         for file, data in sorted(files.items()):
             entry = zipfile.ZipInfo(file, moment)
             entry.external_attr = 0o100644 << 16

@@ -28,6 +28,7 @@ else libbootimg.so next to this file, if it is there, or else libbootimg.so.0 of
 import argparse
 import contextlib
 import ctypes
+import io
 import mmap
 import os
 import re
@@ -40,31 +41,49 @@ __all__ = [
     "BootimgError",
     "CONCERNS",
     "Comparison",
+    "Concern",
+    "Configuration",
     "DEPTH",
+    "FitHeader",
+    "FitImage",
+    "Hash",
+    "Image",
     "KEYS",
     "LIMIT",
+    "LegacyHeader",
+    "Node",
     "NotFound",
     "OutOfMemory",
+    "Part",
     "REASONS",
     "Refused",
     "Report",
+    "Reservation",
+    "VERDICTS",
+    "Verification",
     "WrongArgument",
     "cause_name",
     "check",
+    "check_json",
     "compare",
+    "compare_json",
     "convert",
     "describe",
+    "describe_json",
     "extract_config",
     "extract_image",
     "extract_part",
     "kind",
     "listing",
+    "listing_json",
     "normalise",
     "normalise_and_count",
+    "open",
     "same_meaning",
     "update",
     "update_and_count",
     "verify",
+    "verify_json",
     "version",
 ]
 
@@ -74,6 +93,7 @@ Buffer = bytes | bytearray | memoryview | mmap.mmap
 LIMIT = 0x7FFFFFFF
 DEPTH = 64
 CONCERNS = ("bad-hash", "unhashed", "weak-hash", "bad-list", "missing", "bad-default", "trailing")
+VERDICTS = ("good", "bad", "unknown-algorithm", "no-payload", "malformed")
 KEYS = ("kernel", "fdt", "ramdisk", "firmware", "loadables", "script")
 REASONS = (
     "the selection does not fit this kind of image",
@@ -168,12 +188,17 @@ _CALLS = {
     "extract_config": _FILE * 2 + _NUMBER * 4,
     "extract_default": _FILE + _NUMBER * 4,
     "list": _FILE + _NUMBER * 2 + _BUFFER,
+    "list_json": _FILE + _NUMBER * 2 + _BUFFER,
     "describe": _FILE + _NUMBER * 2 + _BUFFER,
+    "describe_json": _FILE + _NUMBER * 2 + _BUFFER,
     "verify": _FILE + _NUMBER * 2 + _BUFFER,
+    "verify_json": _FILE + _NUMBER * 2 + _BUFFER,
     "check": _FILE + _NUMBER * 3 + _BUFFER,
+    "check_json": _FILE + _NUMBER * 3 + _BUFFER,
     "convert": _FILE + _NUMBER * 2 + _BUFFER,
     "same_meaning": _FILE * 2 + _NUMBER * 2,
     "compare": _FILE * 2 + _NUMBER * 2 + _BUFFER,
+    "compare_json": _FILE * 2 + _NUMBER * 2 + _BUFFER,
     "cause_name": _NUMBER + _BUFFER,
     "version": _BUFFER,
 }
@@ -401,7 +426,7 @@ def extract_config(
 
 
 def _name_of(name: bytes | str) -> bytes:
-    return name.encode() if isinstance(name, str) else name
+    return name.encode("utf-8", "surrogateescape") if isinstance(name, str) else name
 
 
 def _text(name: str, files: tuple[Buffer, ...], *numbers: int) -> tuple[str, int]:
@@ -415,6 +440,11 @@ def listing(file: Buffer, limit: int = LIMIT, depth: int = DEPTH) -> str:
     return _text("list", (file,), _number(limit), _number(depth))[0]
 
 
+def listing_json(file: Buffer, limit: int = LIMIT, depth: int = DEPTH) -> str:
+    """Returns what `listing` says as one JSON text in ASCII and a newline."""
+    return _text("list_json", (file,), _number(limit), _number(depth))[0]
+
+
 def describe(file: Buffer, limit: int = LIMIT, depth: int = DEPTH) -> str:
     """Returns the description of what a file means. It does not depend on the layout of the file.
     Raises Refused with TooLarge if the description, or the payloads together, are longer than
@@ -422,9 +452,21 @@ def describe(file: Buffer, limit: int = LIMIT, depth: int = DEPTH) -> str:
     return _text("describe", (file,), _number(limit), _number(depth))[0]
 
 
+def describe_json(file: Buffer, limit: int = LIMIT, depth: int = DEPTH) -> str:
+    """Returns what `describe` says as one JSON text in ASCII and a newline. Raises Refused with
+    TooLarge if this text, or the payloads together, are longer than `limit`."""
+    return _text("describe_json", (file,), _number(limit), _number(depth))[0]
+
+
 def verify(file: Buffer, limit: int = LIMIT, depth: int = DEPTH) -> Report:
     """Returns the report on the checksums and digests of a file."""
     text, value = _text("verify", (file,), _number(limit), _number(depth))
+    return Report(text, value == 1)
+
+
+def verify_json(file: Buffer, limit: int = LIMIT, depth: int = DEPTH) -> Report:
+    """Returns what `verify` says, with the report as one JSON text in ASCII and a newline."""
+    text, value = _text("verify_json", (file,), _number(limit), _number(depth))
     return Report(text, value == 1)
 
 
@@ -434,8 +476,20 @@ def check(
     """Returns a line for each concern about a file: each thing in it that is not protected. The
     text is empty if there is no concern. Lines of the kinds in `allow`, of CONCERNS, are left out.
     Raises Refused with TooLarge if the payloads together are longer than `limit`."""
-    kinds = sum(1 << _index_of(kind, CONCERNS) for kind in set(allow))
-    return _text("check", (file,), kinds, _number(limit), _number(depth))[0]
+    return _text("check", (file,), _kinds_of(allow), _number(limit), _number(depth))[0]
+
+
+def check_json(
+    file: Buffer, allow: Iterable[str] = (), limit: int = LIMIT, depth: int = DEPTH
+) -> str:
+    """Returns what `check` says as one JSON text in ASCII and a newline, even if there is no
+    concern."""
+    return _text("check_json", (file,), _kinds_of(allow), _number(limit), _number(depth))[0]
+
+
+def _kinds_of(allow: Iterable[str]) -> int:
+    """Returns the number of a choice of kinds of concerns."""
+    return sum(1 << _index_of(kind, CONCERNS) for kind in set(allow))
 
 
 def convert(file: Buffer, limit: int = LIMIT, depth: int = DEPTH) -> bytes:
@@ -459,6 +513,32 @@ def compare(
     first file whose description, or payloads together, are longer than `limit`."""
     text, value = _text("compare", (one, other), _number(limit), _number(depth))
     return Comparison(value == 1, text)
+
+
+def compare_json(
+    one: Buffer, other: Buffer, limit: int = LIMIT, depth: int = DEPTH
+) -> Comparison:
+    """Returns what `compare` says, with the differences as one JSON text in ASCII and a newline,
+    even if there are none."""
+    text, value = _text("compare_json", (one, other), _number(limit), _number(depth))
+    return Comparison(value == 1, text)
+
+
+# These use what is above.
+from bootimg.image import (  # noqa: E402
+    Concern,
+    Configuration,
+    FitHeader,
+    FitImage,
+    Hash,
+    Image,
+    LegacyHeader,
+    Node,
+    Part,
+    Reservation,
+    Verification,
+    open,
+)
 
 
 def _whole_number(text: str) -> int:
@@ -513,6 +593,8 @@ def _parser() -> argparse.ArgumentParser:
             selection.add_argument("--default", action="store_true")
             command.add_argument("--key", choices=KEYS, default=KEYS[0])
             command.add_argument("--index", type=_whole_number, default=0, metavar="N")
+        if name in ("list", "describe", "verify", "check", "compare"):
+            command.add_argument("--json", action="store_true")
         if name == "check":
             command.add_argument("--allow", type=_kinds, default=[], metavar="KINDS")
         if name == "compare":
@@ -531,7 +613,7 @@ def _read(path: str) -> bytes:
         except OSError:
             raise _Unread("read failed") from None
     try:
-        file = open(path, "rb")
+        file = io.open(path, "rb")
     except IsADirectoryError:
         raise _Unread(f"{_shown(path)}: read failed") from None
     except OSError:
@@ -569,18 +651,27 @@ def _run(options: argparse.Namespace, files: list[bytes]) -> tuple[bytes, int]:
     if options.command == "compare":
         if options.quiet:
             return b"", int(not same_meaning(files[0], files[1], limit))
-        compared = compare(files[0], files[1], limit)
+        compared = (compare_json if options.json else compare)(files[0], files[1], limit)
         return compared.differences.encode("ascii"), int(not compared.same)
-    if options.command == "verify":
-        report = verify(files[0], limit)
-        return report.text.encode("ascii"), int(not report.all_good)
-    if options.command == "check":
-        concerns = check(files[0], options.allow, limit)
-        return concerns.encode("ascii"), int(concerns != "")
     if options.command == "convert":
         return convert(files[0], limit), 0
-    text = listing(files[0], limit) if options.command == "list" else describe(files[0], limit)
-    return text.encode("ascii"), 0
+    text, status = _printed(options, files[0])
+    return text.encode("ascii"), status
+
+
+def _printed(options: argparse.Namespace, file: bytes) -> tuple[str, int]:
+    """Returns what a command prints about one file, and the exit status."""
+    limit = options.limit
+    if options.command == "verify":
+        report = (verify_json if options.json else verify)(file, limit)
+        return report.text, int(not report.all_good)
+    if options.command == "check":
+        call, none = (check_json, '{"concerns":[]}\n') if options.json else (check, "")
+        concerns = call(file, options.allow, limit)
+        return concerns, int(concerns != none)
+    if options.command == "list":
+        return (listing_json if options.json else listing)(file, limit), 0
+    return (describe_json if options.json else describe)(file, limit), 0
 
 
 def main(arguments: list[str] | None = None) -> int:

@@ -13,9 +13,13 @@ COMMANDS = (
     "extract --part 0", "extract --image a", "extract --config conf-1", "extract --default", "describe", "describe --limit 400",
     "check", "check --limit 200", "check --allow unhashed,trailing", "update --time 5", "update --time 5 --limit 200",
     "update --hashes", "update --hashes --external --limit 400", "update --hashes --time 0x10 --external",
+    "list --json", "verify --json", "describe --json", "describe --json --limit 400", "check --json", "check --json --allow unhashed",
 )
 # Commands that compare a changed file with the file that it was.
-COMPARING = ("compare - NAME", "compare NAME -", "compare --quiet - NAME", "compare - NAME --limit 500")
+COMPARING = (
+    "compare - NAME", "compare NAME -", "compare --quiet - NAME", "compare - NAME --limit 500", "compare --json - NAME",
+    "compare --json NAME - --limit 500",
+)
 # The longest file that is changed.
 LONGEST = 2500
 

@@ -8,6 +8,7 @@ with the vectors.
 
 import contextlib
 import hashlib
+import json
 import re
 import struct
 import sys
@@ -460,9 +461,58 @@ def text_of(lines):
     return "".join(line + "\n" for line in lines).encode()
 
 
+def json_of(value):
+    """One line of JSON, in ASCII and without spaces outside of strings."""
+    return json.dumps(value, ensure_ascii=True, separators=(",", ":")).encode() + b"\n"
+
+
+def name_or_null(name):
+    return None if name is None else shown(name)
+
+
 def list_image(file, options):
     image = read(file, options["limit"])
+    if options["json"]:
+        return json_of(legacy_listing_object(image) if isinstance(image, Legacy) else fit_listing_object(image))
     return text_of(list_legacy(image) if isinstance(image, Legacy) else list_fit(image))
+
+
+def object_of_fields(image):
+    fields = {"kind": "legacy", "name": shown(image.name), "time": image.time, "load": image.load, "entry": image.entry}
+    return fields | {field: CODES[field].get(image.codes[field], image.codes[field]) for field in FIELDS}
+
+
+def legacy_listing_object(image):
+    parts = [{"offset": at, "size": len(part)} for at, part in image.parts]
+    return object_of_fields(image) | {"parts": parts, "unused": image.unused}
+
+
+def reservation_objects(fit):
+    return [{"address": f"0x{address:016x}", "size": f"0x{size:016x}"} for address, size in fit.blob.reservations]
+
+
+def fit_listing_object(fit):
+    images = []
+    for node, payload, given, place in fit.images:
+        placed = None if payload is None else {"property": given.decode(), "offset": place, "size": len(payload)}
+        images.append({"name": shown(node.name), "payload": placed})
+    configurations = [
+        {"name": shown(node.name), "keys": [key_object(fit, node, key) for key in KEYS if key.encode() in node.properties]}
+        for node in fit.configurations.children
+    ]
+    return {
+        "kind": "fit", "boot_cpu": fit.blob.cpu, "total_size": fit.blob.total, "reservations": reservation_objects(fit),
+        "images": images, "configurations": configurations, "default": name_or_null(fit.default()),
+    }
+
+
+def key_object(fit, configuration, key):
+    names, reason = fit.listed(configuration, key)
+    if reason is None:
+        return {"key": key, "images": [shown(name) for name in names]}
+    if reason == "bad list":
+        return {"key": key, "bad_list": True}
+    return {"key": key, "missing": int(reason.removeprefix("missing image "))}
 
 
 def fields_of(image):
@@ -502,14 +552,22 @@ def list_fit(fit):
 def verify(file, options):
     image = read(file, options["limit"])
     if isinstance(image, Legacy):
-        return b"header crc32 good\ndata crc32 good\n"
-    lines, counts = [], dict.fromkeys(VERDICTS, 0)
+        report = {"kind": "legacy", "header_crc32": "good", "data_crc32": "good"}
+        return json_of(report) if options["json"] else b"header crc32 good\ndata crc32 good\n"
+    lines, hashes, counts = [], [], dict.fromkeys(VERDICTS, 0)
     for node, payload, _, _ in image.images:
         for child, name, found, value in image.verdicts(node, payload):
             counts[found] += 1
             lines.append(f"{shown(node.name)} {shown(child.name)} {shown(name or b'')} {found} {(value or b'').hex() or '-'}")
+            hashes.append(hash_object(node, child, name, found) | {"value": None if value is None else value.hex()})
     lines.append("summary " + " ".join(f"{verdict} {counts[verdict]}" for verdict in VERDICTS))
-    return int(counts["good"] != sum(counts.values())), text_of(lines), b""
+    summary = {verdict.replace("-", "_"): count for verdict, count in counts.items()}
+    output = json_of({"kind": "fit", "hashes": hashes, "summary": summary}) if options["json"] else text_of(lines)
+    return int(counts["good"] != sum(counts.values())), output, b""
+
+
+def hash_object(image, node, algorithm, verdict):
+    return {"image": shown(image.name), "node": shown(node.name), "algorithm": name_or_null(algorithm), "verdict": verdict}
 
 
 def judged(name, value, payload):
@@ -602,7 +660,43 @@ def description(image, limit):
 
 
 def describe(file, options):
-    return text_of(description(read(file, options["limit"]), options["limit"]))
+    limit = options["limit"]
+    image = read(file, limit)
+    if not options["json"]:
+        return text_of(description(image, limit))
+    image.check_payloads(limit)
+    text = json_of(legacy_description_object(image) if isinstance(image, Legacy) else fit_description_object(image))
+    if len(text) > limit:
+        refuse("TooLarge", limit)
+    return text
+
+
+def digest_object(payload):
+    return {"size": len(payload), "sha256": hashlib.sha256(payload).hexdigest()}
+
+
+def legacy_description_object(image):
+    return object_of_fields(image) | {"parts": [digest_object(part) for part in image.payloads()]}
+
+
+def fit_description_object(fit):
+    payloads = {node: payload for node, payload, _, _ in fit.images}
+
+    def object_of(node):
+        found = {"name": shown(node.name)}
+        if node in payloads:
+            found["payload"] = None if payloads[node] is None else digest_object(payloads[node])
+        found["properties"] = [{"name": shown(name)} | value_object(value) for name, value in fit.properties(node)]
+        return found | {"children": [object_of(child) for child in node.children]}
+    root = object_of(fit.blob.root)
+    del root["name"]
+    return {"kind": "fit", "boot_cpu": fit.blob.cpu, "reservations": reservation_objects(fit), "root": root}
+
+
+def value_object(value):
+    if re.fullmatch(rb"([\x20-\x7e]+\0)+", value):
+        return {"strings": value.decode()[:-1].split("\0")}
+    return {"hex": value.hex()}
 
 
 def describe_legacy(image):
@@ -642,16 +736,25 @@ def compare(files, options):
         with about_image(name):
             images.append(read(file, limit))
     one, other = images
-    if one.kind == other.kind and one.meaning() == other.meaning():
-        return b""
+    is_same = one.kind == other.kind and one.meaning() == other.meaning()
     if options["quiet"]:
-        return 1, b"", b""
+        return int(not is_same), b"", b""
+    if is_same:
+        return differences_text([], options)
     for name, image in zip(names, images):
         with about_image(name):
             descriptions.append(description(image, limit))
     if one.kind != other.kind:
-        return 1, text_of([f"-kind {one.kind}", f"+kind {other.kind}"]), b""
-    return 1, text_of(differences(*descriptions)), b""
+        return 1, differences_text([f"-kind {one.kind}", f"+kind {other.kind}"], options), b""
+    return 1, differences_text(differences(*descriptions), options), b""
+
+
+def differences_text(lines, options):
+    """The output of compare. The images mean the same if and only if there is no line."""
+    if not options["json"]:
+        return text_of(lines)
+    signed = [(line[0], line[1:]) if line[0] in "+-" else ("", line) for line in lines]
+    return json_of({"same": not lines, "differences": [{"sign": sign, "line": line} for sign, line in signed]})
 
 
 def key_of(line):
@@ -679,11 +782,20 @@ def differences(lines, others):
 def check(file, options):
     image = read(file, options["limit"])
     image.check_payloads(options["limit"])
-    lines = [] if isinstance(image, Legacy) else list(concerns_of_fit(image))
+    concerns = [] if isinstance(image, Legacy) else list(concerns_of_fit(image))
     if image.after.strip(b"\0"):
-        lines.append(f"trailing {len(image.after)}")
-    lines = [line for line in lines if line.split(" ")[0] not in options.get("allow", [])]
-    return int(bool(lines)), text_of(lines), b""
+        concerns.append({"concern": "trailing", "size": len(image.after)})
+    concerns = [concern for concern in concerns if concern["concern"] not in options.get("allow", [])]
+    output = json_of({"concerns": concerns}) if options["json"] else text_of(map(concern_line, concerns))
+    return int(bool(concerns)), output, b""
+
+
+def concern_line(concern):
+    """The line of a concern: its values, in their order."""
+    words = []
+    for value in concern.values():
+        words += value if isinstance(value, list) else ["-" if value is None else str(value)]
+    return " ".join(words)
 
 
 def concerns_of_fit(fit):
@@ -694,21 +806,22 @@ def concerns_of_fit(fit):
             if found == "good":
                 good.append(name)
             else:
-                yield f"bad-hash {shown(node.name)} {shown(child.name)} {shown(name or b'')} {found}"
+                yield {"concern": "bad-hash"} | hash_object(node, child, name, found)
         if payload is not None and not good:
-            yield f"unhashed {shown(node.name)}"
+            yield {"concern": "unhashed", "image": shown(node.name)}
         elif payload is not None and not set(good) & set(STRONG):
-            yield " ".join(["weak-hash", shown(node.name), *map(shown, good)])
+            yield {"concern": "weak-hash", "image": shown(node.name), "algorithms": list(map(shown, good))}
     for node in fit.configurations.children:
         for key in KEYS:
             reason = fit.listed(node, key)[1] if key.encode() in node.properties else None
             if reason == "bad list":
-                yield f"bad-list {shown(node.name)} {key}"
+                yield {"concern": "bad-list", "configuration": shown(node.name), "key": key}
             elif reason:
-                yield f"missing {shown(node.name)} {key} {reason.removeprefix('missing image ')}"
+                index = int(reason.removeprefix("missing image "))
+                yield {"concern": "missing", "configuration": shown(node.name), "key": key, "index": index}
     name = fit.default()
     if fit.configurations.children and not fit.configurations.child(name):
-        yield f"bad-default {'-' if name is None else shown(name)}"
+        yield {"concern": "bad-default", "default": name_or_null(name)}
 
 
 def convert(file, options):
@@ -851,11 +964,11 @@ def limit_of(text):
 # is required.
 FLAG = None
 COMMANDS = {
-    "list": (of_image(list_image), {}),
-    "describe": (of_image(describe), {}),
-    "compare": (compare, {"quiet": FLAG}),
-    "verify": (of_image(verify), {}),
-    "check": (of_image(check), {"allow": (kinds, ())}),
+    "list": (of_image(list_image), {"json": FLAG}),
+    "describe": (of_image(describe), {"json": FLAG}),
+    "compare": (compare, {"quiet": FLAG, "json": FLAG}),
+    "verify": (of_image(verify), {"json": FLAG}),
+    "check": (of_image(check), {"allow": (kinds, ()), "json": FLAG}),
     "update": (of_image(update), {"time": (number, ()), "hashes": FLAG, "external": FLAG}),
     "extract": (of_image(extract), {
         "part": (number, ()), "image": (str, ()), "config": (str, ()), "default": FLAG, "key": (key, "kernel"), "index": (number, "0"),

@@ -2,9 +2,10 @@
 # Measures what the program takes on large flattened image trees: time beside sha256sum of the same file, and memory beside the
 # length of the file. It fails if memory is more than the file and 8 MiB for a large payload, if 10,000 images take more than ten
 # times what sha256sum takes, if ten times as many take more than twenty times as long, if verify, check or describe of 1,100 images
-# that have one region as their payload takes more than five times what sha256sum takes, or if describe or check of a large payload takes
-# more than 1.15 times as long as verify, which computes the same digest. Each time is the least of ten rounds. How many times as long a
-# file or a command takes as another is the median of the rounds. The script needs python3 and coreutils.
+# that have one region as their payload takes more than five times what sha256sum takes, if describe or check of a large payload takes
+# more than 1.15 times as long as verify, which computes the same digest, or if a command with --json takes more than 2.5 times as long as
+# without it. Each time is the least of ten rounds. How many times as long a file or a command takes as another is the median of the
+# rounds. The script needs python3 and coreutils.
 # With ten times as many images, n log n comparisons are 12.5 times as many, and the larger maps are more often outside the caches of
 # the processor. A cost that grows with the square would be a hundred times as much.
 set -u
@@ -112,6 +113,8 @@ COMPARISONS = {
 
 # How many times as long as sha256sum 1,100 images may take that have one region as their payload, with six hash nodes each.
 SHARED = 5
+# How many times as long as without --json a command may take with it.
+JSON = 2.5
 
 failures = 0
 
@@ -159,6 +162,12 @@ for command in ("describe", "check"):
     runs, verified = zip(*([run("large", [PROGRAM, each]) for each in (command, "verify")] for _ in range(10)))
     times = ratio(runs, verified)
     judge(f"large, {command} beside verify", times <= 1.15, f"{times:.2f} times as long")
+with_json = [("configured", *COMMANDS["list"]), *(("more", *COMMANDS[command]) for command in ("list", "describe", "verify", "check"))]
+for path, *words in [*with_json, ("more", "compare", "-", "FILE.other")]:
+    wanted = int(words[0] == "compare")
+    runs, without = zip(*([run(path, [PROGRAM, *words, *json], wanted) for json in (["--json"], [])] for _ in range(10)))
+    times = ratio(runs, without)
+    judge(f"{path}, {words[0]} --json", times <= JSON, f"{least(runs)[0]:.3f} s, {times:.2f} times as long as without --json")
 sys.exit(failures != 0)
 END
 # The trees are made by another process: what a process has used counts for the memory of those that it starts.
@@ -166,5 +175,5 @@ program=$root/crates/bootimg/out/bootimg
 python_with_blobs costs.py make
 python_with_blobs costs.py "$program" | tee costs
 add_counts "$(grep -c '^ok: ' costs)" "$(grep -c '^FAILED: ' costs)"
-[ "$(grep -c '^ok: \|^FAILED: ' costs)" = 37 ] || add_counts 0 1
+[ "$(grep -c '^ok: \|^FAILED: ' costs)" = 43 ] || add_counts 0 1
 finish

@@ -126,8 +126,8 @@ edit src/converting.rt '{ OnOk result (Appended S.appends (IsConvertedFile limit
         → S.appends sink.old file.now sink.new) }'
 unprove converting/convert_into returns-clause-appended
 
-boundary bi_commands list::listing bi_c texts::bootimg_list returns-in-Ok
-edit src/list.rt '{ IfOk result (λ text. IsListing limits file.now (string_bytes text)) }' '{ IfOk result (λ _. ⊤) }'
+boundary bi_commands list::listing bi_c texts::bootimg_list returns
+edit src/list.rt '{ IfOk result (λ text. IsListing Lines limits file.now (string_bytes text)) }' '{ IfOk result (λ _. ⊤) }'
 
 # is_proved COPY: the function whose clause was taken away is proved.
 is_proved() {

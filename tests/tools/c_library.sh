@@ -3,9 +3,10 @@
 # the functions that the library exports, with the parameters, the struct and the constants of the sources. The module has the same
 # numbers. tests/tools/c_library/calls.c makes each call, as gcc and clang compile it with their sanitizers: on the examples and the
 # vectors of tests/conformance, it and the module do what the program does. The module takes files in any buffer, without a copy
-# (tests/tools/c_library/buffers.py), and mypy finds nothing wrong in its types. The programs in docs/LIBRARY.md print what the document
-# shows. The script needs gcc, g++, clang, nm, pkg-config and python3, and installs Debian's if one is missing and it runs as root, and so
-# it does mypy, without which it leaves out the types.
+# (tests/tools/c_library/buffers.py), what `bootimg.open` returns is what the vectors say (tests/tools/c_library/objects.py), and what the
+# calls for C that take images apart return is the same (tests/tools/c_library/structure.c). mypy finds nothing wrong in its types. The programs in docs/LIBRARY.md print what the document shows. The script needs gcc, g++, clang, nm,
+# pkg-config and python3, and installs Debian's if one is missing and it runs as root, and so it does mypy, without which it leaves out the
+# types.
 set -u
 
 root=$(cd "$(dirname "$0")/../.." && pwd)
@@ -56,11 +57,14 @@ is_found() {
 }
 check "a field of another size is found" is_found "size_t value;" "uint32_t value;"
 check "exchanged fields are found" is_found "uint32_t cause;" "uint32_t later, cause;"
+check "a region of another kind is found" is_found "bootimg_region payload;" "uint8_t payload[8];"
+check "a code of another size is found" is_found "uint8_t arch;" "uint16_t arch;"
 check "a parameter of another type is found" is_found "bootimg_version(uint8_t \*buffer" "bootimg_version(const uint8_t *buffer"
 check "exchanged parameters are found" is_found "uint32_t key, uint32_t index" "uint32_t index, uint32_t key"
 check "another number of a status is found" is_found "BOOTIMG_NO_ROOM 3u" "BOOTIMG_NO_ROOM 4u"
 check "another number of a kind is found" is_found "BOOTIMG_FIT 2u" "BOOTIMG_FIT 1u"
 check "another number of a form is found" is_found "BOOTIMG_EXTERNAL 1u" "BOOTIMG_EXTERNAL 2u"
+check "another number of a place is found" is_found "PLACE_DATA_OFFSET 2u" "PLACE_DATA_OFFSET 3u"
 check "another number of a key is found" is_found "BOOTIMG_FDT 1u" "BOOTIMG_FDT 2u"
 check "another number of a change is found" is_found "BOOTIMG_CHANGE_HASHES 2u" "BOOTIMG_CHANGE_HASHES 4u"
 check "another number of a reason is found" is_found "BOOTIMG_NO_INDEX 8u" "BOOTIMG_NO_INDEX 9u"
@@ -132,14 +136,21 @@ for image in kernel.uimage two-parts.uimage board.itb board-external.itb; do
     passes python3 "$root/tests/tools/c_library/buffers.py" libbootimg.so "$examples/$image"
 done
 "$root/tests/conformance/run" --export runs > log || cat log
+passes python3 "$root/tests/tools/c_library/objects.py" runs libbootimg.so
 # The module calls one shared library, so it is tried beside the calls of one compiler.
 module="python3 -m bootimg"
 for compiler in gcc clang; do
     check "$compiler compiles the calls" $compiler -std=gnu99 -Wall -Wextra -Werror -g -fsanitize=address,undefined \
         -I"$root/include" "$root/tests/tools/c_library/calls.c" "$library" "$heap" -lpthread -o calls
+    check "$compiler compiles the calls that take images apart" $compiler -std=gnu99 -Wall -Wextra -Werror -g \
+        -fsanitize=address,undefined -I"$root/include" "$root/tests/tools/c_library/structure.c" "$library" "$heap" -lpthread -o structure
     [ "$failed" = 0 ] || finish
+    find runs "$examples" -type f ! -name '*.json' ! -name '*.md' | sort > images
+    # shellcheck disable=SC2046
+    passes python3 "$root/tests/tools/c_library/structure.py" libbootimg.so structure $(cat images)
     for image in "$examples"/*.itb "$examples"/*.uimage "$examples"/boot.scr "$examples"/board.its; do
         for command in normalise "normalise --external" list describe verify check convert "list --limit 100" \
+            "list --json" "describe --json" "verify --json" "check --json" "describe --json --limit 1000" \
             "update --time 5" "update --time 0x65000000 --hashes" "update --hashes --external" "extract --part 0" "extract --part 1" \
             "extract --image kernel-1" "extract --image none" "extract --config conf-1" "extract --config conf-1 --key fdt" \
             "extract --config none" "extract --default" "extract --default --key ramdisk" "extract --default --index 1"; do
@@ -149,6 +160,7 @@ for compiler in gcc clang; do
             "$2" list "$1" 2> errors2 | head -n 1 | cmp - kind && cmp errors errors2' sh "$image" "$program"
         for other in "$examples"/*.itb "$examples"/kernel*.uimage "$examples"/board.its; do
             check "$compiler: compare $(basename "$image") $(basename "$other")" same compare "$image" "$other"
+            check "$compiler: the same in JSON" same compare --json "$image" "$other"
         done
         check "$compiler: numbers out of their ranges, $(basename "$image")" ./calls arguments "$image"
         check "$compiler: four threads, $(basename "$image")" ./calls threads "$image"

@@ -150,7 +150,7 @@ for option in os arch type compression key allow; do
     check "the completion has the values of --$option" same "$option" completed
     complete bootimg "$command" "--$option" = "" > completed
     check "and after a sign (--$option)" same "$option" completed
-    awk -v value="$value" '/^\.Ss Values/ { on = 1 } /^\.Sh/ { on = 0 }
+    awk -v value="$value" '/^\.S[hs]/ { on = $2 == "Values" }
         on && /^\.It/ { mine = $3 == value } on && mine && /^\.Cm/' "$page" |
         sed 's/^\.Cm//; s/ , /\n/g' | tr -d ' ' > got
     check "the page has the values of --$option" same "$option" got

@@ -3,7 +3,7 @@
 # commands conformance.sh runs, from the top of the checkout, and compares what it prints with what the block shows. The commands
 # of a file share one shell. A command that ends with a backslash continues in the next line. At the end nothing is untracked in the
 # checkout that was not so before. It needs python3 and, for the examples and the tutorial, Debian's u-boot-tools, device-tree-compiler,
-# openssl and git, and installs them if one is missing and it runs as root. In the locale C, cmp has another text than elsewhere.
+# openssl, git and jq, and installs them if one is missing and it runs as root. In the locale C, cmp has another text than elsewhere.
 set -u
 
 root=$(cd "$(dirname "$0")/../.." && pwd)
@@ -13,6 +13,7 @@ need u-boot-tools mkimage
 need device-tree-compiler fdtget fdtput
 need openssl openssl
 need git git
+need jq jq
 need python3 python3
 need_program
 work_in_new_directory

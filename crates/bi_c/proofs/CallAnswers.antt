@@ -1,17 +1,16 @@
-use Rattle.std.proofs.Common.{◌≡◌, ◌↔◌, ◌⊎◌, ◌++◌, ◌<◌, ◌≤◌, ◌==◌, ℕ, Bool, true, false, IsTrue, List, [], ◌∷◌, length, drop, inl, inr}
-use Rattle.std.proofs.Common.{refl, subst, sym, ap, ◌∙◌, arith}
-use Rattle.std.proofs.lemmas.Bool.{false≢true, ne_eqb}
+use Rattle.std.proofs.Common.{◌≡◌, ◌⊎◌, ◌++◌, ◌<◌, ◌≤◌, ℕ, Bool, true, false, List, length, drop, Result, Ok, Err, IfOk, IfErr, inl, inr}
+use Rattle.std.proofs.Common.{refl, subst, sym}
+use Rattle.std.proofs.lemmas.Bool.{false≢true}
 use mir.Val.{bool_byte}
 use Rattle.bi_base.specs.declared.fault.Error.{Error}
 use Rattle.bi_base.specs.declared.fault.Error.TheVariants as error
 use Rattle.bi_base.specs.Limits.{Limits, IsInRange}
-use Rattle.bi_commands.specs.declared.compare.CompareError.{CompareError}
-use Rattle.bi_commands.specs.declared.compare.CompareError.TheVariants as compare
 use Rattle.bi_c.specs.declared.answer.Answer.{Answer}
 use Rattle.bi_c.specs.declared.failure.Failure.{Failure}
-use Rattle.bi_c.specs.Answers.{answer_of, done, no_room, Fills, Filled, HadNoRoom, IsFailure, failure_of_error}
+use Rattle.bi_c.specs.Answers.{answer_of, done, no_room, Fills, Filled, HadNoRoom, FilledNothing, IsFailure, IsTextOf, IsFailureOf}
+use Rattle.bi_c.specs.Answers.{failure_of_error}
 use Rattle.bi_c.specs.Arguments.{bounds}
-use Rattle.bi_c.specs.Calls.{flag, IsTextOnly, IsTextWithFlag, IsFailureOfOne, IsFailureOfTwo, failure_of_compare_error}
+use Rattle.bi_c.specs.Calls.{flag, IsTextOnly, IsTextWithFlag, IsFailureOfOne}
 
 -- A call from C that fails returns the failure of its error, and one that succeeds returns its text and its yes or no as a number.
 
@@ -28,21 +27,9 @@ pub byte_is_flag : (b : Bool) → bool_byte b ≡ flag b
 byte_is_flag true = refl
 byte_is_flag false = refl
 
--- A text of length 0 is the one without bytes.
-pub clean_by_length : (bytes : List ℕ) (size : ℕ) (clean : Bool) → length bytes ≡ size → clean ≡ (size == 0) → IsTrue clean ↔ (bytes ≡ [])
-clean_by_length bytes size clean is_size is_clean = by bytes (is_clean ∙ ap (λ (n : ℕ). n == 0) (sym is_size))
-  where
-    by : (bytes : List ℕ) → clean ≡ (length bytes == 0) → IsTrue clean ↔ (bytes ≡ [])
-    by [] is = (λ _. refl, λ _. is)
-    by (byte ∷ later) is = (
-      λ yes. absurd
-          (false≢true (sym (ne_eqb (length (byte ∷ later)) 0 (omega arith)) ∙ sym is ∙ yes)),
-      λ none. absurd cc,
-    )
-
 -- An output that was written to a buffer, or had no room there.
-pub buffer_is_filled : (IsOutput : List ℕ → ℕ → Type 0) (HasFailed : Failure → Type 0) (text before after : List ℕ) (value : ℕ)
-    (answer : Answer) (status : ℕ) → IsOutput text value → answer ≡ answer_of (length text) value
+pub buffer_is_filled : {T : Type 0} (IsOutput : List T → ℕ → Type 0) (HasFailed : Failure → Type 0) (text before after : List T)
+    (value : ℕ) (answer : Answer) (status : ℕ) → IsOutput text value → answer ≡ answer_of (length text) value
     → ((length text ≤ length before) × (status ≡ done) × (after ≡ text ++ drop (length text) before))
     ⊎ ((length before < length text) × (status ≡ no_room) × (after ≡ before))
     → Fills IsOutput HasFailed before after answer status
@@ -50,6 +37,18 @@ buffer_is_filled IsOutput HasFailed text before after value answer status is tol
     (inl room) = Filled text value is room.0 room.2 told room.1
 buffer_is_filled IsOutput HasFailed text before after value answer status is told
     (inr none) = HadNoRoom text value is none.0 none.2 told none.1
+
+-- What a call that fills a buffer promises implies more.
+pub fills_as : {T : Type 0} (IsOutput IsOther : List T → ℕ → Type 0) (HasFailed HasOther : Failure → Type 0) (before after : List T)
+    (answer : Answer) (status : ℕ) → ((text : List T) (value : ℕ) → IsOutput text value → IsOther text value)
+    → ((failure : Failure) → HasFailed failure → HasOther failure) → Fills IsOutput HasFailed before after answer status →
+    Fills IsOther HasOther before after answer status
+fills_as IsOutput IsOther HasFailed HasOther before after answer status output failed
+    (Filled text value is room same told is_status) = Filled text value (output text value is) room same told is_status
+fills_as IsOutput IsOther HasFailed HasOther before after answer status output failed
+    (HadNoRoom text value is none same told is_status) = HadNoRoom text value (output text value is) none same told is_status
+fills_as IsOutput IsOther HasFailed HasOther before after answer status output failed
+    (FilledNothing failure is same told is_status) = FilledNothing failure (failed failure is) same told is_status
 
 -- The failure of a call on one file in memory, by its error.
 pub failed_by : (AreValid : Type 0) (HasError : Error → Type 0) (cause : Error) (failure : Failure) → AreValid →
@@ -73,20 +72,6 @@ failed_of_one limit depth HasError limits cause failure in_range same is_failure
     (no_write (bounds limit depth))
     (subst (λ (l : Limits). HasError l cause) same is)
 
--- The failure of a call on two files, by its error.
-pub failed_of_two : (limit depth : ℕ) (HasError : Limits → CompareError → Type 0) (limits : Limits) (cause : CompareError)
-    (failure : Failure) → IsInRange limit depth → limits ≡ bounds limit depth → failure ≡ failure_of_compare_error cause
-    → HasError limits cause → IsFailureOfTwo limit depth (HasError (bounds limit depth)) failure
-failed_of_two limit depth HasError limits cause failure in_range same is_failure is =
-    subst (IsFailureOfTwo limit depth (HasError (bounds limit depth))) (sym is_failure)
-    (by cause (subst (λ (l : Limits). HasError l cause) same is))
-  where
-    by : (cause : CompareError) → HasError (bounds limit depth) cause →
-        IsFailureOfTwo limit depth (HasError (bounds limit depth)) (failure_of_compare_error cause)
-    by (compare.One fault) is = (in_range, inl (refl, is))
-    by (compare.Other fault) is = (in_range, inr (refl, is))
-    by compare.OutOfMemory is = (in_range, is)
-
 -- The output of a call that has limits and no other numbers.
 pub text_of_call : (limit depth : ℕ) (Is : Limits → List ℕ → Type 0) (limits : Limits) (text bytes : List ℕ) → IsInRange limit depth →
     limits ≡ bounds limit depth → bytes ≡ text → Is limits text → IsTextOnly limit depth Is bytes 0
@@ -97,12 +82,59 @@ text_of_call limit depth Is limits text bytes in_range same same_bytes is = reco
 }
 
 -- The same with a yes or no.
-pub text_with_flag_of_call : (limit depth : ℕ) (Is : Limits → Bool → List ℕ → Type 0) (limits : Limits) (b : Bool) (text bytes : List ℕ)
-    (value : ℕ) → IsInRange limit depth → limits ≡ bounds limit depth → bytes ≡ text → value ≡ bool_byte b → Is limits b text
-    → IsTextWithFlag limit depth Is bytes value
-text_with_flag_of_call limit depth Is limits b text bytes value in_range same same_bytes same_value is = record {
+pub text_with_flag_of_call : (limit depth : ℕ) (Is : Limits → Bool → List ℕ → Type 0) (limits : Limits) (told : Bool) (text : List ℕ)
+    → IsInRange limit depth → limits ≡ bounds limit depth → Is limits told text → IsTextWithFlag limit depth Is text (flag told)
+text_with_flag_of_call limit depth Is limits told text in_range same is = record {
   limits = in_range;
-  yes = b;
-  number = subst (λ (n : ℕ). value ≡ n) (byte_is_flag b) same_value;
-  is = subst (λ (l : Limits). Is l b bytes) same (subst (Is limits b) (sym same_bytes) is);
+  yes = told;
+  number = refl;
+  is = subst (λ (l : Limits). Is l told text) same is;
 }
+
+-- What a call answers that fills a buffer with what another call made.
+pub made_fills : {V E : Type 0} (P : V → Type 0) (Q : E → Type 0) (text_of : V → List ℕ) (number_of : V → ℕ) (failure_of : E → Failure)
+    (IsOutput : List ℕ → ℕ → Type 0) (HasFailed : Failure → Type 0) (made : Result V E) (before after : List ℕ) (answer : Answer)
+    (status : ℕ) → ((value : V) → P value → IsOutput (text_of value) (number_of value))
+    → ((error : E) → Q error → HasFailed (failure_of error)) → IfOk made P → IfErr made Q
+    → Fills (IsTextOf text_of number_of made) (IsFailureOf failure_of made) before after answer status
+    → Fills IsOutput HasFailed before after answer status
+made_fills P Q text_of number_of failure_of IsOutput HasFailed (Ok value) before after answer status output failed is none fills =
+    fills_as _ _ _ _ before after answer status
+    (λ text number just. subst (λ (n : ℕ). IsOutput text n) (sym just.is_number)
+    (subst (λ (l : List ℕ). IsOutput l (number_of value)) (sym just.is_text) (output value is)))
+    (λ failure none. absurd none) fills
+made_fills P Q text_of number_of failure_of IsOutput HasFailed (Err error) before after answer status output failed none is fills =
+    fills_as _ _ _ _ before after answer status (λ text number none. absurd none)
+    (λ failure same. subst HasFailed (sym same) (failed error is)) fills
+
+-- The same of a call on one file that has limits and no other numbers: a text,
+pub text_fills : {V : Type 0} (limit depth : ℕ) (Is : Limits → List ℕ → Type 0) (HasError : Limits → Error → Type 0)
+    (text_of : V → List ℕ) (limits : Limits) (made : Result V Error) (before after : List ℕ) (answer : Answer) (status : ℕ)
+    → IsInRange limit depth → limits ≡ bounds limit depth → ((other : Limits) → ¬ (HasError other error.ReadFailed))
+    → ((other : Limits) → ¬ (HasError other error.WriteFailed)) → IfOk made (λ value. Is limits (text_of value))
+    → IfErr made (HasError limits)
+    → Fills (IsTextOf text_of (λ _. 0) made) (IsFailureOf failure_of_error made) before after answer status
+    → Fills (IsTextOnly limit depth Is) (IsFailureOfOne limit depth HasError) before after answer status
+text_fills limit depth Is HasError text_of limits made before after answer status in_range same no_read no_write output failed fills =
+    made_fills (λ value. Is limits (text_of value)) (HasError limits) text_of (λ _. 0) failure_of_error (IsTextOnly limit depth Is)
+    (IsFailureOfOne limit depth HasError) made before after answer status
+    (λ value is. text_of_call limit depth Is limits (text_of value) (text_of value) in_range same refl is)
+    (λ cause is. failed_of_one limit depth HasError limits cause (failure_of_error cause) in_range same refl no_read no_write is)
+    output failed fills
+
+-- or a text and a yes or no.
+pub text_with_flag_fills : {V : Type 0} (limit depth : ℕ) (Is : Limits → Bool → List ℕ → Type 0) (HasError : Limits → Error → Type 0)
+    (text_of : V → List ℕ) (yes_of : V → Bool) (limits : Limits) (made : Result V Error) (before after : List ℕ) (answer : Answer)
+    (status : ℕ)
+    → IsInRange limit depth → limits ≡ bounds limit depth → ((other : Limits) → ¬ (HasError other error.ReadFailed))
+    → ((other : Limits) → ¬ (HasError other error.WriteFailed)) → IfOk made (λ value. Is limits (yes_of value) (text_of value))
+    → IfErr made (HasError limits)
+    → Fills (IsTextOf text_of (λ value. flag (yes_of value)) made) (IsFailureOf failure_of_error made) before after answer status
+    → Fills (IsTextWithFlag limit depth Is) (IsFailureOfOne limit depth HasError) before after answer status
+text_with_flag_fills limit depth Is HasError text_of yes_of limits made before after answer status in_range same no_read no_write
+    output failed fills =
+    made_fills (λ value. Is limits (yes_of value) (text_of value)) (HasError limits) text_of (λ value. flag (yes_of value))
+    failure_of_error (IsTextWithFlag limit depth Is) (IsFailureOfOne limit depth HasError) made before after answer status
+    (λ value is. text_with_flag_of_call limit depth Is limits (yes_of value) (text_of value) in_range same is)
+    (λ cause is. failed_of_one limit depth HasError limits cause (failure_of_error cause) in_range same refl no_read no_write is)
+    output failed fills

@@ -1,6 +1,13 @@
+pub mod ArrayFilling
 pub mod CallAnswers
-pub mod Places
-pub mod ListedChoices
+pub mod CheckedFiles
+pub mod ComparedFiles
 pub mod ExtractedFiles
-pub mod SliceWriting
+pub mod ImageElements
+pub mod ImageFiles
+pub mod LegacyElements
+pub mod ListedChoices
 pub mod NormalisedFiles
+pub mod Places
+pub mod SliceWriting
+pub mod TreeRegions

@@ -17,7 +17,7 @@ use Rattle.bi_fit.proofs.Meanings.{same_in_some}
 use Rattle.bi_base.specs.declared.fault.Error.TheVariants.{OutOfMemory}
 use Rattle.bi_commands.specs.declared.extract.ExtractError.{ExtractError}
 use Rattle.bi_commands.specs.declared.extract.ExtractError.TheVariants.{NoIndex, Failed}
-use Rattle.bi_c.specs.declared.regions.Region.{Region}
+use Rattle.bi_c.specs.declared.region.Region.{Region}
 use Rattle.bi_commands.specs.Extracting.{Choice, IsReason, choice_of_payload, choice_of_image, choice_of_entry, choice_of_listed}
 use Rattle.bi_commands.specs.Extracting.{choice_by_name, choice_by_configuration}
 

@@ -8,7 +8,7 @@ use Rattle.bi_legacy.specs.Text.{legacy_text}
 use Rattle.bi_legacy.proofs.NormalLength.{length-legacy_text}
 use Rattle.bi_c.specs.declared.failure.Failure.{Failure}
 use Rattle.bi_c.specs.declared.answer.Answer.{Answer}
-use Rattle.bi_c.specs.Answers.{Fills, Filled, HadNoRoom, FilledNothing, IsJust, answer_of, answer_of_failure, status_of_failure}
+use Rattle.bi_c.specs.Answers.{Fills, Filled, FilledNothing, IsJust, answer_of, answer_of_failure, status_of_failure}
 
 -- A text that fits a buffer is written to its beginning, and a call that fails before it writes leaves the buffer as it was.
 
@@ -35,18 +35,6 @@ fills_nothing IsOutput HasFailed failure old new before after name answer status
     (is_after (sym (ap (λ (sink : SliceSink). (slice_of sink).ghost_name) same ∙ is_name))
     ∙ ap (λ (sink : SliceSink). (slice_of sink).now) same ∙ is_before)
     told is_status
-
--- What a call that fills a buffer promises implies more.
-pub fills_as : (IsOutput IsOther : List ℕ → ℕ → Type 0) (HasFailed HasOther : Failure → Type 0) (before after : List ℕ) (answer : Answer)
-    (status : ℕ) → ((text : List ℕ) (value : ℕ) → IsOutput text value → IsOther text value)
-    → ((failure : Failure) → HasFailed failure → HasOther failure) → Fills IsOutput HasFailed before after answer status →
-    Fills IsOther HasOther before after answer status
-fills_as IsOutput IsOther HasFailed HasOther before after answer status output failed
-    (Filled text value is room same told is_status) = Filled text value (output text value is) room same told is_status
-fills_as IsOutput IsOther HasFailed HasOther before after answer status output failed
-    (HadNoRoom text value is none same told is_status) = HadNoRoom text value (output text value is) none same told is_status
-fills_as IsOutput IsOther HasFailed HasOther before after answer status output failed
-    (FilledNothing failure is same told is_status) = FilledNothing failure (failed failure is) same told is_status
 
 -- The normal text of a legacy image is as long as what its parts end before.
 pub legacy_size : (limits : Limits) (file : List ℕ) (value : LegacyModel) (unused : ℕ) → IsReadLegacy limits file value →

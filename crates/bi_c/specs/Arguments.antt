@@ -1,6 +1,8 @@
 use Rattle.std.specs.Prelude.{ℕ, ◌/◌, ◌%◌, ◌==◌, ◌<◌, Bool, Some, None, if◌then◌else◌}
 use Rattle.bi_base.specs.Limits.{Limits, IsInRange}
 use Rattle.bi_commands.specs.declared.check.Allowed.{Allowed}
+use Rattle.bi_commands.specs.declared.check.Checker.{Checker}
+use Rattle.bi_commands.specs.declared.format.Format.{Format}
 use Rattle.bi_fit.specs.declared.changes.Changes.{Changes}
 use Rattle.bi_fit.specs.declared.form.Form.{Form}
 use Rattle.bi_fit.specs.declared.form.Form.TheVariants.{Embedded, External}
@@ -38,6 +40,10 @@ allowed_of kinds = record {
   bad_default = has_bit 32 kinds;
   trailing = has_bit 64 kinds;
 }
+
+-- The checker that leaves out these kinds, and writes in a form.
+abbrev pub checker_of : Format → ℕ → Checker
+checker_of format kinds = record { allowed = allowed_of kinds; format = format }
 
 -- The changes of an update: bit 1 sets the time, bit 2 computes the digests again.
 abbrev pub changes_of : (changes time : ℕ) → Changes

@@ -9,13 +9,14 @@ use Rattle.bi_norm.specs.declared.kind.Kind.{Kind}
 use Rattle.bi_norm.specs.declared.kind.Kind.TheVariants.{Legacy, Fit}
 use Rattle.bi_norm.specs.Kinds.{BeginsAs, IsKindFault}
 use Rattle.bi_norm.specs.NormalForm.{IsNormaliseOutput, IsNormaliseError}
-use Rattle.bi_commands.specs.declared.format.Format.TheVariants.{Lines}
+use Rattle.bi_commands.specs.declared.check.Checker.{Checker}
+use Rattle.bi_commands.specs.declared.format.Format.{Format}
 use Rattle.bi_commands.specs.CheckedFiles.{IsCheckOutput}
 use Rattle.bi_commands.specs.UpdatedFiles.{IsUpdateOutput, IsUpdateError}
 use Rattle.bi_commands.specs.declared.compare.CompareError.{CompareError}
 use Rattle.bi_commands.specs.declared.compare.CompareError.TheVariants as compare
 use Rattle.bi_c.specs.Answers.{IsFailure}
-use Rattle.bi_c.specs.Arguments.{bounds, form_of, allowed_of, changes_of, HasForm, HasChanges}
+use Rattle.bi_c.specs.Arguments.{bounds, form_of, changes_of, checker_of, HasForm, HasChanges}
 use Rattle.bi_c.specs.declared.failure.Failure.{Failure}
 use Rattle.bi_c.specs.declared.failure.Failure.TheVariants.{WrongArgument, Refused, OutOfMemory}
 use Rattle.bi_c.specs.declared.failure.Failure.TheVariants.{NotFound}
@@ -139,10 +140,18 @@ pub record HasKinds (limit depth kinds : ℕ) : Type 0 where
   pub limits : IsInRange limit depth
   pub are_kinds : kinds < 128
 
--- The lines of the concerns about the file, except those of allowed kinds, and whether there is no
--- line.
-pub record IsCheckText (limit depth kinds : ℕ) (file text : List ℕ) (value : ℕ) : Type 0 where
-  pub arguments : HasKinds limit depth kinds
-  pub clean : Bool
-  pub number : value ≡ flag clean
-  pub is : IsCheckOutput Lines (allowed_of kinds) (bounds limit depth) clean file text
+-- The text of the concerns that a checker finds in a file, and whether there are none.
+pub record IsConcernsText (checker : Checker) (limits : Limits) (file text : List ℕ) (value : ℕ)
+    : Type 0
+  where
+    pub clean : Bool
+    pub number : value ≡ flag clean
+    pub is : IsCheckOutput checker.format checker.allowed limits clean file text
+
+-- The text of the concerns about the file, except those of allowed kinds, in a form, and whether
+-- there are none.
+pub record IsCheckText (format : Format) (limit depth kinds : ℕ) (file text : List ℕ) (value : ℕ)
+    : Type 0
+  where
+    pub arguments : HasKinds limit depth kinds
+    pub is : IsConcernsText (checker_of format kinds) (bounds limit depth) file text value

@@ -1,15 +1,18 @@
 //! The concerns about a file.
 
 ghost use Rattle.std.specs.Prelude.{◌≡◌, ◌<◌, ◌↔◌, IsSome, IfSome};
-ghost use Rattle.bi_c.specs.Answers.{Fills, IsFailure};
+ghost use Rattle.bi_c.specs.Answers.{Fills, IsFailure, IsFailureBy};
 ghost use Rattle.bi_c.specs.Arguments.{allowed_of as allowed_of_number, bounds};
-ghost use Rattle.bi_c.specs.Calls.{IsCheckText, HasKinds};
+ghost use Rattle.bi_c.specs.Calls.{IsCheckText, IsConcernsText, HasKinds};
 ghost use Rattle.bi_commands.specs.CheckedFiles.{IsCheckError};
+ghost use Rattle.bi_commands.specs.declared.format.Format.TheVariants.{Lines, Json};
 
 use crate::answer::{Answer, fail, fill};
 use crate::arguments::{has_bit, limits_of};
 use crate::failure::{Failure, failure_of};
-use bi_commands::check::{Allowed, check};
+use bi_base::{Limits, VecSink};
+use bi_commands::check::{Allowed, Checker, check_into};
+use bi_commands::format::Format;
 use std::alloc::Global;
 
 /// Writes a line to a buffer for each concern about a file, except those of allowed kinds. Sets
@@ -25,7 +28,7 @@ pub extern "C" fn bootimg_check(
     buffer: &mut [u8],
     answer: &mut Answer,
 ) -> u32
-    ensures { Fills (IsCheckText limit depth kinds file.now)
+    ensures { Fills (IsCheckText Lines limit depth kinds file.now)
         (IsFailure (HasKinds limit depth kinds) (IsCheckError (bounds limit depth) file.now))
         buffer.old buffer.new answer.new result }
 {
@@ -35,13 +38,58 @@ pub extern "C" fn bootimg_check(
     let Some(allowed) = allowed_of(kinds) else {
         return fail(Failure::WrongArgument, answer);
     };
-    match check(alloc, file, allowed, limits) {
-        Ok(text) => fill(
-            text.as_bytes(),
-            usize::from(text.is_empty()),
-            buffer,
-            answer,
-        ),
+    let checker = Checker {
+        allowed,
+        format: Format::Lines,
+    };
+    fill_concerns(alloc, file, checker, limits, buffer, answer)
+}
+
+/// Writes the concerns of `bootimg_check` as one text of JSON and a newline to a buffer. Sets
+/// `answer.value` as `bootimg_check` does. Returns the status.
+#[unsafe(no_mangle)]
+pub extern "C" fn bootimg_check_json(
+    alloc: Global,
+    file: &[u8],
+    kinds: u32,
+    limit: u32,
+    depth: u32,
+    buffer: &mut [u8],
+    answer: &mut Answer,
+) -> u32
+    ensures { Fills (IsCheckText Json limit depth kinds file.now)
+        (IsFailure (HasKinds limit depth kinds) (IsCheckError (bounds limit depth) file.now))
+        buffer.old buffer.new answer.new result }
+{
+    let Some(limits) = limits_of(limit, depth) else {
+        return fail(Failure::WrongArgument, answer);
+    };
+    let Some(allowed) = allowed_of(kinds) else {
+        return fail(Failure::WrongArgument, answer);
+    };
+    let checker = Checker {
+        allowed,
+        format: Format::Json,
+    };
+    fill_concerns(alloc, file, checker, limits, buffer, answer)
+}
+
+/// Writes the text of the concerns that a checker finds in a file to a buffer, and the answer.
+/// Returns the status.
+fn fill_concerns(
+    alloc: Global,
+    file: &[u8],
+    checker: Checker,
+    limits: Limits,
+    buffer: &mut [u8],
+    answer: &mut Answer,
+) -> u32
+    ensures { Fills (IsConcernsText checker limits file.now)
+        (IsFailureBy (IsCheckError limits file.now)) buffer.old buffer.new answer.new result }
+{
+    let mut sink = VecSink::new(alloc);
+    match check_into(alloc, file, checker, limits, &mut sink) {
+        Ok(clean) => fill(&sink.into_vec(), usize::from(clean), buffer, answer),
         Err(error) => fail(failure_of(error), answer),
     }
 }

@@ -1,16 +1,17 @@
 //! Comparing what two files mean.
 
-ghost use Rattle.std.specs.Prelude.{◌≡◌};
-ghost use Rattle.bi_c.specs.Answers.{Answers, Fills};
+ghost use Rattle.std.specs.Prelude.{◌≡◌, string_bytes};
+ghost use Rattle.bi_c.specs.Answers.{Answers, Fills, IsTextOf, IsFailureOf};
 ghost use Rattle.bi_c.specs.Arguments.{bounds};
 ghost use Rattle.bi_c.specs.Calls.{IsSame, IsTextWithFlag, IsFailureOfTwo};
-ghost use Rattle.bi_c.specs.Calls.{failure_of_compare_error};
+ghost use Rattle.bi_c.specs.Calls.{failure_of_compare_error, flag};
 ghost use Rattle.bi_commands.specs.Comparing.{IsComparison, IsComparisonError, IsReadingError};
+ghost use Rattle.bi_commands.specs.declared.format.Format.TheVariants.{Lines, Json};
 
 use crate::answer::{Answer, fail, fill, succeed};
 use crate::arguments::limits_of;
 use crate::failure::Failure;
-use bi_commands::compare::{CompareError, compare, have_same_meaning};
+use bi_commands::compare::{CompareError, Comparison, compare, compare_json, have_same_meaning};
 use std::alloc::Global;
 
 /// Sets `answer.value` to 1 if two files mean the same, and otherwise to 0. Returns the status.
@@ -49,14 +50,51 @@ pub extern "C" fn bootimg_compare(
     answer: &mut Answer,
 ) -> u32
     ensures { Fills (IsTextWithFlag limit depth
-        (λ limits same text. IsComparison limits one.now other.now same text))
+        (λ limits same text. IsComparison Lines limits one.now other.now same text))
         (IsFailureOfTwo limit depth (IsComparisonError (bounds limit depth) one.now other.now))
         buffer.old buffer.new answer.new result }
 {
     let Some(limits) = limits_of(limit, depth) else {
         return fail(Failure::WrongArgument, answer);
     };
-    match compare(alloc, one, other, limits) {
+    fill_comparison(compare(alloc, one, other, limits), buffer, answer)
+}
+
+/// Writes the differences between what two files mean as one text of JSON and a newline to a
+/// buffer, and sets `answer.value` as `bootimg_compare` does. Returns the status.
+#[unsafe(no_mangle)]
+pub extern "C" fn bootimg_compare_json(
+    alloc: Global,
+    one: &[u8],
+    other: &[u8],
+    limit: u32,
+    depth: u32,
+    buffer: &mut [u8],
+    answer: &mut Answer,
+) -> u32
+    ensures { Fills (IsTextWithFlag limit depth
+        (λ limits same text. IsComparison Json limits one.now other.now same text))
+        (IsFailureOfTwo limit depth (IsComparisonError (bounds limit depth) one.now other.now))
+        buffer.old buffer.new answer.new result }
+{
+    let Some(limits) = limits_of(limit, depth) else {
+        return fail(Failure::WrongArgument, answer);
+    };
+    fill_comparison(compare_json(alloc, one, other, limits), buffer, answer)
+}
+
+/// Writes what a comparison of two files found to a buffer, and the answer. Returns the status.
+fn fill_comparison(
+    made: Result<Comparison, CompareError>,
+    buffer: &mut [u8],
+    answer: &mut Answer,
+) -> u32
+    ensures { Fills
+        (IsTextOf (λ compared. string_bytes compared.differences) (λ compared. flag compared.same)
+        made)
+        (IsFailureOf failure_of_compare_error made) buffer.old buffer.new answer.new result }
+{
+    match made {
         Ok(compared) => fill(
             compared.differences.as_bytes(),
             usize::from(compared.same),

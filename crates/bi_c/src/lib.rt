@@ -9,12 +9,18 @@ mod check;
 mod compare;
 mod extract;
 mod failure;
+mod images;
 mod kind;
 mod known_numbers;
+mod legacy;
 mod normalise;
+mod region;
 mod regions;
 mod texts;
 mod update;
 mod writing;
 
 pub use answer::Answer;
+pub use images::ImageElement;
+pub use legacy::LegacyFields;
+pub use region::Region;

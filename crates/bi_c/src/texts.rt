@@ -1,10 +1,11 @@
 //! Texts about a file, and the flattened image tree of a legacy image.
 
-ghost use Rattle.bi_c.specs.Answers.{Fills};
-ghost use Rattle.bi_c.specs.Calls.{IsTextOnly, IsTextWithFlag, IsFailureOfOne};
+ghost use Rattle.std.specs.Prelude.{string_bytes};
+ghost use Rattle.bi_c.specs.Answers.{Fills, IsTextOf, IsFailureOf, failure_of_error};
+ghost use Rattle.bi_c.specs.Calls.{IsTextOnly, IsTextWithFlag, IsFailureOfOne, flag};
 ghost use Rattle.bi_commands.specs.Describing.{IsDescription, IsDescribeError};
-ghost use Rattle.bi_commands.specs.Listing.{IsListing};
-ghost use Rattle.bi_commands.specs.declared.format.Format.TheVariants.{Lines};
+ghost use Rattle.bi_commands.specs.ListedFiles.{IsListing};
+ghost use Rattle.bi_commands.specs.declared.format.Format.TheVariants.{Lines, Json};
 ghost use Rattle.bi_commands.specs.VerifiedFiles.{IsVerifyOutput};
 ghost use Rattle.bi_norm.specs.Converting.{IsConvertedFile, IsConvertError};
 ghost use Rattle.bi_norm.specs.Reading.{IsBootImageReadError};
@@ -12,9 +13,10 @@ ghost use Rattle.bi_norm.specs.Reading.{IsBootImageReadError};
 use crate::answer::{Answer, fail, fill};
 use crate::arguments::limits_of;
 use crate::failure::{Failure, failure_of};
-use bi_commands::describe::describe;
-use bi_commands::list::listing;
-use bi_commands::verify::verify;
+use bi_base::Error;
+use bi_commands::describe::{describe, describe_json};
+use bi_commands::list::{listing, listing_json};
+use bi_commands::verify::{Report, verify, verify_json};
 use bi_norm::convert;
 use std::alloc::Global;
 
@@ -28,17 +30,34 @@ pub extern "C" fn bootimg_list(
     buffer: &mut [u8],
     answer: &mut Answer,
 ) -> u32
-    ensures { Fills (IsTextOnly limit depth (λ limits text. IsListing limits file.now text))
+    ensures { Fills (IsTextOnly limit depth (λ limits text. IsListing Lines limits file.now text))
         (IsFailureOfOne limit depth (λ limits error. IsBootImageReadError limits file.now error))
         buffer.old buffer.new answer.new result }
 {
     let Some(limits) = limits_of(limit, depth) else {
         return fail(Failure::WrongArgument, answer);
     };
-    match listing(alloc, file, limits) {
-        Ok(text) => fill(text.as_bytes(), 0, buffer, answer),
-        Err(error) => fail(failure_of(error), answer),
-    }
+    fill_text(listing(alloc, file, limits), buffer, answer)
+}
+
+/// Writes the listing of a file as one text of JSON and a newline to a buffer. Returns the status.
+#[unsafe(no_mangle)]
+pub extern "C" fn bootimg_list_json(
+    alloc: Global,
+    file: &[u8],
+    limit: u32,
+    depth: u32,
+    buffer: &mut [u8],
+    answer: &mut Answer,
+) -> u32
+    ensures { Fills (IsTextOnly limit depth (λ limits text. IsListing Json limits file.now text))
+        (IsFailureOfOne limit depth (λ limits error. IsBootImageReadError limits file.now error))
+        buffer.old buffer.new answer.new result }
+{
+    let Some(limits) = limits_of(limit, depth) else {
+        return fail(Failure::WrongArgument, answer);
+    };
+    fill_text(listing_json(alloc, file, limits), buffer, answer)
 }
 
 /// Writes the description of what a file means to a buffer. Returns the status.
@@ -51,14 +70,45 @@ pub extern "C" fn bootimg_describe(
     buffer: &mut [u8],
     answer: &mut Answer,
 ) -> u32
-    ensures { Fills (IsTextOnly limit depth (λ limits text. IsDescription limits file.now text))
-        (IsFailureOfOne limit depth (λ limits error. IsDescribeError limits file.now error))
+    ensures { Fills
+        (IsTextOnly limit depth (λ limits text. IsDescription Lines limits file.now text))
+        (IsFailureOfOne limit depth (λ limits error. IsDescribeError Lines limits file.now error))
         buffer.old buffer.new answer.new result }
 {
     let Some(limits) = limits_of(limit, depth) else {
         return fail(Failure::WrongArgument, answer);
     };
-    match describe(alloc, file, limits) {
+    fill_text(describe(alloc, file, limits), buffer, answer)
+}
+
+/// Writes the description of what a file means as one text of JSON and a newline to a buffer.
+/// Returns the status.
+#[unsafe(no_mangle)]
+pub extern "C" fn bootimg_describe_json(
+    alloc: Global,
+    file: &[u8],
+    limit: u32,
+    depth: u32,
+    buffer: &mut [u8],
+    answer: &mut Answer,
+) -> u32
+    ensures { Fills
+        (IsTextOnly limit depth (λ limits text. IsDescription Json limits file.now text))
+        (IsFailureOfOne limit depth (λ limits error. IsDescribeError Json limits file.now error))
+        buffer.old buffer.new answer.new result }
+{
+    let Some(limits) = limits_of(limit, depth) else {
+        return fail(Failure::WrongArgument, answer);
+    };
+    fill_text(describe_json(alloc, file, limits), buffer, answer)
+}
+
+/// Writes the text that a call on a file made to a buffer, and the answer. Returns the status.
+fn fill_text(made: Result<String, Error>, buffer: &mut [u8], answer: &mut Answer) -> u32
+    ensures { Fills (IsTextOf string_bytes (λ _. 0) made) (IsFailureOf failure_of_error made)
+        buffer.old buffer.new answer.new result }
+{
+    match made {
         Ok(text) => fill(text.as_bytes(), 0, buffer, answer),
         Err(error) => fail(failure_of(error), answer),
     }
@@ -84,7 +134,39 @@ pub extern "C" fn bootimg_verify(
     let Some(limits) = limits_of(limit, depth) else {
         return fail(Failure::WrongArgument, answer);
     };
-    match verify(alloc, file, limits) {
+    fill_report(verify(alloc, file, limits), buffer, answer)
+}
+
+/// Writes the report of `bootimg_verify` as one text of JSON and a newline to a buffer, and sets
+/// `answer.value` as `bootimg_verify` does. Returns the status.
+#[unsafe(no_mangle)]
+pub extern "C" fn bootimg_verify_json(
+    alloc: Global,
+    file: &[u8],
+    limit: u32,
+    depth: u32,
+    buffer: &mut [u8],
+    answer: &mut Answer,
+) -> u32
+    ensures { Fills
+        (IsTextWithFlag limit depth
+        (λ limits good text. IsVerifyOutput Json limits good file.now text))
+        (IsFailureOfOne limit depth (λ limits error. IsBootImageReadError limits file.now error))
+        buffer.old buffer.new answer.new result }
+{
+    let Some(limits) = limits_of(limit, depth) else {
+        return fail(Failure::WrongArgument, answer);
+    };
+    fill_report(verify_json(alloc, file, limits), buffer, answer)
+}
+
+/// Writes the report that a call on a file made to a buffer, and the answer. Returns the status.
+fn fill_report(made: Result<Report, Error>, buffer: &mut [u8], answer: &mut Answer) -> u32
+    ensures { Fills
+        (IsTextOf (λ report. string_bytes report.text) (λ report. flag report.all_good) made)
+        (IsFailureOf failure_of_error made) buffer.old buffer.new answer.new result }
+{
+    match made {
         Ok(report) => fill(
             report.text.as_bytes(),
             usize::from(report.all_good),

@@ -1,38 +1,38 @@
 use Rattle.std.proofs.Common.{ℕ, ◌+◌, Bool, true, false, cond, List, [], ◌∷◌, ◌++◌, map, codes, bytes_eq, refl, arith, Option, Some, None}
-use Rattle.std.specs.Prelude.{⊤, IsAscii}
+use Rattle.std.specs.Prelude.{⊤}
 use Rattle.std.specs.Option.{option_map}
 use Rattle.std.specs.FinMap.{entries}
 use Rattle.std.specs.List.{AllByRecursion}
 use Rattle.bi_base.specs.Cells.{AreBytes}
+use Rattle.bi_base.specs.Limits.{Limits}
 use Rattle.bi_base.proofs.ListMembers.{each-append, each-map, each-weaker}
 use Rattle.bi_blob.specs.Blob.{Reservation}
 use Rattle.bi_blob.specs.Tree.{Nodes, none, node, Property, PropertyMap, AreNodes, with_each}
-use Rattle.bi_fit.specs.Content.{FitModel, IsHeld, tree_of}
 use Rattle.bi_fit.specs.ImageTree.{ImageTree, ArePropertiesByName, HaveByteNames, IsImageTree, IsProperty}
 use Rattle.bi_fit.specs.Names.{images_name}
-use Rattle.bi_fit.proofs.NormalTrees.{held_means}
 use Rattle.bi_fit.proofs.TextLaws.{file_means_image_tree}
 use Rattle.bi_fit.proofs.TreeContents.{AreBlobProperties, good-entries}
 use Rattle.bi_hash.specs.declared.algo.Algo.TheVariants.{Sha256}
 use Rattle.bi_hash.proofs.DigestBytes.{AreBytes-digest_of}
 use Rattle.bi_legacy.specs.Codes.{os_names, arch_names, type_names, compression_names}
 use Rattle.bi_legacy.specs.Meaning.{LegacyImage}
-use Rattle.bi_norm.specs.Meaning.{OfLegacy, OfFit}
+use Rattle.bi_legacy.proofs.ImageOfFile.{image_of_file}
+use Rattle.bi_norm.specs.Meaning.{Meaning, OfLegacy, OfFit, Means}
 use Rattle.bi_commands.specs.Descriptions.{PayloadDigest, NodePayload, NotAnImage, OfImage, DescribedNode, digest_of_payload, digest_words}
 use Rattle.bi_commands.specs.Descriptions.{field_words, code_words, part_words, legacy_lines, path, described_nodes, described_images}
 use Rattle.bi_commands.specs.Descriptions.{plain_node, property_words, payload_words, own_lines, node_lines, reservation_words, tree_lines}
-use Rattle.bi_commands.specs.Descriptions.{fit_lines, description}
+use Rattle.bi_commands.specs.Descriptions.{fit_lines, description, description_lines}
 use Rattle.bi_commands.specs.Shown.{shown_text}
-use Rattle.bi_commands.proofs.AsciiTexts.{AreAsciiWords, AreAsciiLines, HasAscii, is_ascii, by_test, each_text, ascii_lines, decimal_shown}
+use Rattle.bi_commands.proofs.AsciiTexts.{AreAsciiWords, AreAsciiLines, HasAscii, by_test, each_text, ascii_lines, decimal_shown}
 use Rattle.bi_commands.proofs.AsciiTexts.{bytes_digits, address, address_64, name_shown, value_shown, code_named}
 
 -- Proves that a description is ASCII: the names and values that it shows are bytes, and it shows each byte as ASCII characters.
 
 -- A digest is bytes.
-abbrev IsByteDigest : PayloadDigest → Type 0
+abbrev pub IsByteDigest : PayloadDigest → Type 0
 IsByteDigest digest = AreBytes digest.sha256
 
-digest_is_bytes : (payload : List ℕ) → IsByteDigest (digest_of_payload payload)
+pub digest_is_bytes : (payload : List ℕ) → IsByteDigest (digest_of_payload payload)
 digest_is_bytes payload = AreBytes-digest_of Sha256 payload
 
 -- The words for a digest.
@@ -85,7 +85,7 @@ path_shown (name ∷ names) are =
     each_text AreBytes (λ other. 47 ∷ shown_text other) (λ other bytes. (omega arith, name_shown other bytes)) (name ∷ names) are
 
 -- The digest of a payload, if there is one, is bytes.
-abbrev HasByteDigest : NodePayload → Type 0
+abbrev pub HasByteDigest : NodePayload → Type 0
 HasByteDigest (OfImage (Some digest)) = IsByteDigest digest
 HasByteDigest payload = ⊤
 
@@ -94,11 +94,11 @@ has_byte_digest None = tt
 has_byte_digest (Some payload) = digest_is_bytes payload
 
 -- What a description shows of a node is bytes.
-abbrev IsByteNode : DescribedNode → Type 0
+abbrev pub IsByteNode : DescribedNode → Type 0
 IsByteNode own = AreBlobProperties (entries own.properties) × HasByteDigest own.payload
 
 -- The same of nodes and all below them.
-abbrev AreByteNodes : Nodes DescribedNode → Type 0
+abbrev pub AreByteNodes : Nodes DescribedNode → Type 0
 AreByteNodes none = ⊤
 AreByteNodes (node name own children later) = AreBytes name × IsByteNode own × AreByteNodes children × AreByteNodes later
 
@@ -153,7 +153,7 @@ image_nodes_shown (node name own children later) (payload ∷ payloads) are byte
   image_nodes_shown later payloads are.2 bytes.2,
 )
 
-all_nodes : (nodes : Nodes PropertyMap) (payloads : List (Option (List ℕ))) → AreNodes ArePropertiesByName nodes → HaveByteNames nodes →
+pub all_nodes : (nodes : Nodes PropertyMap) (payloads : List (Option (List ℕ))) → AreNodes ArePropertiesByName nodes → HaveByteNames nodes →
     AreByteNodes (described_nodes nodes payloads)
 all_nodes none payloads are bytes = tt
 all_nodes (node name own children later) payloads are bytes =
@@ -189,13 +189,16 @@ fit_shown tree is = (
   ),
 )
 
--- The description of a legacy image whose name is bytes is ASCII.
-pub legacy_is_ascii : (image : LegacyImage) → AreBytes image.name → IsAscii (description (OfLegacy image))
-legacy_is_ascii image bytes = is_ascii (description (OfLegacy image)) (ascii_lines (legacy_lines image) (legacy_shown image bytes))
+-- The lines of the description of what a file means.
+pub lines_are_ascii : (limits : Limits) (file : List ℕ) (meaning : Meaning) → Means limits file meaning →
+    AreAsciiLines (description_lines meaning)
+lines_are_ascii limits file (OfLegacy image) means = legacy_shown image (image_of_file file image means.is_file).name_bytes
+lines_are_ascii limits file (OfFit tree) means = fit_shown tree (file_means_image_tree file tree means.is_file)
 
--- So is that of a flattened image tree that was read.
-pub fit_is_ascii : (content : FitModel) → IsHeld content → IsAscii (description (OfFit (tree_of content)))
-fit_is_ascii content held =
-    is_ascii (description (OfFit (tree_of content)))
-    (ascii_lines (fit_lines (tree_of content))
-    (fit_shown (tree_of content) (file_means_image_tree content.blob.file (tree_of content) (held_means content held))))
+-- The description of a legacy image whose name is bytes is ASCII.
+pub legacy_description_shown : (image : LegacyImage) → AreBytes image.name → HasAscii (description (OfLegacy image))
+legacy_description_shown image bytes = ascii_lines (legacy_lines image) (legacy_shown image bytes)
+
+-- So is that of a flattened image tree.
+pub fit_description_shown : (tree : ImageTree) → IsImageTree tree → HasAscii (description (OfFit tree))
+fit_description_shown tree is = ascii_lines (fit_lines tree) (fit_shown tree is)

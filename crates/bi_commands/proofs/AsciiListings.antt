@@ -1,14 +1,15 @@
 use Rattle.std.proofs.Common.{◌≡◌, ℕ, ◌+◌, ◌^◌, ◌<◌, ◌==◌, Bool, true, false, cond, List, [], ◌∷◌, ◌++◌, map, length, codes, bytes_eq, refl}
-use Rattle.std.proofs.Common.{sym, ap, subst, ◌∙◌, Option, Some, None}
+use Rattle.std.proofs.Common.{sym, ap, subst, ◌∙◌, Option, Some, None, ltb}
 use Rattle.std.specs.Prelude.{⊤, IfSome, IsAscii, nat_eq, option_and_then, unwrap_or}
 use Rattle.std.specs.Option.{option_map}
 use Rattle.std.specs.Fmt.{decimal}
 use Rattle.std.specs.FinMap.{get, from_entries}
-use Rattle.std.specs.List.{AllByRecursion, flat_map, ends_with}
+use Rattle.std.specs.List.{AllByRecursion, flat_map, ends_with, list_all}
 use Rattle.bi_base.specs.Cells.{AreBytes}
 use Rattle.bi_base.specs.Limits.{Limits}
 use Rattle.bi_base.specs.Strings.{text_before_nul}
 use Rattle.bi_base.proofs.ByteLists.{AreBytes-none, AreBytes-cons, AreBytes-left, AreBytes-right}
+use Rattle.bi_base.proofs.ListMembers.{each-append}
 use Rattle.bi_base.proofs.NulTexts.{text_then_zero}
 use Rattle.bi_blob.specs.Blob.{Reservation, totalsize}
 use Rattle.bi_blob.specs.Lookups.{Sibling, node_named}
@@ -29,7 +30,7 @@ use Rattle.bi_fit.proofs.Meanings.{same_in_some}
 use Rattle.bi_fit.proofs.TextLaws.{file_means_image_tree}
 use Rattle.bi_fit.proofs.Trees.{children_of-with_each, children_of-with_children_of}
 use Rattle.bi_fit.proofs.TreeShapes.{AreNodes-children_of, bytes-children_of, names-without_payloads}
-use Rattle.bi_legacy.specs.Codes.{os_names, arch_names, type_names, compression_names}
+use Rattle.bi_legacy.specs.Codes.{CodeName, os_names, arch_names, type_names, compression_names, name_of_code}
 use Rattle.bi_legacy.specs.Meaning.{LegacyImage}
 use Rattle.bi_legacy.specs.PlacedParts.{PartModel, placed_parts}
 use Rattle.bi_legacy.specs.Reading.{LegacyModel}
@@ -37,9 +38,16 @@ use Rattle.bi_legacy.proofs.ImageOfFile.{image_of_file}
 use Rattle.bi_commands.specs.Descriptions.{Words}
 use Rattle.bi_commands.specs.FitListing.{reservation_line, source_word, image_line, image_lines, key_line, configuration_lines}
 use Rattle.bi_commands.specs.FitListing.{default_line, fit_listing, hexadecimal_64}
-use Rattle.bi_commands.specs.Listing.{IsListing, OfLegacyImage, OfImageTree, field_lines, code_lines, part_line, part_lines, parts_lines}
+use Rattle.bi_commands.specs.declared.format.Format.{Format}
+use Rattle.bi_commands.specs.declared.format.Format.TheVariants.{Lines, Json}
+use Rattle.bi_commands.specs.Json.{Member, json_array, json_bool, json_line, json_null, json_string, string_or_null}
+use Rattle.bi_commands.specs.ListedFiles.{IsListing, OfLegacyImage, OfImageTree, fit_listing_text, legacy_listing_text}
+use Rattle.bi_commands.specs.Listing.{field_lines, code_lines, part_line, part_lines, parts_lines}
 use Rattle.bi_commands.specs.Listing.{code_word, legacy_listing}
+use Rattle.bi_commands.specs.ListingJson.{configuration_object, fit_listing_object, header_members, image_objects, key_object, key_objects}
+use Rattle.bi_commands.specs.ListingJson.{legacy_listing_object, name_member, named_code, part_object, payload_object, reservation_object}
 use Rattle.bi_commands.specs.Shown.{line, hexadecimal, shown_text}
+use Rattle.bi_commands.proofs.AsciiJson.{IsAsciiMember, array_ascii, line_ascii, maybe_name_ascii, name_ascii, object_ascii, string_ascii}
 use Rattle.bi_commands.proofs.AsciiTexts.{HasAscii, AreAsciiWords, is_ascii, by_test, both, each_text, any_text, ascii_line, decimal_shown}
 use Rattle.bi_commands.proofs.AsciiTexts.{address, address_64, name_shown, code_named}
 
@@ -354,11 +362,191 @@ fit_listed file tree is =
     (node_names_bytes (configuration_nodes tree) (configurations_are_nodes tree good).1))
     (default_listed (default_of tree) (default_bytes tree good)))))))
 
--- A listing is ASCII.
-pub listing_is_ascii : (limits : Limits) (file text : List ℕ) → IsListing limits file text → IsAscii text
-listing_is_ascii limits file text (OfLegacyImage parsed is same) =
+-- ---- in JSON
+
+-- A code.
+code_ascii : (code_names : List CodeName) → list_all (λ (name : CodeName). list_all (λ byte. ltb byte 128) name.name) code_names ≡ true →
+    (code : ℕ) → HasAscii (named_code (name_of_code code_names code) code)
+code_ascii code_names are code = by (name_of_code code_names code) (code_named code_names are code)
+  where
+    by : (name : Option (List ℕ)) → HasAscii (unwrap_or name (decimal code)) → HasAscii (named_code name code)
+    by None is = is
+    by (Some name) is = string_ascii name is
+
+pub header_ascii : (image : LegacyImage) → AreBytes image.name → (last : List Member) → AllByRecursion IsAsciiMember last →
+    AllByRecursion IsAsciiMember (header_members image ++ last)
+header_ascii image bytes last are = (
+  (by_test (codes "kind") refl, by_test (json_string (codes "legacy")) refl),
+  (
+    (by_test (codes "name") refl, name_ascii image.name bytes),
+    (
+      (by_test (codes "time") refl, decimal_shown image.time),
+      (
+        (by_test (codes "load") refl, decimal_shown image.load),
+        (
+          (by_test (codes "entry") refl, decimal_shown image.entry),
+          (
+            (by_test (codes "os") refl, code_ascii os_names refl image.os),
+            (
+              (by_test (codes "arch") refl, code_ascii arch_names refl image.arch),
+              (
+                (by_test (codes "type") refl, code_ascii type_names refl image.image_type),
+                ((by_test (codes "compression") refl, code_ascii compression_names refl image.compression), are),
+              ),
+            ),
+          ),
+        ),
+      ),
+    ),
+  ),
+)
+
+parts_ascii : (parts : List PartModel) → AllByRecursion HasAscii (map part_object parts)
+parts_ascii [] = tt
+parts_ascii (part ∷ later) = (
+  object_ascii ((codes "offset", decimal part.place) ∷ (codes "size", decimal (length part.bytes)) ∷ [])
+      ((by_test (codes "offset") refl, decimal_shown part.place), ((by_test (codes "size") refl, decimal_shown (length part.bytes)), tt)),
+  parts_ascii later,
+)
+
+legacy_ascii : (parsed : LegacyModel) → AreBytes parsed.image.name → HasAscii (json_line (legacy_listing_object parsed))
+legacy_ascii parsed bytes =
+    let parts = map part_object (placed_parts parsed.image) in
+    let last : List Member = (codes "parts", json_array parts) ∷ (codes "unused", decimal parsed.unused) ∷ [] in
+    line_ascii (legacy_listing_object parsed)
+    (object_ascii (header_members parsed.image ++ last) (header_ascii parsed.image bytes last (
+      (by_test (codes "parts") refl, array_ascii parts (parts_ascii (placed_parts parsed.image))),
+      ((by_test (codes "unused") refl, decimal_shown parsed.unused), tt),
+    )))
+
+pub reservations_ascii : (reservations : List Reservation) → AllByRecursion HasAscii (map reservation_object reservations)
+reservations_ascii [] = tt
+reservations_ascii (reservation ∷ later) = (
+  object_ascii
+      ((codes "address", json_string (hexadecimal_64 reservation.address)) ∷ (codes "size", json_string (hexadecimal_64 reservation.size))
+      ∷ []) (
+        (by_test (codes "address") refl, string_ascii (hexadecimal_64 reservation.address) (address_64 reservation.address)),
+        ((by_test (codes "size") refl, string_ascii (hexadecimal_64 reservation.size) (address_64 reservation.size)), tt),
+      ),
+  reservations_ascii later,
+)
+
+payload_ascii : (file : List ℕ) (payload_source : PayloadSource) (payload : Option (List ℕ)) →
+    HasAscii (payload_object file payload_source payload)
+payload_ascii file payload_source None = by_test json_null refl
+payload_ascii file payload_source (Some payload) =
+    let offset : ℕ = unwrap_or (payload_place file payload_source) 0 in
+    object_ascii
+    ((codes "property", json_string (source_word payload_source)) ∷ (codes "offset", decimal offset)
+    ∷ (codes "size", decimal (length payload)) ∷ []) (
+      (by_test (codes "property") refl, string_ascii (source_word payload_source) (source_shown payload_source)),
+      ((by_test (codes "offset") refl, decimal_shown offset), ((by_test (codes "size") refl, decimal_shown (length payload)), tt)),
+    )
+
+images_ascii : (file : List ℕ) (nodes : Nodes FileNode) (payloads : List (Option (List ℕ))) → AllByRecursion AreBytes (names nodes) →
+    AllByRecursion HasAscii (image_objects file nodes payloads)
+images_ascii file none payloads bytes = tt
+images_ascii file (node name own children later) [] bytes = tt
+images_ascii file (node name own children later) (payload ∷ payloads) bytes = (
+  object_ascii (name_member (codes "name") name ∷ (codes "payload", payload_object file (source_of own) payload) ∷ []) (
+    (by_test (codes "name") refl, name_ascii name bytes.0),
+    ((by_test (codes "payload") refl, payload_ascii file (source_of own) payload), tt),
+  ),
+  images_ascii file later payloads bytes.1,
+)
+
+listed_ascii : (images : List ListedImage) → AllByRecursion (λ (image : ListedImage). AreBytes image.name) images →
+    AllByRecursion HasAscii (map (λ name. json_string (shown_text name)) (map (λ (image : ListedImage). image.name) images))
+listed_ascii [] bytes = tt
+listed_ascii (image ∷ later) bytes = (name_ascii image.name bytes.0, listed_ascii later bytes.1)
+
+key_ascii : (key : Key) (member : Member) → IsAsciiMember member → HasAscii (key_object key member)
+key_ascii key member is =
+    object_ascii ((codes "key", json_string (key_name key)) ∷ member ∷ [])
+    ((by_test (codes "key") refl, string_ascii (key_name key) (key_word key)), (is, tt))
+
+keys_ascii : (key : Key) (result : ListResult) → IsByteList result → AllByRecursion HasAscii (key_objects key result)
+keys_ascii key NoConfig are = tt
+keys_ascii key NoKey are = tt
+keys_ascii key BadList are =
+    (key_ascii key (codes "bad_list", json_bool true) (by_test (codes "bad_list") refl, by_test (json_bool true) refl), tt)
+keys_ascii key (Missing index) are =
+    (key_ascii key (codes "missing", decimal index) (by_test (codes "missing") refl, decimal_shown index), tt)
+keys_ascii key (ListedImages images) are =
+    let strings = map (λ name. json_string (shown_text name)) (map (λ (image : ListedImage). image.name) images) in
+    (key_ascii key (codes "images", json_array strings) (by_test (codes "images") refl, array_ascii strings (listed_ascii images are)), tt)
+
+all_keys_ascii : (tree : ImageTree) → IsImageTree tree → (configuration : List ℕ) (keys : List Key) →
+    AllByRecursion HasAscii (flat_map (λ key. key_objects key (listed_of tree configuration key)) keys)
+all_keys_ascii tree is configuration [] = tt
+all_keys_ascii tree is configuration (key ∷ later) =
+    each-append HasAscii (key_objects key (listed_of tree configuration key))
+    (flat_map (λ key. key_objects key (listed_of tree configuration key)) later)
+    (keys_ascii key (listed_of tree configuration key) (listed_of_bytes tree is configuration key))
+    (all_keys_ascii tree is configuration later)
+
+configurations_ascii : (tree : ImageTree) → IsImageTree tree → (configurations : List (List ℕ)) → AllByRecursion AreBytes configurations →
+    AllByRecursion HasAscii (map (configuration_object tree) configurations)
+configurations_ascii tree is [] bytes = tt
+configurations_ascii tree is (configuration ∷ later) bytes =
+    let keys = flat_map (λ key. key_objects key (listed_of tree configuration key)) all_keys in (
+      object_ascii (name_member (codes "name") configuration ∷ (codes "keys", json_array keys) ∷ []) (
+        (by_test (codes "name") refl, name_ascii configuration bytes.0),
+        ((by_test (codes "keys") refl, array_ascii keys (all_keys_ascii tree is configuration all_keys)), tt),
+      ),
+      configurations_ascii tree is later bytes.1,
+    )
+
+fit_ascii : (file : List ℕ) (tree : ImageTree) (is : IsFitFile file tree) → HasAscii (json_line (fit_listing_object file is.images tree))
+fit_ascii file tree is =
+    let good = file_means_image_tree file tree is in
+    let reservations = map reservation_object tree.reservations in
+    let images = image_objects file is.images tree.payloads in
+    let configurations = map (configuration_object tree) (names (configuration_nodes tree)) in
+    line_ascii (fit_listing_object file is.images tree)
+    (object_ascii
+    ((codes "kind", json_string (codes "fit"))
+    ∷ (codes "boot_cpu", decimal tree.cpu)
+    ∷ (codes "total_size", decimal (totalsize file))
+    ∷ (codes "reservations", json_array reservations)
+    ∷ (codes "images", json_array images)
+    ∷ (codes "configurations", json_array configurations)
+    ∷ (codes "default", string_or_null (option_map shown_text (default_of tree))) ∷ []) (
+      (by_test (codes "kind") refl, by_test (json_string (codes "fit")) refl),
+      (
+        (by_test (codes "boot_cpu") refl, decimal_shown tree.cpu),
+        (
+          (by_test (codes "total_size") refl, decimal_shown (totalsize file)),
+          (
+            (by_test (codes "reservations") refl, array_ascii reservations (reservations_ascii tree.reservations)),
+            (
+              (by_test (codes "images") refl, array_ascii images (images_ascii file is.images tree.payloads (image_names file tree is))),
+              (
+                (
+                  by_test (codes "configurations") refl,
+                  array_ascii configurations (configurations_ascii tree good (names (configuration_nodes tree))
+                      (node_names_bytes (configuration_nodes tree) (configurations_are_nodes tree good).1)),
+                ),
+                ((by_test (codes "default") refl, maybe_name_ascii (default_of tree) (default_bytes tree good)), tt),
+              ),
+            ),
+          ),
+        ),
+      ),
+    ))
+
+-- A listing is ASCII, in any form.
+pub listing_is_ascii : (format : Format) (limits : Limits) (file text : List ℕ) → IsListing format limits file text → IsAscii text
+listing_is_ascii format limits file text (OfLegacyImage parsed is same) =
     subst IsAscii (sym same)
-    (is_ascii (legacy_listing parsed) (legacy_listed parsed (image_of_file file parsed.image is.means.is_file).name_bytes))
-listing_is_ascii limits file text (OfImageTree is) =
-    subst IsAscii (sym is.is)
-    (is_ascii (fit_listing file is.means.is_file.images is.tree) (fit_listed file is.tree is.means.is_file))
+    (is_ascii (legacy_listing_text format parsed) (by format (image_of_file file parsed.image is.means.is_file).name_bytes))
+  where
+    by : (form : Format) → AreBytes parsed.image.name → HasAscii (legacy_listing_text form parsed)
+    by Lines bytes = legacy_listed parsed bytes
+    by Json bytes = legacy_ascii parsed bytes
+listing_is_ascii format limits file text (OfImageTree is) =
+    subst IsAscii (sym is.is) (is_ascii (fit_listing_text format file is.means.is_file.images is.tree) (by format))
+  where
+    by : (form : Format) → HasAscii (fit_listing_text form file is.means.is_file.images is.tree)
+    by Lines = fit_listed file is.tree is.means.is_file
+    by Json = fit_ascii file is.tree is.means.is_file

@@ -160,7 +160,7 @@ in_quotes text is = (
       (omega arith, tt),
 )
 
-all_in_quotes : (texts : List (List ℕ)) → list_all is_quotable texts ≡ true → AreAsciiWords (map quoted_text texts)
+pub all_in_quotes : (texts : List (List ℕ)) → list_all is_quotable texts ≡ true → AreAsciiWords (map quoted_text texts)
 all_in_quotes [] are = tt
 all_in_quotes (text ∷ later) are =
     let first = and_parts (is_quotable text) (list_all is_quotable later) are in

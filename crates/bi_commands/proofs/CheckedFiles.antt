@@ -63,20 +63,23 @@ abbrev nodes_found : (limits : Limits) (file : List ℕ) (content : FitModel) (i
 nodes_found limits file content is =
     ap (λ root. nodes_or_none (image_nodes root)) (sym is.same_root) ∙ ap nodes_or_none is.means.is_file.has_images
 
+-- Where the content of a file ends, by what reading it returned.
+pub content_end_read : (limits : Limits) (file : List ℕ) (content : FitModel) (is : IsReadFit limits file content) →
+    end_of_read_payloads content.blob.total_size content.images ≡ content_end file is.means.is_file.images (tree_of content).payloads
+content_end_read limits file content is =
+    let nodes : Nodes FileNode = file_images content.blob in
+    let read : AllZip (IsReadImage file) (siblings nodes) content.images =
+    subst (λ (f : List ℕ). AllZip (IsReadImage f) (siblings nodes) content.images) is.is_file is.held.images in
+    end_of_content file content.blob.total_size nodes content.images (is.held.total_size ∙ ap totalsize is.is_file) read
+    ∙ ap (λ (found : Nodes FileNode). content_end file found (tree_of content).payloads) (nodes_found limits file content is)
+
 -- The concerns about a flattened image tree that was read are those about the file.
 pub concerns_of_file : (limits : Limits) (file : List ℕ) (content : FitModel) (is : IsReadFit limits file content) →
     read_concerns file content
     ≡ tree_concerns (tree_of content) ++ trailing_concerns (drop (content_end file is.means.is_file.images (tree_of content).payloads) file)
 concerns_of_file limits file content is =
-    let tree = tree_of content in
-    let nodes : Nodes FileNode = file_images content.blob in
-    let read : AllZip (IsReadImage file) (siblings nodes) content.images =
-    subst (λ (f : List ℕ). AllZip (IsReadImage f) (siblings nodes) content.images) is.is_file is.held.images in
-    let end : end_of_read_payloads content.blob.total_size content.images ≡ content_end file is.means.is_file.images tree.payloads =
-    end_of_content file content.blob.total_size nodes content.images (is.held.total_size ∙ ap totalsize is.is_file) read
-    ∙ ap (λ (found : Nodes FileNode). content_end file found tree.payloads) (nodes_found limits file content is) in
     let left : List Concern = configurations_concerns content ++ read_default_concerns content in
-    ap₂ (λ (a b : List Concern). a ++ (configurations_concerns content ++ (read_default_concerns content ++ b))) (concerns_of_images content) (ap (λ n. trailing_concerns (drop n file)) end)
+    ap₂ (λ (a b : List Concern). a ++ (configurations_concerns content ++ (read_default_concerns content ++ b))) (concerns_of_images content) (ap (λ n. trailing_concerns (drop n file)) (content_end_read limits file content is))
     ∙ simp append_assoc refl
 
 -- A legacy image that was read is checked by the concern about the bytes after it,
@@ -116,15 +119,6 @@ not_checked fails checker limits file content old new error is (WasRefused (inr 
     WasRefused (subst (IsCheckError limits file) (sym short) (tree_needs_memory limits file content is)) kept
 not_checked fails checker limits file content old new error is (SinkFailed text cause is_text failed same) =
     SinkFailed text cause (tree_checked checker limits file text content is is_text) failed same
-
--- So it is if the lines are made in memory.
-pub not_checked_in_memory : (checker : Checker) (limits : Limits) (file old new : List ℕ) (error : Error) →
-    AppendFailed (FailsWithin Grows IsOutOfMemory) (IsChecked checker.format checker.allowed limits file)
-    (IsCheckError limits file) old new error →
-    IsCheckError limits file error
-not_checked_in_memory checker limits file old new error (WasRefused is kept) = is
-not_checked_in_memory checker limits file old new error (SinkFailed text cause is failed same) =
-    subst (IsCheckError limits file) (sym (same ∙ failed.1)) (needs_memory limits file is.meaning is.means.means)
 
 -- What a call on what was read from a file did is what it did with the file.
 pub legacy_appended : {S : Type 0} (appends : S → List ℕ → S → Type 0) (fails : S → List ℕ → S → Error → Type 0) (checker : Checker)

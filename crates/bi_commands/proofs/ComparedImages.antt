@@ -1,5 +1,5 @@
 use Rattle.std.proofs.Common.{◌≡◌, ◌≢◌, ◌↔◌, ◌⊎◌, ◌∙◌, ℕ, List, [], ◌∷◌, Bool, true, false, IsTrue, bytes_eq}
-use Rattle.std.proofs.Common.{if◌then◌else◌, inl, inr, refl, sym, subst}
+use Rattle.std.proofs.Common.{if◌then◌else◌, inl, inr, refl, sym, ap, subst}
 use Rattle.bi_base.specs.declared.fault.Error.{Error}
 use Rattle.bi_base.specs.declared.fault.Error.TheVariants.{Refused, OutOfMemory as NoMemory, ReadFailed, WriteFailed}
 use Rattle.bi_base.specs.declared.fault.Fault.{Fault}
@@ -11,11 +11,14 @@ use Rattle.bi_norm.specs.Reading.{IsBootImageReadError, NeedsMemory, meaning_of,
 use Rattle.bi_norm.proofs.NormalForms.{needs_memory}
 use Rattle.bi_commands.specs.declared.compare.CompareError.{CompareError}
 use Rattle.bi_commands.specs.declared.compare.CompareError.TheVariants.{OutOfMemory}
+use Rattle.bi_commands.specs.declared.format.Format.TheVariants.{Lines, Json}
+use Rattle.bi_commands.specs.ComparisonJson.{comparison_object}
 use Rattle.bi_commands.specs.Comparing.{AreTheSame, AreDifferent, IsComparison, IsReadingError, IsDescribingError, IsComparisonError}
 use Rattle.bi_commands.specs.Comparing.{comparison, other_order_line, other_payloads_line}
 use Rattle.bi_commands.specs.Descriptions.{description, description_texts}
 use Rattle.bi_commands.specs.Differences.{differences}
 use Rattle.bi_commands.specs.Describing.{CanBeDescribed}
+use Rattle.bi_commands.specs.Json.{json_line}
 use Rattle.bi_norm.proofs.Comparisons.{opened_means}
 
 -- Two files that were read have no differences if they mean the same, and otherwise those of their meanings. An error of reading or
@@ -74,8 +77,10 @@ pub error_of_one : (limits : Limits) (image other_image : BootImage) (error : Co
 error_of_one limits image other_image error (inl memory) = inl memory
 error_of_one limits image other_image error (inr describing) = inr (describing (meaning_of other_image))
 
-pub error_of_other : (limits : Limits) (image other_image : BootImage) (error : CompareError) → CanBeDescribed limits (meaning_of image)
-    → (error ≡ OutOfMemory) ⊎ ((one : Meaning) → CanBeDescribed limits one → IsDescribingError limits one (meaning_of other_image) error)
+pub error_of_other : (limits : Limits) (image other_image : BootImage) (error : CompareError)
+    → CanBeDescribed Lines limits (meaning_of image)
+    → (error ≡ OutOfMemory)
+    ⊎ ((one : Meaning) → CanBeDescribed Lines limits one → IsDescribingError limits one (meaning_of other_image) error)
     → (error ≡ OutOfMemory) ⊎ IsDescribingError limits (meaning_of image) (meaning_of other_image) error
 error_of_other limits image other_image error described (inl memory) = inl memory
 error_of_other limits image other_image error described (inr describing) = inr (describing (meaning_of image) described)
@@ -105,25 +110,47 @@ comparison_is_not_empty (OfFit one) (OfFit other) =
 -- Two files that mean the same have no differences.
 pub compared_same : (limits : Limits) (one other : List ℕ) (image other_image : BootImage) (same : Bool) (text : List ℕ) →
     IsReadBootImage limits one image → IsReadBootImage limits other other_image → IsTrue same ↔ (meaning_of image ≡ meaning_of other_image)
-    → same ≡ true → text ≡ [] → IsComparison limits one other true text
+    → same ≡ true → text ≡ [] → IsComparison Lines limits one other true text
 compared_same limits one other image other_image same text opened other_opened is is_true is_empty = record {
   compared = are_compared limits one other image other_image true opened other_opened
       (subst (λ b. IsTrue b ↔ (meaning_of image ≡ meaning_of other_image)) is_true is);
+  lines = text;
   differences = AreTheSame is_empty;
   empty = ((λ empty. refl), (λ is_same. is_empty));
+  is_text = refl;
 }
 
 -- The differences of two files that do not mean the same.
 pub compared_different : (limits : Limits) (one other : List ℕ) (image other_image : BootImage) (same : Bool) (text : List ℕ) →
     IsReadBootImage limits one image → IsReadBootImage limits other other_image → IsTrue same ↔ (meaning_of image ≡ meaning_of other_image)
-    → same ≡ false → CanBeDescribed limits (meaning_of image) → CanBeDescribed limits (meaning_of other_image) →
-    text ≡ comparison (meaning_of image) (meaning_of other_image) → IsComparison limits one other false text
+    → same ≡ false → CanBeDescribed Lines limits (meaning_of image) → CanBeDescribed Lines limits (meaning_of other_image) →
+    text ≡ comparison (meaning_of image) (meaning_of other_image) → IsComparison Lines limits one other false text
 compared_different limits one other image other_image same text opened other_opened is is_false described other_described is_text = record {
   compared = are_compared limits one other image other_image false opened other_opened
       (false_compared limits one other image other_image same opened other_opened is is_false);
+  lines = text;
   differences = AreDifferent described other_described is_text;
   empty = (
     (λ empty. absurd (comparison_is_not_empty (meaning_of image) (meaning_of other_image) (sym is_text ∙ empty))),
     (λ is_same. absurd (false_is_not_true is_same)),
   );
+  is_text = refl;
 }
+
+-- The JSON of a comparison.
+pub compared_in_json : (limits : Limits) (one other : List ℕ) (same : Bool) (lines text : List ℕ) →
+    IsComparison Lines limits one other same lines → text ≡ json_line (comparison_object same lines) →
+    IsComparison Json limits one other same text
+compared_in_json limits one other same lines text is json = record {
+  compared = is.compared;
+  lines = is.lines;
+  differences = is.differences;
+  empty = is.empty;
+  is_text = json ∙ ap (λ differences. json_line (comparison_object same differences)) is.is_text;
+}
+
+-- Memory may run out after two files were compared.
+pub memory_after_comparing : (limits : Limits) (one other : List ℕ) (same : Bool) (text : List ℕ) (error : CompareError) →
+    IsComparison Lines limits one other same text → error ≡ OutOfMemory → IsComparisonError limits one other error
+memory_after_comparing limits one other same text error is memory =
+    subst (IsComparisonError limits one other) (sym memory) (inl (needs_memory limits one is.compared.meaning is.compared.means.means))

@@ -43,4 +43,7 @@ descriptions_are_known = record {
   two_parts = refl;
   properties = rw (sorted_entries described_properties tt, no_entries) refl;
   images = rw (sorted_entries load_and_os tt, sorted_entries only_algo tt, sorted_entries only_data_value tt, no_entries) refl;
+  no_parts_json = refl;
+  properties_json = rw (sorted_entries described_properties tt, no_entries) refl;
+  images_json = rw (sorted_entries load_and_os tt, sorted_entries only_algo tt, sorted_entries only_data_value tt, no_entries) refl;
 }

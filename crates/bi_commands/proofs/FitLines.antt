@@ -1,9 +1,10 @@
-use Rattle.std.proofs.Common.{◌≡◌, ℕ, List, [], ◌∷◌, ◌++◌, map, sym, ap, ◌∙◌, Option, None, Some, ◌<◌, length, get_or}
+use Rattle.std.proofs.Common.{◌≡◌, ℕ, List, [], ◌∷◌, ◌++◌, map, sym, ap, ◌∙◌, Option, None, Some, ◌<◌, ◌+◌}
+use Rattle.std.proofs.Common.{drop, length, get_or, append_assoc}
 use Rattle.std.specs.List.{join_with_byte, flat_map, slice_get}
 use Rattle.std.specs.Option.{option_map}
 use Rattle.std.proofs.lemmas.Option.{slice_get-map, slice_get-get_or}
 use Rattle.bi_blob.specs.Blob.{Reservation, end_pair}
-use Rattle.std.proofs.lemmas.List.{append-nil}
+use Rattle.std.proofs.lemmas.List.{append-nil, drop_more}
 
 -- Words with a byte between each two, and the reservation at an index.
 
@@ -12,6 +13,14 @@ pub joined_after : (byte : ℕ) (first : List ℕ) (words : List (List ℕ)) →
     join_with_byte byte (first ∷ words) ≡ first ++ flat_map (λ word. byte ∷ word) words
 joined_after byte first [] = sym (append-nil first)
 joined_after byte first (word ∷ words) = ap (λ later. first ++ (byte ∷ later)) (joined_after byte word words)
+
+-- Words and more of them.
+pub joined_more : (byte : ℕ) (first : List ℕ) (words more : List (List ℕ)) →
+    join_with_byte byte (first ∷ (words ++ more)) ≡ join_with_byte byte (first ∷ words) ++ flat_map (λ word. byte ∷ word) more
+joined_more byte first [] more = joined_after byte first more
+joined_more byte first (word ∷ words) more =
+    ap (λ later. first ++ (byte ∷ later)) (joined_more byte word words more)
+    ∙ sym (append_assoc first (byte ∷ join_with_byte byte (word ∷ words)) (flat_map (λ word. byte ∷ word) more))
 
 -- The two numbers of a reservation.
 abbrev pub numbers_of : Reservation → ℕ × ℕ
@@ -27,6 +36,16 @@ reservation_found reservations index found within is =
 abbrev pub reservation_of : Option (ℕ × ℕ) → Reservation
 reservation_of None = end_pair
 reservation_of (Some numbers) = record { address = numbers.0; size = numbers.1 }
+
+-- Values for the reservations from an index on: that for this reservation, and those for the later ones.
+pub reservation_and_later : {B : Type 0} (f : Reservation → B) (reservations : List Reservation) (index : ℕ) (found : Option (ℕ × ℕ))
+    (numbers : ℕ × ℕ) → index < length reservations → found ≡ slice_get (map numbers_of reservations) index → found ≡ Some numbers →
+    map f (drop index reservations) ≡ f (reservation_of (Some numbers)) ∷ map f (drop (index + 1) reservations)
+reservation_and_later f reservations index found numbers within is some =
+    let same : Some numbers ≡ Some (numbers_of (get_or reservations index end_pair)) = sym some
+    ∙ reservation_found reservations index found within is in
+    ap (map f) (drop_more reservations index end_pair within)
+    ∙ ap (λ o. f (reservation_of o) ∷ map f (drop (index + 1) reservations)) (sym same)
 
 -- There is a reservation at each index.
 pub no_more_reservation : {C : Type 0} (reservations : List Reservation) (index : ℕ) (found : Option (ℕ × ℕ)) →

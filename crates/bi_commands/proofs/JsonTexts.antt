@@ -1,5 +1,5 @@
 use Rattle.std.proofs.Common.{◌≡◌, ℕ, ◌+◌, ◌/◌, ◌%◌, ◌<◌, ◌||◌, ◌-◌, ◌≤◌, Bool, true, false, cond, ltb, List, [], ◌∷◌, ◌++◌, flat_map, map}
-use Rattle.std.proofs.Common.{refl, sym, ap, ap₂, ◌∙◌, arith, length, get_or, take, drop, take_all}
+use Rattle.std.proofs.Common.{refl, sym, ap, ap₂, ◌∙◌, append_assoc, append-nil, arith, length, get_or, take, drop, take_all}
 use Rattle.std.specs.Borrow.{Bor}
 use Rattle.std.specs.List.{join_with_byte, list_any}
 use Rattle.std.proofs.lemmas.Bool.{ltb-false, ltb-true, ne_eqb}
@@ -8,11 +8,12 @@ use Rattle.std.proofs.lemmas.List.Folds.{flat_map-map}
 use Rattle.bi_base.specs.Cells.{cell8}
 use Rattle.bi_commands.specs.declared.json.JsonValue.{JsonValue}
 use Rattle.bi_commands.specs.FitListing.{hexadecimal_64}
-use Rattle.bi_commands.specs.Json.{JsonText, Member, member_text, with_commas}
+use Rattle.bi_commands.specs.Json.{JsonText, Member, comma, json_array, json_object, json_string, member_text, with_commas}
 use Rattle.bi_commands.specs.JsonValues.{member_of}
 use Rattle.bi_commands.specs.Shown.{shown_byte}
 use Rattle.bi_commands.specs.ValueTexts.{escaped_byte, hexadecimal_digits, needs_backslash}
-use Rattle.bi_commands.proofs.FitLines.{joined_after}
+use Rattle.bi_commands.proofs.FitLines.{joined_after, joined_more}
+use Rattle.bi_commands.proofs.TextsInTurn.{map_append}
 
 -- Texts of JSON: what needs no escape, and values with a comma between each two.
 
@@ -81,6 +82,22 @@ members_split (first ∷ later) d some =
     ∙ flat_map-map (λ (member : Member). 44 ∷ member_text member) member_of later
     ∙ ap (flat_map later_member) (sym (take_all (length (first ∷ later) - 1) later (omega arith))))
 
+-- Members and more of them.
+pub members_joined : (members more : List Member) → 1 ≤ length members →
+    join_with_byte 44 (map member_text (members ++ more))
+    ≡ join_with_byte 44 (map member_text members) ++ flat_map (λ member. 44 ∷ member_text member) more
+members_joined [] more some = absurd (omega arith)
+members_joined (first ∷ members) more some =
+    let text = member_text first in
+    let texts = map member_text members in
+    ap (λ (words : List (List ℕ)). join_with_byte 44 (text ∷ words)) (map_append member_text members more)
+    ∙ joined_more 44 text texts (map member_text more)
+    ∙ ap (λ (l : List ℕ). join_with_byte 44 (text ∷ texts) ++ l) (flat_map-map (λ (word : List ℕ). 44 ∷ word) member_text more)
+
+-- One value, after what comes before it.
+pub one_value : (is_later : Bool) (value : JsonText) → with_commas is_later (value ∷ []) ≡ comma is_later ++ value
+one_value is_later value = ap (λ (l : List ℕ). comma is_later ++ l) (append-nil value)
+
 -- Values after another one.
 commas_later : (values : List JsonText) → with_commas true values ≡ flat_map (λ value. 44 ∷ value) values
 commas_later [] = refl
@@ -90,3 +107,33 @@ commas_later (value ∷ later) = ap (λ (l : List ℕ). 44 ∷ (value ++ l)) (co
 pub commas_between : (values : List JsonText) → with_commas false values ≡ join_with_byte 44 values
 commas_between [] = refl
 commas_between (value ∷ later) = ap (λ (l : List ℕ). value ++ l) (commas_later later) ∙ sym (joined_after 44 value later)
+
+-- An object whose last member is a list of values, in its parts.
+around_values : (members name values : List ℕ) →
+    123 ∷ ((members ++ ((44 ∷ (name ++ 58 ∷ 91 ∷ (values ++ 93 ∷ []))) ++ [])) ++ 125 ∷ [])
+    ≡ 123 ∷ (members ++ ((44 ∷ (name ++ 58 ∷ 91 ∷ [])) ++ (values ++ 93 ∷ 125 ∷ [])))
+around_values members name values = simp (append_assoc, append-nil) refl
+
+pub object_with_list : (first : Member) (members : List Member) (name : List ℕ) (values : List JsonText) →
+    json_object ((first ∷ members) ++ (name, json_array values) ∷ [])
+    ≡ 123 ∷ (join_with_byte 44 (map member_text (first ∷ members))
+    ++ ((44 ∷ (json_string name ++ 58 ∷ 91 ∷ [])) ++ (with_commas false values ++ 93 ∷ 125 ∷ [])))
+object_with_list first members name values =
+    let texts : List ℕ = join_with_byte 44 (map member_text (first ∷ members)) in
+    ap (λ (l : List ℕ). 123 ∷ (l ++ 125 ∷ [])) (members_joined (first ∷ members) ((name, json_array values) ∷ []) (omega arith))
+    ∙ around_values texts (json_string name) (join_with_byte 44 values)
+    ∙ ap (λ (l : List ℕ). 123 ∷ (texts ++ ((44 ∷ (json_string name ++ 58 ∷ 91 ∷ [])) ++ (l ++ 93 ∷ 125 ∷ []))))
+    (sym (commas_between values))
+
+-- An object with one more member, in its parts.
+around_value : (members name value : List ℕ) →
+    123 ∷ ((members ++ ((44 ∷ (name ++ 58 ∷ value)) ++ [])) ++ 125 ∷ [])
+    ≡ 123 ∷ (members ++ ((44 ∷ (name ++ 58 ∷ [])) ++ (value ++ 125 ∷ [])))
+around_value members name value = simp (append_assoc, append-nil) refl
+
+pub object_with_value : (first : Member) (members : List Member) (name : List ℕ) (value : JsonText) →
+    json_object ((first ∷ members) ++ (name, value) ∷ [])
+    ≡ 123 ∷ (join_with_byte 44 (map member_text (first ∷ members)) ++ ((44 ∷ (json_string name ++ 58 ∷ [])) ++ (value ++ 125 ∷ [])))
+object_with_value first members name value =
+    ap (λ (l : List ℕ). 123 ∷ (l ++ 125 ∷ [])) (members_joined (first ∷ members) ((name, value) ∷ []) (omega arith))
+    ∙ around_value (join_with_byte 44 (map member_text (first ∷ members))) (json_string name) value

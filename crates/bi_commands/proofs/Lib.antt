@@ -2,6 +2,8 @@ pub mod DescribedImages
 pub mod PrintableLines
 pub mod EntryLines
 pub mod TreeLines
+pub mod EntryJson
+pub mod AsciiDescriptionJson
 pub mod QuotedValues
 pub mod LineChains
 pub mod DescriptionPieces
@@ -25,12 +27,14 @@ pub mod LegacyOutputs
 pub mod FitOutputs
 pub mod DescriptionFacts
 pub mod DifferenceFacts
+pub mod DifferenceLines
 pub mod LegacyConcernFacts
 pub mod RefusalFacts
 pub mod TextFacts
 pub mod UpdatedMeaningFacts
 pub mod LineSets
 pub mod LongNames
+pub mod LongNamesJson
 pub mod DescribedLines
 pub mod ComparedTexts
 pub mod ComparedImages
@@ -45,6 +49,7 @@ pub mod ConfigurationNodes
 pub mod UnshownNames
 pub mod AsciiTexts
 pub mod AsciiDescriptions
+pub mod AsciiDifferences
 pub mod AsciiListings
 pub mod HashedImages
 pub mod VerdictCounts
@@ -55,3 +60,10 @@ pub mod JsonTexts
 pub mod TextsInTurn
 pub mod AsciiJson
 pub mod ConcernTexts
+pub mod OffsetLists
+pub mod ScanClaims
+pub mod ScannedLines
+pub mod ScanLaws
+pub mod CutImages
+pub mod ScanFacts
+pub mod ScanCounts

@@ -1,6 +1,6 @@
 use Rattle.std.proofs.Common.{◌≡◌, true, ℕ, ◌+◌, List, [], ◌∷◌, ◌++◌, Option, Some, None, option_and_then, slice_get, map, codes, refl, sym}
 use Rattle.std.proofs.Common.{ap}
-use Rattle.std.proofs.Common.{◌∙◌, append_assoc}
+use Rattle.std.proofs.Common.{◌∙◌, append_assoc, append-nil, Bool, subst}
 use Rattle.std.specs.List.{ends_with, join_with_byte, flat_map}
 use Rattle.std.specs.Prelude.{nat_eq}
 use Rattle.std.proofs.lemmas.List.Folds.{flat_map-map}
@@ -12,10 +12,18 @@ use Rattle.bi_fit.specs.Names.{key_name}
 use Rattle.bi_fit.specs.HashNodes.{file_list, file_listed_in, listed_payload}
 use Rattle.bi_fit.proofs.FileLists.{payload_found, payload_named-missing}
 use Rattle.bi_commands.specs.FitListing.{key_line}
-use Rattle.bi_commands.specs.Listed.{AreListedImages}
-use Rattle.bi_commands.specs.ReadListing.{missing_from, first_missing}
+use Rattle.bi_commands.specs.declared.format.Format.{Format}
+use Rattle.bi_commands.specs.declared.format.Format.TheVariants.{Lines, Json}
+use Rattle.bi_commands.specs.declared.listed.KeyList.{KeyList}
+use Rattle.bi_commands.specs.declared.listed.KeyList.TheVariants as listed
+use Rattle.bi_commands.specs.Formats.{in_turn, is_later_after}
+use Rattle.bi_commands.specs.Json.{comma}
+use Rattle.bi_commands.specs.Listed.{AreListedImages, IsListed}
+use Rattle.bi_commands.specs.ListingJson.{key_objects, listed_object}
+use Rattle.bi_commands.specs.ReadListing.{key_texts, missing_from, first_missing}
 use Rattle.bi_commands.specs.Shown.{line, shown_text}
-use Rattle.bi_commands.proofs.FitLines.{joined_after}
+use Rattle.bi_commands.proofs.FitLines.{joined_more}
+use Rattle.bi_commands.proofs.JsonTexts.{one_value}
 
 -- The first name of a list that no image has is the one that is missing, and the line of a list without such a name has all its names.
 
@@ -77,13 +85,49 @@ images_line configuration key result names are =
     ∙ ap (λ words. line (codes "key" ∷ shown_text configuration ∷ key_name key ∷ codes "ok" ∷ words))
     (shown_names are.images ∙ ap (map shown_text) are.are_names)
 
--- Words and more of them, with a space before each but the first.
-joined_more : (first : List ℕ) (words more : List (List ℕ)) →
-    join_with_byte 32 (first ∷ (words ++ more)) ≡ join_with_byte 32 (first ∷ words) ++ flat_map (λ word. 32 ∷ word) more
-joined_more first [] more = joined_after 32 first more
-joined_more first (word ∷ words) more =
-    ap (λ later. first ++ (32 ∷ later)) (joined_more word words more)
-    ∙ sym (append_assoc first (32 ∷ join_with_byte 32 (word ∷ words)) (flat_map (λ word. 32 ∷ word) more))
+-- The object of a key that lists these names.
+pub images_object : (key : Key) (result : ListResult) (names : List (List ℕ)) → AreListedImages result names →
+    key_objects key result ≡ listed_object key names ∷ []
+images_object key result names are =
+    ap (key_objects key) are.is_listed ∙ ap (λ (names : List (List ℕ)). listed_object key names ∷ []) are.are_names
+
+-- What is listed under a key that is there: one line,
+pub key_as_line : (format : Format) (is_later : Bool) (configuration : List ℕ) (key : Key) (result : ListResult) (found : KeyList) →
+    format ≡ Lines → IsListed result found → ¬ (found ≡ listed.NoKey) →
+    (in_turn format is_later (key_texts format configuration key result) ≡ key_line configuration key result)
+    × (true ≡ is_later_after is_later (key_texts format configuration key result))
+key_as_line format is_later configuration key result found lines is some =
+    subst (λ (form : Format). (in_turn form is_later (key_texts form configuration key result) ≡ key_line configuration key result)
+    × (true ≡ is_later_after is_later (key_texts form configuration key result))) (sym lines) (
+      ap (in_turn Lines is_later) (by found is some) ∙ append-nil (key_line configuration key result),
+      ap (is_later_after is_later) (sym (by found is some)),
+    )
+  where
+    by : (other : KeyList) → IsListed result other → ¬ (other ≡ listed.NoKey) →
+        key_texts Lines configuration key result ≡ key_line configuration key result ∷ []
+    by listed.NoKey is some = absurd (some refl)
+    by listed.BadList is some = rw is refl
+    by (listed.Missing index) is some = rw is refl
+    by (listed.Images value) is some = rw is.is_listed refl
+
+-- or one object.
+pub key_as_object : (format : Format) (is_later : Bool) (configuration : List ℕ) (key : Key) (result : ListResult) (found : KeyList) →
+    format ≡ Json → IsListed result found → ¬ (found ≡ listed.NoKey) →
+    (in_turn format is_later (key_texts format configuration key result)
+    ≡ comma is_later ++ flat_map (λ text. text) (key_objects key result))
+    × (true ≡ is_later_after is_later (key_texts format configuration key result))
+key_as_object format is_later configuration key result found json is some =
+    let object : List ℕ = flat_map (λ text. text) (key_objects key result) in
+    subst (λ (form : Format). (in_turn form is_later (key_texts form configuration key result) ≡ comma is_later ++ object)
+    × (true ≡ is_later_after is_later (key_texts form configuration key result))) (sym json)
+    (ap (in_turn Json is_later) (by found is some) ∙ one_value is_later object, ap (is_later_after is_later) (sym (by found is some)))
+  where
+    by : (other : KeyList) → IsListed result other → ¬ (other ≡ listed.NoKey) →
+        key_objects key result ≡ flat_map (λ text. text) (key_objects key result) ∷ []
+    by listed.NoKey is some = absurd (some refl)
+    by listed.BadList is some = rw is (ap (λ (text : List ℕ). text ∷ []) (sym (append-nil _)))
+    by (listed.Missing index) is some = rw is (ap (λ (text : List ℕ). text ∷ []) (sym (append-nil _)))
+    by (listed.Images value) is some = rw is.is_listed (ap (λ (text : List ℕ). text ∷ []) (sym (append-nil _)))
 
 -- The line of a key that lists names: its first words, where the name of the key is given as a word, the names, and a newline.
 pub line_of_names : (configuration : List ℕ) (key : Key) (word : List ℕ) (names : List (List ℕ)) → word ≡ key_name key →
@@ -94,7 +138,7 @@ line_of_names configuration key word names is =
     let later : List (List ℕ) = shown_text configuration ∷ word ∷ codes "ok" ∷ [] in
     ap (λ other. line (codes "key" ∷ shown_text configuration ∷ other ∷ codes "ok" ∷ map shown_text names)) (sym is)
     ∙ ap (λ text. text ++ 10 ∷ [])
-    (joined_more (codes "key") later (map shown_text names)
+    (joined_more 32 (codes "key") later (map shown_text names)
     ∙ ap (λ more. join_with_byte 32 (codes "key" ∷ later) ++ more) (flat_map-map (λ word. 32 ∷ word) shown_text names))
     ∙ append_assoc (join_with_byte 32 (codes "key" ∷ later)) (flat_map (λ name. 32 ∷ shown_text name) names) (10 ∷ [])
 

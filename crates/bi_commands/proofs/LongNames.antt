@@ -1,4 +1,4 @@
-use Rattle.std.proofs.Common.{◌≡◌, ◌+◌, ◌≤◌, ℕ, Bool, true, false, inr, List, [], ◌∷◌, ◌++◌, Option, Some, codes, length, map}
+use Rattle.std.proofs.Common.{◌≡◌, ◌+◌, ◌≤◌, ℕ, Bool, true, false, List, [], ◌∷◌, ◌++◌, Option, Some, codes, length, map}
 use Rattle.std.proofs.Common.{bytes_eq, flat_map, refl, sym, ap, subst, ◌∙◌, arith, length-append}
 use Rattle.std.specs.Prelude.{if◌then◌else◌}
 use Rattle.std.specs.FinMap.{entries}
@@ -6,23 +6,13 @@ use Rattle.std.specs.Fmt.{decimal}
 use Rattle.std.specs.List.{AllZip, join_with_byte}
 use Rattle.std.proofs.lemmas.Grind.{flat_map-append}
 use Rattle.std.proofs.lemmas.Slice.Eq.{bytes_eq-Decides}
-use Rattle.bi_base.specs.declared.fault.Error.{Error}
-use Rattle.bi_base.specs.declared.fault.Error.TheVariants as error
-use Rattle.bi_base.specs.Errors.{IsFaultOrNoMemory}
-use Rattle.bi_base.specs.Limits.{Limits}
-use Rattle.bi_base.specs.Reading.{too_large}
 use Rattle.bi_blob.specs.Tree.{Nodes, none, node, names, as_nodes, with_each, AreNodes, IsNew, Property, PropertyMap}
-use Rattle.bi_fdt.specs.Content.{root_of}
-use Rattle.bi_fit.specs.Content.{FitModel, IsHeld, tree_of}
 use Rattle.bi_fit.specs.ImageTree.{ImageTree, IsImageTree, IsApart, ArePropertiesByName, children_of, each_own}
-use Rattle.bi_fit.specs.LongNames.{name_if_long, HasLongerNames}
+use Rattle.bi_fit.specs.LongNames.{name_if_long}
 use Rattle.bi_fit.specs.Names.{images_name}
-use Rattle.bi_fit.proofs.FileTrees.{is_image_tree}
-use Rattle.bi_fit.proofs.LongNames.{length-name_if_long, names_of_nodes, names_of_nodes-first, long_names_of_tree}
+use Rattle.bi_fit.proofs.LongNames.{length-name_if_long, names_of_nodes, names_of_nodes-first}
 use Rattle.bi_fit.proofs.Meanings.{same_in_some}
-use Rattle.bi_fit.proofs.NormalTrees.{held_means}
 use Rattle.bi_norm.specs.Meaning.{OfFit}
-use Rattle.bi_commands.specs.Describing.{IsImageError}
 use Rattle.bi_commands.specs.Descriptions.{Words, DescribedNode, plain_node, described_images, described_children, described_nodes}
 use Rattle.bi_commands.specs.Descriptions.{description, node_lines, own_lines, path, payload_words, property_words, reservation_words}
 use Rattle.bi_commands.specs.Descriptions.{tree_lines}
@@ -49,8 +39,8 @@ bytes_shown (byte ∷ later) =
     omega (arith, both, first, rest)
 
 -- and a name as no fewer bytes than it has.
-name_shown : (name : List ℕ) → length name ≤ length (shown_text name)
-name_shown name = by_name (bytes_eq name []) refl (bytes_eq name (codes "-")) refl
+pub shown_as_long : (name : List ℕ) → length name ≤ length (shown_text name)
+shown_as_long name = by_name (bytes_eq name []) refl (bytes_eq name (codes "-")) refl
   where
     by_name : (a : Bool) → bytes_eq name [] ≡ a → (b : Bool) → bytes_eq name (codes "-") ≡ b → length name ≤ length (shown_text name)
     by_name true is b dash =
@@ -73,15 +63,15 @@ third_word first second third later =
     omega (arith, words, whole, after_first, after_second, after_third)
 
 -- How many bytes these names have together, as far as they are long.
-abbrev long_bytes : List (List ℕ) → ℕ
+abbrev pub long_bytes : List (List ℕ) → ℕ
 long_bytes names = length (flat_map name_if_long names)
 
 -- Those of several lists of names.
-long_bytes-append : (front back : List (List ℕ)) → long_bytes (front ++ back) ≡ long_bytes front + long_bytes back
+pub long_bytes-append : (front back : List (List ℕ)) → long_bytes (front ++ back) ≡ long_bytes front + long_bytes back
 long_bytes-append front back =
     ap length (flat_map-append name_if_long front back) ∙ length-append (flat_map name_if_long front) (flat_map name_if_long back)
 
-long_bytes_of_node : (name : List ℕ) (own : PropertyMap) (children later : Nodes PropertyMap)
+pub long_bytes_of_node : (name : List ℕ) (own : PropertyMap) (children later : Nodes PropertyMap)
     → long_bytes (names_of_nodes (node name own children later))
     ≡ long_bytes (map (λ property. property.0) (entries own)) + (long_bytes (names_of_nodes children) + long_bytes (names_of_nodes later))
 long_bytes_of_node name own children later =
@@ -99,7 +89,7 @@ properties_long path (property ∷ later) =
     let names = length-append (name_if_long property.0) (flat_map name_if_long (map (λ property. property.0) later)) in
     let lines = length-append (line written) (flat_map line (map (property_words path) later)) in
     let short = length-name_if_long property.0 in
-    let shown = name_shown property.0 in
+    let shown = shown_as_long property.0 in
     let one = third_word (codes "property") path (shown_text property.0) (value_words property.1) in
     let rest = properties_long path later in
     omega (arith, names, lines, short, shown, one, rest)
@@ -117,7 +107,7 @@ own_long path own =
     omega (arith, lines, parts, own_ones)
 
 -- and with those of all nodes below it.
-abbrev properties_by_node : Nodes DescribedNode → Nodes PropertyMap
+abbrev pub properties_by_node : Nodes DescribedNode → Nodes PropertyMap
 properties_by_node nodes = with_each (λ (own : DescribedNode). own.properties) nodes
 
 nodes_long : (above : List (List ℕ)) (nodes : Nodes DescribedNode) →
@@ -171,7 +161,7 @@ other_properties (node name own children later) payloads new =
     where_images false is = rw is (plain_properties children)
 
 -- and all children of the root.
-properties_shown : (IsOwn : PropertyMap → Type 0) (nodes images : Nodes PropertyMap) (payloads : List (Option (List ℕ))) →
+pub properties_shown : (IsOwn : PropertyMap → Type 0) (nodes images : Nodes PropertyMap) (payloads : List (Option (List ℕ))) →
     AreNodes IsOwn nodes → children_of images_name nodes ≡ Some images → AllZip IsApart (each_own images) payloads →
     properties_by_node (described_nodes nodes payloads) ≡ nodes
 properties_shown IsOwn none images payloads are has apart = refl
@@ -208,7 +198,7 @@ tree_long tree is =
     omega (arith, same, lines, names, one, two)
 
 -- and so is the description.
-long_names_described : (tree : ImageTree) → IsImageTree tree →
+pub long_names_described : (tree : ImageTree) → IsImageTree tree →
     long_bytes (names_of_nodes (as_nodes tree.root)) ≤ length (description (OfFit tree))
 long_names_described tree is =
     let kind : Words = codes "kind" ∷ codes "fit" ∷ [] in
@@ -221,15 +211,3 @@ long_names_described tree is =
     ∙ length-append (flat_map line reservations) (flat_map line (tree_lines tree)) in
     let long = tree_long tree is in
     omega (arith, first, second, both, long)
-
--- An image with different long names that are together longer than the limit is too long to describe.
-pub refused_names : (limits : Limits) (content : FitModel) (limit : ℕ) (e : Error) → IsHeld content → limit ≡ limits.file →
-    IsFaultOrNoMemory (λ fault. (fault ≡ too_large limit) × HasLongerNames limit (root_of content.blob)) e
-    → IsImageError limits (OfFit (tree_of content)) e
-refused_names limits content limit (error.Refused fault) held is (is_fault, (names, distinct, are, longer)) =
-    let of_file = long_names_of_tree content names distinct are in
-    let described = long_names_described (tree_of content) (is_image_tree content.blob.file (tree_of content) (held_means content held)) in
-    (inr (omega (arith, is, longer, of_file, described)), is_fault ∙ ap too_large is)
-refused_names limits content limit error.OutOfMemory held is failed = tt
-refused_names limits content limit error.ReadFailed held is failed = absurd failed
-refused_names limits content limit error.WriteFailed held is failed = absurd failed

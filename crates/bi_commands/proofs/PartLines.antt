@@ -3,7 +3,8 @@ use Rattle.bi_base.specs.Cells.{up4}
 use Rattle.bi_legacy.specs.Meaning.{LegacyImage}
 use Rattle.bi_legacy.specs.Parts.{parts_start}
 use Rattle.bi_legacy.specs.PlacedParts.{PartModel, placed_parts_from, placed_parts}
-use Rattle.bi_commands.specs.Listing.{part_line, part_lines}
+use Rattle.bi_commands.specs.declared.format.Format.{Format}
+use Rattle.bi_commands.specs.ReadListing.{part_text, part_texts}
 use Rattle.std.specs.Fmt.{decimal}
 use Rattle.bi_commands.specs.Shown.{line}
 
@@ -17,14 +18,14 @@ length-placed_parts_from at (part ∷ parts) = ap suc (length-placed_parts_from 
 pub length-placed_parts : (image : LegacyImage) → length (placed_parts image) ≡ length image.parts
 length-placed_parts image = length-placed_parts_from (parts_start image.image_type image.parts) image.parts
 
--- The lines from a part on are its line and those of the later parts.
-pub lines_from_part : (count next index : ℕ) (source left : List PartModel) (part : PartModel) → source ≡ part ∷ left → index ≡ count →
-    next ≡ count + 1 →
-    part_line index part ++ part_lines next left ≡ part_lines count source
-lines_from_part count next index source left part first same more =
-    ap (λ n. part_line n part ++ part_lines next left) same
-    ∙ ap (λ n. part_line count part ++ part_lines n left) more
-    ∙ ap (part_lines count) (sym first)
+-- The texts from a part on are its text and those of the later parts.
+pub texts_from_part : (format : Format) (count next index : ℕ) (source left : List PartModel) (part : PartModel) → source ≡ part ∷ left →
+    index ≡ count → next ≡ count + 1 →
+    part_texts format count source ≡ part_text format index part ∷ part_texts format next left
+texts_from_part format count next index source left part first same more =
+    ap (part_texts format count) first
+    ∙ ap (λ (n : ℕ). part_text format count part ∷ part_texts format n left) (sym more)
+    ∙ ap (λ (n : ℕ). part_text format n part ∷ part_texts format next left) (sym same)
 
 -- The line of a part, in pieces of a text and a number.
 pub part_pieces : (index size place place_of_part : ℕ) → place ≡ place_of_part

@@ -13,4 +13,7 @@ pub mod CodeWords
 pub mod EachLine
 pub mod SameImages
 pub mod SameTrees
+pub mod JsonValues
+pub mod JsonNodes
+pub mod SameJson
 pub mod SameDescriptions

@@ -1,41 +1,23 @@
-use Rattle.std.proofs.Common.{◌≡◌, ℕ, ◌+◌, ◌-◌, ◌<◌, ◌≤◌, List, [], ◌∷◌, ◌++◌, Option, Some, codes, flat_map, drop, get_or, take, length}
+use Rattle.std.proofs.Common.{◌≡◌, ℕ, ◌-◌, ◌<◌, ◌≤◌, List, [], ◌∷◌, ◌++◌, codes, take, length}
 use Rattle.std.proofs.Common.{map, refl, sym, ap, ◌∙◌, arith, append_assoc, append-nil, length-append}
 use Rattle.std.specs.FinMap.{entries}
-use Rattle.std.specs.List.{slice_get}
-use Rattle.std.proofs.lemmas.List.{drop_more, take-append-le}
+use Rattle.std.proofs.lemmas.List.{take-append-le}
 use Rattle.std.proofs.Math.Seq.{take-length}
-use Rattle.bi_blob.specs.Blob.{Reservation, end_pair}
 use Rattle.bi_blob.specs.Tree.{Nodes, none, node, Property}
 use Rattle.bi_base.specs.Limits.{Limits}
-use Rattle.bi_fdt.specs.Content.{Blob}
 use Rattle.bi_fit.specs.NormalNodes.{payloads_of}
 use Rattle.bi_fit.specs.declared.image.Image.{Image}
 use Rattle.bi_fit.specs.Content.{FitModel, ImageModel, image_model, tree_of}
 use Rattle.bi_fit.specs.ImageTree.{ImageTree}
 use Rattle.bi_norm.specs.Meaning.{OfFit}
-use Rattle.bi_commands.specs.declared.describe.entries.Entry.{Entry}
 use Rattle.bi_commands.specs.Descriptions.{Words, DescribedNode, NodePayload, NotAnImage, OfImage, described_nodes, node_lines, path}
-use Rattle.bi_commands.specs.Descriptions.{payload_words, property_words, reservation_words, tree_lines, description}
+use Rattle.bi_commands.specs.Descriptions.{payload_words, property_words, tree_lines}
 use Rattle.bi_commands.specs.PayloadBounds.{IsOverPayloadBound, payloads_length}
-use Rattle.bi_commands.specs.ReadDescription.{head_lines, read_lines, root_lines}
-use Rattle.bi_commands.specs.Shown.{line}
+use Rattle.bi_commands.specs.ReadDescription.{root_lines}
 use Rattle.bi_commands.specs.TreeEntries.{EntryModel, NodeEnds, PropertyEntry, entry_lines, node_entries, own_entries, payload_entries}
-use Rattle.bi_commands.specs.TreeEntries.{tree_entries, as_entry}
-use Rattle.bi_commands.proofs.FitLines.{numbers_of, reservation_found, reservation_of}
+use Rattle.bi_commands.specs.TreeEntries.{tree_entries}
 
--- The lines of a flattened image tree are those of its entries, and the text that is written of them is the description of the tree.
-
--- The text from the reservation at an index on is its line and those after it.
-pub reservation_lines_from : (reservations : List Reservation) (index : ℕ) (found : Option (ℕ × ℕ)) (numbers : ℕ × ℕ) →
-    index < length reservations → found ≡ slice_get (map numbers_of reservations) index → found ≡ Some numbers
-    → flat_map line (map reservation_words (drop index reservations))
-    ≡ line (reservation_words (reservation_of (Some numbers))) ++ flat_map line (map reservation_words (drop (index + 1) reservations))
-reservation_lines_from reservations index found numbers within is some =
-    let same : Some numbers ≡ Some (numbers_of (get_or reservations index end_pair)) = sym some
-    ∙ reservation_found reservations index found within is in
-    ap (λ left. flat_map line (map reservation_words left)) (drop_more reservations index end_pair within)
-    ∙ ap (λ o. line (reservation_words (reservation_of o))
-    ++ flat_map line (map reservation_words (drop (index + 1) reservations))) (sym same)
+-- The lines of a flattened image tree are those of its entries.
 
 -- The lines of properties and of the entries after them.
 property_lines : (names : List (List ℕ)) (properties : List Property) (later : List EntryModel)
@@ -101,16 +83,6 @@ lines_of_tree tree =
     (property_lines [] (entries tree.root.own) (node_entries nodes)
     ∙ ap (λ lines. own ++ lines) (ap (entry_lines []) (sym (append-nil (node_entries nodes))) ∙ lines_of_nodes [] nodes []
     ∙ append-nil (node_lines [] nodes)))
-
--- The text that is written for a flattened image tree.
-pub fit_description : (content : FitModel) (blob : Blob) (made : List Entry) → blob ≡ content.blob →
-    map as_entry made ≡ tree_entries (tree_of content)
-    → flat_map line (read_lines blob (map as_entry made)) ≡ description (OfFit (tree_of content))
-fit_description content blob made is entries_are =
-    ap (λ (other : Blob). flat_map line (read_lines other (map as_entry made))) is
-    ∙ ap (λ others. flat_map line (read_lines content.blob others)) entries_are
-    ∙ ap (λ lines. flat_map line (head_lines content.blob.cpu ++ (map reservation_words content.blob.reservations ++ lines)))
-    (lines_of_tree (tree_of content))
 
 -- Payloads that are no longer than the limit are not over the payload bound.
 pub within_bound : (limits : Limits) (content : FitModel) (images : List Image) (limit : ℕ) → limit ≡ limits.file →

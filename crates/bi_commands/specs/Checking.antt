@@ -34,7 +34,7 @@ pub data Concern : Type 0 where
   -- An image with a payload, and with Good verdicts on these hash nodes alone, none of which names
   -- a strong algorithm.
   WeakHash : (image : List ℕ) → (good : List CheckedHash) → Concern
-  -- A key of a configuration whose value is no list of names.
+  -- A key of a configuration whose value is not a list of names.
   BadKey : (configuration : List ℕ) → Key → Concern
   -- A key of a configuration that lists at this index, counted from 0, a name that no image has.
   -- It is the first such name.

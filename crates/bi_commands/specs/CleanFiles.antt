@@ -45,7 +45,7 @@ IsHashed image = IsSome image.payload → HasGoodHash image
 abbrev pub IsNotWeak : Image → Type 0
 IsNotWeak image = IsSome image.payload → HasGoodHash image → HasStrongHash image
 
--- Under no key of this configuration there is a value that is no list of names.
+-- Under no key of this configuration there is a value that is not a list of names.
 abbrev pub HasNoBadList : ImageTree → (configuration : List ℕ) → Type 0
 HasNoBadList tree configuration = (key : Key) → listed_of tree configuration key ≢ BadList
 

@@ -8,9 +8,13 @@ use Rattle.bi_norm.specs.Meaning.{Meaning, OfLegacy, OfFit}
 use Rattle.bi_norm.specs.Reading.{IsBootImageReadError, NeedsMemory}
 use Rattle.bi_commands.specs.declared.compare.CompareError.{CompareError}
 use Rattle.bi_commands.specs.declared.compare.CompareError.TheVariants.{One, Other, OutOfMemory}
+use Rattle.bi_commands.specs.declared.format.Format.{Format}
+use Rattle.bi_commands.specs.declared.format.Format.TheVariants.{Lines, Json}
+use Rattle.bi_commands.specs.ComparisonJson.{comparison_object}
 use Rattle.bi_commands.specs.Descriptions.{description, description_texts}
 use Rattle.bi_commands.specs.Describing.{CanBeDescribed, IsTooLongToDescribe}
 use Rattle.bi_commands.specs.Differences.{differences}
+use Rattle.bi_commands.specs.Json.{json_line}
 
 -- Comparing what two boot images mean (profile of this project).
 
@@ -45,17 +49,24 @@ pub data IsTextOfDifferences (limits : Limits) (one other : Meaning) (text : Lis
     : (same : Bool) → Type 0
   where
     AreTheSame : text ≡ [] → IsTextOfDifferences limits one other text true
-    AreDifferent : CanBeDescribed limits one → CanBeDescribed limits other
+    AreDifferent : CanBeDescribed Lines limits one → CanBeDescribed Lines limits other
         → text ≡ comparison one other → IsTextOfDifferences limits one other text false
 
--- The text is what differs between two files, and `same` is whether they mean the same. The text is
--- empty if and only if they do.
-pub record IsComparison (limits : Limits) (one other : List ℕ) (same : Bool) (text : List ℕ)
-    : Type 0
+-- The text of a comparison, in a form. In JSON it says whether the meanings are the same, too.
+abbrev pub comparison_text : Format → (same : Bool) → (differences : List ℕ) → List ℕ
+comparison_text Lines same differences = differences
+comparison_text Json same differences = json_line (comparison_object same differences)
+
+-- The text is what differs between two files, in a form, and `same` is whether they mean the same.
+-- There are differences if and only if they do not.
+pub record IsComparison (format : Format) (limits : Limits) (one other : List ℕ) (same : Bool)
+    (text : List ℕ) : Type 0
   where
     pub compared : AreCompared limits one other same
-    pub differences : IsTextOfDifferences limits compared.meaning compared.other_meaning text same
-    pub empty : (text ≡ []) ↔ IsTrue same
+    pub lines : List ℕ
+    pub differences : IsTextOfDifferences limits compared.meaning compared.other_meaning lines same
+    pub empty : (lines ≡ []) ↔ IsTrue same
+    pub is_text : text ≡ comparison_text format same lines
 
 -- The error that reading two files can have: the fault of the first one, or else of the second one,
 -- or that memory ran out. The error names the file.
@@ -68,9 +79,10 @@ IsReadingError limits one other OutOfMemory = NeedsMemory limits one
 -- describe, or else the second one.
 abbrev pub IsDescribingError : Limits → (one other : Meaning) → CompareError → Type 0
 IsDescribingError limits one other (One fault) =
-    IsTooLongToDescribe limits one × (fault ≡ too_large limits.file)
+    IsTooLongToDescribe Lines limits one × (fault ≡ too_large limits.file)
 IsDescribingError limits one other (Other fault) =
-    CanBeDescribed limits one × IsTooLongToDescribe limits other × (fault ≡ too_large limits.file)
+    CanBeDescribed Lines limits one × IsTooLongToDescribe Lines limits other
+    × (fault ≡ too_large limits.file)
 IsDescribingError limits one other OutOfMemory = ⊥
 
 -- The error that describing two files can have, which do not mean the same.

@@ -1,23 +1,17 @@
-use Rattle.std.specs.Prelude.{◌≡◌, ◌⊎◌, ◌<◌, ◌≤◌, ℕ, List, [], ◌∷◌, ◌++◌, Option, None, Some}
-use Rattle.std.specs.Prelude.{length, map, codes, if◌then◌else◌}
+use Rattle.std.specs.Prelude.{ℕ, List, [], ◌∷◌, ◌++◌, Option, None, Some, map, codes}
+use Rattle.std.specs.Prelude.{if◌then◌else◌}
 use Rattle.std.specs.FinMap.{entries}
-use Rattle.bi_base.specs.Limits.{Limits}
-use Rattle.bi_base.specs.declared.fault.Error.{Error}
 use Rattle.bi_blob.specs.Tree.{Nodes, none, node, Property}
 use Rattle.bi_fit.specs.ImageTree.{ImageTree}
 use Rattle.bi_fit.specs.Judgement.{listed_names}
 use Rattle.bi_legacy.specs.Meaning.{LegacyImage}
-use Rattle.bi_norm.specs.Comparing.{MeansOnly}
-use Rattle.bi_norm.specs.Meaning.{Meaning, OfLegacy, OfFit, Means}
-use Rattle.bi_norm.specs.Reading.{IsReadErrorOrTooLarge}
-use Rattle.bi_commands.specs.DescriptionLaws.{AreSimilar}
+use Rattle.bi_norm.specs.Meaning.{Meaning, OfLegacy, OfFit}
 use Rattle.bi_commands.specs.Descriptions.{PayloadDigest, digest_of_payload, NodePayload}
 use Rattle.bi_commands.specs.Descriptions.{NotAnImage, OfImage, DescribedNode, plain_node}
 use Rattle.bi_commands.specs.Descriptions.{described_nodes}
 use Rattle.bi_commands.specs.Json.{JsonText, Member, json_string, json_number, json_null}
 use Rattle.bi_commands.specs.Json.{json_array, json_object, json_line}
 use Rattle.bi_commands.specs.ListingJson.{header_members, name_member, reservations_member}
-use Rattle.bi_commands.specs.PayloadBounds.{IsOverPayloadBound}
 use Rattle.bi_commands.specs.ValueTexts.{are_quotable_texts, hexadecimal_digits}
 
 -- The JSON that `describe` writes: it depends on the meaning alone (profile of this project).
@@ -100,37 +94,3 @@ meaning_object (OfFit tree) = fit_object tree
 -- The text of the description of a meaning in JSON.
 abbrev pub description_json : Meaning → List ℕ
 description_json meaning = json_line (meaning_object meaning)
-
--- A meaning can be described in JSON within limits: its payloads are within the payload bound, and
--- the text is no longer than the limit.
-pub record CanBeDescribedInJson (limits : Limits) (meaning : Meaning) : Type 0 where
-  pub payloads : ¬ (IsOverPayloadBound limits meaning)
-  pub short : length (description_json meaning) ≤ limits.file
-
--- The text is the description of the file in JSON. The file means nothing else.
-pub record IsDescriptionJson (limits : Limits) (file text : List ℕ) : Type 0 where
-  pub meaning : Meaning
-  pub means : MeansOnly limits file meaning
-  pub within : CanBeDescribedInJson limits meaning
-  pub is_text : text ≡ description_json meaning
-
--- The file means something whose payloads are over the payload bound, or whose description in JSON
--- is longer than the limit.
-pub record MeansTooMuchForJson (limits : Limits) (file : List ℕ) : Type 0 where
-  pub meaning : Meaning
-  pub means : Means limits file meaning
-  pub is_too_long : IsOverPayloadBound limits meaning
-      ⊎ (limits.file < length (description_json meaning))
-
--- The error that describing a file in JSON can have: one of reading it, or TooLarge at the limit.
-abbrev pub IsDescribeJsonError : Limits → List ℕ → Error → Type 0
-IsDescribeJsonError limits file =
-    IsReadErrorOrTooLarge limits file (MeansTooMuchForJson limits file)
-
--- Files with one description in JSON have meanings that are the same once each payload is replaced
--- by its length and its SHA-256, whatever the limits.
-abbrev pub SameJsonIsSimilar : Type 0
-SameJsonIsSimilar =
-    (limits other_limits : Limits) (file other_file : List ℕ) (one other : Meaning)
-    → Means limits file one → Means other_limits other_file other
-    → description_json one ≡ description_json other → AreSimilar one other

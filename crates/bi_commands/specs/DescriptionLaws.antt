@@ -3,7 +3,9 @@ use Rattle.bi_base.specs.Limits.{Limits}
 use Rattle.bi_fit.specs.ImageTree.{ImageTree}
 use Rattle.bi_legacy.specs.Meaning.{LegacyImage}
 use Rattle.bi_norm.specs.Meaning.{Meaning, OfLegacy, OfFit, Means}
-use Rattle.bi_commands.specs.Descriptions.{description, digest_of_payload}
+use Rattle.bi_commands.specs.declared.format.Format.{Format}
+use Rattle.bi_commands.specs.Describing.{description_text}
+use Rattle.bi_commands.specs.Descriptions.{digest_of_payload}
 
 -- What a description shows: all of a meaning but the bytes of its payloads, of which it shows the
 -- lengths and the SHA-256 (profile of this project). The law is for meanings that some file has,
@@ -36,10 +38,10 @@ AreSimilar (OfLegacy one) (OfLegacy other) = AreSimilarImages one other
 AreSimilar (OfFit one) (OfFit other) = AreSimilarTrees one other
 AreSimilar one other = ⊥
 
--- Files with one description have meanings that are the same once each payload is replaced by its
--- length and its SHA-256, whatever the limits.
+-- Files with one description, in one form, have meanings that are the same once each payload is
+-- replaced by its length and its SHA-256, whatever the limits.
 abbrev pub SameDescriptionIsSimilar : Type 0
 SameDescriptionIsSimilar =
-    (limits other_limits : Limits) (file other_file : List ℕ) (one other : Meaning)
-    → Means limits file one → Means other_limits other_file other
-    → description one ≡ description other → AreSimilar one other
+    (format : Format) (limits other_limits : Limits) (file other_file : List ℕ)
+    (one other : Meaning) → Means limits file one → Means other_limits other_file other
+    → description_text format one ≡ description_text format other → AreSimilar one other

@@ -7,6 +7,7 @@ use Rattle.bi_hash.specs.declared.algo.Algo.TheVariants.{Sha256}
 use Rattle.bi_hash.specs.Digests.{digest_of}
 use Rattle.bi_legacy.specs.KnownImages.{firmware_image}
 use Rattle.bi_norm.specs.Meaning.{OfLegacy, OfFit}
+use Rattle.bi_commands.specs.DescriptionJson.{description_json}
 use Rattle.bi_commands.specs.Descriptions.{description, description_texts}
 use Rattle.bi_commands.specs.KnownTexts.{lines}
 use Rattle.bi_commands.specs.ValueTexts.{value_words, hexadecimal_digits}
@@ -99,7 +100,9 @@ sha256_digits payload = hexadecimal_digits (digest_of Sha256 payload)
 
 -- The descriptions of a multi-file image without parts, and of the tree with a property of each
 -- form; and the lines of the descriptions of an image with two parts, whose load address is not
--- its entry point, and of the tree with three images.
+-- its entry point, and of the tree with three images. Then descriptions in JSON: of a multi-file
+-- image without parts, of the tree with a property of each form, and of the other tree without
+-- payloads.
 pub record DescriptionsAreKnown : Type 0 where
   pub no_parts : description (OfLegacy (record firmware_image { image_type = 4; parts = [] }))
       ≡ lines
@@ -173,3 +176,35 @@ pub record DescriptionsAreKnown : Type 0 where
       ∷ codes "payload /images/c none"
       ∷ codes "node /last"
       ∷ []
+  pub no_parts_json : description_json
+      (OfLegacy (record firmware_image { os = 200; image_type = 4; parts = [] }))
+      ≡ codes "{\"kind\":\"legacy\",\"name\":\"firmware\",\"time\":1,\"load\":32768,"
+      ++ (codes "\"entry\":32832,\"os\":200,\"arch\":\"arm\",\"type\":\"multi\","
+      ++ codes "\"compression\":\"gzip\",\"parts\":[]}\n")
+  pub properties_json : description_json (OfFit described_tree)
+      ≡ codes "{\"kind\":\"fit\",\"boot_cpu\":1,\"reservations\":["
+      ++ (codes "{\"address\":\"0x0000000000001000\",\"size\":\"0x0000000000000020\"}],"
+      ++ (codes "\"root\":{\"properties\":[{\"name\":\"a\",\"strings\":["
+      ++ (codes "\"say \\\"hi\\\" in C:\\\\\"]},{\"name\":\"b\",\"hex\":\"\"},"
+      ++ (codes "{\"name\":\"c\",\"hex\":\"00\"},{\"name\":\"d\",\"strings\":[\"x\","
+      ++ (codes "\"y z\"]},{\"name\":\"e\",\"hex\":\"780a00\"},{\"name\":\"f\","
+      ++ (codes "\"hex\":\"78\"},{\"name\":\"g\",\"hex\":\"780000\"},"
+      ++ (codes "{\"name\":\"p%20q/r\",\"hex\":\"00000001\"}],\"children\":["
+      ++ (codes "{\"name\":\"images\",\"properties\":[],\"children\":[]},"
+      ++ codes "{\"name\":\"%2D\",\"properties\":[],\"children\":[]}]}}\n"))))))))
+  pub images_json : description_json
+      (OfFit (record images_tree { payloads = None ∷ None ∷ None ∷ [] }))
+      ≡ codes "{\"kind\":\"fit\",\"boot_cpu\":0,\"reservations\":[],"
+      ++ (codes "\"root\":{\"properties\":[],\"children\":[{\"name\":\"other\","
+      ++ (codes "\"properties\":[],\"children\":[{\"name\":\"images\",\"properties\":["
+      ++ (codes "],\"children\":[{\"name\":\"n\",\"properties\":[{\"name\":\"data\","
+      ++ (codes "\"hex\":\"71\"}],\"children\":[]}]}]},{\"name\":\"images\","
+      ++ (codes "\"properties\":[],\"children\":[{\"name\":\"a\",\"payload\":null,"
+      ++ (codes "\"properties\":[{\"name\":\"load\",\"hex\":\"00008000\"},"
+      ++ (codes "{\"name\":\"os\",\"strings\":[\"linux\"]}],\"children\":["
+      ++ (codes "{\"name\":\"hash-1\",\"properties\":[{\"name\":\"algo\",\"strings\":["
+      ++ (codes "\"sha256\"]}],\"children\":[{\"name\":\"x\",\"properties\":[],"
+      ++ (codes "\"children\":[]}]}]},{\"name\":\"b\",\"payload\":null,\"properties\":["
+      ++ (codes "],\"children\":[]},{\"name\":\"c\",\"payload\":null,\"properties\":[],"
+      ++ (codes "\"children\":[]}]},{\"name\":\"last\",\"properties\":[],\"children\":["
+      ++ codes "]}]}}\n"))))))))))))

@@ -31,6 +31,7 @@ pub mod KnownRefusals
 pub mod KnownTexts
 pub mod KnownUpdates
 pub mod TreeEntries
+pub mod EntryJson
 pub mod UpdatedFileLaws
 pub mod UpdatedFiles
 pub mod ValueTexts
@@ -51,3 +52,7 @@ pub mod Formats
 pub mod JsonValues
 pub mod VerifiedFiles
 pub mod ListedFiles
+pub mod Offsets
+pub mod Scanning
+pub mod ScanLaws
+pub mod KnownScans

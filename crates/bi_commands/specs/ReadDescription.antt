@@ -1,5 +1,6 @@
-use Rattle.std.specs.Prelude.{◌≡◌, ⊤, ℕ, List, [], ◌∷◌, ◌++◌, codes, map}
+use Rattle.std.specs.Prelude.{◌≡◌, ⊤, ℕ, List, [], ◌∷◌, ◌++◌, codes, false, flat_map, map}
 use Rattle.std.specs.Fmt.{decimal}
+use Rattle.std.specs.List.{join_with_byte}
 use Rattle.bi_base.specs.Limits.{Limits}
 use Rattle.bi_fdt.specs.Content.{Blob}
 use Rattle.bi_fit.specs.Content.{IsHeld}
@@ -7,12 +8,21 @@ use Rattle.bi_legacy.specs.Meaning.{LegacyImage}
 use Rattle.bi_norm.specs.declared.image.BootImage.{BootImage}
 use Rattle.bi_norm.specs.declared.image.BootImage.TheVariants.{Legacy, Fit}
 use Rattle.bi_norm.specs.Meaning.{Meaning}
-use Rattle.bi_commands.specs.Descriptions.{Words, PayloadDigest, description}
+use Rattle.bi_commands.specs.declared.describe.json.NodePart.TheVariants.{Head}
+use Rattle.bi_commands.specs.declared.format.Format.{Format}
+use Rattle.bi_commands.specs.declared.format.Format.TheVariants.{Lines, Json}
+use Rattle.bi_commands.specs.DescriptionJson.{digest_object}
+use Rattle.bi_commands.specs.Descriptions.{Words, PayloadDigest}
 use Rattle.bi_commands.specs.Descriptions.{reservation_words, field_words, code_words, part_words}
-use Rattle.bi_commands.specs.Describing.{CanBeDescribed}
+use Rattle.bi_commands.specs.Describing.{CanBeDescribed, description_text}
+use Rattle.bi_commands.specs.EntryJson.{entries_json}
+use Rattle.bi_commands.specs.Formats.{in_turn}
+use Rattle.bi_commands.specs.Json.{JsonText, Member, json_number, json_string, member_text}
+use Rattle.bi_commands.specs.ListingJson.{header_members, reservation_object}
+use Rattle.bi_commands.specs.Shown.{line}
 use Rattle.bi_commands.specs.TreeEntries.{EntryModel, entry_lines}
 
--- The description of a boot image, by what reading it returned.
+-- The description of a boot image, in a form, by what reading it returned.
 
 -- The first two lines of a flattened image tree.
 abbrev pub head_lines : (cpu : ℕ) → List Words
@@ -34,10 +44,47 @@ read_legacy_lines image parts =
     ((codes "kind" ∷ codes "legacy" ∷ []) ∷ field_words image)
     ++ (code_words image ++ part_words 0 parts)
 
--- The text is the description of a meaning, which is described within these limits.
-pub record IsDescriptionOf (limits : Limits) (meaning : Meaning) (text : List ℕ) : Type 0 where
-  pub within : CanBeDescribed limits meaning
-  pub is_text : text ≡ description meaning
+-- The members of a flattened image tree before its memory reservations.
+abbrev pub processor_members : (cpu : ℕ) → List Member
+processor_members cpu =
+    (codes "kind", json_string (codes "fit")) ∷ (codes "boot_cpu", json_number cpu) ∷ []
+
+-- What comes before the members of the root.
+abbrev pub before_root : Blob → List ℕ
+before_root blob =
+    123 ∷ (join_with_byte 44 (map member_text (processor_members blob.cpu))
+    ++ (codes ",\"reservations\":["
+    ++ (in_turn Json false (map reservation_object blob.reservations)
+    ++ codes "],\"root\":{")))
+
+-- A flattened image tree and a newline.
+abbrev pub read_json : Blob → List EntryModel → JsonText
+read_json blob entries = before_root blob ++ (entries_json Head entries ++ codes "}\n")
+
+-- A legacy image and a newline.
+abbrev pub read_legacy_json : LegacyImage → List PayloadDigest → JsonText
+read_legacy_json image parts =
+    123 ∷ (join_with_byte 44 (map member_text (header_members image))
+    ++ (codes ",\"parts\":["
+    ++ (in_turn Json false (map digest_object parts)
+    ++ codes "]}\n")))
+
+-- The description of a flattened image tree whose blob is this, and whose tree has these entries.
+abbrev pub read_text : Format → Blob → List EntryModel → List ℕ
+read_text Lines blob entries = flat_map line (read_lines blob entries)
+read_text Json blob entries = read_json blob entries
+
+-- The description of a legacy image with these fields, and parts of these digests.
+abbrev pub read_legacy_text : Format → LegacyImage → List PayloadDigest → List ℕ
+read_legacy_text Lines image parts = flat_map line (read_legacy_lines image parts)
+read_legacy_text Json image parts = read_legacy_json image parts
+
+-- The text is the description of a meaning, in a form, which is described within these limits.
+pub record IsDescriptionOf (format : Format) (limits : Limits) (meaning : Meaning) (text : List ℕ)
+    : Type 0
+  where
+    pub within : CanBeDescribed format limits meaning
+    pub is_text : text ≡ description_text format meaning
 
 -- A boot image that was read. The images of a flattened image tree are those of its blob.
 abbrev pub IsHeldImage : BootImage → Type 0

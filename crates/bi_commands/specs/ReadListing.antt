@@ -1,25 +1,24 @@
-use Rattle.std.specs.Prelude.{ℕ, ◌+◌, List, [], ◌∷◌, ◌++◌, Option, Some, None, length, flat_map, map}
-use Rattle.std.specs.Prelude.{codes, false}
+use Rattle.std.specs.Prelude.{ℕ, ◌+◌, List, [], ◌∷◌, ◌++◌, Option, Some, None, length, flat_map}
+use Rattle.std.specs.Prelude.{codes, false, map}
 use Rattle.std.specs.Fmt.{decimal}
 use Rattle.std.specs.List.{join_with_byte}
 use Rattle.std.specs.Option.{option_map}
 use Rattle.bi_blob.specs.Blob.{Reservation}
 use Rattle.bi_blob.specs.Lookups.{Sibling, siblings}
-use Rattle.bi_blob.specs.Tree.{FileNode, names}
+use Rattle.bi_blob.specs.Tree.{FileNode}
 use Rattle.bi_fdt.specs.Content.{Blob}
 use Rattle.bi_fit.specs.declared.image.Place.{Place}
 use Rattle.bi_fit.specs.declared.image.Place.TheVariants.{Data, DataOffset, DataPosition}
 use Rattle.bi_fit.specs.Content.{FitModel, ImageModel, index_of, tree_of}
 use Rattle.bi_fit.specs.declared.key.Key.{Key}
-use Rattle.bi_fit.specs.Judgement.{configuration_nodes, default_of}
+use Rattle.bi_fit.specs.Judgement.{default_of}
 use Rattle.bi_fit.specs.Judgement.{ListResult, NoConfig, NoKey, BadList, Missing, ListedImages}
 use Rattle.bi_legacy.specs.PlacedParts.{PartModel}
 use Rattle.bi_fit.specs.Names.{all_keys, data_name, data_offset_name, data_position_name}
 use Rattle.bi_fit.specs.HashNodes.{file_configurations, file_listed}
 use Rattle.bi_commands.specs.declared.format.Format.{Format}
 use Rattle.bi_commands.specs.declared.format.Format.TheVariants.{Lines, Json}
-use Rattle.bi_commands.specs.FitListing.{reservation_line, configuration_lines, default_line}
-use Rattle.bi_commands.specs.FitListing.{key_line}
+use Rattle.bi_commands.specs.FitListing.{default_line, key_line, reservation_line}
 use Rattle.bi_commands.specs.Formats.{in_turn}
 use Rattle.bi_commands.specs.Json.{JsonText, Member, json_array, json_null, json_number}
 use Rattle.bi_commands.specs.Json.{json_object, json_string, member_text, string_or_null}
@@ -82,22 +81,6 @@ abbrev pub first_missing : List ImageModel → (index : ℕ) → List (List ℕ)
 first_missing images index [] = None
 first_missing images index (name ∷ later) =
     missing_from index (index_of name images) (first_missing images (index + 1) later)
-
--- The lines of the configurations.
-abbrev pub configurations_lines : FitModel → List ℕ
-configurations_lines content =
-    flat_map (configuration_lines (tree_of content)) (names (configuration_nodes (tree_of content)))
-
--- The listing.
-abbrev pub read_listing : FitModel → List ℕ
-read_listing content =
-    line (codes "kind" ∷ codes "fit" ∷ [])
-    ++ (line (codes "boot-cpu" ∷ decimal content.blob.cpu ∷ [])
-    ++ (line (codes "total-size" ∷ decimal content.blob.total_size ∷ [])
-    ++ (flat_map reservation_line content.blob.reservations
-    ++ (flat_map read_image_line content.images
-    ++ (configurations_lines content
-    ++ default_line (default_of (tree_of content)))))))
 
 -- ---- in any form
 
@@ -168,6 +151,11 @@ abbrev pub part_texts : Format → (index : ℕ) → List PartModel → List (Li
 part_texts format index [] = []
 part_texts format index (placed ∷ later) =
     part_text format index placed ∷ part_texts format (index + 1) later
+
+-- What comes before the parts of a legacy image, of which there are `count`.
+abbrev pub before_parts : Format → (count : ℕ) → List ℕ
+before_parts Lines count = line (codes "parts" ∷ decimal count ∷ [])
+before_parts Json count = codes ",\"parts\":["
 
 -- A text that only JSON has.
 abbrev pub json_only : Format → List ℕ → List ℕ

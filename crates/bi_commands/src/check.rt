@@ -13,7 +13,7 @@ mod concern_json;
 mod configurations;
 mod fit;
 mod images;
-mod trailing;
+pub(crate) mod trailing;
 
 use crate::format::Format;
 use bi_base::{Command, Error, Limits, Sink, VecSink, pipe_to};
@@ -33,7 +33,7 @@ pub enum ConcernKind {
     /// An image with a payload has Good verdicts, and none of them is of SHA-256, SHA-384 or
     /// SHA-512.
     WeakHash,
-    /// The value of a key of a configuration is no list of names.
+    /// The value of a key of a configuration is not a list of names.
     BadList,
     /// A configuration lists a name that no image has.
     Missing,
@@ -158,7 +158,9 @@ fn check_as(alloc: Global, file: &[u8], checker: Checker, limits: Limits) -> Res
 /// Appends the text of the concerns about a boot image that are not allowed, piece by piece, and
 /// returns whether there are none. Each refusal and each allocation comes before the first byte,
 /// and no memory is taken for the text.
-fn check_into<S: Sink>(
+///
+/// The errors are those of `check`, and those of the sink.
+pub fn check_into<S: Sink>(
     alloc: Global,
     file: &[u8],
     checker: Checker,

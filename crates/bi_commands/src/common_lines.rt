@@ -88,8 +88,14 @@ pub(crate) fn put_header_members<S: Sink>(fields: Fields, sink: &mut S) -> Resul
         ("entry", JsonValue::Number(u64::from(fields.entry))),
         ("os", code_json(os_name(fields.os), fields.os)),
         ("arch", code_json(arch_name(fields.arch), fields.arch)),
-        ("type", code_json(type_name(fields.image_type), fields.image_type)),
-        ("compression", code_json(compression_name(fields.compression), fields.compression)),
+        (
+            "type",
+            code_json(type_name(fields.image_type), fields.image_type),
+        ),
+        (
+            "compression",
+            code_json(compression_name(fields.compression), fields.compression),
+        ),
     ];
     put_members(&members, sink)
 }

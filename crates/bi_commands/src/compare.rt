@@ -1,6 +1,7 @@
 //! Comparing what two boot images mean: whether it is the same, and what differs.
 
 mod differences;
+mod json;
 mod texts;
 
 ghost use Rattle.std.specs.Prelude.{◌≡◌, ◌↔◌, ◌⊎◌, IsTrue, List, ℕ, IfOk, OnOk, IfErr};
@@ -9,6 +10,7 @@ ghost use Rattle.bi_base.specs.Limits.{Limits};
 ghost use Rattle.bi_norm.specs.Comparing.{AreCompared};
 ghost use Rattle.bi_norm.specs.Meaning.{Meaning, Means};
 ghost use Rattle.bi_norm.specs.Reading.{IsBootImageReadError, meaning_of, IsReadBootImage};
+ghost use Rattle.bi_commands.specs.declared.format.Format.TheVariants.{Lines, Json};
 ghost use Rattle.bi_commands.specs.Comparing.{IsComparison, IsComparisonError};
 ghost use Rattle.bi_commands.specs.Comparing.{IsReadingError, IsDescribingError, comparison};
 ghost use Rattle.bi_commands.specs.Descriptions.{description};
@@ -16,8 +18,10 @@ ghost use Rattle.bi_commands.specs.Describing.{CanBeDescribed};
 ghost use Rattle.bi_commands.specs.ReadDescription.{IsHeldImage};
 
 use crate::describe::describe_image;
+use crate::format::Format;
 use bi_base::{Error, Fault, Limits};
 use bi_norm::BootImage;
+use json::comparison_json;
 use std::alloc::{AllocError, Global};
 use texts::compare_texts;
 
@@ -40,7 +44,8 @@ pub enum CompareError {
 pub struct Comparison {
     /// Whether both mean the same.
     pub same: bool,
-    /// The differences of their descriptions. Empty if and only if both mean the same.
+    /// The differences of their descriptions: empty if and only if both mean the same. Of
+    /// `compare_json`, the text of JSON.
     pub differences: String,
 }
 
@@ -78,7 +83,7 @@ pub fn compare(
     other: &[u8],
     limits: Limits,
 ) -> Result<Comparison, CompareError>
-    ensures compared { IfOk result (λ comparison. IsComparison limits one.now other.now
+    ensures compared { IfOk result (λ comparison. IsComparison Lines limits one.now other.now
         comparison.same (string_bytes comparison.differences)) }
     ensures failed { IfErr result (IsComparisonError limits one.now other.now) }
 {
@@ -95,6 +100,27 @@ pub fn compare(
     Ok(Comparison {
         same: false,
         differences: compare_images(alloc, &image, &other_image, &text, &other_text)?,
+    })
+}
+
+/// Returns whether two boot images mean the same, and what differs between them, as one text of
+/// JSON and a newline. It says what the lines of `compare` say, and the errors are those of
+/// `compare`.
+pub fn compare_json(
+    alloc: Global,
+    one: &[u8],
+    other: &[u8],
+    limits: Limits,
+) -> Result<Comparison, CompareError>
+    ensures compared { IfOk result (λ comparison. IsComparison Json limits one.now other.now
+        comparison.same (string_bytes comparison.differences)) }
+    ensures failed { IfErr result (IsComparisonError limits one.now other.now) }
+{
+    let comparison = compare(alloc, one, other, limits)?;
+    let same = comparison.same;
+    Ok(Comparison {
+        same,
+        differences: comparison_json(alloc, same, &comparison.differences)?,
     })
 }
 
@@ -166,13 +192,13 @@ fn describe_one(
     limits: Limits,
 ) -> Result<String, CompareError>
     requires held { IsHeldImage image.now }
-    ensures within { OnOk result (CanBeDescribed limits (meaning_of image.now)) }
+    ensures within { OnOk result (CanBeDescribed Lines limits (meaning_of image.now)) }
     ensures described { IfOk result (λ text. string_bytes text
         ≡ description (meaning_of image.now)) }
     ensures failed { IfErr result (λ error. (error ≡ CompareError.OutOfMemory)
         ⊎ ((other : Meaning) → IsDescribingError limits (meaning_of image.now) other error)) }
 {
-    match describe_image(alloc, image, limits) {
+    match describe_image(alloc, image, limits, Format::Lines) {
         Ok(text) => Ok(text),
         Err(Error::Refused(fault)) => Err(CompareError::One(fault)),
         Err(_) => Err(CompareError::OutOfMemory),
@@ -186,14 +212,14 @@ fn describe_other(
     limits: Limits,
 ) -> Result<String, CompareError>
     requires held { IsHeldImage image.now }
-    ensures within { OnOk result (CanBeDescribed limits (meaning_of image.now)) }
+    ensures within { OnOk result (CanBeDescribed Lines limits (meaning_of image.now)) }
     ensures described { IfOk result (λ text. string_bytes text
         ≡ description (meaning_of image.now)) }
     ensures failed { IfErr result (λ error. (error ≡ CompareError.OutOfMemory)
-        ⊎ ((one : Meaning) → CanBeDescribed limits one
+        ⊎ ((one : Meaning) → CanBeDescribed Lines limits one
         → IsDescribingError limits one (meaning_of image.now) error)) }
 {
-    match describe_image(alloc, image, limits) {
+    match describe_image(alloc, image, limits, Format::Lines) {
         Ok(text) => Ok(text),
         Err(Error::Refused(fault)) => Err(CompareError::Other(fault)),
         Err(_) => Err(CompareError::OutOfMemory),

@@ -18,6 +18,7 @@ mod values;
 use crate::shown::is_plain;
 use bi_base::{Error, Sink};
 use itoa::Buffer;
+pub(crate) use values::are_quotable_texts;
 use values::put_value;
 
 /// A field of a line: a word, or the words for a value.

@@ -7,6 +7,7 @@ ghost use Rattle.bi_commands.specs.KnownConcerns.{TrailingBytesAreKnown, LegacyC
 ghost use Rattle.bi_commands.specs.KnownConcerns.{AllowedKindsAreKnown};
 ghost use Rattle.bi_commands.specs.KnownDescriptions.{ValuesAreShown, DescriptionsAreKnown};
 ghost use Rattle.bi_commands.specs.KnownDifferences.{DifferencesAreKnown, ComparisonsAreKnown};
+ghost use Rattle.bi_commands.specs.KnownScans.{ClaimsAreKnown, OffsetsAreKnown, ScansAreKnown};
 ghost use Rattle.bi_commands.specs.KnownTexts.{NamesAreShown, ChoicesAreKnown, ReportsAreKnown};
 ghost use Rattle.bi_commands.specs.KnownTexts.{LegacyListingsAreKnown, FitListingIsKnown};
 ghost use Rattle.bi_commands.specs.KnownTexts.{EachSourceIsListed, ConfigurationLinesAreKnown};
@@ -100,4 +101,20 @@ pub fn descriptions_are_known()
 /// What differs between small boot images are known texts.
 pub fn comparisons_are_known()
     ensures { ComparisonsAreKnown }
+{}
+
+/// Small images have known claims: those that are whole, and those whose header fails a check.
+pub fn claims_are_known()
+    ensures { ClaimsAreKnown }
+{}
+
+/// The scans of small files are known texts, and the files are refused within lower limits.
+pub fn scans_are_known()
+    ensures { ScansAreKnown }
+{}
+
+/// The images at offsets of a small file are known: the one that begins there, or an empty one
+/// after the end.
+pub fn offsets_are_known()
+    ensures { OffsetsAreKnown }
 {}

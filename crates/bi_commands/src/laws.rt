@@ -4,10 +4,12 @@
 ghost use Rattle.bi_commands.specs.CleanFiles.{EmptyIsClean};
 ghost use Rattle.bi_commands.specs.DescriptionLaws.{SameDescriptionIsSimilar};
 ghost use Rattle.bi_commands.specs.Parts.{LengthsAreCut};
+ghost use Rattle.bi_commands.specs.ScanLaws.{EachImageHasItsLine, LinesAreFew, OneScan};
+ghost use Rattle.bi_commands.specs.ScanLaws.{ScanHasNoFault, ScannedImagesAreWhole};
 ghost use Rattle.bi_commands.specs.UpdatedFileLaws.{NoChangeNormalises};
 
-/// Files with one description have meanings that are the same once each payload is replaced by its
-/// length and its SHA-256.
+/// Files with one description, as lines or in JSON, have meanings that are the same once each
+/// payload is replaced by its length and its SHA-256.
 pub fn same_description_is_similar()
     ensures { SameDescriptionIsSimilar }
 {}
@@ -27,4 +29,36 @@ pub fn no_change_normalises()
 /// `bi_norm::cut` cuts the input into.
 pub fn lengths_are_cut()
     ensures { LengthsAreCut }
+{}
+
+/// A boot image that is found inside a file, cut out at its offset and with its extent, is accepted
+/// within the same limits, and means what it means inside the file.
+pub fn scanned_images_are_whole()
+    ensures { ScannedImagesAreWhole }
+{}
+
+/// A scan of a file has a line for each boot image that is accepted at an offset of the file, and
+/// no other line.
+pub fn each_image_has_its_line()
+    ensures { EachImageHasItsLine }
+{
+    bi_norm::laws::one_meaning();
+}
+
+/// A file has at most one scan within limits.
+pub fn one_scan()
+    ensures { OneScan }
+{
+    bi_norm::laws::one_meaning();
+}
+
+/// A file with a scan within limits has no fault of a scan within them.
+pub fn scan_has_no_fault()
+    ensures { ScanHasNoFault }
+{}
+
+/// A scan has at most one line for each 64 bytes of the limit: so many bytes each boot image claims
+/// at least.
+pub fn lines_are_few()
+    ensures { LinesAreFew }
 {}

@@ -2,6 +2,7 @@
 //! convert and build, over any reader and writer, and compare, over two files in memory.
 #![tactic(auto)]
 
+pub mod at_offset;
 pub mod build_fit;
 pub mod build_legacy;
 pub mod check;
@@ -23,6 +24,7 @@ pub mod list;
 mod listed;
 pub mod parts;
 mod payload_bounds;
+pub mod scan;
 pub mod shown;
 pub mod unshown;
 pub mod update;

@@ -33,8 +33,8 @@ pub fn listing(alloc: Global, file: &[u8], limits: Limits) -> Result<String, Err
     listing_as(alloc, file, limits, Format::Lines)
 }
 
-/// Returns the listing of a boot image, as one text of JSON and a newline. It says what the lines of
-/// `listing` say, and the errors are those of `listing`.
+/// Returns the listing of a boot image, as one text of JSON and a newline. It says what the lines
+/// of `listing` say, and the errors are those of `listing`.
 pub fn listing_json(alloc: Global, file: &[u8], limits: Limits) -> Result<String, Error>
     ensures lists { IfOk result (λ text. IsListing Json limits file.now (string_bytes text)) }
     ensures failed { IfErr result (IsBootImageReadError limits file.now) }
@@ -43,12 +43,7 @@ pub fn listing_json(alloc: Global, file: &[u8], limits: Limits) -> Result<String
 }
 
 /// Returns the listing of a boot image, in a form.
-fn listing_as(
-    alloc: Global,
-    file: &[u8],
-    limits: Limits,
-    format: Format,
-) -> Result<String, Error>
+fn listing_as(alloc: Global, file: &[u8], limits: Limits, format: Format) -> Result<String, Error>
     ensures lists { IfOk result (λ text. IsListing format limits file.now (string_bytes text)) }
     ensures failed { IfErr result (IsBootImageReadError limits file.now) }
 {
@@ -60,8 +55,8 @@ fn listing_as(
     }
 }
 
-/// Appends the listing of a boot image, in a form. Each refusal and each allocation comes before the
-/// first byte.
+/// Appends the listing of a boot image, in a form. Each refusal and each allocation comes before
+/// the first byte.
 fn list_into<S: Sink>(
     alloc: Global,
     file: &[u8],
@@ -132,8 +127,8 @@ pub fn list_to<R: Read, W: Write>(
     pipe_to(alloc, &lister, reader, writer, limits)
 }
 
-/// Reads a boot image to its end, writes its listing as one text of JSON and a newline, and flushes.
-/// Its errors are those of `list_to`.
+/// Reads a boot image to its end, writes its listing as one text of JSON and a newline, and
+/// flushes. Its errors are those of `list_to`.
 pub fn listing_json_to<R: Read, W: Write>(
     alloc: Global,
     reader: &mut R,

@@ -18,7 +18,7 @@ use bi_fit::{Fit, Key, split_name};
 pub(crate) enum KeyList<'a> {
     /// The configuration has no such key.
     NoKey,
-    /// The value of the key is no list of names.
+    /// The value of the key is not a list of names.
     BadList,
     /// No image has the name at this index of the list, counted from 0. It is the first such name.
     Missing(usize),

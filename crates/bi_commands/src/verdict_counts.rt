@@ -29,7 +29,7 @@ pub(crate) struct Counts {
 }
 
 impl Counts {
-    /// Adds a hash node with this verdict.
+    /// Adds a hash node with this verdict. Requires: fewer than 2^31 are counted.
     pub(crate) fn add(&mut self, verdict: Verdict)
         requires { total self.old < 2 ^ 31 }
         ensures { self.new ≡ one_more_verdict verdict self.old }
@@ -74,8 +74,8 @@ pub(crate) fn count_verdicts<'a>(
     Ok(counts)
 }
 
-/// Judges each hash node of an image with this payload, and counts the verdicts. Fails if memory
-/// runs out.
+/// Judges each hash node of an image with this payload, and counts the verdicts. Requires: with the
+/// children of the image, fewer than 2^31 are counted. Fails if memory runs out.
 fn count_image<'a>(
     counts: &mut Counts,
     image: NodeRef<'a, '_>,
@@ -101,7 +101,7 @@ fn count_image<'a>(
 }
 
 /// Judges a child of an image node with this payload, if it is a hash node, and counts the verdict.
-/// Fails if memory runs out.
+/// Requires: fewer than 2^31 are counted. Fails if memory runs out.
 fn count_child(
     counts: &mut Counts,
     child: NodeRef,

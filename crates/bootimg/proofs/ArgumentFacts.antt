@@ -7,8 +7,8 @@ use Rattle.std.specs.Char.{digit_value}
 use Rattle.std.specs.Str.Parse.{AllDigits, digits_value, IsNumeral}
 use Rattle.std.proofs.lemmas.Bool.{and_parts, true≢false, eqb-true}
 use Rattle.std.proofs.lemmas.Slice.Eq.{bytes_eq-Decides}
+use Rattle.std.proofs.Math.Bool.{or-true}
 use Rattle.bi_blob.proofs.CheckDecisions.{both_decide, lt_decides}
-use Rattle.bi_commands.proofs.CleanLaws.NoLines.{second_passes}
 use Rattle.bi_legacy.specs.Codes.{CodeName, name_of_code}
 use Rattle.bootimg.specs.CodeWords.{codes_of, IsCode, Named, Numbered}
 use Rattle.bootimg.specs.CommandLine.{NoneIs}
@@ -134,7 +134,8 @@ code_has_name (entry ∷ later) code name is = by (entry.code == code) refl (λ 
       let found : Some entry.name ≡ Some name = rw same at is in
       let equal : entry.name ≡ name = cc in
       ap (λ b. b || has_name later name) ((bytes_eq-Decides entry.name name).1 equal)
-  by false other rest = second_passes (bytes_eq entry.name name) (has_name later name) (rest (rw other at is))
+  by false other rest =
+      ap (λ b. bytes_eq entry.name name || b) (rest (rw other at is)) ∙ or-true (bytes_eq entry.name name)
 
 -- A code with this name is the wanted one.
 code_is_wanted : (entries : List CodeName) (code wanted : ℕ) (name : List ℕ) → names_only entries name wanted ≡ true

@@ -37,10 +37,10 @@ ended_below_2 status done ended below = subst (λ s. s < 2) (sym ended.is_status
 task_done_below_2 : (task : Task) (limits : Limits) (done : Done) (input output : List ℕ) → TaskDone task limits done input output
     → done.status < 2
 task_done_below_2 (Normalise form) limits done input output is = subst (λ s. s < 2) (sym is.1) (omega arith)
-task_done_below_2 ListImage limits done input output is = ended_below_2 0 done is.1 (omega arith)
-task_done_below_2 Describe limits done input output is = ended_below_2 0 done is.1 (omega arith)
-task_done_below_2 Verify limits done input output is = ended_below_2 (status_of is.0) done is.2 (good_below_2 is.0)
-task_done_below_2 (Check allowed) limits done input output is = ended_below_2 (status_of is.0) done is.2 (good_below_2 is.0)
+task_done_below_2 (ListImage format) limits done input output is = ended_below_2 0 done is.1 (omega arith)
+task_done_below_2 (Describe format) limits done input output is = ended_below_2 0 done is.1 (omega arith)
+task_done_below_2 (Verify format) limits done input output is = ended_below_2 (status_of is.0) done is.2 (good_below_2 is.0)
+task_done_below_2 (Check allowed format) limits done input output is = ended_below_2 (status_of is.0) done is.2 (good_below_2 is.0)
 task_done_below_2 (Update changes form) limits done input output is = subst (λ s. s < 2) (sym is.1) (omega arith)
 task_done_below_2 (Extract selection) limits done input output is = ended_below_2 0 done is.1 (omega arith)
 task_done_below_2 Convert limits done input output is = ended_below_2 0 done is.1 (omega arith)

@@ -139,23 +139,37 @@ sole : (test : Bool) → (test || false) ≡ true → test ≡ true
 sole true holds = refl
 sole false holds = holds
 
--- The command that the words enter is one of the program's. None has another name than its own.
-named_command : (shapes : List Shape) (word : Text) (shape : Shape) → list_all (λ s. is_empty s.aliases) shapes ≡ true
+-- The command `help` has no other name.
+abbrev is_only_help : Shape → Bool
+is_only_help shape = not (bytes_eq shape.name (codes "help")) || is_empty shape.aliases
+
+-- The command that answers to a word has it as its own name if it is `help`.
+help_is_named : (shape : Shape) (word : Text) → is_only_help shape ≡ true → answers_to word (label_of shape) ≡ true →
+    shape.name ≡ codes "help" → bytes_eq shape.name word ≡ true
+help_is_named shape word only answers named =
+    let is_help : bytes_eq shape.name (codes "help") ≡ true = (bytes_eq-Decides shape.name (codes "help")).1 named in
+    let unaliased : is_empty shape.aliases ≡ true = let holds = rw is_help at only in holds in
+    sole (bytes_eq shape.name word) (let holds = rw (is_nil shape.aliases unaliased) at answers in holds)
+
+-- The command that the words enter is one of the program's.
+named_command : (shapes : List Shape) (word : Text) (shape : Shape) → list_all is_only_help shapes ≡ true
     → find (λ s. answers_to word (label_of s)) shapes ≡ Some shape
-    → (bytes_eq shape.name word ≡ true) × IsAmongNames (map (λ (s : Shape). s.name) shapes) shape.name
-named_command [] word shape unaliased found = absurd cc
-named_command (first ∷ shapes) word shape unaliased found =
-    by (answers_to word (label_of first)) refl (λ later. named_command shapes word shape (both _ _ unaliased).1 later)
+    → (shape.name ≡ codes "help" → bytes_eq shape.name word ≡ true) × IsAmongNames (map (λ (s : Shape). s.name) shapes) shape.name
+named_command [] word shape only found = absurd cc
+named_command (first ∷ shapes) word shape only found =
+    by (answers_to word (label_of first)) refl (λ later. named_command shapes word shape (both _ _ only).1 later)
   where
     by : (answers : Bool) → answers_to word (label_of first) ≡ answers
         → (find (λ s. answers_to word (label_of s)) shapes ≡ Some shape
-        → (bytes_eq shape.name word ≡ true) × IsAmongNames (map (λ (s : Shape). s.name) shapes) shape.name)
-        → (bytes_eq shape.name word ≡ true) × IsAmongNames (map (λ (s : Shape). s.name) (first ∷ shapes)) shape.name
+        → (shape.name ≡ codes "help" → bytes_eq shape.name word ≡ true) × IsAmongNames (map (λ (s : Shape). s.name) shapes) shape.name)
+        → (shape.name ≡ codes "help" → bytes_eq shape.name word ≡ true)
+        × IsAmongNames (map (λ (s : Shape). s.name) (first ∷ shapes)) shape.name
     by true is later =
-        let same : first ≡ shape = let found_is : Some first ≡ Some shape = rw is at found in cc in
-        let own : bytes_eq first.name word ≡ true =
-        sole (bytes_eq first.name word) (let holds = rw (is_nil first.aliases (both _ _ unaliased).0) at is in holds) in
-        (subst (λ (s : Shape). bytes_eq s.name word ≡ true) same own, inl (ap (λ (s : Shape). s.name) (sym same)))
+        let same : first ≡ shape = let found_is : Some first ≡ Some shape = rw is at found in cc in (
+          subst (λ (s : Shape). s.name ≡ codes "help" → bytes_eq s.name word ≡ true) same
+              (help_is_named first word (both _ _ only).0 is),
+          inl (ap (λ (s : Shape). s.name) (sym same)),
+        )
     by false is later =
         let after = later (rw is at found) in
         (after.0, inr after.1)
@@ -171,7 +185,7 @@ not_the_last (first ∷ names) last name differs (inr later) = inr (not_the_last
 record HasCommands (app : App) (names : List Text) : Type 0 where
   help : app.top.disable_help_subcommand ≡ false
   required : app.top.subcommand_required ≡ true
-  unaliased : list_all (λ s. is_empty s.aliases) app.subs ≡ true
+  only_help : list_all is_only_help app.subs ≡ true
   names_are : map (λ (s : Shape). s.name) app.subs ≡ names ++ codes "help" ∷ []
 
 -- The command that is entered has one of the names.
@@ -185,9 +199,9 @@ entered_name app names (Some stop) name rows has is given = by (find (λ s. answ
     by (Some shape) was =
         let rows_are : Some (rows_at shape stop.1) ≡ Some (name, rows) = rw was at given in
         let named : shape.name ≡ name = ap (λ (o : Option (Text × List Row)). (unwrap_or o (name, rows)).0) rows_are in
-        let known = named_command app.subs stop.0 shape has.unaliased was in
+        let known = named_command app.subs stop.0 shape has.only_help was in
         let not_help : ¬ (shape.name ≡ codes "help") = λ same.
-        let own : bytes_eq (codes "help") stop.0 ≡ true = subst (λ (n : Text). bytes_eq n stop.0 ≡ true) same known.0 in
+        let own : bytes_eq (codes "help") stop.0 ≡ true = subst (λ (n : Text). bytes_eq n stop.0 ≡ true) same (known.0 same) in
         let word : codes "help" ≡ stop.0 = (bytes_eq-Decides (codes "help") stop.0).0 own in
         let bad : bytes_eq (codes "help") (codes "help") ≡ false = subst (λ (n : Text). bytes_eq n (codes "help") ≡ false) (sym word) is in
         cc in
@@ -236,7 +250,7 @@ accepted_command app names words has none =
 -- The program has these commands.
 program_has : HasCommands (built program_app) (map (λ (shape : Shape). shape.name) commands)
 unfolding program_app
-program_has = record { help = refl; required = refl; unaliased = refl; names_are = refl }
+program_has = record { help = refl; required = refl; only_help = refl; names_are = refl }
 
 -- Arguments that clap accepts enter a command.
 pub accepted_enters : (words : List Text) → fault_of program_app words ≡ [] → is_some (subcommand_of program_app words) ≡ true

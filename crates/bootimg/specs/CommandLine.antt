@@ -37,6 +37,8 @@ use Rattle.bootimg.specs.declared.command_line.source.ComparePlan.{ComparePlan}
 use Rattle.bootimg.specs.declared.command_line.source.ImageSource.{ImageSource}
 use Rattle.bootimg.specs.declared.command_line.source.ImageSource.TheVariants.{Standard, File}
 use Rattle.bi_commands.specs.Checking.{kind_word, allows as allows_kind}
+use Rattle.bi_commands.specs.declared.format.Format.{Format}
+use Rattle.bi_commands.specs.declared.format.Format.TheVariants.{Lines, Json}
 use Rattle.bi_commands.specs.declared.check.Allowed.{Allowed}
 use Rattle.bi_commands.specs.declared.check.ConcernKind.{ConcernKind}
 use Rattle.bi_commands.specs.Unshown.{IsNameShownAs}
@@ -132,6 +134,16 @@ pub record IsForm (options : ArgMatches) (form : Form) : Type 0 where
   pub not_given : external_flag options ≡ Some (codes "false") → form ≡ Embedded
   pub unknown : external_flag options ≡ None → form ≡ Embedded
 
+-- The text of the flag `--json`: `true` or `false`.
+abbrev pub json_flag : ArgMatches → Option (List ℕ)
+json_flag options = one_text (found_of options) (codes "json")
+
+-- The output is JSON with `--json`, and else lines.
+pub record IsFormat (options : ArgMatches) (format : Format) : Type 0 where
+  pub given : json_flag options ≡ Some (codes "true") → format ≡ Json
+  pub not_given : json_flag options ≡ Some (codes "false") → format ≡ Lines
+  pub unknown : json_flag options ≡ None → format ≡ Lines
+
 -- ---- images
 
 -- The argument names this image. Without an argument it is standard input, as with `-`.
@@ -163,6 +175,7 @@ pub record IsComparePlan (options : ArgMatches) (plan : ComparePlan) : Type 0 wh
   pub one : IsImageSource (option_of options (codes "one")) plan.one
   pub other : IsImageSource (option_of options (codes "other")) plan.other
   pub quiet : IsQuiet options plan.quiet
+  pub format : IsFormat options plan.format
   pub names_a_file : NamesAFile plan.one plan.other
 
 -- ---- check
@@ -437,11 +450,11 @@ IsFitPlanFailure options failure = ⊥
 -- The command of this name, with its options, is this task.
 abbrev pub IsTask : List ℕ → ArgMatches → Task → Type 0
 IsTask name options (task.Normalise form) = (name ≡ codes "normalise") × IsForm options form
-IsTask name options task.List = name ≡ codes "list"
-IsTask name options task.Describe = name ≡ codes "describe"
-IsTask name options task.Verify = name ≡ codes "verify"
-IsTask name options (task.Check allowed) =
-    (name ≡ codes "check") × IsAllowedBy (allow_option options) allowed
+IsTask name options (task.List format) = (name ≡ codes "list") × IsFormat options format
+IsTask name options (task.Describe format) = (name ≡ codes "describe") × IsFormat options format
+IsTask name options (task.Verify format) = (name ≡ codes "verify") × IsFormat options format
+IsTask name options (task.Check allowed format) =
+    (name ≡ codes "check") × IsAllowedBy (allow_option options) allowed × IsFormat options format
 IsTask name options (task.Update changes form) =
     (name ≡ codes "update") × IsChanges options changes × IsForm options form
 IsTask name options (task.Extract selection) =

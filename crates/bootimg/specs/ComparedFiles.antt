@@ -4,6 +4,7 @@ use Rattle.bi_base.specs.Limits.{Limits}
 use Rattle.bi_commands.specs.Comparing.{IsComparison, IsComparisonError, IsReadingError}
 use Rattle.bi_commands.specs.declared.compare.CompareError.{CompareError}
 use Rattle.bi_commands.specs.declared.compare.CompareError.TheVariants.{One, Other, OutOfMemory}
+use Rattle.bi_commands.specs.declared.format.Format.{Format}
 use Rattle.bi_norm.specs.Comparing.{AreCompared}
 use Rattle.bootimg.specs.declared.command_line.source.ComparePlan.{ComparePlan}
 use Rattle.bootimg.specs.declared.command_line.source.ImageSource.{ImageSource}
@@ -18,12 +19,14 @@ abbrev pub compare_status : (same : Bool) → ℕ
 compare_status true = 0
 compare_status false = 1
 
--- What `compare` writes for two files, and whether they mean the same. With `--quiet` it writes
--- nothing.
-abbrev pub IsCompareOutput : (quiet : Bool) → Limits → (one other : List ℕ) → (same : Bool)
-    → (text : List ℕ) → Type 0
-IsCompareOutput true limits one other same text = AreCompared limits one other same × (text ≡ [])
-IsCompareOutput false limits one other same text = IsComparison limits one other same text
+-- What `compare` writes for two files, in a form, and whether they mean the same. With `--quiet` it
+-- writes nothing, in any form.
+abbrev pub IsCompareOutput : (quiet : Bool) → Format → Limits → (one other : List ℕ)
+    → (same : Bool) → (text : List ℕ) → Type 0
+IsCompareOutput true format limits one other same text =
+    AreCompared limits one other same × (text ≡ [])
+IsCompareOutput false format limits one other same text =
+    IsComparison format limits one other same text
 
 -- Why `compare` fails for two files. With `--quiet` they need not be described.
 abbrev pub IsCompareFailure : (quiet : Bool) → Limits → (one other : List ℕ) → CompareError → Type 0

@@ -65,6 +65,10 @@ output = short_option (codes "output") 111
 abbrev pub external : Rule
 external = flag_option (codes "external")
 
+-- `--json`.
+abbrev pub json : Rule
+json = flag_option (codes "json")
+
 -- The file of an image.
 abbrev pub file : Rule
 file = positional (codes "file")
@@ -75,31 +79,41 @@ file = positional (codes "file")
 abbrev pub command : (name : List ℕ) → List Rule → Shape
 command name rules = record (new_shape name) { rules = rules }
 
--- `normalise`.
+-- The command, which has this other name, too.
+abbrev pub with_alias : Shape → (alias : List ℕ) → Shape
+with_alias shape alias = record shape { aliases = alias ∷ [] }
+
+-- `normalise`, or `normalize`.
 abbrev pub normalise : Shape
-normalise = command (codes "normalise") (external ∷ limit ∷ output ∷ file ∷ [])
+normalise =
+    with_alias (command (codes "normalise") (external ∷ limit ∷ output ∷ file ∷ []))
+    (codes "normalize")
 
 -- `list`.
 abbrev pub list : Shape
-list = command (codes "list") (limit ∷ output ∷ file ∷ [])
+list = command (codes "list") (json ∷ limit ∷ output ∷ file ∷ [])
 
 -- `describe`.
 abbrev pub describe : Shape
-describe = command (codes "describe") (limit ∷ output ∷ file ∷ [])
+describe = command (codes "describe") (json ∷ limit ∷ output ∷ file ∷ [])
 
--- `compare`.
+-- `compare`, or `diff`.
 abbrev pub compare : Shape
-compare = command (codes "compare")
-    (flag_option (codes "quiet") ∷ limit ∷ output ∷ required_positional (codes "one")
-    ∷ required_positional (codes "other") ∷ [])
+compare =
+    with_alias
+    (command (codes "compare")
+    (flag_option (codes "quiet") ∷ json ∷ limit ∷ output ∷ required_positional (codes "one")
+    ∷ required_positional (codes "other") ∷ []))
+    (codes "diff")
 
 -- `verify`.
 abbrev pub verify : Shape
-verify = command (codes "verify") (limit ∷ output ∷ file ∷ [])
+verify = command (codes "verify") (json ∷ limit ∷ output ∷ file ∷ [])
 
 -- `check`.
 abbrev pub check : Shape
-check = command (codes "check") (value_option (codes "allow") ∷ limit ∷ output ∷ file ∷ [])
+check = command (codes "check")
+    (value_option (codes "allow") ∷ json ∷ limit ∷ output ∷ file ∷ [])
 
 -- `update`.
 abbrev pub update : Shape

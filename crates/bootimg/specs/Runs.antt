@@ -189,12 +189,12 @@ pub data IsComparedWork (plan : ComparePlan) (limits : Limits) (one other : List
     : Type 0
   where
     WroteDifferences : (same : Bool) (text : List ℕ)
-        → IsCompareOutput plan.quiet limits one other same text
+        → IsCompareOutput plan.quiet plan.format limits one other same text
         → WroteAndFlushed work.output text work.new_output
         → (done : Done) → EndedWith (compare_status same) done → work.outcome ≡ Ok done
         → IsComparedWork plan limits one other work
     NotAllWritten : (same : Bool) (text : List ℕ)
-        → IsCompareOutput plan.quiet limits one other same text
+        → IsCompareOutput plan.quiet plan.format limits one other same text
         → (error : Error) → WriteOrFlushStopped work.output text work.new_output error
         → work.outcome ≡ Err (problem Standard (Call error))
         → IsComparedWork plan limits one other work

@@ -28,7 +28,9 @@ rule_of_option option = rule_of_form option.form option.name.now
 
 -- The command of a text.
 abbrev pub shape_of_text : CommandText → Shape
-shape_of_text text = command text.name.now (map rule_of_option text.options.now)
+shape_of_text text = record (command text.name.now (map rule_of_option text.options.now)) {
+  aliases = map (λ alias. alias.now) text.aliases.now;
+}
 
 -- The program with these commands more.
 abbrev pub with_subcommands : App → List Shape → App

@@ -10,11 +10,10 @@ use Rattle.bi_norm.specs.NormalForm.{IsNormalForm, IsNormaliseError, IsNormalise
 use Rattle.bi_norm.specs.Reading.{IsBootImageReadError}
 use Rattle.bi_commands.specs.declared.extract.ExtractError.{ExtractError}
 use Rattle.bi_commands.specs.declared.extract.ExtractError.TheVariants as extract
-use Rattle.bi_commands.specs.declared.format.Format.TheVariants.{Lines}
 use Rattle.bi_commands.specs.CheckedFiles.{IsChecked, IsCheckError, IsCheckOutput}
 use Rattle.bi_commands.specs.Describing.{IsDescription, IsDescribeError}
 use Rattle.bi_commands.specs.Extracting.{IsChosen, IsExtractError}
-use Rattle.bi_commands.specs.Listing.{IsListing}
+use Rattle.bi_commands.specs.ListedFiles.{IsListing}
 use Rattle.bi_commands.specs.VerifiedFiles.{IsReport, IsVerifyOutput}
 use Rattle.bi_commands.specs.UpdatedFiles.{IsUpdated, IsUpdateError, IsUpdateOutput}
 use Rattle.bi_fit.specs.declared.configurations.ConfigError.TheVariants as list
@@ -31,7 +30,7 @@ use Rattle.bootimg.specs.Selections.{select_of}
 -- What each task of the program does (profile of this project).
 
 -- The exit status after `verify`, by whether no verdict is other than Good, and after `check`, by
--- whether it wrote no line.
+-- whether it wrote no concern.
 abbrev pub status_of : (good : Bool) → ℕ
 status_of true = 0
 status_of false = 1
@@ -45,12 +44,15 @@ pub record EndedWith (status : ℕ) (done : Done) : Type 0 where
 abbrev pub TaskDone : Task → Limits → Done → (input output : List ℕ) → Type 0
 TaskDone (Normalise form) limits done input output =
     IsNormaliseOutput limits form done.signatures input output × (done.status ≡ 0)
-TaskDone ListImage limits done input output = IsListing limits input output × EndedWith 0 done
-TaskDone Describe limits done input output = IsDescription limits input output × EndedWith 0 done
-TaskDone Verify limits done input output =
-    (good : Bool) × IsVerifyOutput Lines limits good input output × EndedWith (status_of good) done
-TaskDone (Check allowed) limits done input output =
-    (clean : Bool) × IsCheckOutput Lines allowed limits clean input output
+TaskDone (ListImage format) limits done input output =
+    IsListing format limits input output × EndedWith 0 done
+TaskDone (Describe format) limits done input output =
+    IsDescription format limits input output × EndedWith 0 done
+TaskDone (Verify format) limits done input output =
+    (good : Bool) × IsVerifyOutput format limits good input output
+    × EndedWith (status_of good) done
+TaskDone (Check allowed format) limits done input output =
+    (clean : Bool) × IsCheckOutput format allowed limits clean input output
     × EndedWith (status_of clean) done
 TaskDone (Update changes form) limits done input output =
     IsUpdateOutput changes limits form done.signatures input output × (done.status ≡ 0)
@@ -61,10 +63,10 @@ TaskDone Convert limits done input output = IsConvertedFile limits input output 
 -- The task may begin to write this output for the input.
 abbrev pub TaskText : Task → Limits → (input output : List ℕ) → Type 0
 TaskText (Normalise form) limits input output = IsNormalForm limits form input output
-TaskText ListImage limits input output = IsListing limits input output
-TaskText Describe limits input output = IsDescription limits input output
-TaskText Verify limits input output = IsReport Lines limits input output
-TaskText (Check allowed) limits input output = IsChecked Lines allowed limits input output
+TaskText (ListImage format) limits input output = IsListing format limits input output
+TaskText (Describe format) limits input output = IsDescription format limits input output
+TaskText (Verify format) limits input output = IsReport format limits input output
+TaskText (Check allowed format) limits input output = IsChecked format allowed limits input output
 TaskText (Update changes form) limits input output = IsUpdated changes limits form input output
 TaskText (Extract selection) limits input output =
     IsChosen (select_of selection) limits input output
@@ -86,10 +88,14 @@ pub record IsExtractFailure (HasError : ExtractError → Type 0) (failure : Fail
 abbrev pub TaskFails : Task → Limits → (input : List ℕ) → Failure → Type 0
 TaskFails (Normalise form) limits input failure =
     IsCallFailure (IsNormaliseError limits form input) failure
-TaskFails ListImage limits input failure = IsCallFailure (IsBootImageReadError limits input) failure
-TaskFails Describe limits input failure = IsCallFailure (IsDescribeError limits input) failure
-TaskFails Verify limits input failure = IsCallFailure (IsBootImageReadError limits input) failure
-TaskFails (Check allowed) limits input failure = IsCallFailure (IsCheckError limits input) failure
+TaskFails (ListImage format) limits input failure =
+    IsCallFailure (IsBootImageReadError limits input) failure
+TaskFails (Describe format) limits input failure =
+    IsCallFailure (IsDescribeError format limits input) failure
+TaskFails (Verify format) limits input failure =
+    IsCallFailure (IsBootImageReadError limits input) failure
+TaskFails (Check allowed format) limits input failure =
+    IsCallFailure (IsCheckError limits input) failure
 TaskFails (Update changes form) limits input failure =
     IsCallFailure (IsUpdateError changes limits form input) failure
 TaskFails (Extract selection) limits input failure =
@@ -109,10 +115,10 @@ task_promise task limits = record {
 task_text : (task : Task) (limits : Limits) (done : Done) (input output : List ℕ)
     → TaskDone task limits done input output → TaskText task limits input output
 task_text (Normalise form) limits done input output is = is.0.normal
-task_text ListImage limits done input output is = is.0
-task_text Describe limits done input output is = is.0
-task_text Verify limits done input output is = is.1.report
-task_text (Check allowed) limits done input output is = is.1.checked
+task_text (ListImage format) limits done input output is = is.0
+task_text (Describe format) limits done input output is = is.0
+task_text (Verify format) limits done input output is = is.1.report
+task_text (Check allowed format) limits done input output is = is.1.checked
 task_text (Update changes form) limits done input output updated = updated.0.is
 task_text (Extract selection) limits done input output is = is.0
 task_text Convert limits done input output is = is.0
@@ -166,13 +172,13 @@ task_in_memory : (task : Task) (limits : Limits) (input : List ℕ) (failure : F
     → TaskFails task limits input failure → IsNoStreamFailure failure
 task_in_memory (Normalise form) limits input failure is =
     call_in_memory (IsNormaliseError limits form input) (λ no. no) (λ no. no) failure is
-task_in_memory ListImage limits input failure is =
+task_in_memory (ListImage format) limits input failure is =
     call_in_memory (IsBootImageReadError limits input) (λ no. no) (λ no. no) failure is
-task_in_memory Describe limits input failure is =
-    call_in_memory (IsDescribeError limits input) (λ no. no) (λ no. no) failure is
-task_in_memory Verify limits input failure is =
+task_in_memory (Describe format) limits input failure is =
+    call_in_memory (IsDescribeError format limits input) (λ no. no) (λ no. no) failure is
+task_in_memory (Verify format) limits input failure is =
     call_in_memory (IsBootImageReadError limits input) (λ no. no) (λ no. no) failure is
-task_in_memory (Check allowed) limits input failure is =
+task_in_memory (Check allowed format) limits input failure is =
     call_in_memory (IsCheckError limits input) (λ no. no) (λ no. no) failure is
 task_in_memory (Update changes form) limits input failure is =
     call_in_memory (IsUpdateError changes limits form input) (λ no. no) (λ no. no) failure is

@@ -24,6 +24,7 @@ use crate::failure::Failure;
 use allowed::allowed_kinds;
 use bi_base::{Cause, Error, Limits};
 use bi_commands::check::Allowed;
+use bi_commands::format::Format;
 use bi_commands::update::Changes;
 use bi_norm::Form;
 pub use build::{BuildPlan, FitPlan, LegacyPlan};
@@ -33,7 +34,7 @@ use clap::error::ErrorKind;
 use explain::explained_cause;
 pub use extract::Selected;
 use extract::selection;
-use options::{form, limits};
+use options::{form, format, limits};
 pub use part::PartSource;
 pub use source::{ComparePlan, ImageSource};
 use source::{compare_plan, source};
@@ -46,14 +47,14 @@ use update::changes;
 pub enum Task {
     /// Write the normal form. That of a flattened image tree has this form.
     Normalise(Form),
-    /// Write the listing.
-    List,
-    /// Write the description of what the image means.
-    Describe,
-    /// Write the report on the checksums and digests.
-    Verify,
-    /// Write the concerns that are not of these kinds.
-    Check(Allowed),
+    /// Write the listing, in this form.
+    List(Format),
+    /// Write the description of what the image means, in this form.
+    Describe(Format),
+    /// Write the report on the checksums and digests, in this form.
+    Verify(Format),
+    /// Write the concerns that are not of these kinds, in this form.
+    Check(Allowed, Format),
     /// Write the normal form with these changes. That of a flattened image tree has this form.
     Update(Changes, Form),
     /// Write what the selection chooses.
@@ -194,10 +195,10 @@ fn parse_task(alloc: Global, name: &str, options: &ArgMatches<'_>) -> Result<Tas
 {
     Ok(match name {
         "normalise" => Task::Normalise(form(options)),
-        "list" => Task::List,
-        "describe" => Task::Describe,
-        "verify" => Task::Verify,
-        "check" => Task::Check(allowed_kinds(options)?),
+        "list" => Task::List(format(options)),
+        "describe" => Task::Describe(format(options)),
+        "verify" => Task::Verify(format(options)),
+        "check" => Task::Check(allowed_kinds(options)?, format(options)),
         "update" => Task::Update(changes(options)?, form(options)),
         "extract" => Task::Extract(selection(alloc, options)?),
         "convert" => Task::Convert,

@@ -23,7 +23,8 @@ use crate::tasks::Done;
 use bi_base::{
     Cause, Error, Limits, TracedRead, TracedWrite, pipe, read_all_traced, write_and_flush,
 };
-use bi_commands::compare::{CompareError, Comparison, compare, have_same_meaning};
+use bi_commands::compare::{CompareError, Comparison, compare, compare_json, have_same_meaning};
+use bi_commands::format::Format;
 use std::alloc::{AllocError, AllocFailed, Global};
 
 /// The exit status after explaining.
@@ -276,7 +277,7 @@ fn compare_files<'a, T: TracedWrite>(
       outcome = result;
     }) }
 {
-    match differences(alloc, one, other, plan.quiet, limits) {
+    match differences(alloc, plan, one, other, limits) {
         Ok(comparison) => match write_and_flush(output, comparison.differences.as_bytes()) {
             Ok(()) => Ok(Done::with_status(status(comparison.same))),
             Err(error) => job_failed(ImageSource::Standard, Failure::Call(error)),
@@ -285,26 +286,30 @@ fn compare_files<'a, T: TracedWrite>(
     }
 }
 
-/// Returns whether two images mean the same, and the differences that `compare` writes: none if
-/// `quiet` is set. Fails as `have_same_meaning` does then, and else as `compare` does.
+/// Returns whether two images mean the same, and the differences that the plan gives: none if they
+/// are left out. Fails as `have_same_meaning` does then, and else as `compare` does.
 fn differences(
     alloc: Global,
+    plan: ComparePlan<'_>,
     one: &[u8],
     other: &[u8],
-    quiet: bool,
     limits: Limits,
 ) -> Result<Comparison, CompareError>
-    ensures compared { IfOk result (λ comparison. IsCompareOutput quiet limits one.now other.now
-        comparison.same (string_bytes comparison.differences)) }
-    ensures failed { IfErr result (IsCompareFailure quiet limits one.now other.now) }
+    ensures compared { IfOk result (λ comparison. IsCompareOutput plan.entry.quiet
+        plan.entry.format limits one.now other.now comparison.same
+        (string_bytes comparison.differences)) }
+    ensures failed { IfErr result (IsCompareFailure plan.entry.quiet limits one.now other.now) }
 {
-    if !quiet {
-        return compare(alloc, one, other, limits);
+    if plan.quiet {
+        return Ok(Comparison {
+            same: have_same_meaning(alloc, one, other, limits)?,
+            differences: String::new(alloc),
+        });
     }
-    Ok(Comparison {
-        same: have_same_meaning(alloc, one, other, limits)?,
-        differences: String::new(alloc),
-    })
+    match plan.format {
+        Format::Lines => compare(alloc, one, other, limits),
+        Format::Json => compare_json(alloc, one, other, limits),
+    }
 }
 
 /// Returns why comparing failed.

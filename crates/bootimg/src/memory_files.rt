@@ -1,6 +1,7 @@
 //! Files in memory, whose steps are recorded, and one of which can be made to fail.
 
-ghost use Rattle.std.specs.Prelude.{◌≡◌, ◌∷◌, [], IsTrue, IsFalse, IfOk, None, Some, map};
+ghost use Rattle.std.specs.Prelude.{◌≡◌, ◌↔◌, ◌∷◌, [], IsTrue, IsFalse, IfOk, None, Some};
+ghost use Rattle.std.specs.Prelude.{length, map};
 ghost use Rattle.bootimg.specs.CommandLine.{texts_of};
 ghost use Rattle.bootimg.specs.LeftFiles.{LeavesFiles};
 ghost use Rattle.bootimg.specs.Files.{NoFile, RegularFile, TookSteps};
@@ -96,6 +97,7 @@ impl<'a> MemoryFiles<'a> {
     pub fn new(alloc: Global, failing: usize) -> MemoryFiles<'a>
         ensures log { result.log.items ≡ [] }
         ensures not_lost { IsFalse result.is_lost }
+        ensures failing { result.failing ≡ failing }
     {
         MemoryFiles {
             alloc,
@@ -159,7 +161,9 @@ impl<'a> MemoryFiles<'a> {
     }
 
     /// Returns whether the next step fails.
-    fn fails(&self) -> bool {
+    fn fails(&self) -> bool
+        ensures { IsTrue result ↔ (length self.now.log.items ≡ self.now.failing) }
+    {
         self.log.len() == self.failing
     }
 }
@@ -257,7 +261,7 @@ impl<'a> FileSystem for MemoryFiles<'a> {
     }
 
     fn can_replace(&self, name: &str) -> bool {
-        // Nothing has the name, or a regular file.
+        // Only regular files have names here: the look-up says so of this one.
         self.find(name.as_bytes());
         true
     }

@@ -10,7 +10,6 @@ use bi_commands::check::Checker;
 use bi_commands::convert::Converter;
 use bi_commands::describe::Describer;
 use bi_commands::extract::Extractor;
-use bi_commands::format::Format;
 use bi_commands::list::Lister;
 use bi_commands::update::Updater;
 use bi_commands::verify::Verifier;
@@ -20,7 +19,7 @@ use std::alloc::Global;
 /// The exit status after success, help and the version included.
 pub const SUCCESS: u8 = 0;
 
-/// The exit status after `verify` wrote a verdict that is not good, or `check` a line.
+/// The exit status after `verify` wrote a verdict that is not good, or `check` a concern.
 const NOT_GOOD: u8 = 1;
 
 /// How a task ended that did not fail.
@@ -68,25 +67,22 @@ impl Command for Task {
                     signatures,
                 });
             }
-            Task::List => {
-                Lister.run(alloc, input, limits, sink)?;
+            Task::List(format) => {
+                Lister { format: *format }.run(alloc, input, limits, sink)?;
                 return Ok(Done::with_status(SUCCESS));
             }
-            Task::Describe => {
-                Describer.run(alloc, input, limits, sink)?;
+            Task::Describe(format) => {
+                Describer { format: *format }.run(alloc, input, limits, sink)?;
                 return Ok(Done::with_status(SUCCESS));
             }
-            Task::Verify => {
-                let verifier = Verifier {
-                    format: Format::Lines,
-                };
-                let good = verifier.run(alloc, input, limits, sink)?;
+            Task::Verify(format) => {
+                let good = Verifier { format: *format }.run(alloc, input, limits, sink)?;
                 return Ok(Done::with_status(status(good)));
             }
-            Task::Check(allowed) => {
+            Task::Check(allowed, format) => {
                 let checker = Checker {
                     allowed: *allowed,
-                    format: Format::Lines,
+                    format: *format,
                 };
                 let clean = checker.run(alloc, input, limits, sink)?;
                 return Ok(Done::with_status(status(clean)));

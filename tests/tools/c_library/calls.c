@@ -1,75 +1,14 @@
 /*
  * calls COMMAND [ARGUMENT..]: does what `bootimg COMMAND ARGUMENT..` does, by a call of the library. It calls with a buffer of the
- * right size, with one byte more and one less, and with none, and checks what each call leaves. Files and buffers end where the
- * memory does that may be touched. A failed check ends the program with status 3.
+ * right size, with one byte more and one less, and with none, and checks what each call leaves. A failed check ends the program with
+ * status 3.
  */
 #define _GNU_SOURCE
+#include "guarded.h"
+
 #include <bootimg.h>
 
-#include <fcntl.h>
 #include <pthread.h>
-#include <stdio.h>
-#include <stdlib.h>
-#include <string.h>
-#include <sys/mman.h>
-#include <sys/stat.h>
-#include <unistd.h>
-
-#define CHECK(condition) \
-    do { \
-        if (!(condition)) { \
-            fprintf(stderr, "%s:%d: %s\n", __FILE__, __LINE__, #condition); \
-            exit(3); \
-        } \
-    } while (0)
-
-struct memory {
-    uint8_t *bytes;
-    size_t size;
-    void *map;
-    size_t map_size;
-};
-
-/* Memory of this size. The page after it, and the one before, may not be touched. */
-static struct memory take(size_t size)
-{
-    const size_t page = 4096;
-    struct memory memory;
-    size_t pages = (size + page - 1) / page + 1;
-    memory.map_size = (pages + 2) * page;
-    memory.map = mmap(NULL, memory.map_size, PROT_READ | PROT_WRITE, MAP_PRIVATE | MAP_ANONYMOUS, -1, 0);
-    CHECK(memory.map != MAP_FAILED);
-    CHECK(mprotect(memory.map, page, PROT_NONE) == 0);
-    CHECK(mprotect((char *)memory.map + memory.map_size - page, page, PROT_NONE) == 0);
-    memory.bytes = (uint8_t *)memory.map + memory.map_size - page - size;
-    memory.size = size;
-    return memory;
-}
-
-static void give_back(struct memory memory)
-{
-    CHECK(munmap(memory.map, memory.map_size) == 0);
-}
-
-/* The bytes of a file, which may not be changed. */
-static struct memory read_file(const char *path)
-{
-    struct stat status;
-    struct memory memory;
-    size_t done = 0;
-    int file = open(path, O_RDONLY);
-    CHECK(file >= 0);
-    CHECK(fstat(file, &status) == 0);
-    memory = take((size_t)status.st_size);
-    while (done < memory.size) {
-        ssize_t count = read(file, memory.bytes + done, memory.size - done);
-        CHECK(count > 0);
-        done += (size_t)count;
-    }
-    CHECK(close(file) == 0);
-    CHECK(mprotect((char *)memory.map + 4096, memory.map_size - 2 * 4096, PROT_READ) == 0);
-    return memory;
-}
 
 /* What is called, and on what. */
 struct call {
@@ -83,6 +22,7 @@ struct call {
     uint32_t changes;
     uint32_t time;
     int is_quiet;
+    int is_json;
     /* What is extracted: a part, or by the name of an image, of a configuration or of none. */
     int selection;
     struct memory name;
@@ -102,17 +42,18 @@ static uint32_t make(const struct call *call, uint8_t *buffer, size_t size, boot
     if (strcmp(call->command, "update") == 0)
         return bootimg_update(one, one_size, call->changes, call->time, call->form, limit, depth, buffer, size, answer);
     if (strcmp(call->command, "list") == 0)
-        return bootimg_list(one, one_size, limit, depth, buffer, size, answer);
+        return (call->is_json ? bootimg_list_json : bootimg_list)(one, one_size, limit, depth, buffer, size, answer);
     if (strcmp(call->command, "describe") == 0)
-        return bootimg_describe(one, one_size, limit, depth, buffer, size, answer);
+        return (call->is_json ? bootimg_describe_json : bootimg_describe)(one, one_size, limit, depth, buffer, size, answer);
     if (strcmp(call->command, "verify") == 0)
-        return bootimg_verify(one, one_size, limit, depth, buffer, size, answer);
+        return (call->is_json ? bootimg_verify_json : bootimg_verify)(one, one_size, limit, depth, buffer, size, answer);
     if (strcmp(call->command, "check") == 0)
-        return bootimg_check(one, one_size, call->kinds, limit, depth, buffer, size, answer);
+        return (call->is_json ? bootimg_check_json : bootimg_check)(one, one_size, call->kinds, limit, depth, buffer, size, answer);
     if (strcmp(call->command, "convert") == 0)
         return bootimg_convert(one, one_size, limit, depth, buffer, size, answer);
     if (strcmp(call->command, "compare") == 0)
-        return bootimg_compare(one, one_size, other, other_size, limit, depth, buffer, size, answer);
+        return (call->is_json ? bootimg_compare_json : bootimg_compare)(one, one_size, other, other_size, limit, depth, buffer, size,
+                                                                        answer);
     if (strcmp(call->command, "cause") == 0)
         return bootimg_cause_name(call->number, buffer, size, answer);
     CHECK(strcmp(call->command, "version") == 0);
@@ -262,6 +203,17 @@ static int extract(const struct call *call, FILE *output)
     return 0;
 }
 
+/* The calls on one file that have a buffer. */
+static const struct {
+    const char *command;
+    int is_json;
+} of_one[] = {
+    {"normalise", 0}, {"update", 0}, {"convert", 0}, {"list", 0}, {"list", 1}, {"describe", 0}, {"describe", 1}, {"verify", 0},
+    {"verify", 1}, {"check", 0}, {"check", 1},
+};
+
+enum { CALLS_OF_ONE = sizeof of_one / sizeof of_one[0] };
+
 /* Calls whose numbers are out of their ranges leave the buffer as it is. */
 static int try_arguments(struct call *call)
 {
@@ -271,8 +223,12 @@ static int try_arguments(struct call *call)
     for (int i = 0; i < 4; i++) {
         struct call wrong = *call;
         wrong.limit = limits[i];
-        CHECK(make(&wrong, &byte, 1, &answer) == BOOTIMG_WRONG_ARGUMENT);
-        CHECK(byte == 0xa5 && answer.size == 0 && answer.value == 0 && answer.cause == 0);
+        for (int j = 0; j < CALLS_OF_ONE; j++) {
+            wrong.command = of_one[j].command;
+            wrong.is_json = of_one[j].is_json;
+            CHECK(make(&wrong, &byte, 1, &answer) == BOOTIMG_WRONG_ARGUMENT);
+            CHECK(byte == 0xa5 && answer.size == 0 && answer.value == 0 && answer.cause == 0);
+        }
         CHECK(bootimg_list(call->files[0].bytes, call->files[0].size, call->limit, depths[i], &byte, 1, &answer) ==
               BOOTIMG_WRONG_ARGUMENT);
         CHECK(bootimg_same_meaning(call->files[0].bytes, call->files[0].size, call->files[0].bytes, call->files[0].size,
@@ -281,6 +237,8 @@ static int try_arguments(struct call *call)
     CHECK(bootimg_normalise(call->files[0].bytes, call->files[0].size, 2, call->limit, 64, &byte, 1, &answer) ==
           BOOTIMG_WRONG_ARGUMENT);
     CHECK(bootimg_check(call->files[0].bytes, call->files[0].size, 128, call->limit, 64, &byte, 1, &answer) ==
+          BOOTIMG_WRONG_ARGUMENT);
+    CHECK(bootimg_check_json(call->files[0].bytes, call->files[0].size, 128, call->limit, 64, &byte, 1, &answer) ==
           BOOTIMG_WRONG_ARGUMENT);
     CHECK(bootimg_update(call->files[0].bytes, call->files[0].size, 4, 0, 0, call->limit, 64, &byte, 1, &answer) ==
           BOOTIMG_WRONG_ARGUMENT);
@@ -304,14 +262,13 @@ static int try_arguments(struct call *call)
     return 0;
 }
 
-static const char *const of_one[] = {"normalise", "update", "list", "describe", "verify", "check", "convert"};
-
 /* Writes what all calls on one file write. */
 static void run_all(const struct call *call, FILE *output)
 {
-    for (size_t i = 0; i < sizeof of_one / sizeof of_one[0]; i++) {
+    for (int i = 0; i < CALLS_OF_ONE; i++) {
         struct call one = *call;
-        one.command = of_one[i];
+        one.command = of_one[i].command;
+        one.is_json = of_one[i].is_json;
         one.is_quiet = 1;
         one.changes = BOOTIMG_CHANGE_TIME | BOOTIMG_CHANGE_HASHES;
         fprintf(output, "%s %d\n", one.command, run(&one, output));
@@ -385,6 +342,8 @@ int main(int count, char **words)
     for (int i = 2; i < count; i++) {
         if (strcmp(words[i], "--external") == 0) {
             call.form = BOOTIMG_EXTERNAL;
+        } else if (strcmp(words[i], "--json") == 0) {
+            call.is_json = 1;
         } else if (strcmp(words[i], "--limit") == 0) {
             call.limit = (uint32_t)strtoul(words[++i], NULL, 10);
         } else if (strcmp(words[i], "--kinds") == 0) {
@@ -425,7 +384,6 @@ int main(int count, char **words)
         else
             printf("kind %s\n", answer.value == BOOTIMG_LEGACY ? "legacy" : "fit");
     } else if (strcmp(call.command, "arguments") == 0) {
-        call.command = "describe";
         status = try_arguments(&call);
     } else if (strcmp(call.command, "threads") == 0) {
         status = try_threads(&call);

@@ -27,13 +27,13 @@ COMMANDS = {
     "normalise": {"--external"},
     "update": {"--external", "--time", "--hashes"},
     "extract": {"--part", "--image", "--config", "--default", "--key", "--index"},
-    "list": set(),
-    "describe": set(),
-    "verify": set(),
-    "check": {"--allow"},
+    "list": {"--json"},
+    "describe": {"--json"},
+    "verify": {"--json"},
+    "check": {"--allow", "--json"},
     "convert": set(),
 }
-FLAGS = {"--external", "--hashes", "--default"}
+FLAGS = {"--external", "--hashes", "--default", "--json"}
 SELECTIONS = {"--part", "--image", "--config", "--default"}
 
 

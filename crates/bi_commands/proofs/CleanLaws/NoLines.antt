@@ -2,6 +2,7 @@ use Rattle.std.proofs.Common.{◌≡◌, ◌↔◌, ℕ, Bool, true, false, ◌|
 use Rattle.std.proofs.Common.{ap, ap₂, ◌∙◌, true≢false}
 use Rattle.std.specs.Prelude.{if◌then◌else◌}
 use Rattle.std.specs.List.{AllByRecursion, list_any}
+use Rattle.std.proofs.Math.Bool.{or-true}
 use Rattle.bi_base.specs.Limits.{Limits}
 use Rattle.bi_base.proofs.ListMembers.{Contains-none, Contains-cases, Contains-first, Contains-others}
 use Rattle.bi_commands.specs.declared.check.Allowed.{Allowed}
@@ -96,11 +97,6 @@ any_is_found {X = X} test (first ∷ others) is = by (test first) refl (λ left.
       let rest = among (ap (λ b. b || list_any test others) (sym fails) ∙ is) in
       (rest.0, Contains-others first others rest.0 rest.1, rest.2)
 
--- One of two tests.
-pub second_passes : (a b : Bool) → b ≡ true → (a || b) ≡ true
-second_passes true b is = refl
-second_passes false b is = is
-
 -- An element that passes a test is found.
 pub passes_any : {X : Type 0} (test : X → Bool) (xs : List X) (x : X) → Contains xs x → test x ≡ true → list_any test xs ≡ true
 passes_any test [] x has passes = absurd (Contains-none x has)
@@ -108,4 +104,4 @@ passes_any test (first ∷ others) x has passes = by (Contains-cases first other
     (λ among. passes_any test others x among passes) where
       by : (first ≡ x) ⊎ Contains others x → (Contains others x → list_any test others ≡ true) → list_any test (first ∷ others) ≡ true
       by (inl same) rest = ap (λ b. b || list_any test others) (ap test same ∙ passes)
-      by (inr among) rest = second_passes (test first) (list_any test others) (rest among)
+      by (inr among) rest = ap (λ b. test first || b) (rest among) ∙ or-true (test first)

@@ -22,7 +22,7 @@ label_agrees : {label a b : List ℕ} {xs ys : List Words} → (label ∷ a ∷ 
 label_agrees same = (first_same (later_same (first_same same)), later_same same)
 
 -- The size of a part is a number of 64 bits.
-abbrev HasSmallSize : PayloadDigest → Type 0
+abbrev pub HasSmallSize : PayloadDigest → Type 0
 HasSmallSize digest = digest.size < 2 ^ 64
 
 -- Parts are read back from their lines.
@@ -48,7 +48,7 @@ padded_small (part ∷ next ∷ later) bytes are small = (
 )
 
 -- The parts of an image are short.
-parts_small : (image_type : ℕ) (body : List ℕ) (parts : List (List ℕ)) → HoldsParts image_type body parts → length body < 2 ^ 32 →
+pub parts_small : (image_type : ℕ) (body : List ℕ) (parts : List (List ℕ)) → HoldsParts image_type body parts → length body < 2 ^ 32 →
     AllByRecursion HasSmallSize (map digest_of_payload parts)
 parts_small image_type body parts holds small = where_type (has_part_table image_type) refl
   where

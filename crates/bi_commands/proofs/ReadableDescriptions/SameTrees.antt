@@ -13,7 +13,7 @@ use Rattle.bi_commands.specs.Descriptions.{tree_lines, fit_lines}
 use Rattle.bi_commands.specs.FitListing.{hexadecimal_64}
 use Rattle.bi_commands.proofs.ReadableDescriptions.Cuts.{first_same, later_same}
 use Rattle.bi_commands.proofs.ReadableDescriptions.OwnLines.{BeginsOther, not_there, words_apart, own_agrees}
-use Rattle.bi_commands.proofs.ReadableDescriptions.NodeLines.{same_nodes, nodes_begin}
+use Rattle.bi_commands.proofs.ReadableDescriptions.NodeLines.{AreReadable, same_nodes, nodes_begin}
 use Rattle.bi_commands.proofs.ReadableDescriptions.DescribedNodes.{HasImages, same_described, readable_nodes}
 use Rattle.bi_commands.proofs.ReadableDescriptions.Numbers.{same_hexadecimal_64}
 use Rattle.bi_commands.proofs.ReadableDescriptions.PayloadSizes.{file_payloads_fit}
@@ -56,6 +56,33 @@ tree_begins tree = λ others same. words_apart (codes "node") (codes "reservatio
 images_of : (tree : ImageTree) → IsImageTree tree → HasImages ArePropertiesByName tree.root.children tree.payloads
 images_of tree is = record { are_nodes = is.is_tree.children; images = is.images; has_images = is.has_images; apart = is.apart }
 
+-- The nodes of a description of what a file means are read back.
+pub readable : (file : List ℕ) (tree : ImageTree) → IsFitFile file tree → AreReadable (described_nodes tree.root.children tree.payloads)
+readable file tree is =
+    readable_nodes ArePropertiesByName tree.root.children tree.payloads (file_means_image_tree file tree is).is_tree.children
+    (file_payloads_fit file tree is)
+
+-- Flattened image trees whose parts are described as the same are similar.
+pub similar_parts : (file other_file : List ℕ) (one other : ImageTree) → IsFitFile file one → IsFitFile other_file other →
+    one.cpu ≡ other.cpu → one.reservations ≡ other.reservations → plain_node one.root.own ≡ plain_node other.root.own →
+    described_nodes one.root.children one.payloads ≡ described_nodes other.root.children other.payloads → AreSimilarTrees one other
+similar_parts file other_file one other is also cpu reservations own nodes =
+    let content = same_described ArePropertiesByName one.root.children other.root.children one.payloads other.payloads
+    (images_of one (file_means_image_tree file one is)) (images_of other (file_means_image_tree other_file other also)) nodes in
+    record {
+      cpu = cpu;
+      reservations = reservations;
+      root = ap₂ (λ own children. record { own = own; children = children })
+          (ap (λ (described : DescribedNode). described.properties) own) content.0;
+      payloads = content.1;
+    }
+
+-- The number of a boot processor has 64 bits.
+pub cpu_fits : (file : List ℕ) (tree : ImageTree) → IsFitFile file tree → tree.cpu < 2 ^ 64
+cpu_fits file tree is =
+    let fits : tree.cpu < 2 ^ 32 = (file_means_image_tree file tree is).cpu_fits in
+    omega (arith, fits)
+
 -- Flattened image trees with the same lines are similar.
 pub similar_trees : (file other_file : List ℕ) (one other : ImageTree) → IsFitFile file one → IsFitFile other_file other →
     fit_lines one ≡ fit_lines other → AreSimilarTrees one other
@@ -65,37 +92,18 @@ similar_trees file other_file one other is also same =
     later_same same in
     let cpu = first_same (later_same (first_same after_kind)) in
     let reserved = reservations_agree one.reservations other.reservations (tree_lines one) (tree_lines other)
-    tree.are_reservations other_tree.are_reservations (tree_begins one) (tree_begins other) (later_same after_kind) in
+    (file_means_image_tree file one is).are_reservations (file_means_image_tree other_file other also).are_reservations
+    (tree_begins one) (tree_begins other) (later_same after_kind) in
     let root = own_agrees (path []) (path []) (plain_node one.root.own) (plain_node other.root.own) (node_lines [] nodes)
     (node_lines [] other_nodes) tt tt
     (nodes_begin (codes "payload") nodes refl) (nodes_begin (codes "property") nodes refl)
     (nodes_begin (codes "payload") other_nodes refl) (nodes_begin (codes "property") other_nodes refl) reserved.1 in
-    let described = same_nodes nodes other_nodes
-    (readable_nodes ArePropertiesByName one.root.children one.payloads tree.is_tree.children (file_payloads_fit file one is))
-    (readable_nodes ArePropertiesByName other.root.children other.payloads other_tree.is_tree.children
-    (file_payloads_fit other_file other also))
-    root.1.1 in
-    let content = same_described ArePropertiesByName one.root.children other.root.children one.payloads other.payloads
-    (images_of one tree) (images_of other other_tree) described in
-    record {
-      cpu = decimal_injective one.cpu other.cpu (wider tree.cpu_fits) (wider other_tree.cpu_fits) cpu;
-      reservations = reserved.0;
-      root = ap₂ (λ own children. record { own = own; children = children })
-          (ap (λ (described : DescribedNode). described.properties) root.1.0) content.0;
-      payloads = content.1;
-    }
+    similar_parts file other_file one other is also
+    (decimal_injective one.cpu other.cpu (cpu_fits file one is) (cpu_fits other_file other also) cpu) reserved.0 root.1.0
+    (same_nodes nodes other_nodes (readable file one is) (readable other_file other also) root.1.1)
   where
-    tree : IsImageTree one
-    tree = file_means_image_tree file one is
-
-    other_tree : IsImageTree other
-    other_tree = file_means_image_tree other_file other also
-
     nodes : Nodes DescribedNode
     nodes = described_nodes one.root.children one.payloads
 
     other_nodes : Nodes DescribedNode
     other_nodes = described_nodes other.root.children other.payloads
-
-    wider : {n : ℕ} → n < 2 ^ 32 → n < 2 ^ 64
-    wider small = omega (arith, small)

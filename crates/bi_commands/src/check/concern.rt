@@ -36,7 +36,7 @@ pub(crate) enum Concern<'a, 'b> {
     /// The image of this name has a payload and Good verdicts, and none of these is of a strong
     /// algorithm. These are all of its hash nodes.
     WeakHash(&'a [u8], HashNodes<'a, 'b>),
-    /// The value of this key of the configuration of this name is no list of names.
+    /// The value of this key of the configuration of this name is not a list of names.
     BadKey(&'a [u8], Key),
     /// The configuration of this name lists, under this key and at this index, a name that no image
     /// has. It is the first such name.

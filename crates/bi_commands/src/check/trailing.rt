@@ -98,7 +98,7 @@ fn are_zeros(bytes: &[u8]) -> bool
 }
 
 /// Returns where the last of the blob and the payloads ends in the file.
-pub(super) fn content_end(fit: &Fit) -> usize
+pub(crate) fn content_end(fit: &Fit) -> usize
     ensures { result ≡ end_of_read_payloads fit.now.blob.total_size fit.now.images }
 {
     let mut end = 0;

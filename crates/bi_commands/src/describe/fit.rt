@@ -8,47 +8,71 @@ ghost use Rattle.bi_norm.specs.Meaning.{OfFit};
 ghost use Rattle.bi_commands.specs.Describing.{IsImageError};
 ghost use Rattle.bi_commands.specs.Shown.{line};
 ghost use Rattle.bi_commands.specs.ReadDescription.{IsDescriptionOf, head_lines, read_lines};
+ghost use Rattle.bi_commands.specs.ReadDescription.{read_text};
 ghost use Rattle.bi_commands.specs.TreeEntries.{most_open, as_entry};
 
 use super::entries::Entry;
 use super::image_nodes::entries_of;
+use super::json::put_fit_object;
 use super::limited_sink::LimitedSink;
 use super::lines::{most_open, put_tree};
 use crate::common_lines::put_reservation_lines;
 use crate::fields::{Field, put_lines};
+use crate::format::Format;
 use crate::payload_bounds::check_payloads;
 use bi_base::{Error, Limits, Sink};
 use bi_fdt::Blob;
 use bi_fit::Fit;
 use std::alloc::Global;
 
-/// Appends the description of a flattened image tree that was read.
+/// Appends the description of a flattened image tree that was read, in a form.
 pub(super) fn describe_fit<S: Sink>(
     alloc: Global,
     fit: &Fit,
     limits: Limits,
+    format: Format,
     sink: &mut S,
 ) -> Result<(), Error>
     requires held { IsHeld fit.now }
     ensures appended { OnOk result (Appended S.appends
-        (IsDescriptionOf limits (OfFit (tree_of fit.now))) sink.old sink.new) }
+        (IsDescriptionOf format limits (OfFit (tree_of fit.now))) sink.old sink.new) }
     ensures failed { IfErr result (AppendFailed S.fails
-        (IsDescriptionOf limits (OfFit (tree_of fit.now)))
-        (IsImageError limits (OfFit (tree_of fit.now))) sink.old sink.new) }
+        (IsDescriptionOf format limits (OfFit (tree_of fit.now)))
+        (IsImageError format limits (OfFit (tree_of fit.now))) sink.old sink.new) }
 {
     check_payloads(fit.images(), limits.file())?;
     let order = fit.name_order(alloc, limits.file())?;
     let entries = entries_of(alloc, fit, &order)?;
     let mut names = vec![in alloc; b"".as_slice(); most_open(&entries)]?;
     let mut measure = LimitedSink::new(limits.file());
-    put_fit(fit.blob(), &entries, &mut names, &mut measure)?;
-    put_fit(fit.blob(), &entries, &mut names, sink)?;
+    put_fit(fit.blob(), &entries, &mut names, format, &mut measure)?;
+    put_fit(fit.blob(), &entries, &mut names, format, sink)?;
     Ok(())
+}
+
+/// Appends a flattened image tree with these entries, in a form. Fails as the sink does. `names`
+/// has room for the names of all nodes that are open at once.
+fn put_fit<'a, S: Sink>(
+    blob: &Blob,
+    entries: &[Entry<'a>],
+    names: &mut [&'a [u8]],
+    format: Format,
+    sink: &mut S,
+) -> Result<(), Error>
+    requires { most_open 0 (map as_entry entries.now) ≤ length names.old }
+    ensures wrote { Wrote S.appends S.fails sink.old
+        (read_text format blob.now (map as_entry entries.now)) result sink.new }
+    ensures room { length names.new ≡ length names.old }
+{
+    match format {
+        Format::Lines => put_fit_lines(blob, entries, names, sink),
+        Format::Json => put_fit_object(blob, entries, sink),
+    }
 }
 
 /// Appends the lines of a flattened image tree with these entries. Fails as the sink does. `names`
 /// has room for the names of all nodes that are open at once.
-fn put_fit<'a, S: Sink>(
+fn put_fit_lines<'a, S: Sink>(
     blob: &Blob,
     entries: &[Entry<'a>],
     names: &mut [&'a [u8]],

@@ -31,7 +31,7 @@ pub(super) fn put_value<S: Sink>(value: &[u8], sink: &mut S) -> Result<(), Error
 }
 
 /// Returns whether a value is one or more texts that are printed in quotes, each NUL-terminated.
-fn are_quotable_texts(value: &[u8]) -> bool
+pub(crate) fn are_quotable_texts(value: &[u8]) -> bool
     ensures { result ≡ are_texts value.now }
 {
     value.ends_with(b"\0") && have_texts(value)

@@ -20,7 +20,7 @@ ghost use Rattle.bi_commands.specs.Shown.{line, shown_text};
 use super::fit::KEYS;
 use crate::fields::{Field, put_fields, put_later_field, put_line};
 use crate::format::Format;
-use crate::json::{JsonValue, put_comma, put_json, put_members, put_object};
+use crate::json::{JsonValue, put_comma, put_members, put_next, put_object};
 use crate::listed::{KeyList, configuration_nodes, listed_under};
 use bi_base::{Error, Sink};
 use bi_fdt::NodeRef;
@@ -111,8 +111,8 @@ fn put_keys<'a, S: Sink>(
     Ok(())
 }
 
-/// Appends what a configuration lists under a key, in a form, and returns whether there is something,
-/// or there was before. Fails as the sink does.
+/// Appends what a configuration lists under a key, in a form, and returns whether there is
+/// something, or there was before. Fails as the sink does.
 fn put_key<'a, S: Sink>(
     fit: &Fit<'a>,
     node: NodeRef<'a, '_>,
@@ -139,8 +139,8 @@ fn put_key<'a, S: Sink>(
     Ok(true)
 }
 
-/// Appends the line of a key of the configuration of this name. Appends nothing if the configuration
-/// has no such key. Fails as the sink does.
+/// Appends the line of a key of the configuration of this name. Appends nothing if the
+/// configuration has no such key. Fails as the sink does.
 fn put_key_line<S: Sink>(
     configuration: &[u8],
     key: Key,
@@ -207,8 +207,8 @@ fn put_listed_object<S: Sink>(key: Key, value: &[u8], sink: &mut S) -> Result<()
     sink.put(b"]}")
 }
 
-/// Appends the names that a value lists as strings, with a comma between each two. Fails as the sink
-/// does.
+/// Appends the names that a value lists as strings, with a comma between each two. Fails as the
+/// sink does.
 fn put_name_strings<S: Sink>(value: &[u8], sink: &mut S) -> Result<(), Error>
     ensures { Wrote S.appends S.fails sink.old (in_turn Json false
         (map (λ name. json_string (shown_text name)) (listed_names value.now))) result sink.new }
@@ -216,8 +216,7 @@ fn put_name_strings<S: Sink>(value: &[u8], sink: &mut S) -> Result<(), Error>
     let mut rest = value;
     let mut is_later = false;
     while let Some((name, later)) = split_name(rest) {
-        put_comma(is_later, sink)?;
-        put_json(JsonValue::Shown(name), sink)?;
+        put_next(JsonValue::Shown(name), is_later, sink)?;
         is_later = true;
         rest = later;
     }

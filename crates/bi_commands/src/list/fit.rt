@@ -59,11 +59,7 @@ fn put_json_only<S: Sink>(text: &[u8], format: Format, sink: &mut S) -> Result<(
 }
 
 /// Appends what comes before the memory reservations. Fails as the sink does.
-fn put_before_reservations<S: Sink>(
-    blob: &Blob,
-    format: Format,
-    sink: &mut S,
-) -> Result<(), Error>
+fn put_before_reservations<S: Sink>(blob: &Blob, format: Format, sink: &mut S) -> Result<(), Error>
     ensures { Wrote S.appends S.fails sink.old (before_reservations format blob.now) result
         sink.new }
 {
@@ -81,7 +77,10 @@ fn put_head_members<S: Sink>(blob: &Blob, sink: &mut S) -> Result<(), Error>
     let members = [
         ("kind", JsonValue::Text(b"fit")),
         ("boot_cpu", JsonValue::Number(u64::from(blob.boot_cpu()))),
-        ("total_size", JsonValue::Number(u64::from(blob.total_size()))),
+        (
+            "total_size",
+            JsonValue::Number(u64::from(blob.total_size())),
+        ),
     ];
     sink.put(b"{")?;
     put_members(&members, sink)?;

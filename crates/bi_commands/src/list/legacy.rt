@@ -1,15 +1,15 @@
 //! The listing of a legacy image.
 
-ghost use Rattle.std.specs.Prelude.{[], ◌∷◌, ◌++◌, false};
+ghost use Rattle.std.specs.Prelude.{[], ◌∷◌, ◌++◌, false, length};
 ghost use Rattle.std.specs.Fmt.{decimal};
 ghost use Rattle.bi_base.specs.Sinks.{Wrote};
 ghost use Rattle.bi_legacy.specs.PlacedParts.{part_model, placed_parts};
 ghost use Rattle.bi_commands.specs.Formats.{in_turn};
 ghost use Rattle.bi_commands.specs.Json.{json_line};
 ghost use Rattle.bi_commands.specs.ListedFiles.{legacy_listing_text};
-ghost use Rattle.bi_commands.specs.Listing.{legacy_listing, parts_lines, part_line};
+ghost use Rattle.bi_commands.specs.Listing.{legacy_listing, part_line};
 ghost use Rattle.bi_commands.specs.ListingJson.{legacy_listing_object, part_object};
-ghost use Rattle.bi_commands.specs.ReadListing.{part_text, part_texts};
+ghost use Rattle.bi_commands.specs.ReadListing.{before_parts, part_text, part_texts};
 
 use crate::common_lines::{put_codes, put_header_members, put_kind_and_fields};
 use crate::fields::{Field, put_decimal, put_line};
@@ -40,18 +40,9 @@ fn put_legacy_lines<S: Sink>(image: &Legacy, sink: &mut S) -> Result<(), Error>
     let fields = image.fields();
     put_kind_and_fields(fields, sink)?;
     put_codes(fields, sink)?;
-    put_part_lines(image, sink)?;
+    put_parts(image, Format::Lines, sink)?;
     let unused = Field::Decimal(u64::from(image.unused()));
     put_line(&[Field::Text(b"unused"), unused], sink)
-}
-
-/// Appends the line with the number of parts, and a line for each part. Fails as the sink does.
-fn put_part_lines<S: Sink>(image: &Legacy, sink: &mut S) -> Result<(), Error>
-    ensures { Wrote S.appends S.fails sink.old (parts_lines image.now.image) result sink.new }
-{
-    let count = Field::Decimal(image.part_count() as u64);
-    put_line(&[Field::Text(b"parts"), count], sink)?;
-    put_parts(image, Format::Lines, sink)
 }
 
 /// Appends the object of a legacy image, and a newline. Fails as the sink does.
@@ -59,27 +50,39 @@ fn put_legacy_object<S: Sink>(image: &Legacy, sink: &mut S) -> Result<(), Error>
     ensures { Wrote S.appends S.fails sink.old (json_line (legacy_listing_object image.now)) result
         sink.new }
 {
+    let fields = image.fields();
     sink.put(b"{")?;
-    put_header_members(image.fields(), sink)?;
-    sink.put(b",\"parts\":[")?;
+    put_header_members(fields, sink)?;
     put_parts(image, Format::Json, sink)?;
     sink.put(b"],\"unused\":")?;
     put_decimal(u64::from(image.unused()), sink)?;
     sink.put(b"}\n")
 }
 
-/// Appends each part. Fails as the sink does.
+/// Appends what comes before the parts, and each part. Fails as the sink does.
 fn put_parts<S: Sink>(image: &Legacy, format: Format, sink: &mut S) -> Result<(), Error>
-    ensures { Wrote S.appends S.fails sink.old
-        (in_turn format false (part_texts format 0 (placed_parts image.now.image))) result
-        sink.new }
+    ensures { let image = image.now.image in
+        Wrote S.appends S.fails sink.old (before_parts format (length image.parts)
+        ++ in_turn format false (part_texts format 0 (placed_parts image))) result sink.new }
 {
+    put_before_parts(image.part_count(), format, sink)?;
     let mut is_later = false;
     for (index, part) in image.parts().enumerate() {
         put_part(index, &part, format, is_later, sink)?;
         is_later = true;
     }
     Ok(())
+}
+
+/// Appends what comes before the parts: a line with their number, or the name of a member. Fails as
+/// the sink does.
+fn put_before_parts<S: Sink>(count: usize, format: Format, sink: &mut S) -> Result<(), Error>
+    ensures { Wrote S.appends S.fails sink.old (before_parts format count) result sink.new }
+{
+    match format {
+        Format::Lines => put_line(&[Field::Text(b"parts"), Field::Decimal(count as u64)], sink),
+        Format::Json => sink.put(b",\"parts\":["),
+    }
 }
 
 /// Appends a part. Fails as the sink does.

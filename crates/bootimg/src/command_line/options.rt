@@ -2,13 +2,14 @@
 
 ghost use Rattle.std.specs.Prelude.{◌≡◌, IfOk, IfErr, IfSome, IfNone, codes};
 ghost use Rattle.bootimg.specs.CommandLine.{limit_of, value_of};
-ghost use Rattle.bootimg.specs.CommandLine.{IsBadValue, IsForm, IsLimits, NoneIs};
+ghost use Rattle.bootimg.specs.CommandLine.{IsBadValue, IsForm, IsFormat, IsLimits, NoneIs};
 ghost use Rattle.bootimg.specs.Numbers.{IsNumber};
 
 use crate::command_line::table::{GREATEST_LIMIT, ZERO};
 use crate::failure::Failure;
 use crate::numbers::parse_number;
 use bi_base::Limits;
+use bi_commands::format::Format;
 use bi_norm::Form;
 use clap::ArgMatches;
 
@@ -40,6 +41,17 @@ pub fn form(options: &ArgMatches<'_>) -> Form
         Form::External
     } else {
         Form::Embedded
+    }
+}
+
+/// Returns the form of the text that the options give: JSON, or lines.
+pub fn format(options: &ArgMatches<'_>) -> Format
+    ensures { IsFormat options.now result }
+{
+    if options.get_flag("json") {
+        Format::Json
+    } else {
+        Format::Lines
     }
 }
 

@@ -4,7 +4,9 @@ ghost use Rattle.std.specs.Prelude.{IfOk, IfErr};
 ghost use Rattle.bootimg.specs.CommandLine.{option_of, IsBadValue, IsComparePlan};
 ghost use Rattle.bootimg.specs.CommandLine.{IsImageSource};
 
+use crate::command_line::options::format;
 use crate::failure::Failure;
+use bi_commands::format::Format;
 use clap::ArgMatches;
 
 /// Where an image is read from.
@@ -25,6 +27,8 @@ pub struct ComparePlan<'a> {
     pub other: ImageSource<'a>,
     /// Whether the differences are left out.
     pub quiet: bool,
+    /// The form of the differences.
+    pub format: Format,
 }
 
 /// Returns the image that the argument of this name gives: standard input if there is none, or if
@@ -47,8 +51,14 @@ pub fn compare_plan<'a>(options: &ArgMatches<'a>) -> Result<ComparePlan<'a>, Fai
     let one = source(options, "one");
     let other = source(options, "other");
     let quiet = options.get_flag("quiet");
+    let format = format(options);
     match (one, other) {
         (ImageSource::Standard, ImageSource::Standard) => Err(Failure::BadValue),
-        _ => Ok(ComparePlan { one, other, quiet }),
+        _ => Ok(ComparePlan {
+            one,
+            other,
+            quiet,
+            format,
+        }),
     }
 }

@@ -37,8 +37,8 @@ const AFTER_HELP: &str =
      output, or to the file FILE with -o:\n\n\
      \x20   bootimg list kernel.uimage\n\n\
      The exit status is 0 after success. A failure is reported on standard error, and the exit\n\
-     status is then 2. It is 1 if verify wrote a verdict that is not good, if check wrote a line,\n\
-     or if compare found that two images do not mean the same thing.";
+     status is then 2. It is 1 if verify wrote a verdict that is not good, if check found what is\n\
+     not protected, or if compare found that two images do not mean the same thing.";
 
 /// How an option is given.
 #[derive(Clone, Copy)]
@@ -74,6 +74,7 @@ struct OptionText {
 #[derive(Clone, Copy)]
 struct CommandText {
     name: &'static str,
+    aliases: &'static [&'static str],
     about: &'static str,
     usage: &'static str,
     after_help: &'static str,
@@ -150,7 +151,8 @@ fn command<'a>(alloc: Global, text: &CommandText) -> Result<Command<'a>, AllocEr
     let mut command = Command::new(alloc, text.name)
         .about(text.about)
         .override_usage(text.usage)
-        .after_help(text.after_help);
+        .after_help(text.after_help)
+        .visible_aliases(text.aliases)?;
     for option in text.options {
         command = command.arg(argument(alloc, option))?;
     }
@@ -215,6 +217,13 @@ const QUIET: OptionText = OptionText {
     name: "quiet",
     value_name: "",
     help: "Write nothing: the exit status is the result",
+    form: OptionForm::Flag,
+};
+
+const JSON: OptionText = OptionText {
+    name: "json",
+    value_name: "",
+    help: "Write JSON instead of lines",
     form: OptionForm::Flag,
 };
 
@@ -404,6 +413,7 @@ const IMAGES: OptionText = OptionText {
 static READING_COMMANDS: [CommandText; 6] = [
     CommandText {
         name: "normalise",
+        aliases: &["normalize"],
         about: "Write the normal form of an image",
         usage: "bootimg normalise [OPTIONS] [IMAGE] > NORMAL",
         after_help: "\
@@ -417,6 +427,7 @@ static READING_COMMANDS: [CommandText; 6] = [
     },
     CommandText {
         name: "list",
+        aliases: &[],
         about: "List what an image holds",
         usage: "bootimg list [OPTIONS] [IMAGE]",
         after_help: "\
@@ -426,10 +437,11 @@ static READING_COMMANDS: [CommandText; 6] = [
                  offset of each payload, and what each configuration lists, but not where loaders\n\
                  put it: describe does. Sizes and offsets are in bytes.\n\n\
                  Example: bootimg list kernel.uimage",
-        options: &[LIMIT, OUTPUT, FILE],
+        options: &[JSON, LIMIT, OUTPUT, FILE],
     },
     CommandText {
         name: "describe",
+        aliases: &[],
         about: "Describe what an image means",
         usage: "bootimg describe [OPTIONS] [IMAGE]",
         after_help: "\
@@ -439,10 +451,11 @@ static READING_COMMANDS: [CommandText; 6] = [
                  or after it. Each payload or part has a line with its size and SHA-256. Neither\n\
                  the payloads together nor the description may be longer than the limit.\n\n\
                  Example: bootimg describe kernel.itb",
-        options: &[LIMIT, OUTPUT, FILE],
+        options: &[JSON, LIMIT, OUTPUT, FILE],
     },
     CommandText {
         name: "compare",
+        aliases: &["diff"],
         about: "Compare what two images mean",
         usage: "bootimg compare [OPTIONS] <ONE> <OTHER>",
         after_help: "\
@@ -452,10 +465,11 @@ static READING_COMMANDS: [CommandText; 6] = [
                  their layout. At most one of the two is standard input.\n\n\
                  The exit status is 0 if both mean the same thing, and 1 if they do not.\n\n\
                  Example: bootimg compare yesterday.itb today.itb",
-        options: &[QUIET, LIMIT, OUTPUT, ONE, OTHER],
+        options: &[QUIET, JSON, LIMIT, OUTPUT, ONE, OTHER],
     },
     CommandText {
         name: "verify",
+        aliases: &[],
         about: "Check the checksums and digests of an image",
         usage: "bootimg verify [OPTIONS] [IMAGE]",
         after_help: "\
@@ -466,10 +480,11 @@ static READING_COMMANDS: [CommandText; 6] = [
                  if a flattened image tree has no hash node, so that nothing is checked: bootimg\n\
                  check finds what is not protected.\n\n\
                  Example: bootimg verify kernel.itb",
-        options: &[LIMIT, OUTPUT, FILE],
+        options: &[JSON, LIMIT, OUTPUT, FILE],
     },
     CommandText {
         name: "check",
+        aliases: &[],
         about: "Find what is not protected in an image",
         usage: "bootimg check [OPTIONS] [IMAGE]",
         after_help: "\
@@ -485,9 +500,9 @@ static READING_COMMANDS: [CommandText; 6] = [
                  A legacy image can only have trailing: its checksums are always checked, and an\n\
                  image with a wrong one is refused. --limit also bounds the payloads of a\n\
                  flattened image tree together. Signatures are not checked.\n\n\
-                 The exit status is 0 if no line was written, and 1 if one was.\n\n\
+                 The exit status is 0 if nothing was found, and 1 if something was.\n\n\
                  Example: bootimg check --allow weak-hash,trailing kernel.itb",
-        options: &[ALLOW, LIMIT, OUTPUT, FILE],
+        options: &[ALLOW, JSON, LIMIT, OUTPUT, FILE],
     },
 ];
 
@@ -495,6 +510,7 @@ static READING_COMMANDS: [CommandText; 6] = [
 static CHANGING_COMMANDS: [CommandText; 3] = [
     CommandText {
         name: "update",
+        aliases: &[],
         about: "Set the time of an image, or compute its digests again",
         usage: "bootimg update [OPTIONS] [IMAGE]",
         after_help: "\
@@ -510,6 +526,7 @@ static CHANGING_COMMANDS: [CommandText; 3] = [
     },
     CommandText {
         name: "extract",
+        aliases: &[],
         about: "Write one part or payload of an image",
         usage: "bootimg extract (--part <N> | --image <NAME> | --config <NAME> | --default) \
              [OPTIONS] [IMAGE] > PAYLOAD",
@@ -528,6 +545,7 @@ static CHANGING_COMMANDS: [CommandText; 3] = [
     },
     CommandText {
         name: "convert",
+        aliases: &[],
         about: "Convert a legacy image to a flattened image tree",
         usage: "bootimg convert [OPTIONS] [IMAGE] > FIT",
         after_help: "\
@@ -543,6 +561,7 @@ static CHANGING_COMMANDS: [CommandText; 3] = [
 /// The command that needs no image.
 static EXPLAIN: CommandText = CommandText {
     name: "explain",
+    aliases: &[],
     about: "Say what the cause of an error means",
     usage: "bootimg explain [OPTIONS] [CAUSE]",
     after_help: "\
@@ -556,6 +575,7 @@ static EXPLAIN: CommandText = CommandText {
 static BUILDING_COMMANDS: [CommandText; 2] = [
     CommandText {
         name: "build-legacy",
+        aliases: &[],
         about: "Build a legacy image",
         usage: "bootimg build-legacy --os <OS> --arch <ARCH> --type <TYPE> [OPTIONS] [LEN]... \
              < PARTS > IMAGE",
@@ -589,6 +609,7 @@ static BUILDING_COMMANDS: [CommandText; 2] = [
     },
     CommandText {
         name: "build-fit",
+        aliases: &[],
         about: "Build a flattened image tree",
         usage: "bootimg build-fit [OPTIONS] [IMAGE]... < PAYLOADS > FIT",
         after_help: "\

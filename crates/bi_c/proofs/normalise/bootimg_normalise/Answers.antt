@@ -3,8 +3,7 @@ use Rattle.bi_norm.specs.Reading.{IsReadBootImage}
 use Rattle.bi_c.specs.declared.failure.Failure.TheVariants.{WrongArgument}
 use Rattle.bi_c.specs.Answers.{FilledNothing}
 use Rattle.bi_c.specs.Arguments.{HasForm}
-use Rattle.bi_c.proofs.CallAnswers.{not_so, is_so}
-use Rattle.bi_c.proofs.SliceWriting.{fills_as}
+use Rattle.bi_c.proofs.CallAnswers.{not_so, is_so, fills_as}
 use Rattle.bi_norm.proofs.NormalForms.{normalise_error_of_reading}
 use Rattle.bi_c.proofs.NormalisedFiles.{normalised_as, not_normalised}
 use Rattle.bi_c.proofs.normalise.bootimg_normalise.Goals as goal

@@ -3,7 +3,7 @@ use Rattle.bi_blob.specs.Layout.{longest_text}
 use Rattle.bi_norm.specs.NormalForm.{IsNormaliseOutput}
 use Rattle.bi_norm.proofs.NormalForms.{text_error, tree_normalised}
 use Rattle.bi_c.specs.Answers.{FilledNothing}
-use Rattle.bi_c.proofs.SliceWriting.{fills_as}
+use Rattle.bi_c.proofs.CallAnswers.{fills_as}
 use Rattle.bi_c.proofs.normalise.normalise_fit.Goals as goal
 
 pub returns-in-Ok : goal.returns-in-Ok

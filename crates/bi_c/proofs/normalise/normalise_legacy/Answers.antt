@@ -3,7 +3,7 @@ use Rattle.bi_base.specs.declared.fault.Error.TheVariants as error
 use Rattle.bi_norm.specs.NormalForm.{IsNormaliseOutput}
 use Rattle.bi_norm.proofs.NormalForms.{legacy_normal_form, legacy_normalised, normal_form_needs_memory}
 use Rattle.bi_legacy.specs.Text.{legacy_text}
-use Rattle.bi_c.proofs.SliceWriting.{fills_as}
+use Rattle.bi_c.proofs.CallAnswers.{fills_as}
 use Rattle.bi_c.proofs.normalise.normalise_legacy.Goals as goal
 
 pub returns : goal.returns

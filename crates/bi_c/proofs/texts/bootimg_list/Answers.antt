@@ -1,28 +1,18 @@
 use Rattle.std.proofs.Common.{refl, string_bytes}
-use Rattle.bi_base.specs.Limits.{IsInRange}
 use Rattle.bi_norm.specs.Reading.{IsBootImageReadError}
-use Rattle.bi_commands.specs.Listing.{IsListing}
+use Rattle.bi_commands.specs.declared.format.Format.TheVariants.{Lines}
+use Rattle.bi_commands.specs.ListedFiles.{IsListing}
 use Rattle.bi_c.specs.declared.failure.Failure.TheVariants.{WrongArgument}
 use Rattle.bi_c.specs.Answers.{FilledNothing}
-use Rattle.bi_c.proofs.CallAnswers.{not_so, is_so, buffer_is_filled, failed_of_one, text_of_call}
+use Rattle.bi_c.proofs.CallAnswers.{not_so, is_so, text_fills}
 use Rattle.bi_c.proofs.texts.bootimg_list.Goals as goal
 
 pub returns-in_default : goal.returns-in_default
 returns-in_default c = FilledNothing WrongArgument (not_so _ c.in_default.ensures.in_range) refl c.fail.ensures.answer c.fail.ensures.status
 
-pub returns-in-Ok : goal.returns-in-Ok
-returns-in-Ok c =
-    let in_range : IsInRange c.args.limit c.args.depth = is_so _ c.in-Some.ensures.in_range in
-    buffer_is_filled _ _ c.as_bytes.result.now _ _ 0 _ _
-    (text_of_call c.args.limit c.args.depth (λ limits text. IsListing limits c.args.file.now text) c.in-Some.limits
-    (string_bytes c.in-Ok.text) c.as_bytes.result.now in_range c.in-Some.ensures.value c.as_bytes.ensures.value c.in-Ok.ensures.lists)
-    c.fill.ensures.answer c.fill.ensures.filled
-
-pub returns-in-Err : goal.returns-in-Err
-returns-in-Err c =
-    let in_range : IsInRange c.args.limit c.args.depth = is_so _ c.in-Some.ensures.in_range in
-    FilledNothing c.failure_of.result
-    (failed_of_one c.args.limit c.args.depth
-    (λ limits error. IsBootImageReadError limits c.args.file.now error) c.in-Some.limits c.in-Err.error c.failure_of.result in_range
-    c.in-Some.ensures.value c.failure_of.ensures (λ l is. is) (λ l is. is) c.in-Err.ensures.failed)
-    refl c.fail-in-Err.ensures.answer c.fail-in-Err.ensures.status
+pub returns : goal.returns
+returns c =
+    text_fills c.args.limit c.args.depth (λ limits text. IsListing Lines limits c.args.file.now text)
+    (λ limits. IsBootImageReadError limits c.args.file.now) (λ text. string_bytes text) c.in-Some.limits c.listing.result _ _ _ _
+    (is_so _ c.in-Some.ensures.in_range) c.in-Some.ensures.value (λ l is. is) (λ l is. is) c.listing.ensures.lists
+    c.listing.ensures.failed c.fill_text.ensures

@@ -1,16 +1,21 @@
 use Rattle.std.proofs.Common.{sym, subst, true≢false}
 use Rattle.std.specs.Prelude.{IsOk}
 use Rattle.std.proofs.lemmas.Result.{err_from_is_err_and}
-use Rattle.bi_commands.specs.CheckedFiles.{IsCheckOutput}
+use Rattle.bi_fit.proofs.AppendedTexts.{error_in_memory}
+use Rattle.bi_norm.proofs.NormalForms.{needs_memory}
+use Rattle.bi_commands.specs.CheckedFiles.{IsChecked, IsCheckError, IsCheckOutput}
 use Rattle.bi_commands.proofs.AsciiReports.{checked_is_ascii}
 use Rattle.bi_commands.proofs.AsciiTexts.{appended_utf8}
-use Rattle.bi_commands.proofs.CheckedFiles.{not_checked_in_memory}
 use Rattle.bi_commands.proofs.check.check_as.Goals as goal
 
 pub returns-in_err-_clean-clause-failed : goal.returns-in_err-_clean-clause-failed
 returns-in_err-_clean-clause-failed c =
+    let checker = c.args.checker in
+    let limits = c.args.limits in
+    let file = c.args.file.now in
     let p = err_from_is_err_and c.from_residual.result c.from_residual.ensures.1 in
-    rw (p.1, p.2) (not_checked_in_memory c.args.checker c.args.limits c.args.file.now _ _ _ c.in_err-_clean.ensures.failed)
+    rw (p.1, p.2) (error_in_memory _ (IsChecked checker.format checker.allowed limits file) (IsCheckError limits file) _ _ _
+    (λ text failed. failed.1) (λ text is. needs_memory limits file is.meaning is.means.means) c.in_err-_clean.ensures.failed)
 
 pub unreachable-requires : goal.unreachable-requires
 unreachable-requires c =

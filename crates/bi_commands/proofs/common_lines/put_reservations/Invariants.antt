@@ -1,11 +1,10 @@
-use Rattle.std.proofs.Common.{◌≡◌, ◌++◌, ℕ, List, drop, flat_map, map}
-use Rattle.bi_commands.specs.Descriptions.{reservation_words}
-use Rattle.bi_commands.specs.Shown.{line}
+use Rattle.std.proofs.Common.{drop, false, map, not, ◌==◌}
+use Rattle.bi_commands.specs.ReadListing.{reservation_text}
+use Rattle.bi_commands.proofs.TextsInTurn.{AreInTurn}
 use Rattle.bi_commands.proofs.common_lines.put_reservations.Given as goal
 
--- The lines of the reservations before this one were appended, and those of the others follow.
+-- The reservations that are left follow those that were appended.
 abbrev pub invariant-loop-index : goal.invariant-loop-index
 invariant-loop-index g l =
-    (done : List ℕ) × g.S.Sink.appends l.initial.sink done l.sink
-    × (done ++ flat_map line (map reservation_words (drop l.index l.blob.reservations))
-    ≡ flat_map line (map reservation_words l.blob.reservations))
+    AreInTurn g.S.Sink.appends l.initial.sink l.sink l.fn.format false (not (l.index == 0))
+    (map (reservation_text l.fn.format) (drop l.index l.blob.reservations)) (map (reservation_text l.fn.format) l.blob.reservations)

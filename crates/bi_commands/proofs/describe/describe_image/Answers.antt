@@ -9,6 +9,6 @@ pub unreachable-requires : goal.unreachable-requires
 unreachable-requires c =
     let meaning = meaning_of c.args.image.now in
     true≢false (sym (subst IsOk c.in-Err.is (c.from_utf8.ensures.succeeds
-    (appended_utf8 (IsDescriptionOf c.args.limits meaning) _ _ _
+    (appended_utf8 (IsDescriptionOf c.args.format c.args.limits meaning) _ _ _
     (λ text is. subst IsAscii (sym is.is_text) c.description_is_ascii.ensures)
     c.in_ok-describe_into.ensures.appended c.new-sink.ensures c.into_vec.ensures))))

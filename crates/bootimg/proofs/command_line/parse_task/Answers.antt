@@ -10,12 +10,13 @@ returns-clause-task c =
     let is_task = IsTask c.args.name.now c.args.options.now in
     elim c.match-name.branch [
       | in-normalise w ↦ subst is_task (sym w.result-is) (w.in-normalise.is, w.form.ensures)
-      | in-list w ↦ subst is_task (sym w.result-is) w.in-list.is
-      | in-describe w ↦ subst is_task (sym w.result-is) w.in-describe.is
-      | in-verify w ↦ subst is_task (sym w.result-is) w.in-verify.is
+      | in-list w ↦ subst is_task (sym w.result-is) (w.in-list.is, w.format.ensures)
+      | in-describe w ↦ subst is_task (sym w.result-is) (w.in-describe.is, w.format-in-describe.ensures)
+      | in-verify w ↦ subst is_task (sym w.result-is) (w.in-verify.is, w.format-in-verify.ensures)
       | in-check+in_ok-allowed_kinds-in-check w ↦ subst is_task (sym w.result-is) (
         w.in-check.is,
         w.in_ok-allowed_kinds-in-check.ensures.value,
+        w.format-in-check.ensures,
       )
       | in-update+in_ok-changes-in-update w ↦ subst is_task (sym w.result-is) (
         w.in-update.is,

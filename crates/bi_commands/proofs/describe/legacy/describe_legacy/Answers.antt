@@ -10,9 +10,9 @@ pub returns-in_err-put_legacy-clause-failed : goal.returns-in_err-put_legacy-cla
 returns-in_err-put_legacy-clause-failed g c =
     let p = err_from_is_err_and c.from_residual-in_err-put_legacy.result c.from_residual-in_err-put_legacy.ensures.1 in
     let image = c.args.image.now.image in
-    let is = legacy_description c.fields.result image c.deref.result.now c.fields.ensures
+    let is = legacy_description c.args.format c.fields.result image c.deref.result.now c.fields.ensures
     (ap (map digest_made) c.deref.ensures.value ∙ c.in_ok-parts.ensures) in
-    rw (p.1, p.2) (WasRefused (refused_text c.args.limits
+    rw (p.1, p.2) (WasRefused (refused_text c.args.format c.args.limits
     (OfLegacy image) c.new-measure.result c.put_legacy.new.sink _ c.in_err-put_legacy.field-0.0
     (c.new-measure.ensures.limit ∙ c.file.ensures.value)
     (c.new-measure.ensures.room ∙ c.file.ensures.value) is c.in_err-put_legacy.ensures) refl)
@@ -21,11 +21,11 @@ pub returns-in_err-put_legacy-2-clause-failed : goal.returns-in_err-put_legacy-2
 returns-in_err-put_legacy-2-clause-failed g c =
     let p = err_from_is_err_and c.from_residual-in_err-put_legacy-2.result c.from_residual-in_err-put_legacy-2.ensures.1 in
     let image = c.args.image.now.image in
-    let is = legacy_description c.fields.result image c.deref.result.now c.fields.ensures
+    let is = legacy_description c.args.format c.fields.result image c.deref.result.now c.fields.ensures
     (ap (map digest_made) c.deref.ensures.value ∙ c.in_ok-parts.ensures) in
-    let is_2 = legacy_description c.fields-2.result image c.deref-2.result.now c.fields-2.ensures
+    let is_2 = legacy_description c.args.format c.fields-2.result image c.deref-2.result.now c.fields-2.ensures
     (ap (map digest_made) c.deref-2.ensures.value ∙ c.in_ok-parts.ensures) in
-    let short = short_text c.args.limits (OfLegacy image) c.new-measure.result c.put_legacy.new.sink _
+    let short = short_text c.args.format c.args.limits (OfLegacy image) c.new-measure.result c.put_legacy.new.sink _
     (c.new-measure.ensures.room ∙ c.file.ensures.value) is c.in_ok-put_legacy.ensures in
     rw (p.1, p.2) (SinkFailed _ c.in_err-put_legacy-2.field-0.0
     (record { within = record { payloads = λ over. over; short = short }; is_text = is_2 }) c.in_err-put_legacy-2.ensures refl)
@@ -33,11 +33,11 @@ returns-in_err-put_legacy-2-clause-failed g c =
 pub returns-clause-appended : goal.returns-clause-appended
 returns-clause-appended g c =
     let image = c.args.image.now.image in
-    let is = legacy_description c.fields.result image c.deref.result.now c.fields.ensures
+    let is = legacy_description c.args.format c.fields.result image c.deref.result.now c.fields.ensures
     (ap (map digest_made) c.deref.ensures.value ∙ c.in_ok-parts.ensures) in
-    let is_2 = legacy_description c.fields-2.result image c.deref-2.result.now c.fields-2.ensures
+    let is_2 = legacy_description c.args.format c.fields-2.result image c.deref-2.result.now c.fields-2.ensures
     (ap (map digest_made) c.deref-2.ensures.value ∙ c.in_ok-parts.ensures) in
-    let short = short_text c.args.limits (OfLegacy image) c.new-measure.result c.put_legacy.new.sink _
+    let short = short_text c.args.format c.args.limits (OfLegacy image) c.new-measure.result c.put_legacy.new.sink _
     (c.new-measure.ensures.room ∙ c.file.ensures.value) is c.in_ok-put_legacy.ensures in
     record {
       text = _;

@@ -1,36 +1,37 @@
-use Rattle.std.proofs.Common.{Option, sym, ap, ◌∙◌, subst, flat_map}
-use Rattle.std.specs.Option.{option_map}
-use Rattle.bi_base.specs.Sinks.{Wrote}
-use Rattle.bi_blob.specs.Lookups.{Sibling, siblings, node_named, root_node}
-use Rattle.bi_blob.specs.Tree.{FileNode}
-use Rattle.bi_fdt.specs.declared.node.NodeRef.{NodeRef}
-use Rattle.bi_fdt.specs.Content.{Blob, root_of}
+use Rattle.std.proofs.Common.{true, false, List, [], ◌∷◌, ℕ, map, refl, ap, ◌∙◌}
+use Rattle.bi_base.proofs.SinkLaws.{passed_on}
 use Rattle.bi_fdt.specs.Views.{node_of}
-use Rattle.bi_fit.specs.ImageTree.{nodes_or_none}
-use Rattle.bi_fit.specs.Names.{configurations_name}
-use Rattle.bi_commands.specs.ReadListing.{configuration_node_lines}
-use Rattle.bi_commands.proofs.ConfigurationNodes.{lines_of_children}
+use Rattle.bi_commands.specs.Children.{children_left}
+use Rattle.bi_commands.specs.ReadListing.{configuration_text}
+use Rattle.bi_commands.proofs.TextsInTurn.{turn_begins, turn_ends, turn_fails, turn_goes_on}
 use Rattle.bi_commands.proofs.list.configurations.put_configurations.Goals as goal
 
-pub returns-in-Some : goal.returns-in-Some
-returns-in-Some g c =
-    let content = c.args.fit.now in
-    let found = c.child.ensures.child
-    ∙ ap (λ (parent : Sibling FileNode). node_named parent.children configurations_name)
-    (c.root.ensures.root ∙ ap (λ (blob : Blob). root_node (root_of blob)) c.blob.ensures) in
-    let lines = lines_of_children content (option_map node_of c.child.result) c.requires.held found
-    ∙ ap (λ (parent : Option NodeRef). flat_map (configuration_node_lines content.images)
-    (siblings (nodes_or_none (option_map (λ (entry : Sibling FileNode). entry.children) (option_map node_of parent))))) c.in-Some.is in
-    subst (λ bytes. Wrote g.S.Sink.appends g.S.Sink.fails c.args.sink.now bytes c.put_children.result c.put_children.new.sink)
-    (sym lines) c.put_children.ensures
+pub loop-node-init : goal.loop-node-init
+loop-node-init g c =
+    turn_begins g.S.Sink.appends g.met.S.Sink.appends_nothing c.args.sink.now c.args.format false _ _
+    (ap (map (configuration_text c.args.format c.args.fit.now.images))
+    (ap children_left c.into_iter-node-iterator.ensures.into_iter_gives ∙ c.configuration_nodes-node-items.ensures))
 
-pub returns-in-None : goal.returns-in-None
-returns-in-None g c =
-    let content = c.args.fit.now in
-    let found = c.child.ensures.child
-    ∙ ap (λ (parent : Sibling FileNode). node_named parent.children configurations_name)
-    (c.root.ensures.root ∙ ap (λ (blob : Blob). root_node (root_of blob)) c.blob.ensures) in
-    let lines = lines_of_children content (option_map node_of c.child.result) c.requires.held found
-    ∙ ap (λ (parent : Option NodeRef). flat_map (configuration_node_lines content.images)
-    (siblings (nodes_or_none (option_map (λ (entry : Sibling FileNode). entry.children) (option_map node_of parent))))) c.in-None.is in
-    subst (λ bytes. g.S.Sink.appends c.args.sink.now bytes c.args.sink.now) (sym lines) (g.met.S.Sink.appends_nothing c.args.sink.now)
+pub loop-node-preserved : goal.loop-node-preserved
+loop-node-preserved g c =
+    let text = configuration_text c.args.format c.args.fit.now.images in
+    let one : List (List ℕ) = text (node_of c.in-Some.node) ∷ [] in
+    turn_goes_on g.S.Sink.appends g.met.S.Sink.appends_in_turn c.args.sink.now c.loop-node.sink c.put_configuration.new.sink c.args.format
+    false c.loop-node.is_later true one (map text (children_left c.next.new.self)) _ _ c.loop-node.invariant
+    (ap (map text) c.in-Some.ensures.steps) refl c.in_ok-put_configuration.ensures
+
+pub returns-in_err-put_configuration : goal.returns-in_err-put_configuration
+returns-in_err-put_configuration g c =
+    let S = g.S.Sink in
+    let laws = g.met.S.Sink in
+    let text = configuration_text c.args.format c.args.fit.now.images in
+    let one : List (List ℕ) = text (node_of c.in-Some.node) ∷ [] in
+    passed_on S.appends S.fails c.args.sink.now _ _ c.from_residual.result c.put_configuration.new.sink c.from_residual.ensures.1
+    (turn_fails S.appends S.fails laws.fails_after laws.fails_before c.args.sink.now c.loop-node.sink c.put_configuration.new.sink
+    c.args.format false c.loop-node.is_later one (map text (children_left c.next.new.self)) _ _ _ c.loop-node.invariant
+    (ap (map text) c.in-Some.ensures.steps) c.in_err-put_configuration.ensures)
+
+pub returns : goal.returns
+returns g c =
+    (turn_ends g.S.Sink.appends c.args.sink.now c.loop-node.sink c.args.format false c.loop-node.is_later _ _ c.loop-node.invariant
+    (ap (map (configuration_text c.args.format c.args.fit.now.images)) c.in-None.ensures.steps.0)).0

@@ -1,21 +1,34 @@
-use Rattle.std.proofs.Common.{◌∷◌, codes, map, ap, sym, subst, ◌∙◌}
-use Rattle.bi_base.specs.Sinks.{Wrote}
+use Rattle.std.proofs.Common.{sym, ap, subst, ◌∙◌}
 use Rattle.bi_fdt.specs.Views.{node_of}
 use Rattle.bi_fit.specs.HashNodes.{file_listed}
-use Rattle.bi_fit.specs.Judgement.{listed_names}
-use Rattle.bi_fit.specs.Names.{key_name}
-use Rattle.bi_commands.specs.Listed.{IsListed}
-use Rattle.bi_commands.specs.Shown.{line, shown_text}
-use Rattle.bi_commands.proofs.ListedNames.{images_line}
+use Rattle.bi_commands.specs.FitListing.{key_line}
+use Rattle.bi_commands.proofs.ListedNames.{key_as_line}
+use Rattle.bi_commands.proofs.TextsInTurn.{turn_passed}
 use Rattle.bi_commands.proofs.list.configurations.put_key.Goals as goal
 
-pub returns-in-Images : goal.returns-in-Images
-returns-in-Images g c =
+pub returns-in_err-put_key_line-in-Lines : goal.returns-in_err-put_key_line-in-Lines
+returns-in_err-put_key_line-in-Lines g c =
+    let S = g.S.Sink in
     let entry = node_of c.args.node in
     let result = file_listed c.args.fit.now.images entry c.args.key in
-    let names = listed_names c.in-Images.value.now in
-    let are = subst (IsListed result) c.in-Images.is c.listed_under.ensures in
-    subst (λ text. Wrote g.S.Sink.appends g.S.Sink.fails c.args.sink.now text c.put_images.result c.put_images.new.sink)
-    (ap (λ name. line (codes "key" ∷ shown_text name ∷ key_name c.args.key ∷ codes "ok"
-    ∷ map shown_text names)) c.name-configuration.ensures
-    ∙ sym (images_line entry.name c.args.key result names are)) c.put_images.ensures
+    let found = c.listed_under-listed in
+    let is = key_as_line c.args.format c.args.is_later entry.name c.args.key result found.result c.in-Lines.is found.ensures
+    c.in_default.not-NoKey in
+    turn_passed S.appends S.fails c.args.sink.now c.args.format c.args.is_later _ _ c.from_residual.result c.put_key_line.new.sink
+    c.from_residual.ensures.1
+    (subst (λ text. S.fails c.args.sink.now text c.put_key_line.new.sink c.in_err-put_key_line-in-Lines.field-0.0)
+    (ap (λ name. key_line name c.args.key result) c.name.ensures ∙ sym is.0)
+    (c.in_err-put_key_line-in-Lines.ensures result found.ensures))
+
+pub returns-in_ok-put_key_line-in-Lines : goal.returns-in_ok-put_key_line-in-Lines
+returns-in_ok-put_key_line-in-Lines g c =
+    let entry = node_of c.args.node in
+    let result = file_listed c.args.fit.now.images entry c.args.key in
+    let found = c.listed_under-listed in
+    let is = key_as_line c.args.format c.args.is_later entry.name c.args.key result found.result c.in-Lines.is found.ensures
+    c.in_default.not-NoKey in (
+      subst (λ text. g.S.Sink.appends c.args.sink.now text c.put_key_line.new.sink)
+          (ap (λ name. key_line name c.args.key result) c.name.ensures ∙ sym is.0)
+          (c.in_ok-put_key_line-in-Lines.ensures result found.ensures),
+      is.1,
+    )

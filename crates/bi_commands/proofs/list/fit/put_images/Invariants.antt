@@ -1,8 +1,12 @@
-use Rattle.std.proofs.Common.{take, flat_map, map}
+use Rattle.std.proofs.Common.{drop, false, map}
 use Rattle.bi_fit.specs.Content.{image_model}
-use Rattle.bi_commands.specs.ReadListing.{read_image_line}
+use Rattle.bi_commands.specs.ReadListing.{image_text}
+use Rattle.bi_commands.proofs.TextsInTurn.{AreInTurn}
 use Rattle.bi_commands.proofs.list.fit.put_images.Given as goal
 
--- The lines of the images before this one were appended.
+-- The images that are left follow those that were appended.
 abbrev pub invariant-loop-image : goal.invariant-loop-image
-invariant-loop-image g l = g.S.Sink.appends l.initial.sink (flat_map read_image_line (map image_model (take l.image-index l.images))) l.sink
+invariant-loop-image g l =
+    AreInTurn g.S.Sink.appends l.initial.sink l.sink l.fn.format false l.is_later
+    (map (image_text l.fn.format) (map image_model (drop l.image-index l.images)))
+    (map (image_text l.fn.format) (map image_model l.images))

@@ -1,13 +1,16 @@
-use Rattle.std.proofs.Common.{◌≡◌, ◌++◌, ℕ, List}
+use Rattle.std.proofs.Common.{false}
 use Rattle.std.specs.Iterator.Adapters.{enumerate_source, enumerate_count}
-use Rattle.bi_commands.specs.Listing.{part_lines, parts_lines}
+use Rattle.bi_legacy.specs.PlacedParts.{placed_parts}
+use Rattle.bi_commands.specs.ReadListing.{part_texts}
+use Rattle.bi_commands.proofs.TextsInTurn.{AreInTurn}
 use Rattle.bi_commands.proofs.list.legacy.put_parts.Given as goal
 
--- The lines of the parts before this one were appended, and those of the others follow.
+-- The parts that are left follow those that were appended.
 abbrev pub invariant-loop-index : goal.invariant-loop-index
 invariant-loop-index g l = record {
   can_next : (goal.iterator-loop-index g).can_next l.index-iterator;
   is_finite : (goal.iterator-loop-index g).is_finite l.index-iterator;
-  written : (done : List ℕ) × g.S.Sink.appends l.fn.sink done l.sink
-      × (done ++ part_lines (enumerate_count l.index-iterator) (enumerate_source l.index-iterator) ≡ parts_lines l.image.image);
+  written : AreInTurn g.S.Sink.appends l.initial.sink l.sink l.fn.format false l.is_later
+      (part_texts l.fn.format (enumerate_count l.index-iterator) (enumerate_source l.index-iterator))
+      (part_texts l.fn.format 0 (placed_parts l.image.image));
 }

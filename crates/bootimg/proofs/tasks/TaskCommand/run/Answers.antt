@@ -3,11 +3,10 @@ use Rattle.std.proofs.lemmas.Result.{err_from_is_err_and}
 use Rattle.bi_norm.specs.Converting.{IsConvertedFile, IsConvertError}
 use Rattle.bi_norm.specs.NormalForm.{IsNormalForm, IsNormaliseError}
 use Rattle.bi_norm.specs.Reading.{IsBootImageReadError}
-use Rattle.bi_commands.specs.declared.format.Format.TheVariants.{Lines}
 use Rattle.bi_commands.specs.CheckedFiles.{IsChecked, IsCheckError}
 use Rattle.bi_commands.specs.Describing.{IsDescription, IsDescribeError}
 use Rattle.bi_commands.specs.Extracting.{IsChosen, IsExtractError}
-use Rattle.bi_commands.specs.Listing.{IsListing}
+use Rattle.bi_commands.specs.ListedFiles.{IsListing}
 use Rattle.bi_commands.specs.VerifiedFiles.{IsReport}
 use Rattle.bi_commands.specs.UpdatedFiles.{IsUpdated, IsUpdateError}
 use Rattle.bootimg.specs.Selections.{select_of}
@@ -30,7 +29,7 @@ returns-in_err-run-in-List-clause-failed g c =
     let input = c.args.input.now in
     let p = err_from_is_err_and c.from_residual-in_err-run-in-List.result c.from_residual-in_err-run-in-List.ensures.1 in
     rw (c.in-List.is, p.1)
-    (call_failed g.S.Sink.fails (IsListing limits input) (IsBootImageReadError limits input) c.args.sink.now c.run-in-List.new.sink c.in_err-run-in-List.field-0.0 p.0 p.2
+    (call_failed g.S.Sink.fails (IsListing c.in-List.format limits input) (IsBootImageReadError limits input) c.args.sink.now c.run-in-List.new.sink c.in_err-run-in-List.field-0.0 p.0 p.2
     c.in_err-run-in-List.ensures.failed)
 
 pub returns-in_err-run-in-Describe-clause-failed : goal.returns-in_err-run-in-Describe-clause-failed
@@ -39,7 +38,7 @@ returns-in_err-run-in-Describe-clause-failed g c =
     let input = c.args.input.now in
     let p = err_from_is_err_and c.from_residual-in_err-run-in-Describe.result c.from_residual-in_err-run-in-Describe.ensures.1 in
     rw (c.in-Describe.is, p.1)
-    (call_failed g.S.Sink.fails (IsDescription limits input) (IsDescribeError limits input) c.args.sink.now c.run-in-Describe.new.sink c.in_err-run-in-Describe.field-0.0 p.0 p.2
+    (call_failed g.S.Sink.fails (IsDescription c.in-Describe.format limits input) (IsDescribeError c.in-Describe.format limits input) c.args.sink.now c.run-in-Describe.new.sink c.in_err-run-in-Describe.field-0.0 p.0 p.2
     c.in_err-run-in-Describe.ensures.failed)
 
 pub returns-in_err-good-in-Verify-clause-failed : goal.returns-in_err-good-in-Verify-clause-failed
@@ -48,7 +47,7 @@ returns-in_err-good-in-Verify-clause-failed g c =
     let input = c.args.input.now in
     let p = err_from_is_err_and c.from_residual-in_err-good-in-Verify.result c.from_residual-in_err-good-in-Verify.ensures.1 in
     rw (c.in-Verify.is, p.1)
-    (call_failed g.S.Sink.fails (IsReport Lines limits input) (IsBootImageReadError limits input) c.args.sink.now c.run-in-Verify.new.sink c.in_err-good-in-Verify.field-0.0 p.0 p.2
+    (call_failed g.S.Sink.fails (IsReport c.in-Verify.format limits input) (IsBootImageReadError limits input) c.args.sink.now c.run-in-Verify.new.sink c.in_err-good-in-Verify.field-0.0 p.0 p.2
     c.in_err-good-in-Verify.ensures.failed)
 
 pub returns-in_err-clean-in-Check-clause-failed : goal.returns-in_err-clean-in-Check-clause-failed
@@ -57,7 +56,7 @@ returns-in_err-clean-in-Check-clause-failed g c =
     let input = c.args.input.now in
     let p = err_from_is_err_and c.from_residual-in_err-clean-in-Check.result c.from_residual-in_err-clean-in-Check.ensures.1 in
     rw (c.in-Check.is, p.1)
-    (call_failed g.S.Sink.fails (IsChecked Lines c.in-Check.allowed limits input) (IsCheckError limits input) c.args.sink.now c.run-in-Check.new.sink c.in_err-clean-in-Check.field-0.0 p.0 p.2
+    (call_failed g.S.Sink.fails (IsChecked c.in-Check.format c.in-Check.allowed limits input) (IsCheckError limits input) c.args.sink.now c.run-in-Check.new.sink c.in_err-clean-in-Check.field-0.0 p.0 p.2
     c.in_err-clean-in-Check.ensures.failed)
 
 pub returns-in_err-signatures-in-Update-clause-failed : goal.returns-in_err-signatures-in-Update-clause-failed

@@ -1,0 +1,30 @@
+use Rattle.std.proofs.Common.{◌≡◌, List, ℕ, subst}
+use Rattle.bi_base.specs.Limits.{Limits}
+use Rattle.bi_commands.specs.declared.check.Allowed.{Allowed}
+use Rattle.bi_commands.specs.declared.format.Format.{Format}
+use Rattle.bi_commands.specs.CheckedFiles.{IsCheckError}
+use Rattle.bi_c.specs.declared.failure.Failure.{Failure}
+use Rattle.bi_c.specs.Answers.{IsFailure, IsFailureBy}
+use Rattle.bi_c.specs.Arguments.{bounds, allowed_of}
+use Rattle.bi_c.specs.Calls.{HasKinds, IsCheckText, IsConcernsText}
+use Rattle.bi_c.proofs.CallAnswers.{failed_by}
+
+-- A call from C with valid numbers returns the concerns about a file under the limits, except those of the kinds of these numbers, or
+-- fails as checking it does.
+
+pub checked_as : (format : Format) (limit depth kinds : ℕ) (limits : Limits) (allowed : Allowed) (file : List ℕ)
+    → HasKinds limit depth kinds → limits ≡ bounds limit depth → allowed ≡ allowed_of kinds → (text : List ℕ) (value : ℕ)
+    → IsConcernsText (record { allowed = allowed; format = format }) limits file text value
+    → IsCheckText format limit depth kinds file text value
+checked_as format limit depth kinds limits allowed file valid same_limits same_allowed text value is = record {
+  arguments = valid;
+  is = subst (λ (a : Allowed). IsConcernsText (record { allowed = a; format = format }) (bounds limit depth) file text value) same_allowed
+      (subst (λ (l : Limits). IsConcernsText (record { allowed = allowed; format = format }) l file text value) same_limits is);
+}
+
+pub call_not_checked : (limit depth kinds : ℕ) (limits : Limits) (file : List ℕ) → HasKinds limit depth kinds → limits ≡ bounds limit depth
+    → (failure : Failure) → IsFailureBy (IsCheckError limits file) failure
+    → IsFailure (HasKinds limit depth kinds) (IsCheckError (bounds limit depth) file) failure
+call_not_checked limit depth kinds limits file valid same_limits failure is =
+    failed_by (HasKinds limit depth kinds) (IsCheckError (bounds limit depth) file) is.cause failure valid is.is_failure (λ no. no)
+    (λ no. no) (subst (λ (l : Limits). IsCheckError l file is.cause) same_limits is.is_error)

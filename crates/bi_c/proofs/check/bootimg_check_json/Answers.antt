@@ -1,0 +1,29 @@
+use Rattle.std.proofs.Common.{refl}
+use Rattle.bi_commands.specs.declared.format.Format.TheVariants.{Json}
+use Rattle.bi_c.specs.declared.failure.Failure.TheVariants.{WrongArgument}
+use Rattle.bi_c.specs.Answers.{FilledNothing}
+use Rattle.bi_c.specs.Calls.{HasKinds}
+use Rattle.bi_c.proofs.CallAnswers.{not_so, is_so, fills_as}
+use Rattle.bi_c.proofs.CheckedFiles.{checked_as, call_not_checked}
+use Rattle.bi_c.proofs.check.bootimg_check_json.Goals as goal
+
+pub returns-in_default : goal.returns-in_default
+returns-in_default c = FilledNothing WrongArgument
+    (λ valid. not_so _ c.in_default.ensures.in_range valid.limits) refl c.fail.ensures.answer c.fail.ensures.status
+
+pub returns-in_default-allowed_of : goal.returns-in_default-allowed_of
+returns-in_default-allowed_of c =
+    FilledNothing WrongArgument (λ valid. not_so _ c.in_default-allowed_of.ensures.in_range valid.are_kinds) refl
+    c.fail-in_default-allowed_of.ensures.answer c.fail-in_default-allowed_of.ensures.status
+
+pub returns : goal.returns
+returns c =
+    let valid : HasKinds c.args.limit c.args.depth c.args.kinds = record {
+      limits = is_so _ c.in-Some.ensures.in_range;
+      are_kinds = is_so _ c.in-Some-allowed_of.ensures.in_range;
+    } in
+    fills_as _ _ _ _ _ _ _ _
+    (checked_as Json c.args.limit c.args.depth c.args.kinds c.in-Some.limits c.in-Some-allowed_of.allowed c.args.file.now valid
+    c.in-Some.ensures.value c.in-Some-allowed_of.ensures.value)
+    (call_not_checked c.args.limit c.args.depth c.args.kinds c.in-Some.limits c.args.file.now valid c.in-Some.ensures.value)
+    c.fill_concerns.ensures

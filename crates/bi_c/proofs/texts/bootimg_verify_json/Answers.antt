@@ -1,0 +1,19 @@
+use Rattle.std.proofs.Common.{refl, string_bytes}
+use Rattle.bi_norm.specs.Reading.{IsBootImageReadError}
+use Rattle.bi_commands.specs.declared.format.Format.TheVariants.{Json}
+use Rattle.bi_commands.specs.VerifiedFiles.{IsVerifyOutput}
+use Rattle.bi_c.specs.declared.failure.Failure.TheVariants.{WrongArgument}
+use Rattle.bi_c.specs.Answers.{FilledNothing}
+use Rattle.bi_c.proofs.CallAnswers.{not_so, is_so, text_with_flag_fills}
+use Rattle.bi_c.proofs.texts.bootimg_verify_json.Goals as goal
+
+pub returns-in_default : goal.returns-in_default
+returns-in_default c = FilledNothing WrongArgument (not_so _ c.in_default.ensures.in_range) refl c.fail.ensures.answer c.fail.ensures.status
+
+pub returns : goal.returns
+returns c =
+    text_with_flag_fills c.args.limit c.args.depth (λ limits good text. IsVerifyOutput Json limits good c.args.file.now text)
+    (λ limits. IsBootImageReadError limits c.args.file.now) (λ report. string_bytes report.text) (λ report. report.all_good)
+    c.in-Some.limits c.verify_json.result _ _ _ _
+    (is_so _ c.in-Some.ensures.in_range) c.in-Some.ensures.value (λ l is. is) (λ l is. is) c.verify_json.ensures.verified
+    c.verify_json.ensures.failed c.fill_report.ensures

@@ -1,0 +1,387 @@
+# SPDX-License-Identifier: MIT
+# Copyright (c) 2026 the bootimg authors
+"""Boot images as objects: what `bootimg.open` returns, and what it has.
+
+A name is a string of its bytes in UTF-8. Bytes that are not UTF-8 become lone surrogates, as in the
+names of files of `os.fsdecode`, so that each name can be given back to a call.
+"""
+
+from __future__ import annotations
+
+import functools
+import io
+import json
+import os
+import urllib.parse
+from dataclasses import dataclass, field, fields
+from typing import Any, Iterable
+
+import bootimg
+
+
+@dataclass(frozen=True, slots=True)
+class LegacyHeader:
+    """The fields of the header of a legacy image.
+
+    `time` is in seconds since 1970, and `load` and `entry` are addresses. A code of U-Boot is the
+    name that it has, or else the number.
+    """
+
+    name: str
+    time: int
+    load: int
+    entry: int
+    os: str | int
+    arch: str | int
+    type: str | int
+    compression: str | int
+
+
+@dataclass(frozen=True, slots=True)
+class Reservation:
+    """A memory reservation of a FIT: an address, and a size in bytes."""
+
+    address: int
+    size: int
+
+
+@dataclass(frozen=True, slots=True)
+class FitHeader:
+    """What a FIT has beside its tree: the number of the boot processor, the size of its blob in
+    bytes, and its memory reservations."""
+
+    boot_cpu: int
+    total_size: int
+    reservations: tuple[Reservation, ...]
+
+
+@dataclass(frozen=True, slots=True, eq=False)
+class Part:
+    """A part of a legacy image. `offset` and `size` are in bytes, and `payload` is a view of the
+    file."""
+
+    offset: int
+    size: int
+    payload: memoryview = field(repr=False)
+
+
+@dataclass(frozen=True, slots=True)
+class Hash:
+    """The verdict on a hash node: the names of the image and of the node, the algorithm and the
+    value, or None if the node does not have them, and the verdict, one of VERDICTS."""
+
+    image: str
+    node: str
+    algorithm: str | None
+    verdict: str
+    value: bytes | None
+
+
+@dataclass(frozen=True, slots=True)
+class Node:
+    """A node of the tree of a FIT: its name, which is empty for the root, the values of its
+    properties by their names, and its children. The properties that place the payload of an image
+    are left out."""
+
+    name: str
+    properties: dict[str, bytes]
+    children: tuple[Node, ...]
+
+    def child(self, name: str) -> Node:
+        """Returns the child with the given name. Raises KeyError if there is none."""
+        for child in self.children:
+            if child.name == name:
+                return child
+        raise KeyError(name)
+
+
+@dataclass(frozen=True, slots=True, eq=False)
+class FitImage:
+    """An image of a FIT.
+
+    `payload` is a view of the file, `offset` and `size` are where it is in the file, in bytes, and
+    `source` is the property that places it: "data", "data-offset" or "data-position". All four are
+    None for an image without a payload. (An empty payload is one.)
+    """
+
+    name: str
+    source: str | None
+    offset: int | None
+    size: int | None
+    payload: memoryview | None = field(repr=False)
+    _file: Image = field(repr=False)
+
+    @property
+    def properties(self) -> dict[str, bytes]:
+        """The values of the properties of the image by their names, but for those that place the
+        payload. The first use computes a digest of each payload of the file."""
+        return self._file.root.child("images").child(self.name).properties
+
+    @property
+    def hashes(self) -> tuple[Hash, ...]:
+        """The verdicts on the hash nodes of the image, in order. The first use computes the digests
+        of all images of the file."""
+        return tuple(one for one in self._file.verify().hashes if one.image == self.name)
+
+
+@dataclass(frozen=True, slots=True)
+class Configuration:
+    """A configuration of a FIT: its name, and the keys of KEYS that it has."""
+
+    name: str
+    keys: tuple[str, ...]
+    _lists: dict[str, tuple[FitImage, ...] | bootimg.NotFound] = field(repr=False, compare=False)
+
+    def images(self, key: str = "kernel") -> tuple[FitImage, ...]:
+        """Returns the images that the configuration lists under a key. Raises NotFound with "no
+        such key", "bad list" or "missing image"."""
+        listed = self._lists.get(key, bootimg.NotFound("no such key", None))
+        if isinstance(listed, bootimg.NotFound):
+            raise bootimg.NotFound(listed.reason, listed.index)
+        return listed
+
+
+@dataclass(frozen=True, slots=True)
+class Verification:
+    """The verdicts on the hash nodes of a FIT, in order, and whether all of them are good. A legacy
+    image has no hash nodes: a file whose checksums are wrong is refused."""
+
+    hashes: tuple[Hash, ...]
+    all_good: bool
+
+
+@dataclass(frozen=True, slots=True, repr=False)
+class Concern:
+    """A thing in a file that is not protected. `kind` is one of CONCERNS. The other members are
+    None, unless a concern of this kind has them."""
+
+    kind: str
+    image: str | None = None
+    node: str | None = None
+    algorithm: str | None = None
+    verdict: str | None = None
+    algorithms: tuple[str, ...] | None = None
+    configuration: str | None = None
+    key: str | None = None
+    index: int | None = None
+    default: str | None = None
+    size: int | None = None
+
+    def __repr__(self) -> str:
+        members = [(member.name, getattr(self, member.name)) for member in fields(self)]
+        return f"Concern({', '.join(f'{name}={value!r}' for name, value in members if value)})"
+
+
+class Image:
+    """A boot image in memory, of either kind.
+
+    - `file` is a view of its file, and `kind` is "legacy" or "fit"
+    - `header` is a LegacyHeader or a FitHeader
+    - `parts` are the parts of a legacy image, and `unused` is the number of bytes of the file after
+      them. A FIT has none, and 0
+    - `images` and `configurations` are those of a FIT, and `default` is the name of the default
+      configuration, or None. A legacy image has none
+
+    The file is read once. Its bytes must not change as long as the image is used.
+    """
+
+    def __init__(
+        self, file: bootimg.Buffer, limit: int = bootimg.LIMIT, depth: int = bootimg.DEPTH
+    ) -> None:
+        """Reads a file in memory, which is not copied unless it is a view that is not contiguous.
+        Raises Refused as each call does."""
+        view = memoryview(file)
+        self.file = view.cast("B") if view.c_contiguous else memoryview(view.tobytes())
+        self._bounds = (limit, depth)
+        listed = json.loads(bootimg.listing_json(self.file, limit, depth))
+        self.kind: str = listed["kind"]
+        self.header = _header_of(listed)
+        self.parts = tuple(self._part(part) for part in listed.get("parts", ()))
+        self.unused: int = listed.get("unused", 0)
+        self.images = tuple(self._image(image) for image in listed.get("images", ()))
+        self._images = {image.name: image for image in self.images}
+        self.configurations = tuple(map(self._configuration, listed.get("configurations", ())))
+        self.default = _optional_name(listed.get("default"))
+
+    def _part(self, part: dict[str, int]) -> Part:
+        offset, size = part["offset"], part["size"]
+        return Part(offset, size, self.file[offset : offset + size])
+
+    def _image(self, image: dict[str, Any]) -> FitImage:
+        name, place = _name_of(image["name"]), image["payload"]
+        if place is None:
+            return FitImage(name, None, None, None, None, self)
+        offset, size = place["offset"], place["size"]
+        payload = self.file[offset : offset + size]
+        return FitImage(name, place["property"], offset, size, payload, self)
+
+    def _configuration(self, configuration: dict[str, Any]) -> Configuration:
+        lists = {listed["key"]: self._listed(listed) for listed in configuration["keys"]}
+        return Configuration(_name_of(configuration["name"]), tuple(lists), lists)
+
+    def _listed(self, listed: dict[str, Any]) -> tuple[FitImage, ...] | bootimg.NotFound:
+        if "missing" in listed:
+            return bootimg.NotFound("missing image", listed["missing"])
+        if "bad_list" in listed:
+            return bootimg.NotFound("bad list", None)
+        return tuple(self._images[_name_of(name)] for name in listed["images"])
+
+    def image(self, name: bytes | str) -> FitImage:
+        """Returns the image of a FIT with the given name. Raises NotFound if there is none."""
+        decoded = name.decode("utf-8", "surrogateescape") if isinstance(name, bytes) else name
+        if decoded not in self._images:
+            raise bootimg.NotFound("no such image", None)
+        return self._images[decoded]
+
+    def configuration(self, name: bytes | str | None = None) -> Configuration:
+        """Returns the configuration with the given name, or else the default one. Raises NotFound
+        if there is none."""
+        decoded = name.decode("utf-8", "surrogateescape") if isinstance(name, bytes) else name
+        wanted = self.default if decoded is None else decoded
+        for configuration in self.configurations:
+            if configuration.name == wanted:
+                return configuration
+        raise bootimg.NotFound("no such configuration", None)
+
+    @functools.cached_property
+    def root(self) -> Node:
+        """The root of the tree of a FIT. It is read, and a digest of each payload computed, at the
+        first use. Raises NotFound for a legacy image, and Refused with TooLarge if the payloads
+        together, or the description in JSON, are longer than the limit."""
+        if self.kind != "fit":
+            raise bootimg.NotFound(bootimg.REASONS[0], None)
+        return _node_of(json.loads(bootimg.describe_json(self.file, *self._bounds))["root"])
+
+    def verify(self) -> Verification:
+        """Returns the verdict on each hash node. The digests are computed once."""
+        return self._verification
+
+    @functools.cached_property
+    def _verification(self) -> Verification:
+        report = bootimg.verify_json(self.file, *self._bounds)
+        hashes = json.loads(report.text).get("hashes", ())
+        return Verification(tuple(map(_hash_of, hashes)), report.all_good)
+
+    def check(self, allow: Iterable[str] = ()) -> tuple[Concern, ...]:
+        """Returns the concerns about the file, except those of the kinds in `allow`, of
+        CONCERNS. Raises Refused with TooLarge if the payloads together are longer than the
+        limit."""
+        text = bootimg.check_json(self.file, allow, *self._bounds)
+        return tuple(map(_concern_of, json.loads(text)["concerns"]))
+
+    def normalise(self, external: bool = False) -> bytes:
+        """Returns the normal form of the file, as `bootimg.normalise` does."""
+        return bootimg.normalise(self.file, external, *self._bounds)
+
+    def update(
+        self, time: int | None = None, hashes: bool = False, external: bool = False
+    ) -> bytes:
+        """Returns the normal form with a time or with new digests, as `bootimg.update` does."""
+        return bootimg.update(self.file, time, hashes, external, *self._bounds)
+
+    def convert(self) -> bytes:
+        """Returns the FIT that a legacy image is converted to, as `bootimg.convert` does."""
+        return bootimg.convert(self.file, *self._bounds)
+
+    def listing(self) -> str:
+        """Returns the listing of the file, as `bootimg.listing` does."""
+        return bootimg.listing(self.file, *self._bounds)
+
+    def describe(self) -> str:
+        """Returns the description of what the file means, as `bootimg.describe` does."""
+        return bootimg.describe(self.file, *self._bounds)
+
+    def compare(self, other: Image | bootimg.Buffer) -> bootimg.Comparison:
+        """Returns what differs between what two files mean, as `bootimg.compare` does. The limits
+        are those of this image."""
+        file = other.file if isinstance(other, Image) else other
+        return bootimg.compare(self.file, file, *self._bounds)
+
+    def __repr__(self) -> str:
+        return f"<{self.kind} image of {self.file.nbytes} bytes>"
+
+
+def open(
+    source: str | os.PathLike[str] | bootimg.Buffer,
+    limit: int = bootimg.LIMIT,
+    depth: int = bootimg.DEPTH,
+) -> Image:
+    """Returns the boot image in a file. `source` is the path of the file, which is read as a whole
+    to memory, or its bytes, which are not copied.
+
+    >>> import bootimg
+    >>> board = bootimg.open("examples/board.itb")
+    >>> for image in board.images:
+    ...     print(f"{image.name:10} {image.size:5} bytes at {image.offset}")
+    kernel-1     468 bytes at 184
+    ramdisk-1     29 bytes at 896
+    fdt-1        106 bytes at 1112
+    >>> bytes(board.image("ramdisk-1").payload)
+    b'a text in place of a ramdisk\\n'
+    >>> board.image("fdt-1").properties["type"]
+    b'flat_dt\\x00'
+    >>> [image.name for image in board.configuration("conf-2").images("fdt")]
+    ['fdt-1']
+    >>> board.check()
+    (Concern(kind='weak-hash', image='ramdisk-1', algorithms=('crc32',)),)
+    """
+    if isinstance(source, (str, os.PathLike)):
+        with io.open(source, "rb") as file:
+            # One byte more than the limit is enough for the file to be refused.
+            return Image(file.read(limit + 1), limit, depth)
+    return Image(source, limit, depth)
+
+
+def _name_of(shown: str) -> str:
+    """Returns the name that is shown so."""
+    name = b"" if shown == "-" else urllib.parse.unquote_to_bytes(shown)
+    return name.decode("utf-8", "surrogateescape")
+
+
+def _optional_name(shown: str | None) -> str | None:
+    return None if shown is None else _name_of(shown)
+
+
+def _header_of(listed: dict[str, Any]) -> LegacyHeader | FitHeader:
+    if listed["kind"] == "legacy":
+        numbers = [listed[name] for name in ("time", "load", "entry")]
+        codes = [listed[name] for name in ("os", "arch", "type", "compression")]
+        return LegacyHeader(_name_of(listed["name"]), *numbers, *codes)
+    reservations = [
+        Reservation(int(pair["address"], 16), int(pair["size"], 16))
+        for pair in listed["reservations"]
+    ]
+    return FitHeader(listed["boot_cpu"], listed["total_size"], tuple(reservations))
+
+
+def _node_of(node: dict[str, Any]) -> Node:
+    properties = {_name_of(value["name"]): _value_of(value) for value in node["properties"]}
+    children = tuple(map(_node_of, node["children"]))
+    return Node(_name_of(node.get("name", "-")), properties, children)
+
+
+def _value_of(value: dict[str, Any]) -> bytes:
+    if "hex" in value:
+        return bytes.fromhex(value["hex"])
+    return b"".join(text.encode("ascii") + b"\0" for text in value["strings"])
+
+
+def _hash_of(node: dict[str, Any]) -> Hash:
+    return Hash(
+        _name_of(node["image"]),
+        _name_of(node["node"]),
+        _optional_name(node["algorithm"]),
+        node["verdict"],
+        None if node["value"] is None else bytes.fromhex(node["value"]),
+    )
+
+
+def _concern_of(concern: dict[str, Any]) -> Concern:
+    members = dict(concern)
+    kind = members.pop("concern")
+    for member in ("image", "node", "algorithm", "configuration", "default"):
+        if member in members:
+            members[member] = _optional_name(members[member])
+    if "algorithms" in members:
+        members["algorithms"] = tuple(map(_name_of, members["algorithms"]))
+    return Concern(kind, **members)
