@@ -63,9 +63,11 @@ pub options_are_known : OptionsAreKnown
 unfolding program_app clap_on_literals
 options_are_known = record {
   normalise = gives_values _ _ _ refl refl refl;
+  normalize = gives_values _ _ _ refl refl refl;
   list = gives_values _ _ _ refl refl refl;
   describe = gives_values _ _ _ refl refl refl;
   compare = gives_values _ _ _ refl refl refl;
+  diff = gives_values _ _ _ refl refl refl;
   verify = gives_values _ _ _ refl refl refl;
   check = gives_values _ _ _ refl refl refl;
   update = gives_values _ _ _ refl refl refl;
@@ -88,6 +90,7 @@ mistakes_are_known = record {
   one_image = refl;
   two_files = refl;
   other_option = refl;
+  no_json = refl;
   option_twice = refl;
   missing_value = refl;
 }

@@ -9,6 +9,7 @@ use Rattle.bi_commands.specs.declared.compare.CompareError.{CompareError}
 use Rattle.bi_commands.specs.declared.compare.CompareError.TheVariants as compare
 use Rattle.bi_commands.specs.declared.extract.ExtractError.{ExtractError}
 use Rattle.bi_commands.specs.declared.extract.ExtractError.TheVariants as extract
+use Rattle.bi_commands.specs.declared.format.Format.TheVariants.{Lines}
 use Rattle.bi_fit.specs.declared.configurations.ConfigError.TheVariants as list
 use Rattle.clap.specs.declared.error.kind.ErrorKind.{ErrorKind}
 use Rattle.bootimg.specs.ComparedFiles.{compare_status, failure_of_comparing, refused_source}
@@ -103,6 +104,7 @@ compared_plan = record {
   one = File (lent (codes "a"));
   other = File (lent (codes "b"));
   quiet = false;
+  format = Lines;
 }
 
 abbrev pub line_of_comparing : CompareError → List ℕ
