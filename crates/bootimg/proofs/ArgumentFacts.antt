@@ -6,9 +6,9 @@ use Rattle.std.specs.Bool.{Decides}
 use Rattle.std.specs.Char.{digit_value}
 use Rattle.std.specs.Str.Parse.{AllDigits, digits_value, IsNumeral}
 use Rattle.std.proofs.lemmas.Bool.{and_parts, true≢false, eqb-true}
+use Rattle.std.proofs.lemmas.Bool.Decides.{Decides-and, Decides-ltb}
 use Rattle.std.proofs.lemmas.Slice.Eq.{bytes_eq-Decides}
 use Rattle.std.proofs.Math.Bool.{or-true}
-use Rattle.bi_blob.proofs.CheckDecisions.{both_decide, lt_decides}
 use Rattle.bi_legacy.specs.Codes.{CodeName, name_of_code}
 use Rattle.bootimg.specs.CodeWords.{codes_of, IsCode, Named, Numbered}
 use Rattle.bootimg.specs.CommandLine.{NoneIs}
@@ -32,15 +32,15 @@ is_numeral base text = (nat_lt 0 (length text) && are_digits base text) && nat_l
 are_digits_decides : (base : ℕ) (text : List ℕ) → Decides (are_digits base text) (AllDigits base text)
 are_digits_decides base [] = ((λ e. tt), (λ all. refl))
 are_digits_decides base (digit ∷ later) =
-    both_decide (nat_lt (digit_value digit) base) (are_digits base later) (lt_decides (digit_value digit) base)
+    Decides-and (nat_lt (digit_value digit) base) (are_digits base later) (Decides-ltb (digit_value digit) base)
     (are_digits_decides base later)
 
 is_numeral_decides : (base : ℕ) (text : List ℕ) →
     Decides (is_numeral base text) (((0 < length text) × AllDigits base text) × (digits_value base text < 2 ^ 32))
 is_numeral_decides base text =
-    both_decide (nat_lt 0 (length text) && are_digits base text) (nat_lt (digits_value base text) (2 ^ 32))
-    (both_decide (nat_lt 0 (length text)) (are_digits base text) (lt_decides 0 (length text)) (are_digits_decides base text))
-    (lt_decides (digits_value base text) (2 ^ 32))
+    Decides-and (nat_lt 0 (length text) && are_digits base text) (nat_lt (digits_value base text) (2 ^ 32))
+    (Decides-and (nat_lt 0 (length text)) (are_digits base text) (Decides-ltb 0 (length text)) (are_digits_decides base text))
+    (Decides-ltb (digits_value base text) (2 ^ 32))
 
 -- A text of decimal digits is the number that these say, and no other. It does not begin with `0x`.
 pub decimal_digits : (text : List ℕ) → is_numeral 10 text ≡ true → bytes_eq (take 2 text) (codes "0x") ≡ false
@@ -87,7 +87,7 @@ no_number text not_decimal not_hexadecimal number is = elim is.written [
       let fits : digits_value 16 (drop 2 text) < 2 ^ 32 = subst (λ n. n < 2 ^ 32) (sym value) is.fits in
       let each : IsNumeral 16 (drop 2 text) = subst (IsNumeral 16) (sym rest) hexadecimal.2.each in
       true≢false
-      (sym ((both_decide (bytes_eq (take 2 text) (codes "0x")) (is_numeral 16 (drop 2 text))
+      (sym ((Decides-and (bytes_eq (take 2 text) (codes "0x")) (is_numeral 16 (drop 2 text))
       (bytes_eq-Decides (take 2 text) (codes "0x")) (is_numeral_decides 16 (drop 2 text))).1 (begins, (each, fits)))
       ∙ not_hexadecimal)
 ]
