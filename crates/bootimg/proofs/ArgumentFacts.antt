@@ -43,7 +43,7 @@ is_numeral_decides base text =
     (Decides-ltb (digits_value base text) (2 ^ 32))
 
 -- A text of decimal digits is the number that these say, and no other. It does not begin with `0x`.
-decimal_digits : (text : List ℕ) → is_numeral 10 text ≡ true → bytes_eq (take 2 text) (codes "0x") ≡ false
+pub decimal_digits : (text : List ℕ) → is_numeral 10 text ≡ true → bytes_eq (take 2 text) (codes "0x") ≡ false
     → IsOnlyNumber text (digits_value 10 text)
 decimal_digits text holds plain =
     let is = (is_numeral_decides 10 text).0 holds in (
@@ -59,7 +59,8 @@ decimal_digits text holds plain =
         true≢false (sym ((bytes_eq-Decides (take 2 text) (codes "0x")).1 (ap (λ l. take 2 l) same)) ∙ plain)
 
 -- Hexadecimal digits after `0x` are the number that they say, and no other.
-hexadecimal_digits_after : (digits : List ℕ) → is_numeral 16 digits ≡ true → IsOnlyNumber (codes "0x" ++ digits) (digits_value 16 digits)
+pub hexadecimal_digits_after : (digits : List ℕ) → is_numeral 16 digits ≡ true
+    → IsOnlyNumber (codes "0x" ++ digits) (digits_value 16 digits)
 hexadecimal_digits_after digits holds =
     let is = (is_numeral_decides 16 digits).0 holds in (
       record { written = inr (digits, refl, record { each = is.0; value = refl }); fits = is.1 },
@@ -73,7 +74,7 @@ hexadecimal_digits_after digits holds =
     no_letter all = omega (arith, all.1.0)
 
 -- Any other text is no number.
-no_number : (text : List ℕ) → is_numeral 10 text ≡ false → (bytes_eq (take 2 text) (codes "0x") && is_numeral 16 (drop 2 text)) ≡ false
+pub no_number : (text : List ℕ) → is_numeral 10 text ≡ false → (bytes_eq (take 2 text) (codes "0x") && is_numeral 16 (drop 2 text)) ≡ false
     → NoneIs (IsNumber text)
 no_number text not_decimal not_hexadecimal number is = elim is.written [
   | inl decimal ↦
@@ -162,7 +163,7 @@ no_code_named : (field : CodeField) (argument : List ℕ) → has_name (codes_of
 no_code_named field argument none named is = true≢false (sym (code_has_name (codes_of field) named argument is) ∙ none)
 
 -- The name of a code is this code and no other.
-named_code : (field : CodeField) (argument : List ℕ) (code : ℕ) → name_of_code (codes_of field) code ≡ Some argument
+pub named_code : (field : CodeField) (argument : List ℕ) (code : ℕ) → name_of_code (codes_of field) code ≡ Some argument
     → names_only (codes_of field) argument code ≡ true → IsOnlyCode field argument code
 named_code field argument code is all = (Named is, only) where
   only : (other : ℕ) → IsCode field argument other → other ≡ code
