@@ -49,7 +49,7 @@ use Rattle.bootimg.specs.declared.command_line.part.PartSource.TheVariants as pa
 use Rattle.bootimg.specs.declared.command_line.source.ImageSource.{ImageSource}
 use Rattle.bootimg.specs.declared.command_line.source.ImageSource.TheVariants.{Standard, File}
 use Rattle.bootimg.specs.declared.failure.Failure.TheVariants.{NoChange, NoSelection, BadValue}
-use Rattle.bootimg.proofs.ArgumentFacts.{decimal_digits, hexadecimal_digits_after, named_code, no_number}
+use Rattle.bootimg.proofs.ArgumentFacts.{decimal_digits, hexadecimal_digits_after, code_with_name, is_no_number}
 
 -- Small command lines request what is known.
 
@@ -176,14 +176,14 @@ length_of_word (part.Input size) is = ap part.Input ((hexadecimal_digits_after (
 length_of_word (part.File name) is = absurd (omega (arith, ap (λ l. get_or l 0 0) is))
 
 file_of_word : (source : PartSource) → IsPartSource (codes "@h") source → IsPartNamed (codes "h") source
-file_of_word (part.Input size) is = absurd (no_number (codes "@h") refl refl size is)
+file_of_word (part.Input size) is = absurd (is_no_number (codes "@h") refl refl size is)
 file_of_word (part.File name) is = sym (ap (λ l. after_first l) is) where
   after_first : List ℕ → List ℕ
   after_first [] = []
   after_first (byte ∷ later) = later
 
 no_part_of_word : NoneIs (IsPartSource (codes "h"))
-no_part_of_word (part.Input size) is = no_number (codes "h") refl refl size is
+no_part_of_word (part.Input size) is = is_no_number (codes "h") refl refl size is
 no_part_of_word (part.File name) is = omega (arith, ap (λ l. get_or l 0 0) is)
 
 pub part_words_are_known : PartWordsAreKnown
@@ -250,10 +250,10 @@ no_time_given option missing time is = by time (subst (λ o. IsNewTime o time) m
 
 bad_time_given : (option : Option (List ℕ)) (argument : List ℕ) → option ≡ Some argument → NoneIs (IsNumber argument)
     → (time : Option ℕ) → IsNewTime option time → ⊥
-bad_time_given option argument given no_number time is = by time (subst (λ o. IsNewTime o time) given is) where
+bad_time_given option argument given not_number time is = by time (subst (λ o. IsNewTime o time) given is) where
   by : (time : Option ℕ) → IsNewTime (Some argument) time → ⊥
   by None is = is
-  by (Some other) is = no_number other is
+  by (Some other) is = not_number other is
 
 -- The failure without a change, and with a bad time.
 no_change_fails : (options : ArgMatches) → option_of options (codes "time") ≡ None → IsOnlyOne (IsChangesFailure options) NoChange
@@ -301,7 +301,7 @@ changes_are_known = record {
     λ changes holds.
         bad_time_given _ (codes "x")
         (option_is (codes "update --time x") (codes "update") options is (codes "time") ∙ refl)
-        (no_number (codes "x") refl refl) changes.time
+        (is_no_number (codes "x") refl refl) changes.time
         holds.time,
     bad_time_fails options (codes "x") (option_is (codes "update --time x") (codes "update") options is (codes "time") ∙ refl),
   );
@@ -499,14 +499,14 @@ fields_of_line options is fields holds =
           holds.load;
       entry = number_given _ (codes "3") 3 (value (codes "entry") (codes "0") ∙ refl) (decimal_digits (codes "3") refl refl)
           fields.entry holds.entry;
-      os = code_given Os _ (codes "linux") 5 (value (codes "os") [] ∙ refl) (named_code Os (codes "linux") 5 refl refl) fields.os
+      os = code_given Os _ (codes "linux") 5 (value (codes "os") [] ∙ refl) (code_with_name Os (codes "linux") 5 refl refl) fields.os
           holds.os;
-      arch = code_given Arch _ (codes "arm64") 22 (value (codes "arch") [] ∙ refl) (named_code Arch (codes "arm64") 22 refl refl)
+      arch = code_given Arch _ (codes "arm64") 22 (value (codes "arch") [] ∙ refl) (code_with_name Arch (codes "arm64") 22 refl refl)
           fields.arch holds.arch;
       image_type = code_given ImageType _ (codes "kernel") 2 (value (codes "type") [] ∙ refl)
-          (named_code ImageType (codes "kernel") 2 refl refl) fields.image_type holds.image_type;
+          (code_with_name ImageType (codes "kernel") 2 refl refl) fields.image_type holds.image_type;
       compression = code_given Compression _ (codes "gzip") 1 (value (codes "compression") (codes "none") ∙ refl)
-          (named_code Compression (codes "gzip") 1 refl refl) fields.compression holds.compression;
+          (code_with_name Compression (codes "gzip") 1 refl refl) fields.compression holds.compression;
       name = holds.name ∙ value (codes "name") [] ∙ refl;
     }
 
@@ -517,7 +517,7 @@ address_given (Some number) is = ap Some ((hexadecimal_digits_after (codes "8000
 
 no_address : (address : Option ℕ) → IsAddress (codes "-") address → address ≡ None
 no_address None is = refl
-no_address (Some number) is = absurd (no_number (codes "-") refl refl number is)
+no_address (Some number) is = absurd (is_no_number (codes "-") refl refl number is)
 
 length_of_payload : (source : PartSource) → IsPartSource (codes "5") source → source ≡ part.Input 5
 length_of_payload (part.Input size) is = ap part.Input ((decimal_digits (codes "5") refl refl).1 size is)
@@ -534,11 +534,11 @@ image_of_word image is =
     = λ index. ap (λ fields. field_at fields index) is.1 in
     record {
       name = is.2.name ∙ sym (field 0);
-      image_type = code_given ImageType _ (codes "kernel") 2 (sym (field 1)) (named_code ImageType (codes "kernel") 2 refl refl)
+      image_type = code_given ImageType _ (codes "kernel") 2 (sym (field 1)) (code_with_name ImageType (codes "kernel") 2 refl refl)
           image.0.image_type is.2.image_type;
-      arch = code_given Arch _ (codes "arm64") 22 (sym (field 2)) (named_code Arch (codes "arm64") 22 refl refl) image.0.arch is.2.arch;
-      os = code_given Os _ (codes "linux") 5 (sym (field 3)) (named_code Os (codes "linux") 5 refl refl) image.0.os is.2.os;
-      compression = code_given Compression _ (codes "gzip") 1 (sym (field 4)) (named_code Compression (codes "gzip") 1 refl refl)
+      arch = code_given Arch _ (codes "arm64") 22 (sym (field 2)) (code_with_name Arch (codes "arm64") 22 refl refl) image.0.arch is.2.arch;
+      os = code_given Os _ (codes "linux") 5 (sym (field 3)) (code_with_name Os (codes "linux") 5 refl refl) image.0.os is.2.os;
+      compression = code_given Compression _ (codes "gzip") 1 (sym (field 4)) (code_with_name Compression (codes "gzip") 1 refl refl)
           image.0.compression is.2.compression;
       load = address_given image.0.load (subst (λ a. IsAddress a image.0.load) (sym (field 5)) is.2.load);
       entry = no_address image.0.entry (subst (λ a. IsAddress a image.0.entry) (sym (field 6)) is.2.entry);
