@@ -16,7 +16,7 @@ _bootimg() {
     elif [[ ${COMP_WORDS[1]} == build-* && $before == *@ ]]; then
         before=@FILE
     fi
-    local commands="normalise list describe compare verify check update extract convert build-legacy build-fit explain help"
+    local commands="normalise list describe compare verify check scan update extract convert build-legacy build-fit explain help"
     if ((COMP_CWORD == 1)); then
         words="$commands --help --version -h -V"
     else
@@ -38,7 +38,7 @@ _bootimg() {
             case ${COMP_WORDS[1]} in
             normalise | normalize) words="--external --limit -o --output" ;;
             list | describe | verify) words="--json --limit -o --output" ;;
-            convert) words="--limit -o --output" ;;
+            scan | convert) words="--limit -o --output" ;;
             compare | diff) words="--quiet --json --limit -o --output" ;;
             check) words="--allow --json --limit -o --output" ;;
             update) words="--time --hashes --external --limit -o --output" ;;

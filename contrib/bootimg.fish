@@ -27,6 +27,7 @@ complete $first -a describe -d 'Write what an image means'
 complete $first -a compare -d 'Write what differs between what two images mean'
 complete $first -a verify -d 'Write the verdict on each checksum and each hash node'
 complete $first -a check -d 'Write a line for each thing that is not protected'
+complete $first -a scan -d 'Write a line for each image inside a file'
 complete $first -a update -d 'Write the normal form with another time or with new digests'
 complete $first -a extract -d 'Write a part or a payload'
 complete $first -a convert -d 'Write the flattened image tree of a legacy image'
@@ -36,7 +37,7 @@ complete $first -a explain -d 'Explain the causes of refusals'
 complete $first -a help -d 'Print help'
 
 # What several commands have.
-set -l reading normalise normalize list describe compare diff verify check update extract convert
+set -l reading normalise normalize list describe compare diff verify check scan update extract convert
 complete -c bootimg -n "__bootimg_is $reading" -F
 complete -c bootimg -n "__bootimg_is $reading build-legacy build-fit" -l limit -x -d 'Refuse an image of more than N bytes'
 complete -c bootimg -n "__bootimg_is $reading build-legacy build-fit explain" -s o -l output -r -F -d 'Write the output to a file'
@@ -71,5 +72,5 @@ complete -c bootimg -n '__bootimg_is build-fit' -l description -x -d 'The descri
 complete -c bootimg -n '__bootimg_is explain' -a 'Truncated BadMagic BadHeaderCrc BadDataCrc BadPartTable BadPart BadTotalSize
     BadVersion BadOffset BadToken BadName BadNameOffset PropertyAfterChild DuplicateProperty DuplicateNode TooDeep NoImages BadCell
     NoSize OutsideFile TooLarge NoCodeName TooManyParts EmptyPart BadField Unsupported'
-complete -c bootimg -n '__bootimg_is help' -a 'normalise list describe compare verify check update extract convert build-legacy
-    build-fit explain help'
+complete -c bootimg -n '__bootimg_is help' -a 'normalise list describe compare verify check scan update extract convert
+    build-legacy build-fit explain help'

@@ -101,6 +101,7 @@ class Legacy:
         if self.parts:
             self.parts_end = self.parts[-1][0] + len(self.parts[-1][1])
         self.unused = len(file) - self.parts_end
+        self.extent = 64 + size
         self.after = file[self.parts_end:]
 
     @staticmethod
@@ -123,6 +124,9 @@ class Legacy:
 
     def meaning(self):
         return self.time, self.load, self.entry, self.codes, self.name, self.payloads()
+
+    def scan_word(self):
+        return shown(self.name)
 
     def check_payloads(self, limit):
         """The parts are never longer than a limit that the file is within."""
@@ -159,7 +163,9 @@ class Node:
         return next((child for child in self.children if child.name == name), None)
 
 
-class Blob:
+class Header:
+    """The header of a blob."""
+
     def __init__(self, file):
         if len(file) < 4:
             refuse("Truncated", 0)
@@ -184,10 +190,17 @@ class Blob:
             refuse("BadOffset", 8)
         if strings < length or strings + strings_size > total:
             refuse("BadOffset", 12)
-        self.file, self.total, self.end = file, total, end
+        self.total, self.end = total, end
+        self.structure, self.reservations_at = structure, reservations
         self.names = file[strings:strings + strings_size]
-        self.reservations = self.read_reservations(reservations)
-        self.root = self.read_root(structure)
+
+
+class Blob(Header):
+    def __init__(self, file):
+        super().__init__(file)
+        self.file = file
+        self.reservations = self.read_reservations(self.reservations_at)
+        self.root = self.read_root(self.structure)
 
     def read_reservations(self, at):
         found = []
@@ -292,7 +305,8 @@ class Fit:
         self.images = [(node, *self.payload(file, node)) for node in root.child(b"images").children]
         self.configurations = root.child(b"configurations") or Node(b"")
         ends = [place + len(payload) for _, payload, _, place in self.images if payload is not None]
-        self.after = file[max([self.blob.total, *ends]):]
+        self.extent = max([self.blob.total, *ends])
+        self.after = file[self.extent:]
 
     def payload(self, file, node):
         """The payload of an image node, the property that gives it, and its place."""
@@ -330,6 +344,9 @@ class Fit:
 
     def payloads(self):
         return [payload for _, payload, _, _ in self.images]
+
+    def scan_word(self):
+        return str(len(self.images))
 
     def check_payloads(self, limit):
         """Refuses payloads that together are longer than the limit. Each image counts, also where several share bytes."""
@@ -824,6 +841,34 @@ def concerns_of_fit(fit):
         yield {"concern": "bad-default", "default": name_or_null(name)}
 
 
+def claim(file):
+    """How many bytes the header at the beginning of a file claims."""
+    if file[:4] == b"\x27\x05\x19\x56" and len(file) >= 64:
+        size = cell_at(file, 12)
+        right = zlib.crc32(file[:4] + bytes(4) + file[8:64]) == cell_at(file, 4)
+        return 64 + size if right and 64 + size <= len(file) else 0
+    if file[:4] == b"\xd0\x0d\xfe\xed":
+        try:
+            return Header(file).total
+        except Refused:
+            pass
+    return 0
+
+
+def scan(file, options):
+    limit = options["limit"]
+    within(file, limit)
+    places = [at for at in range(len(file)) if file[at:at + 4] in (b"\x27\x05\x19\x56", b"\xd0\x0d\xfe\xed")]
+    if sum(claim(file[at:]) for at in places) > limit:
+        refuse("TooLarge", limit)
+    lines = []
+    for at in places:
+        with contextlib.suppress(Refused):
+            image = read(file[at:], limit)
+            lines.append(f"{at} {image.kind} {image.extent} {image.scan_word()}")
+    return int(not lines), text_of(lines), b""
+
+
 def convert(file, options):
     image = Legacy(within(file, options["limit"]))
     for at, field in enumerate(FIELDS, 28):
@@ -969,6 +1014,7 @@ COMMANDS = {
     "compare": (compare, {"quiet": FLAG, "json": FLAG}),
     "verify": (of_image(verify), {"json": FLAG}),
     "check": (of_image(check), {"allow": (kinds, ()), "json": FLAG}),
+    "scan": (of_image(scan), {}),
     "update": (of_image(update), {"time": (number, ()), "hashes": FLAG, "external": FLAG}),
     "extract": (of_image(extract), {
         "part": (number, ()), "image": (str, ()), "config": (str, ()), "default": FLAG, "key": (key, "kernel"), "index": (number, "0"),

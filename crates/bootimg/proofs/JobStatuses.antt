@@ -6,7 +6,7 @@ use Rattle.bootimg.specs.declared.command_line.Job.{Job}
 use Rattle.bootimg.specs.declared.command_line.Job.TheVariants.{Run as RunTask, Compare, Build, Explain}
 use Rattle.bootimg.specs.declared.command_line.Task.{Task}
 use Rattle.bootimg.specs.declared.command_line.Task.TheVariants.{Normalise, List as ListImage, Verify, Check, Describe, Extract}
-use Rattle.bootimg.specs.declared.command_line.Task.TheVariants.{Update, Convert}
+use Rattle.bootimg.specs.declared.command_line.Task.TheVariants.{Update, Convert, Scan}
 use Rattle.bootimg.specs.declared.command_line.build.BuildPlan.{BuildPlan}
 use Rattle.bootimg.specs.declared.command_line.source.ComparePlan.{ComparePlan}
 use Rattle.bootimg.specs.declared.command_line.source.ImageSource.{ImageSource}
@@ -41,6 +41,7 @@ task_done_below_2 (ListImage format) limits done input output is = ended_below_2
 task_done_below_2 (Describe format) limits done input output is = ended_below_2 0 done is.1 (omega arith)
 task_done_below_2 (Verify format) limits done input output is = ended_below_2 (status_of is.0) done is.2 (good_below_2 is.0)
 task_done_below_2 (Check allowed format) limits done input output is = ended_below_2 (status_of is.0) done is.2 (good_below_2 is.0)
+task_done_below_2 Scan limits done input output is = ended_below_2 (status_of is.0) done is.2 (good_below_2 is.0)
 task_done_below_2 (Update changes form) limits done input output is = subst (λ s. s < 2) (sym is.1) (omega arith)
 task_done_below_2 (Extract selection) limits done input output is = ended_below_2 0 done is.1 (omega arith)
 task_done_below_2 Convert limits done input output is = ended_below_2 0 done is.1 (omega arith)

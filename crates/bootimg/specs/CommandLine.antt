@@ -455,6 +455,7 @@ IsTask name options (task.Describe format) = (name ≡ codes "describe") × IsFo
 IsTask name options (task.Verify format) = (name ≡ codes "verify") × IsFormat options format
 IsTask name options (task.Check allowed format) =
     (name ≡ codes "check") × IsAllowedBy (allow_option options) allowed × IsFormat options format
+IsTask name options task.Scan = name ≡ codes "scan"
 IsTask name options (task.Update changes form) =
     (name ≡ codes "update") × IsChanges options changes × IsForm options form
 IsTask name options (task.Extract selection) =

@@ -50,20 +50,29 @@ default_limit = with_value (codes "limit") (codes "2147483647")
 abbrev pub only_defaults : List ValuesOf
 only_defaults = default_limit ∷ without_value (codes "output") ∷ without_value (codes "file") ∷ []
 
+-- The value of `--json`, if it is not given, and if it is.
+abbrev pub no_json : ValuesOf
+no_json = with_value (codes "json") (codes "false")
+
+abbrev pub with_json : ValuesOf
+with_json = with_value (codes "json") (codes "true")
+
 -- The values of options that are not given.
 pub record DefaultsAreKnown : Type 0 where
   pub normalise : GivesValues (codes "normalise") (codes "normalise")
       (with_value (codes "external") (codes "false") ∷ only_defaults)
-  pub list : GivesValues (codes "list") (codes "list") only_defaults
-  pub describe : GivesValues (codes "describe") (codes "describe") only_defaults
+  pub list : GivesValues (codes "list") (codes "list") (no_json ∷ only_defaults)
+  pub describe : GivesValues (codes "describe") (codes "describe") (no_json ∷ only_defaults)
   pub compare : GivesValues (codes "compare a b") (codes "compare")
       (with_value (codes "quiet") (codes "false")
+      ∷ no_json
       ∷ default_limit
       ∷ without_value (codes "output")
       ∷ [])
-  pub verify : GivesValues (codes "verify") (codes "verify") only_defaults
+  pub verify : GivesValues (codes "verify") (codes "verify") (no_json ∷ only_defaults)
   pub check : GivesValues (codes "check") (codes "check")
-      (without_value (codes "allow") ∷ only_defaults)
+      (without_value (codes "allow") ∷ no_json ∷ only_defaults)
+  pub scan : GivesValues (codes "scan") (codes "scan") only_defaults
   pub update : GivesValues (codes "update") (codes "update")
       (without_value (codes "time")
       ∷ with_value (codes "hashes") (codes "false")
@@ -115,22 +124,25 @@ pub record OptionsAreKnown : Type 0 where
   pub normalise : GivesValues (codes "normalise --external --limit 64 -o out in")
       (codes "normalise")
       (with_value (codes "external") (codes "true") ∷ limit_output_and_file)
-  pub list : GivesValues (codes "list --limit 64 --output out in") (codes "list")
-      limit_output_and_file
-  pub describe : GivesValues (codes "describe --limit=64 -o out in") (codes "describe")
-      limit_output_and_file
-  pub compare : GivesValues (codes "compare --quiet --limit 64 -o out - in") (codes "compare")
+  pub list : GivesValues (codes "list --json --limit 64 --output out in") (codes "list")
+      (with_json ∷ limit_output_and_file)
+  pub describe : GivesValues (codes "describe --limit=64 --json -o out in") (codes "describe")
+      (with_json ∷ limit_output_and_file)
+  pub compare : GivesValues (codes "compare --quiet --json --limit 64 -o out - in")
+      (codes "compare")
       (with_value (codes "quiet") (codes "true")
+      ∷ with_json
       ∷ with_value (codes "limit") (codes "64")
       ∷ with_value (codes "output") (codes "out")
       ∷ with_value (codes "one") (codes "-")
       ∷ with_value (codes "other") (codes "in")
       ∷ [])
-  pub verify : GivesValues (codes "verify in --limit 64 -o out") (codes "verify")
-      limit_output_and_file
-  pub check : GivesValues (codes "check --allow weak-hash,missing --limit 64 -o out in")
+  pub verify : GivesValues (codes "verify in --limit 64 -o out --json") (codes "verify")
+      (with_json ∷ limit_output_and_file)
+  pub check : GivesValues (codes "check --allow weak-hash,missing --json --limit 64 -o out in")
       (codes "check")
-      (with_value (codes "allow") (codes "weak-hash,missing") ∷ limit_output_and_file)
+      (with_value (codes "allow") (codes "weak-hash,missing") ∷ with_json ∷ limit_output_and_file)
+  pub scan : GivesValues (codes "scan --limit 64 -o out in") (codes "scan") limit_output_and_file
   pub update : GivesValues (codes "update --time 5 --hashes --external --limit 64 -o out in")
       (codes "update")
       (with_value (codes "time") (codes "5")

@@ -8,6 +8,7 @@ use Rattle.bi_commands.specs.declared.compare.CompareError.{CompareError}
 use Rattle.bi_commands.specs.declared.compare.CompareError.TheVariants as compare
 use Rattle.bi_commands.specs.declared.extract.ExtractError.{ExtractError}
 use Rattle.bi_commands.specs.declared.extract.ExtractError.TheVariants as extract
+use Rattle.bi_commands.specs.declared.format.Format.TheVariants.{Lines}
 use Rattle.bi_fit.specs.declared.configurations.ConfigError.TheVariants as list
 use Rattle.bootimg.specs.ComparedFiles.{compare_status, failure_of_comparing, refused_source}
 use Rattle.bootimg.specs.Failures.{failure_of}
@@ -23,8 +24,8 @@ use Rattle.bootimg.specs.declared.failure.Failure.TheVariants.{NotWritten}
 
 -- How runs end, by which a reader can judge the definitions.
 
--- The exit status is 1 if a verdict is not good, if a concern has a line, or if two images do not
--- mean the same, and else 0.
+-- The exit status is 1 if a verdict is not good, if a concern has a line, if no image has one in a
+-- scan, or if two images do not mean the same, and else 0.
 pub record StatusesAreKnown : Type 0 where
   pub good : status_of true ≡ 0
   pub not_good : status_of false ≡ 1
@@ -93,6 +94,7 @@ compared_plan = record {
   one = File (lent (codes "a"));
   other = File (lent (codes "b"));
   quiet = false;
+  format = Lines;
 }
 
 abbrev pub line_of_comparing : CompareError → List ℕ

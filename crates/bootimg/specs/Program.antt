@@ -115,6 +115,10 @@ abbrev pub check : Shape
 check = command (codes "check")
     (value_option (codes "allow") ∷ json ∷ limit ∷ output ∷ file ∷ [])
 
+-- `scan`.
+abbrev pub scan : Shape
+scan = command (codes "scan") (limit ∷ output ∷ file ∷ [])
+
 -- `update`.
 abbrev pub update : Shape
 update = command (codes "update")
@@ -156,9 +160,9 @@ explain = command (codes "explain") (output ∷ positional (codes "cause") ∷ [
 
 -- ---- the program
 
--- The commands that show what an image is, and the one that normalises it.
+-- The commands that show what an image is, the one that normalises it, and the one that finds it.
 abbrev pub reading_commands : List Shape
-reading_commands = normalise ∷ list ∷ describe ∷ compare ∷ verify ∷ check ∷ []
+reading_commands = normalise ∷ list ∷ describe ∷ compare ∷ verify ∷ check ∷ scan ∷ []
 
 -- The commands that make something else of an image.
 abbrev pub changing_commands : List Shape

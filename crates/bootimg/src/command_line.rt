@@ -55,6 +55,8 @@ pub enum Task {
     Verify(Format),
     /// Write the concerns that are not of these kinds, in this form.
     Check(Allowed, Format),
+    /// Write a line for each image inside the input.
+    Scan,
     /// Write the normal form with these changes. That of a flattened image tree has this form.
     Update(Changes, Form),
     /// Write what the selection chooses.
@@ -199,6 +201,7 @@ fn parse_task(alloc: Global, name: &str, options: &ArgMatches<'_>) -> Result<Tas
         "describe" => Task::Describe(format(options)),
         "verify" => Task::Verify(format(options)),
         "check" => Task::Check(allowed_kinds(options)?, format(options)),
+        "scan" => Task::Scan,
         "update" => Task::Update(changes(options)?, form(options)),
         "extract" => Task::Extract(selection(alloc, options)?),
         "convert" => Task::Convert,

@@ -11,6 +11,7 @@ use bi_commands::convert::Converter;
 use bi_commands::describe::Describer;
 use bi_commands::extract::Extractor;
 use bi_commands::list::Lister;
+use bi_commands::scan::Scanner;
 use bi_commands::update::Updater;
 use bi_commands::verify::Verifier;
 use bi_norm::Normaliser;
@@ -19,7 +20,8 @@ use std::alloc::Global;
 /// The exit status after success, help and the version included.
 pub const SUCCESS: u8 = 0;
 
-/// The exit status after `verify` wrote a verdict that is not good, or `check` a concern.
+/// The exit status after `verify` wrote a verdict that is not good, `check` a concern, or `scan` no
+/// line.
 const NOT_GOOD: u8 = 1;
 
 /// How a task ended that did not fail.
@@ -87,6 +89,10 @@ impl Command for Task {
                 let clean = checker.run(alloc, input, limits, sink)?;
                 return Ok(Done::with_status(status(clean)));
             }
+            Task::Scan => {
+                let found = Scanner.run(alloc, input, limits, sink)?;
+                return Ok(Done::with_status(status(found)));
+            }
             Task::Update(changes, form) => {
                 let updater = Updater {
                     changes: *changes,
@@ -115,7 +121,7 @@ impl Command for Task {
     ghost laws = { task_laws };
 }
 
-/// Returns the exit status after `verify` or `check`.
+/// Returns the exit status after `verify`, `check` or `scan`.
 fn status(good: bool) -> u8
     ensures { result ≡ status_of good }
 {

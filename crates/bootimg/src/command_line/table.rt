@@ -27,8 +27,8 @@ const VERSION: &str = "0.2.0 (Rattle logic dac8208d650f15bf)";
 
 /// The text of `--help` before the usage.
 const ABOUT: &str =
-    "Normalises, lists, describes, compares, verifies, checks, updates, extracts, converts and \
-     builds U-Boot boot images";
+    "Normalises, lists, describes, compares, verifies, checks, finds, updates, extracts, converts \
+     and builds U-Boot boot images";
 
 /// The text of `--help` after the options.
 const AFTER_HELP: &str =
@@ -38,7 +38,8 @@ const AFTER_HELP: &str =
      \x20   bootimg list kernel.uimage\n\n\
      The exit status is 0 after success. A failure is reported on standard error, and the exit\n\
      status is then 2. It is 1 if verify wrote a verdict that is not good, if check found what is\n\
-     not protected, or if compare found that two images do not mean the same thing.";
+     not protected, if compare found that two images do not mean the same thing, or if scan found\n\
+     no image.";
 
 /// How an option is given.
 #[derive(Clone, Copy)]
@@ -409,8 +410,9 @@ const IMAGES: OptionText = OptionText {
     form: OptionForm::Positionals,
 };
 
-/// The commands that show what an image is, after the one that normalises it.
-static READING_COMMANDS: [CommandText; 6] = [
+/// The commands that show what an image is, between the one that normalises it and the one that
+/// finds it.
+static READING_COMMANDS: [CommandText; 7] = [
     CommandText {
         name: "normalise",
         aliases: &["normalize"],
@@ -503,6 +505,22 @@ static READING_COMMANDS: [CommandText; 6] = [
                  The exit status is 0 if nothing was found, and 1 if something was.\n\n\
                  Example: bootimg check --allow weak-hash,trailing kernel.itb",
         options: &[ALLOW, JSON, LIMIT, OUTPUT, FILE],
+    },
+    CommandText {
+        name: "scan",
+        aliases: &[],
+        about: "Find the images inside a file",
+        usage: "bootimg scan [OPTIONS] [IMAGE]",
+        after_help: "\
+                 Reads a file, such as what a flash chip holds, and writes to standard output a\n\
+                 line for each image inside it, also for one inside another: the offset of its\n\
+                 first byte, legacy or fit, how many bytes it has, and the name of a legacy image\n\
+                 or the number of images of a flattened image tree. An image may begin at any\n\
+                 offset. Bytes that other commands would refuse have no line.\n\n\
+                 --limit also bounds the bytes that the headers inside the file name together.\n\n\
+                 The exit status is 0 if a line was written, and 1 if none was.\n\n\
+                 Example: bootimg scan flash.bin",
+        options: &[LIMIT, OUTPUT, FILE],
     },
 ];
 

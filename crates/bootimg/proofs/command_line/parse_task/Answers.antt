@@ -3,7 +3,7 @@ use Rattle.bootimg.specs.CommandLine.{IsTask}
 use Rattle.bootimg.proofs.command_line.parse_task.Goals as goal
 use Rattle.bootimg.proofs.command_line.parse_task.Goals.{in-normalise, in-list, in-describe, in-verify}
 use Rattle.bootimg.proofs.command_line.parse_task.Goals.{in-check+in_ok-allowed_kinds-in-check, in-update+in_ok-changes-in-update}
-use Rattle.bootimg.proofs.command_line.parse_task.Goals.{in-extract+in_ok-selection-in-extract, in-convert}
+use Rattle.bootimg.proofs.command_line.parse_task.Goals.{in-scan, in-extract+in_ok-selection-in-extract, in-convert}
 
 pub returns-clause-task : goal.returns-clause-task
 returns-clause-task c =
@@ -18,6 +18,7 @@ returns-clause-task c =
         w.in_ok-allowed_kinds-in-check.ensures.value,
         w.format-in-check.ensures,
       )
+      | in-scan w ↦ subst is_task (sym w.result-is) w.in-scan.is
       | in-update+in_ok-changes-in-update w ↦ subst is_task (sym w.result-is) (
         w.in-update.is,
         w.in_ok-changes-in-update.ensures.changes,

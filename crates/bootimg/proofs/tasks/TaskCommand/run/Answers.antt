@@ -7,6 +7,7 @@ use Rattle.bi_commands.specs.CheckedFiles.{IsChecked, IsCheckError}
 use Rattle.bi_commands.specs.Describing.{IsDescription, IsDescribeError}
 use Rattle.bi_commands.specs.Extracting.{IsChosen, IsExtractError}
 use Rattle.bi_commands.specs.ListedFiles.{IsListing}
+use Rattle.bi_commands.specs.Scanning.{IsScanText, IsScanError}
 use Rattle.bi_commands.specs.VerifiedFiles.{IsReport}
 use Rattle.bi_commands.specs.UpdatedFiles.{IsUpdated, IsUpdateError}
 use Rattle.bootimg.specs.Selections.{select_of}
@@ -58,6 +59,15 @@ returns-in_err-clean-in-Check-clause-failed g c =
     rw (c.in-Check.is, p.1)
     (call_failed g.S.Sink.fails (IsChecked c.in-Check.format c.in-Check.allowed limits input) (IsCheckError limits input) c.args.sink.now c.run-in-Check.new.sink c.in_err-clean-in-Check.field-0.0 p.0 p.2
     c.in_err-clean-in-Check.ensures.failed)
+
+pub returns-in_err-found-in-Scan-clause-failed : goal.returns-in_err-found-in-Scan-clause-failed
+returns-in_err-found-in-Scan-clause-failed g c =
+    let limits = c.args.limits in
+    let input = c.args.input.now in
+    let p = err_from_is_err_and c.from_residual-in_err-found-in-Scan.result c.from_residual-in_err-found-in-Scan.ensures.1 in
+    rw (c.in-Scan.is, p.1)
+    (call_failed g.S.Sink.fails (IsScanText limits input) (IsScanError limits input) c.args.sink.now c.run-in-Scan.new.sink c.in_err-found-in-Scan.field-0.0 p.0 p.2
+    c.in_err-found-in-Scan.ensures.failed)
 
 pub returns-in_err-signatures-in-Update-clause-failed : goal.returns-in_err-signatures-in-Update-clause-failed
 returns-in_err-signatures-in-Update-clause-failed g c =
