@@ -30,8 +30,8 @@
  *   BOOTIMG_NO_ROOM         The output is larger than the buffer. `size` and `value` are as for
  *                           BOOTIMG_DONE.
  *   BOOTIMG_WRONG_ARGUMENT  A number is out of the range of its argument.
- *   BOOTIMG_NOT_FOUND       There is nothing to extract or to list. `reason` is one of
- *                           BOOTIMG_WRONG_KIND to BOOTIMG_NO_PAYLOAD. `value` is the index of the
+ *   BOOTIMG_NOT_FOUND       What the call looks for is not there. `reason` is one of
+ *                           BOOTIMG_WRONG_KIND to BOOTIMG_NO_PROPERTY. `value` is the index of the
  *                           first name that no image has for BOOTIMG_MISSING, and otherwise 0.
  *
  * Numbers without meaning for the status or the call are 0. If the status is BOOTIMG_DONE, the
@@ -84,7 +84,7 @@ extern "C" {
 #define BOOTIMG_LOADABLES 4u
 #define BOOTIMG_SCRIPT 5u
 
-/* `reason`: why nothing is extracted. */
+/* `reason`: what is not there. */
 #define BOOTIMG_WRONG_KIND 1u
 #define BOOTIMG_NO_PART 2u
 #define BOOTIMG_NO_IMAGE 3u
@@ -94,6 +94,8 @@ extern "C" {
 #define BOOTIMG_MISSING 7u
 #define BOOTIMG_NO_INDEX 8u
 #define BOOTIMG_NO_PAYLOAD 9u
+#define BOOTIMG_NO_NODE 10u
+#define BOOTIMG_NO_PROPERTY 11u
 
 /* `place` of an image: the property that places its payload. */
 #define BOOTIMG_PLACE_ABSENT 0u
@@ -159,6 +161,12 @@ typedef struct bootimg_image {
     bootimg_region payload;
     uint32_t place;
 } bootimg_image;
+
+/* A property of a node of a FIT. */
+typedef struct bootimg_property {
+    bootimg_region name;
+    bootimg_region value;
+} bootimg_property;
 
 /* Returns the kind of a file in `value`, by its first four bytes: BOOTIMG_LEGACY or BOOTIMG_FIT.
  * The other bytes are not examined. The call fails with Truncated at 0 for a file of fewer than
@@ -267,6 +275,30 @@ uint32_t bootimg_configurations(const uint8_t *file, size_t file_size, uint32_t 
 uint32_t bootimg_listed(const uint8_t *file, size_t file_size, const uint8_t *name,
                         size_t name_size, uint32_t key, uint32_t limit, uint32_t depth,
                         size_t *images, size_t images_count, bootimg_answer *answer);
+
+/* The calls that look at a node of a FIT take its path: `/` for the root, and else a `/` before the
+ * name of each node from a child of the root down to it, for example `/images/kernel-1`. The names
+ * are bytes of the file, and the whole names: no alias is followed. The path is not NUL-terminated.
+ * If no node has the path, the status is BOOTIMG_NOT_FOUND and `reason` is BOOTIMG_NO_NODE. */
+
+/* Writes where the names of the children of a node are, in their order. */
+uint32_t bootimg_children(const uint8_t *file, size_t file_size, const uint8_t *path,
+                          size_t path_size, uint32_t limit, uint32_t depth, bootimg_region *names,
+                          size_t names_count, bootimg_answer *answer);
+
+/* Writes the properties of a node, in their order. */
+uint32_t bootimg_properties(const uint8_t *file, size_t file_size, const uint8_t *path,
+                            size_t path_size, uint32_t limit, uint32_t depth,
+                            bootimg_property *properties, size_t properties_count,
+                            bootimg_answer *answer);
+
+/* Selects the value of the property of a node with the given name, as the calls that extract do:
+ * `value` is its offset in the file, and `size` its size. The name is not NUL-terminated. If the
+ * node has no such property, the status is BOOTIMG_NOT_FOUND and `reason` is BOOTIMG_NO_PROPERTY.
+ */
+uint32_t bootimg_property_value(const uint8_t *file, size_t file_size, const uint8_t *path,
+                                size_t path_size, const uint8_t *name, size_t name_size,
+                                uint32_t limit, uint32_t depth, bootimg_answer *answer);
 
 /* Returns in `value` whether two files mean the same thing: 1 if they do, otherwise 0. */
 uint32_t bootimg_same_meaning(const uint8_t *one, size_t one_size, const uint8_t *other,

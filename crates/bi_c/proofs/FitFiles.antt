@@ -1,5 +1,6 @@
-use Rattle.std.proofs.Common.{◌≡◌, ℕ, List, refl, subst}
+use Rattle.std.proofs.Common.{◌≡◌, ℕ, List, refl, subst, sym}
 use Rattle.std.specs.List.{AllByRecursion}
+use Rattle.bi_base.specs.declared.fault.Error.{Error}
 use Rattle.bi_base.specs.declared.fault.Error.TheVariants as error
 use Rattle.bi_base.specs.Limits.{Limits}
 use Rattle.bi_blob.specs.Blob.{IsWithin}
@@ -10,10 +11,13 @@ use Rattle.bi_fit.specs.File.{FitMeans}
 use Rattle.bi_fit.specs.Names.{configurations_name}
 use Rattle.bi_fit.specs.Reading.{IsReadFit, IsFitReadError}
 use Rattle.bi_fit.proofs.ReadErrors.{none_before_tree}
+use Rattle.bi_c.specs.declared.failure.Failure.{Failure}
+use Rattle.bi_c.specs.Answers.{failure_of_error}
 use Rattle.bi_c.specs.Arguments.{bounds}
+use Rattle.bi_c.specs.Calls.{IsTreeFailure}
 use Rattle.bi_c.specs.FitElements.{configuration_siblings}
 use Rattle.bi_c.specs.TreeRegions.{HasNameBytes}
-use Rattle.bi_c.proofs.TreeRegions.{blob_names, children_names}
+use Rattle.bi_c.proofs.TreeRegions.{root_bytes, children_names}
 
 -- What was read of a file under the limits of a call is what the file means.
 
@@ -42,4 +46,16 @@ pub configuration_bytes : (limits : Limits) (file : List ℕ) (content : FitMode
 configuration_bytes limits file content read =
     let is = read.means.is_file in
     children_names file configurations_name is.root.children (node_named is.root.children configurations_name) refl
-    (blob_names file content.blob.cpu content.blob.reservations is.root is.blob).1
+    (root_bytes file content.blob.cpu content.blob.reservations is.root is.blob).1
+
+-- A call on a flattened image tree that cannot read the file fails as reading does.
+pub tree_failed : (AreValid : Type 0) (limits : Limits) (file : List ℕ) (IsReason : ℕ → ℕ → Type 0) (cause : Error) (failure : Failure) →
+    AreValid → failure ≡ failure_of_error cause → IsFitReadError limits file cause → IsTreeFailure AreValid limits file IsReason failure
+tree_failed AreValid limits file IsReason cause failure valid same is =
+    subst (IsTreeFailure AreValid limits file IsReason) (sym same) (by cause is)
+  where
+    by : (cause : Error) → IsFitReadError limits file cause → IsTreeFailure AreValid limits file IsReason (failure_of_error cause)
+    by (error.Refused fault) is = (valid, refl, is)
+    by error.OutOfMemory is = (valid, is)
+    by error.ReadFailed is = absurd is
+    by error.WriteFailed is = absurd is

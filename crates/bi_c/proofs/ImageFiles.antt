@@ -15,7 +15,7 @@ use Rattle.bi_c.specs.Answers.{IsJust}
 use Rattle.bi_c.specs.Arguments.{bounds}
 use Rattle.bi_c.specs.ImageElements.{AreImageElements, HaveImageBytes, HasPayloadBytes, image_elements, payload_region}
 use Rattle.bi_c.proofs.FitFiles.{means_within}
-use Rattle.bi_c.proofs.TreeRegions.{HaveNames, blob_names, found_names}
+use Rattle.bi_c.proofs.TreeRegions.{HaveBytes, root_bytes, found_bytes}
 
 -- The elements of the images that were read of a file are those of the images that the file means.
 
@@ -28,7 +28,7 @@ payload_bytes file None (Some payload) is = absurd is
 payload_bytes file (Some place) (Some payload) is = record { is_size = refl; is_there = is }
 
 -- So are the names and the payloads of image nodes.
-image_bytes : (file : List ℕ) (nodes : Nodes FileNode) (payloads : List (Option (List ℕ))) → HaveNames file nodes →
+image_bytes : (file : List ℕ) (nodes : Nodes FileNode) (payloads : List (Option (List ℕ))) → HaveBytes file nodes →
     AllZip (λ own payload. IsAtPlace file (payload_place file (source_of own)) payload) (each_own nodes) payloads →
     HaveImageBytes file (siblings nodes) payloads
 image_bytes file none payloads have at = tt
@@ -36,7 +36,7 @@ image_bytes file (node name own children later) [] have at = tt
 image_bytes file (node name own children later) (payload ∷ payloads) have at = (
   have.0,
   payload_bytes file (payload_place file (source_of own)) payload at.0,
-  image_bytes file later payloads have.2 at.1,
+  image_bytes file later payloads have.3 at.1,
 )
 
 -- So the elements are those of what the file means.
@@ -59,8 +59,8 @@ are_image_elements limit depth file limits content elements value in_range same 
           read.is_file
           ∙ ap (λ (images : Nodes FileNode). image_elements file (siblings images) tree.payloads) nodes;
       have_bytes = image_bytes file is.images tree.payloads
-          (found_names file images_name is.root.children is.images is.has_images
-          (blob_names file tree.cpu tree.reservations is.root is.blob).1)
+          (found_bytes file images_name is.root.children is.images is.has_images
+          (root_bytes file tree.cpu tree.reservations is.root is.blob).1)
           (payloads_are_at_places file tree is);
       no_value = just.is_number;
     }

@@ -10,6 +10,8 @@ pub mod ImageFiles
 pub mod LegacyElements
 pub mod ListedChoices
 pub mod ListedIndices
+pub mod NodeFiles
+pub mod NodePaths
 pub mod NormalisedFiles
 pub mod Places
 pub mod SliceWriting

@@ -4,7 +4,6 @@ use Rattle.std.proofs.Common.{◌∙◌, ap₂, nat_eq, arith}
 use Rattle.std.specs.FinMap.{get}
 use Rattle.std.specs.List.{AllByRecursion, AllZip, ends_with}
 use Rattle.std.specs.Option.{unwrap_or}
-use Rattle.bi_base.specs.declared.fault.Error.{Error}
 use Rattle.bi_base.specs.declared.fault.Error.TheVariants as error
 use Rattle.bi_base.specs.Limits.{Limits}
 use Rattle.bi_blob.specs.Lookups.{Sibling, siblings, node_named}
@@ -25,7 +24,6 @@ use Rattle.bi_fit.proofs.FileNodes.{bare_image, image_siblings}
 use Rattle.bi_c.proofs.FitFiles.{means_within, read_needs_memory}
 use Rattle.bi_c.specs.declared.failure.Failure.{Failure}
 use Rattle.bi_c.specs.declared.failure.Failure.TheVariants.{NotFound, OutOfMemory, Refused, WrongArgument}
-use Rattle.bi_c.specs.Answers.{failure_of_error}
 use Rattle.bi_c.specs.Arguments.{bounds, key_of, HasKey}
 use Rattle.bi_c.specs.FitElements.{AreReadIndices, AreImageIndices, IsListFailure, IsListReason}
 use Rattle.bi_c.specs.FitElements.{IsListRefusal, failure_of_list_error, index_among, index_of_first, index_of_listed, names_of_images}
@@ -194,17 +192,3 @@ not_listed limit depth number file name limits key content valid same_limits sam
     (valid, subst (λ (l : Limits). IsFitReadError l file error.OutOfMemory) same_limits (read_needs_memory limits file content read))
 not_listed limit depth number file name limits key content valid same_limits same_key read WrongArgument is = absurd is
 not_listed limit depth number file name limits key content valid same_limits same_key read (Refused number_of_file fault) is = absurd is
-
--- So does one that cannot read the file.
-pub read_failed : (limit depth number : ℕ) (file name : List ℕ) (cause : Error) (failure : Failure) → HasKey limit depth number
-    → failure ≡ failure_of_error cause → IsFitReadError (bounds limit depth) file cause
-    → IsListFailure limit depth number file name failure
-read_failed limit depth number file name cause failure valid same is =
-    subst (IsListFailure limit depth number file name) (sym same) (by cause is)
-  where
-    by : (cause : Error) → IsFitReadError (bounds limit depth) file cause →
-        IsListFailure limit depth number file name (failure_of_error cause)
-    by (error.Refused fault) is = (valid, refl, is)
-    by error.OutOfMemory is = (valid, is)
-    by error.ReadFailed is = absurd is
-    by error.WriteFailed is = absurd is

@@ -4,6 +4,7 @@ use Rattle.bi_base.specs.declared.fault.Cause.{Cause}
 use Rattle.bi_base.specs.Causes.{number_of, name_of}
 use Rattle.bi_base.specs.declared.fault.Error.{Error}
 use Rattle.bi_base.specs.Limits.{Limits, IsInRange}
+use Rattle.bi_fit.specs.Reading.{IsFitReadError}
 use Rattle.bi_norm.specs.Comparing.{AreCompared}
 use Rattle.bi_norm.specs.declared.kind.Kind.{Kind}
 use Rattle.bi_norm.specs.declared.kind.Kind.TheVariants.{Legacy, Fit}
@@ -134,6 +135,15 @@ abbrev pub IsFailureOfOne : (limit depth : ℕ) → (HasError : Limits → Error
     → Type 0
 IsFailureOfOne limit depth HasError =
     IsFailure (IsInRange limit depth) (HasError (bounds limit depth))
+
+-- Why a call on a flattened image tree fails that looks something up. It names a reason and an index
+-- if what it looks up is not there.
+abbrev pub IsTreeFailure : (AreValid : Type 0) → Limits → (file : List ℕ)
+    → (IsReason : (reason index : ℕ) → Type 0) → Failure → Type 0
+IsTreeFailure AreValid limits file IsReason (NotFound reason index) =
+    AreValid × IsReason reason index
+IsTreeFailure AreValid limits file IsReason other =
+    IsFailure AreValid (IsFitReadError limits file) other
 
 -- The limits are in range, and the number is that of a choice of kinds of concerns.
 pub record HasKinds (limit depth kinds : ℕ) : Type 0 where

@@ -1,7 +1,6 @@
 use Rattle.std.specs.Prelude.{ℕ, ◌+◌, ◌≡◌, ◌<◌, List, [], ◌∷◌, length, map, Option, None, Some}
 use Rattle.std.specs.Prelude.{unwrap_or, bytes_eq, if◌then◌else◌, ⊤}
 use Rattle.std.specs.List.{AllByRecursion}
-use Rattle.bi_base.specs.declared.fault.Error.TheVariants as error
 use Rattle.bi_base.specs.Limits.{Limits, IsInRange}
 use Rattle.bi_blob.specs.Blob.{Reservation, totalsize}
 use Rattle.bi_blob.specs.Lookups.{Sibling, node_named}
@@ -13,14 +12,14 @@ use Rattle.bi_fit.specs.Judgement.{Image, images_of, ListedImage}
 use Rattle.bi_fit.specs.Judgement.{ListResult, NoConfig, NoKey, BadList, Missing}
 use Rattle.bi_fit.specs.Judgement.{ListedImages, configuration_nodes, default_of, listed_of}
 use Rattle.bi_fit.specs.Names.{configurations_name}
-use Rattle.bi_fit.specs.Reading.{IsFitReadError}
 use Rattle.bi_fit.specs.declared.configurations.ConfigError.{ConfigError}
 use Rattle.bi_fit.specs.declared.key.Key.{Key}
 use Rattle.bi_fit.specs.declared.configurations.ConfigError.TheVariants as list
 use Rattle.bi_c.specs.Arguments.{bounds, HasKey, key_of}
+use Rattle.bi_c.specs.Calls.{IsTreeFailure}
 use Rattle.bi_c.specs.TreeRegions.{HasNameBytes, children_of_found, name_region_of}
 use Rattle.bi_c.specs.declared.failure.Failure.{Failure}
-use Rattle.bi_c.specs.declared.failure.Failure.TheVariants.{WrongArgument, Refused, OutOfMemory}
+use Rattle.bi_c.specs.declared.failure.Failure.TheVariants.{OutOfMemory}
 use Rattle.bi_c.specs.declared.failure.Failure.TheVariants.{NotFound}
 use Rattle.bi_c.specs.declared.fit.FitFields.{FitFields}
 use Rattle.bi_c.specs.declared.fit.ReservationElement.{ReservationElement}
@@ -127,14 +126,9 @@ pub record ListsNothing (limits : Limits) (key : ℕ) (file name : List ℕ) (re
 
 -- Why a call that returns listed images fails.
 abbrev pub IsListFailure : (limit depth key : ℕ) → (file name : List ℕ) → Failure → Type 0
-IsListFailure limit depth key file name WrongArgument = ¬ (HasKey limit depth key)
-IsListFailure limit depth key file name (Refused number fault) =
-    HasKey limit depth key × (number ≡ 1)
-    × IsFitReadError (bounds limit depth) file (error.Refused fault)
-IsListFailure limit depth key file name OutOfMemory =
-    HasKey limit depth key × IsFitReadError (bounds limit depth) file error.OutOfMemory
-IsListFailure limit depth key file name (NotFound reason index) =
-    HasKey limit depth key × ListsNothing (bounds limit depth) key file name reason index
+IsListFailure limit depth key file name =
+    let limits = bounds limit depth in
+    IsTreeFailure (HasKey limit depth key) limits file (ListsNothing limits key file name)
 
 -- The failure for an error of listing images.
 abbrev pub failure_of_list_error : ConfigError → Failure

@@ -6,4 +6,5 @@ pub mod FitElements
 pub mod ImageElements
 pub mod KnownNumbers
 pub mod LegacyElements
+pub mod NodeElements
 pub mod TreeRegions

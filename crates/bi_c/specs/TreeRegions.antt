@@ -28,6 +28,11 @@ pub record AreBytesAt (file : List ℕ) (region : Region) (bytes : List ℕ) : T
   pub is_size : region.size ≡ length bytes
   pub is_there : IsAt file region.offset bytes
 
+-- The name and the value of a property are in its file there.
+pub record HasPropertyBytes (file : List ℕ) (property : FileProperty) : Type 0 where
+  pub name : AreBytesAt file (property_name_region file property) property.name
+  pub value : AreBytesAt file (value_region property) property.value
+
 -- Where the name of a node is.
 abbrev pub name_region_of : Sibling FileNode → Region
 name_region_of entry = node_name_region entry.own entry.name

@@ -7,6 +7,12 @@ ghost use Rattle.bi_c.specs.FitElements.{failure_of_list_error};
 use bi_base::{Error, Fault};
 use bi_fit::ConfigError;
 
+/// The number of the reason that no node has the path.
+pub(crate) const NO_NODE: u32 = 10;
+
+/// The number of the reason that the node has no property with the name.
+pub(crate) const NO_PROPERTY: u32 = 11;
+
 /// Why a call fails.
 #[derive(Clone, Copy)]
 pub(crate) enum Failure {
@@ -16,8 +22,8 @@ pub(crate) enum Failure {
     Refused(u32, Fault),
     /// An allocation failed.
     OutOfMemory,
-    /// Nothing is extracted: the number of the reason, and, if a listed image is missing, the index
-    /// of the name that no image has.
+    /// Nothing is found: the number of the reason, and, if a listed image is missing, the index of
+    /// the name that no image has.
     NotFound(u32, usize),
 }
 

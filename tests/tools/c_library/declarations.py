@@ -20,6 +20,7 @@ STRUCTS = {
     "LegacyFields": "bootimg_legacy_fields",
     "ReservationElement": "bootimg_reservation",
     "ImageElement": "bootimg_image",
+    "PropertyElement": "bootimg_property",
 }
 # What a parameter of the source is in C.
 TYPES = {"Global": [], "&[u8]": ["const uint8_t *", "size_t"]}
@@ -82,6 +83,7 @@ FOUND = [
     ("", "kind.rt", r"Ok\(Kind::(?P<name>\w+)\) => succeed\(0, (?P<number>\d+), answer\)"),
     ("", "arguments.rt", r"(?P<number>\d+) => Some\((?:Form|Key)::(?P<name>\w+)\)"),
     ("", "extract.rt", r"ExtractError::(?P<name>\w+) => Failure::NotFound\((?P<number>\d+), "),
+    ("", "failure.rt", r"const (?P<name>[A-Z_]+): u32 = (?P<number>\d+);"),
     ("", "failure.rt", r"ConfigError::(?P<name>\w+)[()a-z]* => Failure::NotFound\((?P<number>\d+), "),
     ("PLACE_", "images.rt", r"Place::(?P<name>\w+)(?:\(offset\))? => \((?:0|offset as usize), (?P<number>\d+)\)"),
     ("CHANGE_", "update.rt", r"let new_(?P<name>time) = if has_bit\((?P<number>\d+), changes\)"),

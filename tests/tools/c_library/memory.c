@@ -58,6 +58,9 @@ static uint32_t make(int call, uint8_t *buffer, bootimg_answer *answer)
     case 21: return bootimg_fit(file, size, BOOTIMG_LIMIT, 64, (void *)buffer, answer);
     case 22: return bootimg_reservations(file, size, BOOTIMG_LIMIT, 64, (void *)buffer, 100, answer);
     case 23: return bootimg_configurations(file, size, BOOTIMG_LIMIT, 64, (void *)buffer, 100, answer);
+    case 24: return bootimg_children(file, size, (const uint8_t *)"/images", 7, BOOTIMG_LIMIT, 64, (void *)buffer, 100, answer);
+    case 25: return bootimg_properties(file, size, (const uint8_t *)"/images", 7, BOOTIMG_LIMIT, 64, (void *)buffer, 100, answer);
+    case 26: return bootimg_property_value(file, size, (const uint8_t *)"/", 1, name, 6, BOOTIMG_LIMIT, 64, answer);
     default: return bootimg_listed(file, size, name, 6, BOOTIMG_KERNEL, BOOTIMG_LIMIT, 64, (void *)buffer, 100, answer);
     }
 }
@@ -93,7 +96,7 @@ int main(int count, char **words)
     size = input == NULL ? 0 : fread(file, 1, sizeof file, input);
     if (size == 0)
         return 2;
-    for (int call = 0; call <= 24; call++) {
+    for (int call = 0; call <= 27; call++) {
         bootimg_answer expected;
         uint32_t status;
         memset(wanted, 0xa5, sizeof wanted);

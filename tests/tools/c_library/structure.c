@@ -11,13 +11,14 @@
 #include <pthread.h>
 
 /* The calls with an array. */
-enum { PARTS, IMAGES, RESERVATIONS, CONFIGURATIONS, LISTED, ARRAYS };
+enum { PARTS, IMAGES, RESERVATIONS, CONFIGURATIONS, LISTED, CHILDREN, PROPERTIES, ARRAYS };
 
 static const size_t element_sizes[ARRAYS] = {
-    sizeof(bootimg_region), sizeof(bootimg_image), sizeof(bootimg_reservation), sizeof(bootimg_region), sizeof(size_t),
+    sizeof(bootimg_region), sizeof(bootimg_image),  sizeof(bootimg_reservation), sizeof(bootimg_region),
+    sizeof(size_t),         sizeof(bootimg_region), sizeof(bootimg_property),
 };
 
-/* What is called on a file: which call, and of LISTED the name and the key. */
+/* What is called on a file: which call, of LISTED the name and the key, and of CHILDREN and PROPERTIES the path. */
 struct call {
     int call;
     struct memory file;
@@ -38,8 +39,12 @@ static uint32_t make(const struct call *call, uint32_t limit, uint32_t depth, vo
         return bootimg_reservations(file, size, limit, depth, array, count, answer);
     case CONFIGURATIONS:
         return bootimg_configurations(file, size, limit, depth, array, count, answer);
-    default:
+    case LISTED:
         return bootimg_listed(file, size, call->name.bytes, call->name.size, call->key, limit, depth, array, count, answer);
+    case CHILDREN:
+        return bootimg_children(file, size, call->name.bytes, call->name.size, limit, depth, array, count, answer);
+    default:
+        return bootimg_properties(file, size, call->name.bytes, call->name.size, limit, depth, array, count, answer);
     }
 }
 
@@ -255,6 +260,99 @@ static void print_configurations(FILE *output, struct memory file)
     give_back(array);
 }
 
+/* Looks up a property by its path and its name, and one whose name has a byte more. */
+static void look_up(struct memory file, struct memory path, const bootimg_property *property)
+{
+    struct memory name = take(property->name.size), longer = take(property->name.size + 1);
+    bootimg_answer answer;
+    memcpy(name.bytes, file.bytes + property->name.offset, name.size);
+    memcpy(longer.bytes, file.bytes + property->name.offset, name.size);
+    longer.bytes[name.size] = 0;
+    CHECK(bootimg_property_value(file.bytes, file.size, path.bytes, path.size, name.bytes, name.size, BOOTIMG_LIMIT, BOOTIMG_DEPTH,
+                                 &answer) == BOOTIMG_DONE);
+    CHECK(answer.value == property->value.offset && answer.size == property->value.size);
+    CHECK(answer.cause == 0 && answer.offset == 0 && answer.file == 0 && answer.reason == 0);
+    CHECK(bootimg_property_value(file.bytes, file.size, path.bytes, path.size, longer.bytes, longer.size, BOOTIMG_LIMIT, BOOTIMG_DEPTH,
+                                 &answer) == BOOTIMG_NOT_FOUND);
+    CHECK(answer.reason == BOOTIMG_NO_PROPERTY && answer.value == 0 && answer.size == 0);
+    give_back(name);
+    give_back(longer);
+}
+
+/* No node has a path that is the given one with this text before it and this byte after it. */
+static void has_no_node(struct memory file, const char *before, struct memory path, char after)
+{
+    const size_t more = strlen(before);
+    struct call call = {.file = file, .name = take(more + path.size + 1)};
+    uint8_t element[sizeof(bootimg_property)];
+    bootimg_answer answer;
+    memcpy(call.name.bytes, before, more);
+    memcpy(call.name.bytes + more, path.bytes, path.size);
+    call.name.bytes[more + path.size] = (uint8_t)after;
+    memset(element, 0xa5, sizeof element);
+    for (call.call = CHILDREN; call.call <= PROPERTIES; call.call++) {
+        CHECK(make(&call, BOOTIMG_LIMIT, BOOTIMG_DEPTH, element, 1, &answer) == BOOTIMG_NOT_FOUND);
+        CHECK(answer.reason == BOOTIMG_NO_NODE && answer.value == 0 && answer.size == 0 && answer.cause == 0);
+    }
+    CHECK(bootimg_property_value(file.bytes, file.size, call.name.bytes, call.name.size, element, 1, BOOTIMG_LIMIT, BOOTIMG_DEPTH,
+                                 &answer) == BOOTIMG_NOT_FOUND);
+    CHECK(answer.reason == BOOTIMG_NO_NODE && is_unchanged(element, sizeof element));
+    give_back(call.name);
+}
+
+/* Prints the node at a path, and the nodes below it. */
+static void print_node(FILE *output, struct memory file, struct memory path)
+{
+    struct call call = {.call = PROPERTIES, .file = file, .name = path};
+    bootimg_answer answer;
+    uint32_t status;
+    struct memory array = elements_of(&call, "properties", &status, &answer, output);
+    const bootimg_property *properties = (const bootimg_property *)(const void *)array.bytes;
+    if (status == BOOTIMG_DONE) {
+        fputs("node ", output);
+        print_bytes(output, path, (bootimg_region){0, path.size});
+        fputc('\n', output);
+        has_no_node(file, "", path, '/');
+        has_no_node(file, "/", path, '/');
+    }
+    CHECK(answer.value == 0);
+    for (size_t i = 0; i < answer.size; i++) {
+        fputs("property ", output);
+        print_bytes(output, file, properties[i].name);
+        fputc(' ', output);
+        print_bytes(output, file, properties[i].value);
+        fputc('\n', output);
+        look_up(file, path, &properties[i]);
+    }
+    give_back(array);
+    call.call = CHILDREN;
+    array = elements_of(&call, "children", &status, &answer, output);
+    const bootimg_region *names = (const bootimg_region *)(const void *)array.bytes;
+    for (size_t i = 0; i < answer.size; i++) {
+        const size_t above = path.size == 1 ? 0 : path.size;
+        struct memory child = take(above + 1 + names[i].size);
+        memcpy(child.bytes, path.bytes, above);
+        child.bytes[above] = '/';
+        memcpy(child.bytes + above + 1, file.bytes + names[i].offset, names[i].size);
+        print_node(output, file, child);
+        give_back(child);
+    }
+    give_back(array);
+}
+
+static void print_tree(FILE *output, struct memory file)
+{
+    struct memory root = take(1), none = take(0);
+    bootimg_fit_fields fields;
+    bootimg_answer answer;
+    root.bytes[0] = '/';
+    print_node(output, file, root);
+    if (bootimg_fit(file.bytes, file.size, BOOTIMG_LIMIT, BOOTIMG_DEPTH, &fields, &answer) == BOOTIMG_DONE)
+        has_no_node(file, "images", none, '/');
+    give_back(root);
+    give_back(none);
+}
+
 /* Numbers out of their ranges leave all as it is. */
 static void try_numbers(struct memory file)
 {
@@ -303,6 +401,7 @@ static void *take_apart(void *argument)
         print_reservations(output, file);
         print_images(output, file);
         print_configurations(output, file);
+        print_tree(output, file);
         try_numbers(file);
         give_back(file);
     }

@@ -36,8 +36,8 @@ def lines_of(path):
         refusal = str(refused)
     yield from legacy_lines(image) if image and image.kind == "legacy" else refusals(
         ("legacy", "parts"), "BadMagic at 0" if image or magic == FIT_MAGIC else refusal)
-    yield from fit_lines(image) if image and image.kind == "fit" else refusals(
-        ("fit", "reservations", "images", "configurations"), "BadMagic at 0" if image or magic == LEGACY_MAGIC else refusal)
+    yield from fit_lines(image, path) if image and image.kind == "fit" else refusals(
+        ("fit", "reservations", "images", "configurations", "properties", "children"), "BadMagic at 0" if image or magic == LEGACY_MAGIC else refusal)
 
 
 def refusals(calls, refusal):
@@ -53,7 +53,7 @@ def legacy_lines(image):
     yield f"unused {image.unused}"
 
 
-def fit_lines(image):
+def fit_lines(image, path):
     yield f"boot-cpu {image.header.boot_cpu}"
     yield f"total-size {image.header.total_size}"
     yield from (f"reservation {one.address} {one.size}" for one in image.header.reservations)
@@ -63,6 +63,15 @@ def fit_lines(image):
         yield from (key_line(image, configuration, number, key) for number, key in enumerate(bootimg.KEYS))
     names = [configuration.name for configuration in image.configurations]
     yield f"default {names.index(image.default) if image.default in names else len(names)}"
+    yield from node_lines(b"/", reference.Blob(path.read_bytes()).root)
+
+
+def node_lines(path, node):
+    """The lines of a node of the vectors' reference, and of the nodes below it."""
+    yield f"node {path.hex()}"
+    yield from (f"property {name.hex()} {value.hex() or '-'}" for name, value in node.properties.items())
+    for child in node.children:
+        yield from node_lines(path.rstrip(b"/") + b"/" + child.name, child)
 
 
 def key_line(image, configuration, number, key):

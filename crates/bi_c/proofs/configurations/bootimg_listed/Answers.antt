@@ -3,9 +3,10 @@ use Rattle.bi_base.specs.Limits.{Limits}
 use Rattle.bi_fit.specs.Reading.{IsFitReadError}
 use Rattle.bi_c.specs.declared.failure.Failure.TheVariants.{WrongArgument}
 use Rattle.bi_c.specs.Answers.{FilledNothing}
-use Rattle.bi_c.specs.Arguments.{HasKey}
+use Rattle.bi_c.specs.Arguments.{HasKey, bounds}
 use Rattle.bi_c.proofs.CallAnswers.{not_so, is_so, fills_as}
-use Rattle.bi_c.proofs.ListedIndices.{listed_as, not_listed, read_failed}
+use Rattle.bi_c.proofs.FitFiles.{tree_failed}
+use Rattle.bi_c.proofs.ListedIndices.{listed_as, not_listed}
 use Rattle.bi_c.proofs.configurations.bootimg_listed.Goals as goal
 
 pub returns-in_default : goal.returns-in_default
@@ -37,7 +38,7 @@ returns-in-Err c =
       is_key = is_so _ c.in-Some-key_of.ensures.in_range;
     } in
     FilledNothing c.failure_of.result
-    (read_failed c.args.limit c.args.depth c.args.key c.args.file.now c.args.name.now c.in-Err.error c.failure_of.result valid
-    c.failure_of.ensures (subst (λ (l : Limits). IsFitReadError l c.args.file.now c.in-Err.error) c.in-Some.ensures.value
+    (tree_failed (HasKey c.args.limit c.args.depth c.args.key) (bounds c.args.limit c.args.depth) c.args.file.now _ c.in-Err.error
+    c.failure_of.result valid c.failure_of.ensures (subst (λ (l : Limits). IsFitReadError l c.args.file.now c.in-Err.error) c.in-Some.ensures.value
     c.in-Err.ensures.failed))
     refl c.fail-in-Err.ensures.answer c.fail-in-Err.ensures.status
