@@ -48,3 +48,5 @@ pub mod Formats
 pub mod JsonValues
 pub mod VerifiedFiles
 pub mod ListedFiles
+pub mod ExtractingAll
+pub mod Payloads

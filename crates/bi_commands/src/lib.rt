@@ -11,6 +11,7 @@ pub mod compare;
 pub mod convert;
 pub mod describe;
 pub mod extract;
+pub mod extract_all;
 mod fields;
 pub mod format;
 mod hash_nodes;
