@@ -50,3 +50,4 @@ pub mod VerifiedFiles
 pub mod ListedFiles
 pub mod ExtractingAll
 pub mod Payloads
+pub mod KnownPayloadFiles

@@ -4,6 +4,7 @@ ghost use Rattle.std.specs.Prelude.{◌≡◌, ◌++◌, [], ◌∷◌, map, IfO
 ghost use Rattle.std.specs.Option.{option_map};
 ghost use Rattle.bi_fit.specs.Content.{IsHeld, image_model, tree_of};
 ghost use Rattle.bi_fit.specs.Judgement.{images_of};
+ghost use Rattle.bi_norm.specs.Meaning.{OfFit};
 ghost use Rattle.bi_norm.specs.Reading.{meaning_of};
 ghost use Rattle.bi_commands.specs.ExtractingAll.{AreAllPayloads, IsExtractAllError};
 ghost use Rattle.bi_commands.specs.ExtractingAll.{image_file, image_files, part_file_name};
