@@ -42,7 +42,9 @@ table_before_part image place has is = by image.parts is where
   by : (parts : List (List ℕ)) → Some place ≡ slice_get (part_places (record image { parts = parts })) 0 →
       place ≡ 64 + length (part_table parts)
   by [] found = absurd cc
-  by (part ∷ later) found = let same : place ≡ 64 + parts_start image.image_type (part ∷ later) = cc in same ∙ first_part image.image_type part later has
+  by (part ∷ later) found =
+      let same : place ≡ 64 + parts_start image.image_type (part ∷ later) = cc in
+      same ∙ first_part image.image_type part later has
 
 -- or after one cell if there is none.
 pub table_without_parts : (image : LegacyImage) → None ≡ slice_get (part_places image) 0 → 68 ≡ 64 + length (part_table image.parts)
@@ -66,6 +68,6 @@ pub no_name_of_image : (images : List Image) (index : ℕ) → length images ≤
     [] ≡ get_or (names_of_images (map image_model images)) index []
 no_name_of_image images index past =
     sym (get_or_past (names_of_images (map image_model images)) index [] (omega (arith, named images))) where
-  named : (images : List Image) → length (names_of_images (map image_model images)) ≡ length images
-  named [] = refl
-  named (image ∷ later) = ap suc (named later)
+      named : (images : List Image) → length (names_of_images (map image_model images)) ≡ length images
+      named [] = refl
+      named (image ∷ later) = ap suc (named later)

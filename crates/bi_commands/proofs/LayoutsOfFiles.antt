@@ -38,7 +38,7 @@ payloads_found file index [] (image ∷ images) are = absurd are
 payloads_found file index (entry ∷ entries) [] are = absurd are
 payloads_found file index (entry ∷ entries) (image ∷ images) are =
     ap₂ (λ (first others : List LayoutRegion). first ++ others)
-    (ap (payload_region index image.payload) (ap offset_of_place are.0.place ∙ offset_found file (source_of entry.own)))
+    (ap (payload_region index image.payload) (offset_found file (source_of entry.own) image.place are.0.place))
     (payloads_found file (index + 1) entries images are.1)
 
 -- all regions,
@@ -60,7 +60,8 @@ end_found limits file content is =
     ∙ ap (λ (found : Nodes FileNode). content_end file found (tree_of content).payloads) (nodes_found limits file content is)
 
 -- and so their table.
-pub layout_found : (wanted : Bool) (limits : Limits) (file : List ℕ) (content : FitModel) (is : IsReadFit limits file content) (table : Table) →
+pub layout_found : (wanted : Bool) (limits : Limits) (file : List ℕ) (content : FitModel) (is : IsReadFit limits file content)
+    (table : Table) →
     IsLayoutIf wanted (names_of_images content.images) (read_regions content)
     (end_of_read_payloads content.blob.total_size content.images) (length content.blob.file) table →
     IsLayoutIf wanted (names is.means.is_file.images) (fit_regions file is.means.is_file.root (tree_of content))

@@ -8,19 +8,20 @@ use Rattle.bi_legacy.specs.PlacedParts.{PartModel}
 use Rattle.bi_commands.specs.FitPages.{reservation_row}
 use Rattle.bi_commands.specs.LegacyPages.{part_row, part_rows}
 use Rattle.bi_commands.specs.Pages.{Table}
-use Rattle.bi_commands.specs.Rows.{cells_of, texts_of}
+use Rattle.bi_commands.specs.Rows.{cells_of_rows, cells_of_row}
 use Rattle.bi_commands.proofs.FitLines.{numbers_of, reservation_found, reservation_of}
 
 -- The rows of a table, one after the other.
 
 -- One more row, and those that follow it.
-pub one_more_row : (rows new : List (Vec (String Global) Global)) (row : Vec (String Global) Global) (cells : List (List ℕ)) (later all : Table) →
-    new ≡ rows ++ row ∷ [] → texts_of row.items ≡ cells → cells_of rows ++ cells ∷ later ≡ all → cells_of new ++ later ≡ all
+pub one_more_row : (rows new : List (Vec (String Global) Global)) (row : Vec (String Global) Global) (cells : List (List ℕ))
+    (later all : Table) →
+    new ≡ rows ++ row ∷ [] → cells_of_row row.items ≡ cells → cells_of_rows rows ++ cells ∷ later ≡ all → cells_of_rows new ++ later ≡ all
 one_more_row rows new row cells later all is same whole =
-    ap (λ (l : List (Vec (String Global) Global)). cells_of l ++ later) is
-    ∙ ap (λ (l : Table). l ++ later) (map-append (λ (r : Vec (String Global) Global). texts_of r.items) rows (row ∷ []))
-    ∙ append_assoc (cells_of rows) (texts_of row.items ∷ []) later
-    ∙ ap (λ (c : List (List ℕ)). cells_of rows ++ c ∷ later) same
+    ap (λ (l : List (Vec (String Global) Global)). cells_of_rows l ++ later) is
+    ∙ ap (λ (l : Table). l ++ later) (map-append (λ (r : Vec (String Global) Global). cells_of_row r.items) rows (row ∷ []))
+    ∙ append_assoc (cells_of_rows rows) (cells_of_row row.items ∷ []) later
+    ∙ ap (λ (c : List (List ℕ)). cells_of_rows rows ++ c ∷ later) same
     ∙ whole
 
 -- The rows from a part on are its row and those of the later parts.
@@ -46,9 +47,9 @@ next_rows base done before after more so_far is =
 
 -- One more cell of a row.
 pub last_cell : (row new : List (String Global)) (cell : String Global) (before : List (List ℕ)) (text : List ℕ) → new ≡ row ++ cell ∷ [] →
-    texts_of row ≡ before → string_bytes cell ≡ text → texts_of new ≡ before ++ text ∷ []
+    cells_of_row row ≡ before → string_bytes cell ≡ text → cells_of_row new ≡ before ++ text ∷ []
 last_cell row new cell before text is same shown =
-    ap texts_of is
+    ap cells_of_row is
     ∙ map-append string_bytes row (cell ∷ [])
     ∙ ap₂ (λ (b : List (List ℕ)) (t : List ℕ). b ++ t ∷ []) same shown
 

@@ -1,10 +1,10 @@
 use Rattle.std.specs.Prelude.{List, [], ◌∷◌, ◌++◌, codes}
 use Rattle.bi_legacy.specs.Codes.{CodeName, os_names, arch_names, type_names}
 
--- All names of the codes in a legacy header in U-Boot's own tables (U-Boot, boot/image.c: uimage_os,
--- uimage_arch, uimage_type, uimage_comp, as `mkimage` 2023.01 has them). A page shows them. The
--- names that a listing uses come first, so that a code with two names (7, `ppc` and `powerpc`) has
--- one in all texts. All compressions of the table have a name in a listing.
+-- All names of the codes in a legacy header in U-Boot's own tables (U-Boot, boot/image.c:
+-- uimage_os, uimage_arch, uimage_type, uimage_comp, as `mkimage` 2023.01 has them). A page shows
+-- them. The names that a listing uses come first, so that a code with two names (7, `ppc` and
+-- `powerpc`) has one in all texts. All compressions of the table have a name in a listing.
 
 abbrev pub all_os_names : List CodeName
 all_os_names =

@@ -4,5 +4,5 @@ use Rattle.bi_legacy.specs.Codes.{CodeName}
 
 -- A code and its name, as the code has them.
 
-abbrev pub code_name : ℕ × Bor (List ℕ) → CodeName
-code_name entry = record { code = entry.0; name = entry.1.now }
+abbrev pub code_of_entry : ℕ × Bor (List ℕ) → CodeName
+code_of_entry entry = record { code = entry.0; name = entry.1.now }

@@ -1,4 +1,4 @@
-use Rattle.std.specs.Prelude.{◌≡◌, ℕ, false, true, List, [], ◌∷◌, ◌++◌, Option, Some, codes, drop}
+use Rattle.std.specs.Prelude.{◌≡◌, ℕ, true, List, [], ◌∷◌, ◌++◌, Option, Some, codes, drop}
 use Rattle.std.specs.Prelude.{filter, map, option_map}
 use Rattle.bi_blob.specs.Layout.{tree_with_places}
 use Rattle.bi_blob.specs.Tree.{Nodes, none, node, Property, Root, FileNode}
@@ -12,22 +12,11 @@ use Rattle.bi_commands.specs.declared.check.Allowed.{Allowed}
 use Rattle.bi_commands.specs.declared.check.ConcernKind.{ConcernKind}
 use Rattle.bi_commands.specs.declared.check.ConcernKind.TheVariants as kind
 use Rattle.bi_commands.specs.Checking.{allows, kind_word, concern_lines, content_end}
-use Rattle.bi_commands.specs.Checking.{hashed_concerns, trailing_concerns, tree_concerns}
+use Rattle.bi_commands.specs.Checking.{hashed_concerns, nothing_allowed, trailing_concerns}
+use Rattle.bi_commands.specs.Checking.{tree_concerns}
 use Rattle.bi_commands.specs.KnownTexts.{lines, three_root}
 
 -- The concerns about small trees, by which a reader can judge the definitions.
-
--- No kind is allowed.
-abbrev pub nothing_allowed : Allowed
-nothing_allowed = record {
-  bad_hash = false;
-  unhashed = false;
-  weak_hash = false;
-  bad_list = false;
-  missing = false;
-  bad_default = false;
-  trailing = false;
-}
 
 -- The lines of the concerns about a tree with a hash node of each verdict, and about one whose
 -- configurations have lists of each kind and whose default is none of them. With lists allowed, the

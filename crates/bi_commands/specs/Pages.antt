@@ -35,8 +35,8 @@ row_text (width ∷ widths) (cell ∷ later) =
     cell ++ (later_cells (width - length cell) widths later ++ 10 ∷ [])
 row_text widths row = 10 ∷ []
 
--- A table with an empty line after it. The first row is a heading, or else there are others: a table
--- of one row has nothing but its heading, and is left out.
+-- A table with an empty line after it. The first row is a heading, or else there are others: a
+-- table of one row has nothing but its heading, and is left out.
 abbrev pub table_text : Table → List ℕ
 table_text (first ∷ next ∷ later) =
     let table = first ∷ next ∷ later in

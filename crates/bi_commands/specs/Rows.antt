@@ -5,9 +5,9 @@ use Rattle.bi_commands.specs.Pages.{Table}
 -- The rows of a table, as the code has them.
 
 -- The cells of a row.
-abbrev pub texts_of : List (String Global) → List (List ℕ)
-texts_of cells = map string_bytes cells
+abbrev pub cells_of_row : List (String Global) → List (List ℕ)
+cells_of_row cells = map string_bytes cells
 
 -- The cells of rows.
-abbrev pub cells_of : List (Vec (String Global) Global) → Table
-cells_of rows = map (λ row. texts_of row.items) rows
+abbrev pub cells_of_rows : List (Vec (String Global) Global) → Table
+cells_of_rows rows = map (λ row. cells_of_row row.items) rows

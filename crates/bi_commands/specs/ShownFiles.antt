@@ -1,4 +1,4 @@
-use Rattle.std.specs.Prelude.{◌≡◌, ℕ, ◌-◌, Bool, false, List, [], length}
+use Rattle.std.specs.Prelude.{◌≡◌, ℕ, ◌-◌, Bool, List, [], length}
 use Rattle.bi_base.specs.Commands.{CommandPromise, PromiseLaws, unit_promise, unit_laws}
 use Rattle.bi_base.specs.declared.fault.Error.{Error}
 use Rattle.bi_base.specs.Limits.{Limits}
@@ -7,8 +7,7 @@ use Rattle.bi_fit.specs.File.{FitMeans}
 use Rattle.bi_fit.specs.ImageTree.{ImageTree}
 use Rattle.bi_legacy.specs.Reading.{LegacyModel, IsReadLegacy}
 use Rattle.bi_commands.specs.CheckedFiles.{IsChecked, IsCheckError}
-use Rattle.bi_commands.specs.Checking.{content_end}
-use Rattle.bi_commands.specs.declared.check.Allowed.{Allowed}
+use Rattle.bi_commands.specs.Checking.{content_end, nothing_allowed}
 use Rattle.bi_commands.specs.declared.format.Format.TheVariants.{Lines}
 use Rattle.bi_commands.specs.Dates.{IsTimeText}
 use Rattle.bi_commands.specs.FitPages.{fit_regions, fit_tables, timestamp_in}
@@ -18,18 +17,6 @@ use Rattle.bi_commands.specs.PageCells.{IsTimeCell}
 use Rattle.bi_commands.specs.Pages.{Table, page_text}
 
 -- Showing a boot image to a person (profile of this project).
-
--- No kind of concern is left out.
-abbrev pub nothing_allowed : Allowed
-nothing_allowed = record {
-  bad_hash = false;
-  unhashed = false;
-  weak_hash = false;
-  bad_list = false;
-  missing = false;
-  bad_default = false;
-  trailing = false;
-}
 
 -- These are the lines that checking the file gives.
 abbrev pub AreConcernLines : Limits → (file lines : List ℕ) → Type 0

@@ -3,7 +3,7 @@
 ghost use Rattle.std.specs.Prelude.{◌≡◌, ℕ, List, map, option_map};
 ghost use Rattle.bi_legacy.specs.Codes.{name_of_code};
 ghost use Rattle.bi_commands.specs.AllCodes.{all_arch_names, all_os_names, all_type_names};
-ghost use Rattle.bi_commands.specs.CodeNames.{code_name};
+ghost use Rattle.bi_commands.specs.CodeNames.{code_of_entry};
 
 /// A code and its name.
 type CodeName = (u8, &'static str);
@@ -136,7 +136,8 @@ pub(super) fn any_type_name(code: u8) -> Option<&'static str>
 
 /// Returns the first name of a code in a table.
 fn name_in(table: &[CodeName], code: u8) -> Option<&'static str>
-    ensures { option_map (λ name. name.now) result ≡ name_of_code (map code_name table.now) code }
+    ensures { option_map (λ name. name.now) result
+        ≡ name_of_code (map code_of_entry table.now) code }
 {
     for (other, name) in table {
         if *other == code {

@@ -8,7 +8,7 @@ ghost use Rattle.bi_fit.specs.HashNodes.{file_configurations};
 ghost use Rattle.bi_commands.specs.FitPages.{configuration_heading, configurations_table, has_key};
 ghost use Rattle.bi_commands.specs.FitPages.{configuration_row as row_of_configuration};
 ghost use Rattle.bi_commands.specs.FitPages.{used_keys as used_keys_of};
-ghost use Rattle.bi_commands.specs.Rows.{cells_of, texts_of};
+ghost use Rattle.bi_commands.specs.Rows.{cells_of_rows, cells_of_row};
 
 use super::cells::{CellForm, name_cell, property_cell};
 use super::tables::Row;
@@ -20,7 +20,7 @@ use std::alloc::{AllocError, Global};
 
 /// Returns the table of the configurations.
 pub(super) fn configuration_rows(alloc: Global, fit: &Fit) -> Result<Vec<Row>, AllocError>
-    ensures { IfOk result (λ rows. cells_of rows.items
+    ensures { IfOk result (λ rows. cells_of_rows rows.items
         ≡ configurations_table (siblings (file_configurations fit.now.blob))) }
 {
     let keys = used_keys(alloc, fit)?;
@@ -36,7 +36,7 @@ fn add_configurations(
     fit: &Fit,
     keys: &[Key],
 ) -> Result<(), AllocError>
-    ensures { OnOk result (cells_of rows.new.items ≡ cells_of rows.old.items
+    ensures { OnOk result (cells_of_rows rows.new.items ≡ cells_of_rows rows.old.items
         ++ map (row_of_configuration keys.now) (siblings (file_configurations fit.now.blob))) }
 {
     for node in configuration_nodes(fit) {
@@ -73,7 +73,7 @@ fn is_used(fit: &Fit, key: Key) -> bool
 
 /// Returns the heading of the table, with these keys.
 fn heading(alloc: Global, keys: &[Key]) -> Result<Row, AllocError>
-    ensures { IfOk result (λ row. texts_of row.items ≡ configuration_heading keys.now) }
+    ensures { IfOk result (λ row. cells_of_row row.items ≡ configuration_heading keys.now) }
 {
     let mut row = vec![in alloc; String::from_str(alloc, "configuration")?]?;
     for key in keys {
@@ -85,7 +85,7 @@ fn heading(alloc: Global, keys: &[Key]) -> Result<Row, AllocError>
 
 /// Returns the row of the configuration of a node, with these keys.
 fn configuration_row(alloc: Global, node: NodeRef, keys: &[Key]) -> Result<Row, AllocError>
-    ensures { IfOk result (λ row. texts_of row.items
+    ensures { IfOk result (λ row. cells_of_row row.items
         ≡ row_of_configuration keys.now (node_of node.entry)) }
 {
     let mut row = vec![in alloc; name_cell(alloc, Some(node.name()))?]?;

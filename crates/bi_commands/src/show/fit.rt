@@ -10,7 +10,7 @@ ghost use Rattle.bi_commands.specs.FitPages.{fit_head, reservations_table};
 ghost use Rattle.bi_commands.specs.FitPages.{reservation_row as row_of_reservation};
 ghost use Rattle.bi_commands.specs.PayloadBounds.{IsOverPayloadBound};
 ghost use Rattle.bi_commands.specs.ReadChecking.{IsReadCheckError};
-ghost use Rattle.bi_commands.specs.Rows.{cells_of, texts_of};
+ghost use Rattle.bi_commands.specs.Rows.{cells_of_rows, cells_of_row};
 ghost use Rattle.bi_commands.specs.ShownFiles.{AreConcernLines, IsFitPage};
 
 use super::CHECKER;
@@ -106,7 +106,7 @@ fn concern_lines<'a>(
 
 /// Returns the rows of the root and the file, with this cell of the time.
 fn head_rows(alloc: Global, file: &[u8], fit: &Fit, time: String) -> Result<Vec<Row>, AllocError>
-    ensures { IfOk result (λ rows. cells_of rows.items
+    ensures { IfOk result (λ rows. cells_of_rows rows.items
         ≡ fit_head file.now (root_of fit.now.blob) (tree_of fit.now) (string_bytes time)) }
 {
     let root = fit.blob().root();
@@ -127,7 +127,7 @@ fn head_rows(alloc: Global, file: &[u8], fit: &Fit, time: String) -> Result<Vec<
 
 /// Returns the table of the memory reservations.
 fn reservation_rows(alloc: Global, blob: &Blob) -> Result<Vec<Row>, AllocError>
-    ensures { IfOk result (λ rows. cells_of rows.items
+    ensures { IfOk result (λ rows. cells_of_rows rows.items
         ≡ reservations_table blob.now.reservations) }
 {
     let mut rows = vec![in alloc; words_row(alloc, &["reservation", "size"])?]?;
@@ -137,8 +137,8 @@ fn reservation_rows(alloc: Global, blob: &Blob) -> Result<Vec<Row>, AllocError>
 
 /// Appends the rows of the memory reservations.
 fn add_reservations(alloc: Global, rows: &mut Vec<Row>, blob: &Blob) -> Result<(), AllocError>
-    ensures { OnOk result (cells_of rows.new.items
-        ≡ cells_of rows.old.items ++ map row_of_reservation blob.now.reservations) }
+    ensures { OnOk result (cells_of_rows rows.new.items
+        ≡ cells_of_rows rows.old.items ++ map row_of_reservation blob.now.reservations) }
 {
     for index in 0..blob.reservation_count() {
         if let Some((address, size)) = blob.reservation(index) {
@@ -151,7 +151,7 @@ fn add_reservations(alloc: Global, rows: &mut Vec<Row>, blob: &Blob) -> Result<(
 /// Returns the row of a memory reservation.
 fn reservation_row(alloc: Global, address: u64, size: u64) -> Result<Row, AllocError>
     ensures { let reservation : Reservation = record { address = address; size = size } in
-        IfOk result (λ row. texts_of row.items ≡ row_of_reservation reservation) }
+        IfOk result (λ row. cells_of_row row.items ≡ row_of_reservation reservation) }
 {
     let address = field_cell(alloc, Field::Hexadecimal64(address))?;
     let size = field_cell(alloc, Field::Hexadecimal64(size))?;

@@ -9,7 +9,7 @@ ghost use Rattle.bi_fit.specs.Content.{offset_of_place};
 ghost use Rattle.bi_fit.specs.HashNodes.{file_images};
 ghost use Rattle.bi_commands.specs.FitPages.{image_heading};
 ghost use Rattle.bi_commands.specs.ReadPages.{read_image_row, read_image_rows};
-ghost use Rattle.bi_commands.specs.Rows.{cells_of, texts_of};
+ghost use Rattle.bi_commands.specs.Rows.{cells_of_rows, cells_of_row};
 
 use super::cells::{CellForm, hashes_cell, name_cell, number_cell, property_cell};
 use super::tables::{Row, words_row};
@@ -26,7 +26,7 @@ pub(super) fn image_rows<'a>(
     digests: &RegionDigests<'a>,
 ) -> Result<Vec<Row>, AllocError>
     requires placed { AreAtTheirPlaces digests.now fit.now.images }
-    ensures { IfOk result (λ rows. cells_of rows.items ≡ image_heading
+    ensures { IfOk result (λ rows. cells_of_rows rows.items ≡ image_heading
         ∷ read_image_rows (siblings (file_images fit.now.blob)) fit.now.images) }
 {
     let heading = [
@@ -54,7 +54,7 @@ fn add_images<'a>(
     digests: &RegionDigests<'a>,
 ) -> Result<(), AllocError>
     requires placed { AreAtTheirPlaces digests.now fit.now.images }
-    ensures { OnOk result (cells_of rows.new.items ≡ cells_of rows.old.items
+    ensures { OnOk result (cells_of_rows rows.new.items ≡ cells_of_rows rows.old.items
         ++ read_image_rows (siblings (file_images fit.now.blob)) fit.now.images) }
 {
     let mut next = fit.images_node().first_child();
@@ -76,7 +76,7 @@ fn image_row<'a>(
     digests: &RegionDigests<'a>,
 ) -> Result<Row, AllocError>
     requires placed { IsAtItsPlace digests.now (image_model image.now) }
-    ensures { IfOk result (λ row. texts_of row.items
+    ensures { IfOk result (λ row. cells_of_row row.items
         ≡ read_image_row (node_of node.entry) (image_model image.now)) }
 {
     let name = name_cell(alloc, Some(node.name()))?;

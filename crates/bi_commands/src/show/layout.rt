@@ -6,7 +6,7 @@ ghost use Rattle.bi_commands.specs.Layouts.{AreByOffset, IsLayout, region_betwee
 ghost use Rattle.bi_commands.specs.Layouts.{kind_cell as cell_of_kind, region_row as row_of_region};
 ghost use Rattle.bi_commands.specs.Layouts.{with_free_space};
 ghost use Rattle.bi_commands.specs.ReadPages.{names_of_images};
-ghost use Rattle.bi_commands.specs.Rows.{cells_of, texts_of};
+ghost use Rattle.bi_commands.specs.Rows.{cells_of_rows, cells_of_row};
 ghost use Rattle.bi_commands.specs.declared.show.layout.RegionKind.TheVariants as kind;
 
 pub(super) mod fit;
@@ -59,7 +59,7 @@ pub(super) fn layout_rows(
     size: u64,
 ) -> Result<Vec<Row>, AllocError>
     ensures { IfOk result (λ rows. IsLayout (names_of_images (map image_model images.now))
-        regions.items end size (cells_of rows.items)) }
+        regions.items end size (cells_of_rows rows.items)) }
 {
     let mut sorted = regions;
     sort_regions(&mut sorted)?;
@@ -86,7 +86,7 @@ fn add_regions(
     end: u64,
 ) -> Result<(), AllocError>
     ensures { let names = names_of_images (map image_model images.now) in
-        OnOk result (cells_of rows.new.items ≡ cells_of rows.old.items
+        OnOk result (cells_of_rows rows.new.items ≡ cells_of_rows rows.old.items
         ++ map (row_of_region names) (with_free_space 0 end regions.now)) }
 {
     let mut covered = 0;
@@ -116,7 +116,7 @@ fn add_region_between(
     end: u64,
 ) -> Result<(), AllocError>
     ensures { let names = names_of_images (map image_model images.now) in
-        OnOk result (cells_of rows.new.items ≡ cells_of rows.old.items
+        OnOk result (cells_of_rows rows.new.items ≡ cells_of_rows rows.old.items
         ++ map (row_of_region names) (region_between kind begin end)) }
 {
     if begin < end {
@@ -128,7 +128,7 @@ fn add_region_between(
 
 /// Returns the row of a region. A payload is of one of these images.
 fn region_row(alloc: Global, region: &LayoutRegion, images: &[Image]) -> Result<Row, AllocError>
-    ensures { IfOk result (λ row. texts_of row.items
+    ensures { IfOk result (λ row. cells_of_row row.items
         ≡ row_of_region (names_of_images (map image_model images.now)) region.now) }
 {
     let kind = kind_cell(alloc, region.kind, images)?;

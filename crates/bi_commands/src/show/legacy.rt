@@ -7,7 +7,7 @@ ghost use Rattle.bi_legacy.specs.Reading.{IsReadLegacy};
 ghost use Rattle.bi_commands.specs.LegacyPages.{code_rows, legacy_head, legacy_last_rows};
 ghost use Rattle.bi_commands.specs.LegacyPages.{part_row as row_of_part, parts_table};
 ghost use Rattle.bi_commands.specs.LegacyPages.{part_rows as rows_of_parts};
-ghost use Rattle.bi_commands.specs.Rows.{cells_of, texts_of};
+ghost use Rattle.bi_commands.specs.Rows.{cells_of_rows, cells_of_row};
 ghost use Rattle.bi_commands.specs.ShownFiles.{AreConcernLines, IsLegacyPage};
 
 use super::CHECKER;
@@ -71,7 +71,7 @@ fn head_rows(
     image: &Legacy,
     time: String,
 ) -> Result<Vec<Row>, AllocError>
-    ensures { IfOk result (λ rows. cells_of rows.items
+    ensures { IfOk result (λ rows. cells_of_rows rows.items
         ≡ legacy_head file.now image.now.image (string_bytes time)) }
 {
     let fields = image.fields();
@@ -90,8 +90,8 @@ fn head_rows(
 
 /// Appends the rows of the codes.
 fn add_codes(alloc: Global, rows: &mut Vec<Row>, fields: Fields) -> Result<(), AllocError>
-    ensures { OnOk result (cells_of rows.new.items
-        ≡ cells_of rows.old.items ++ code_rows (image_of fields.entry [])) }
+    ensures { OnOk result (cells_of_rows rows.new.items
+        ≡ cells_of_rows rows.old.items ++ code_rows (image_of fields.entry [])) }
 {
     let image_type = code_cell(alloc, any_type_name(fields.image_type), fields.image_type)?;
     let os = code_cell(alloc, any_os_name(fields.os), fields.os)?;
@@ -110,8 +110,8 @@ fn add_codes(alloc: Global, rows: &mut Vec<Row>, fields: Fields) -> Result<(), A
 
 /// Appends the rows of the addresses and the checksums, which are good.
 fn add_last_rows(alloc: Global, rows: &mut Vec<Row>, fields: Fields) -> Result<(), AllocError>
-    ensures { OnOk result (cells_of rows.new.items
-        ≡ cells_of rows.old.items ++ legacy_last_rows (image_of fields.entry [])) }
+    ensures { OnOk result (cells_of_rows rows.new.items
+        ≡ cells_of_rows rows.old.items ++ legacy_last_rows (image_of fields.entry [])) }
 {
     let load = field_cell(alloc, Field::Hexadecimal(fields.load))?;
     let entry = field_cell(alloc, Field::Hexadecimal(fields.entry))?;
@@ -126,7 +126,7 @@ fn add_last_rows(alloc: Global, rows: &mut Vec<Row>, fields: Fields) -> Result<(
 
 /// Returns the table of the parts.
 fn part_rows(alloc: Global, image: &Legacy) -> Result<Vec<Row>, AllocError>
-    ensures { IfOk result (λ rows. cells_of rows.items ≡ parts_table image.now.image) }
+    ensures { IfOk result (λ rows. cells_of_rows rows.items ≡ parts_table image.now.image) }
 {
     let mut rows = vec![in alloc; words_row(alloc, &["part", "size", "offset"])?]?;
     add_parts(alloc, &mut rows, image)?;
@@ -135,8 +135,8 @@ fn part_rows(alloc: Global, image: &Legacy) -> Result<Vec<Row>, AllocError>
 
 /// Appends the rows of the parts.
 fn add_parts(alloc: Global, rows: &mut Vec<Row>, image: &Legacy) -> Result<(), AllocError>
-    ensures { OnOk result (cells_of rows.new.items
-        ≡ cells_of rows.old.items ++ rows_of_parts 0 (placed_parts image.now.image)) }
+    ensures { OnOk result (cells_of_rows rows.new.items
+        ≡ cells_of_rows rows.old.items ++ rows_of_parts 0 (placed_parts image.now.image)) }
 {
     rows.reserve(image.part_count())?;
     for (index, part) in image.parts().enumerate() {
@@ -147,7 +147,8 @@ fn add_parts(alloc: Global, rows: &mut Vec<Row>, image: &Legacy) -> Result<(), A
 
 /// Returns the row of a part.
 fn part_row(alloc: Global, index: usize, part: &Part) -> Result<Row, AllocError>
-    ensures { IfOk result (λ row. texts_of row.items ≡ row_of_part index (part_model part.now)) }
+    ensures { IfOk result (λ row. cells_of_row row.items
+        ≡ row_of_part index (part_model part.now)) }
 {
     let index = number_cell(alloc, Some(index as u64))?;
     let size = number_cell(alloc, Some(part.bytes.len() as u64))?;

@@ -10,7 +10,7 @@ ghost use Rattle.bi_commands.specs.Descriptions.{path};
 ghost use Rattle.bi_commands.specs.FitPages.{signature_row as row_of_signature};
 ghost use Rattle.bi_commands.specs.FitPages.{signature_rows as rows_of_signatures};
 ghost use Rattle.bi_commands.specs.FitPages.{signatures_table};
-ghost use Rattle.bi_commands.specs.Rows.{cells_of, texts_of};
+ghost use Rattle.bi_commands.specs.Rows.{cells_of_rows, cells_of_row};
 
 use super::cells::{CellForm, field_cell, property_cell};
 use super::tables::{Row, words_row};
@@ -23,7 +23,7 @@ use std::alloc::{AllocError, Global};
 
 /// Returns the table of the signature nodes.
 pub(super) fn signature_rows(alloc: Global, fit: &Fit) -> Result<Vec<Row>, AllocError>
-    ensures { IfOk result (λ rows. cells_of rows.items
+    ensures { IfOk result (λ rows. cells_of_rows rows.items
         ≡ signatures_table (siblings (file_images fit.now.blob))
         (siblings (file_configurations fit.now.blob))) }
 {
@@ -47,7 +47,7 @@ fn add_signatures(
     parent: &[u8],
     nodes: Children,
 ) -> Result<(), AllocError>
-    ensures { OnOk result (cells_of rows.new.items ≡ cells_of rows.old.items
+    ensures { OnOk result (cells_of_rows rows.new.items ≡ cells_of_rows rows.old.items
         ++ rows_of_signatures parent.now (children_left nodes.entry)) }
 {
     for node in nodes {
@@ -63,7 +63,7 @@ fn add_signatures_of(
     parent: &[u8],
     node: NodeRef,
 ) -> Result<(), AllocError>
-    ensures { OnOk result (cells_of rows.new.items ≡ cells_of rows.old.items
+    ensures { OnOk result (cells_of_rows rows.new.items ≡ cells_of_rows rows.old.items
         ++ map (row_of_signature parent.now (node_of node.entry).name)
         (file_signatures (node_of node.entry))) }
 {
@@ -90,7 +90,7 @@ fn signature_row(
     name: &[u8],
     signature: NodeRef,
 ) -> Result<Row, AllocError>
-    ensures { IfOk result (λ row. texts_of row.items
+    ensures { IfOk result (λ row. cells_of_row row.items
         ≡ row_of_signature parent.now name.now (node_of signature.entry)) }
 {
     let path = path_cell(alloc, parent, name, signature.name())?;

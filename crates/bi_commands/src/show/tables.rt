@@ -4,7 +4,7 @@ ghost use Rattle.std.specs.Prelude.{◌≡◌, ◌∷◌, ◌++◌, [], IfOk, On
 ghost use Rattle.std.specs.Prelude.{string_bytes};
 ghost use Rattle.bi_commands.specs.Pages.{column_widths, concerns_text_of_page, later_cells};
 ghost use Rattle.bi_commands.specs.Pages.{row_text, table_text, with_row};
-ghost use Rattle.bi_commands.specs.Rows.{cells_of, texts_of};
+ghost use Rattle.bi_commands.specs.Rows.{cells_of_rows, cells_of_row};
 
 use std::alloc::{AllocError, Global};
 
@@ -18,8 +18,8 @@ pub(super) fn add_pair(
     word: &str,
     cell: String,
 ) -> Result<(), AllocError>
-    ensures { OnOk result (cells_of rows.new.items
-        ≡ cells_of rows.old.items ++ (word.now ∷ string_bytes cell ∷ []) ∷ []) }
+    ensures { OnOk result (cells_of_rows rows.new.items
+        ≡ cells_of_rows rows.old.items ++ (word.now ∷ string_bytes cell ∷ []) ∷ []) }
 {
     let word = String::from_str(alloc, word)?;
     rows.push(vec![in alloc; word, cell]?)?;
@@ -28,7 +28,7 @@ pub(super) fn add_pair(
 
 /// Returns a row of words.
 pub(super) fn words_row(alloc: Global, words: &[&str]) -> Result<Row, AllocError>
-    ensures { IfOk result (λ row. texts_of row.items ≡ map (λ word. word.now) words.now) }
+    ensures { IfOk result (λ row. cells_of_row row.items ≡ map (λ word. word.now) words.now) }
 {
     let mut row = Vec::new(alloc);
     for word in words {
@@ -40,7 +40,7 @@ pub(super) fn words_row(alloc: Global, words: &[&str]) -> Result<Row, AllocError
 /// Appends a table and an empty line, or nothing if the table has only one row.
 pub(super) fn add_table(alloc: Global, page: &mut String, table: &[Row]) -> Result<(), AllocError>
     ensures { OnOk result (string_bytes page.new
-        ≡ string_bytes page.old ++ table_text (cells_of table.now)) }
+        ≡ string_bytes page.old ++ table_text (cells_of_rows table.now)) }
 {
     if table.len() < 2 {
         return Ok(());
@@ -54,7 +54,7 @@ pub(super) fn add_table(alloc: Global, page: &mut String, table: &[Row]) -> Resu
 
 /// Returns the width of each column.
 fn widths_of(alloc: Global, table: &[Row]) -> Result<Vec<usize>, AllocError>
-    ensures { IfOk result (λ widths. widths.items ≡ column_widths (cells_of table.now)) }
+    ensures { IfOk result (λ widths. widths.items ≡ column_widths (cells_of_rows table.now)) }
 {
     let mut widths = Vec::new(alloc);
     for row in table {
@@ -65,7 +65,7 @@ fn widths_of(alloc: Global, table: &[Row]) -> Result<Vec<usize>, AllocError>
 
 /// Makes the widths of columns those of columns that also have the cells of this row.
 fn widen(widths: &mut Vec<usize>, row: &[String]) -> Result<(), AllocError>
-    ensures { OnOk result (widths.new.items ≡ with_row widths.old.items (texts_of row.now)) }
+    ensures { OnOk result (widths.new.items ≡ with_row widths.old.items (cells_of_row row.now)) }
 {
     for (column, cell) in row.iter().enumerate() {
         if column < widths.len() {
@@ -80,7 +80,7 @@ fn widen(widths: &mut Vec<usize>, row: &[String]) -> Result<(), AllocError>
 /// Appends a row, in columns of these widths.
 fn add_row(page: &mut String, widths: &[usize], row: &[String]) -> Result<(), AllocError>
     ensures { OnOk result (string_bytes page.new
-        ≡ string_bytes page.old ++ row_text widths.now (texts_of row.now)) }
+        ≡ string_bytes page.old ++ row_text widths.now (cells_of_row row.now)) }
 {
     if let ([width, widths @ ..], [cell, later @ ..]) = (widths, row) {
         page.push_str(cell)?;
@@ -97,7 +97,7 @@ fn add_later_cells(
     cells: &[String],
 ) -> Result<(), AllocError>
     ensures { OnOk result (string_bytes page.new
-        ≡ string_bytes page.old ++ later_cells left widths.now (texts_of cells.now)) }
+        ≡ string_bytes page.old ++ later_cells left widths.now (cells_of_row cells.now)) }
 {
     let mut spaces = left;
     for (width, cell) in widths.iter().zip(cells) {

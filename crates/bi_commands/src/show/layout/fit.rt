@@ -9,7 +9,7 @@ ghost use Rattle.bi_commands.specs.Layouts.{IsLayoutIf, blob_regions, payload_re
 ghost use Rattle.bi_commands.specs.ReadChecking.{end_of_read_payloads};
 ghost use Rattle.bi_commands.specs.ReadPages.{names_of_images, read_payload_regions};
 ghost use Rattle.bi_commands.specs.ReadPages.{read_regions};
-ghost use Rattle.bi_commands.specs.Rows.{cells_of};
+ghost use Rattle.bi_commands.specs.Rows.{cells_of_rows};
 
 use super::{LayoutRegion, RegionKind, layout_rows};
 use crate::check::trailing::content_end;
@@ -49,7 +49,7 @@ pub(in crate::show) fn fit_layout(
     requires held { IsHeld fit.now }
     ensures { IfOk result (λ rows. IsLayoutIf layout (names_of_images fit.now.images)
         (read_regions fit.now) (end_of_read_payloads fit.now.blob.total_size fit.now.images)
-        (length fit.now.blob.file) (cells_of rows.items)) }
+        (length fit.now.blob.file) (cells_of_rows rows.items)) }
 {
     if !layout {
         return Ok(Vec::new(alloc));

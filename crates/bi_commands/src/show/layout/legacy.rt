@@ -6,7 +6,7 @@ ghost use Rattle.bi_legacy.specs.Parts.{part_table};
 ghost use Rattle.bi_legacy.specs.PlacedParts.{part_model, placed_parts};
 ghost use Rattle.bi_commands.specs.Layouts.{IsLayoutIf, legacy_regions, part_regions};
 ghost use Rattle.bi_commands.specs.Layouts.{part_table_regions, region_at};
-ghost use Rattle.bi_commands.specs.Rows.{cells_of};
+ghost use Rattle.bi_commands.specs.Rows.{cells_of_rows};
 ghost use Rattle.bi_commands.specs.declared.show.layout.RegionKind.TheVariants as kind;
 
 use super::{LayoutRegion, RegionKind, layout_rows};
@@ -24,7 +24,7 @@ pub(in crate::show) fn legacy_layout(
     layout: bool,
 ) -> Result<Vec<Row>, AllocError>
     ensures { IfOk result (λ rows. IsLayoutIf layout [] (legacy_regions image.now.image)
-        (length file.now - image.now.unused) (length file.now) (cells_of rows.items)) }
+        (length file.now - image.now.unused) (length file.now) (cells_of_rows rows.items)) }
 {
     if !layout {
         return Ok(Vec::new(alloc));

@@ -10,4 +10,5 @@ returns-in_err-put-clause-failed g c =
     let p = err_from_is_err_and residual.result residual.ensures.1 in
     rw (p.1, p.2)
     (SinkFailed c.as_bytes.result.now c.in_err-put.field-0.0
-    (subst (IsPage c.args.self.now.layout c.args.limits c.args.input.now) (sym c.as_bytes.ensures.value) c.in_ok-page.ensures.shown) c.in_err-put.ensures refl)
+    (subst (IsPage c.args.self.now.layout c.args.limits c.args.input.now) (sym c.as_bytes.ensures.value) c.in_ok-page.ensures.shown)
+    c.in_err-put.ensures refl)

@@ -10,5 +10,6 @@ returns c =
     last_cell c.loop-key.row.items c.push-2.new.self.items c.in_ok-from_str-3.field-0 (codes "configuration" ∷ map key_name c.args.keys.now)
     (codes "compatible") c.in_ok-push-2.ensures.items
     (c.loop-key.invariant
-    ∙ ap (λ (keys : List Key). codes "configuration" ∷ map key_name keys) (take_all c.loop-key.key-index c.args.keys.now c.loop-key-test.false))
+    ∙ ap (λ (keys : List Key). codes "configuration" ∷ map key_name keys)
+    (take_all c.loop-key.key-index c.args.keys.now c.loop-key-test.false))
     c.in_ok-from_str-3.ensures.ok

@@ -2,7 +2,7 @@ use Rattle.std.proofs.Common.{◌<◌, ◌+◌, ◌++◌, ℕ, Some, Vec, String
 use Rattle.std.specs.declared.alloc.Global.{Global}
 use Rattle.bi_commands.specs.FitPages.{reservation_row}
 use Rattle.bi_commands.specs.Pages.{Table}
-use Rattle.bi_commands.specs.Rows.{cells_of}
+use Rattle.bi_commands.specs.Rows.{cells_of_rows}
 use Rattle.bi_commands.proofs.FitLines.{no_more_reservation, reservation_of}
 use Rattle.bi_commands.proofs.ShownRows.{one_more_row, rows_from_reservation}
 use Rattle.bi_commands.proofs.show.fit.add_reservations.Goals as goal
@@ -21,6 +21,6 @@ loop-index-preserved c =
           one_more_row rows c.match-reservation.rows.items w.in_ok-reservation_row.field-0 (reservation_row (reservation_of (Some numbers)))
           (map reservation_row (drop (index + 1) reservations)) _
           (ap (λ (v : Vec (Vec (String Global) Global) Global). v.items) w.rows-is ∙ w.in_ok-push.ensures.items)
-          w.in_ok-reservation_row.ensures (ap (λ (l : Table). cells_of rows ++ l) (sym from) ∙ c.loop-index.invariant)
+          w.in_ok-reservation_row.ensures (ap (λ (l : Table). cells_of_rows rows ++ l) (sym from) ∙ c.loop-index.invariant)
       | in_default w ↦ no_more_reservation reservations index c.reservation.result within c.reservation.ensures w.in_default.is
     ]

@@ -7,7 +7,7 @@ use Rattle.bi_fit.specs.Names.{timestamp_name}
 use Rattle.bi_commands.specs.FitPages.{reservations_table, timestamp_in, value_in}
 use Rattle.bi_commands.specs.PageCells.{IsTimeCell}
 use Rattle.bi_commands.specs.Pages.{Table, concerns_text_of_page, page_text}
-use Rattle.bi_commands.specs.Rows.{cells_of}
+use Rattle.bi_commands.specs.Rows.{cells_of_rows}
 use Rattle.bi_commands.proofs.LayoutsOfFiles.{layout_found}
 use Rattle.bi_commands.proofs.ShownPages.{shown_table, six_tables, tables_of_file}
 use Rattle.bi_commands.proofs.show.fit.page_of.Goals as goal
@@ -16,7 +16,7 @@ pub returns : goal.returns
 returns c =
     let read = c.requires.read in
     let time : List ℕ = string_bytes c.in_ok-time.time in
-    let regions : Table = cells_of c.in_ok-fit_layout.field-0.items in
+    let regions : Table = cells_of_rows c.in_ok-fit_layout.field-0.items in
     let lines : List ℕ = string_bytes c.in_ok-concern_lines.field-0 in
     record {
       tree = tree_of c.args.fit.now;

@@ -9,14 +9,16 @@ use Rattle.bi_fit.specs.ImageTree.{nodes_or_none}
 use Rattle.bi_fit.proofs.PayloadEnds.{no_image}
 use Rattle.bi_fit.proofs.Siblings.{from_first, from_next}
 use Rattle.bi_commands.specs.ReadPages.{read_image_row, read_image_rows}
-use Rattle.bi_commands.specs.Rows.{cells_of}
+use Rattle.bi_commands.specs.Rows.{cells_of_rows}
 use Rattle.bi_commands.proofs.ShownRows.{one_more_row}
 use Rattle.bi_commands.proofs.show.images.add_images.Goals as goal
 
 pub loop-image-init : goal.loop-image-init
 loop-image-init c = record {
   placed = subst (AreAtTheirPlaces c.args.digests.now) (sym c.images-image-items.ensures) c.requires.placed;
-  so_far = ap₂ (λ (entries : List (Sibling FileNode)) (images : List ImageModel). cells_of c.args.rows.now.items ++ read_image_rows entries images)
+  so_far = ap₂
+      (λ (entries : List (Sibling FileNode)) (images : List ImageModel).
+      cells_of_rows c.args.rows.now.items ++ read_image_rows entries images)
       (from_first c.first_child-next.result (node_of c.images_node.result).children c.first_child-next.ensures.child
       ∙ ap (λ found. siblings (nodes_or_none (option_map (λ found. found.children) found))) c.images_node.ensures.node)
       c.images-image-items.ensures;
@@ -30,13 +32,16 @@ loop-image-preserved c =
     let image = image_model (get_or images index no_image) in
     let later = map image_model (drop (index + 1) images) in
     let nodes = from_next c.loop-image.next c.next_sibling-next.result c.in-Some.node c.in-Some.is c.next_sibling-next.ensures.sibling in
-    let left : map image_model (drop index images) ≡ image ∷ later = ap (map image_model) (drop_more images index no_image c.loop-image-test.true) in
+    let left : map image_model (drop index images) ≡ image ∷ later =
+    ap (map image_model) (drop_more images index no_image c.loop-image-test.true) in
     record {
       placed = (subst (AreAtTheirPlaces c.args.digests.now) left c.loop-image.invariant.placed).1;
       so_far = one_more_row c.loop-image.rows.items c.push.new.self.items c.in_ok-image_row.field-0 (read_image_row entry image)
           (read_image_rows (siblings_from (option_map node_of c.next_sibling-next.result)) later) _ c.in_ok-push.ensures.items
           c.in_ok-image_row.ensures
-          (ap₂ (λ (entries : List (Sibling FileNode)) (images : List ImageModel). cells_of c.loop-image.rows.items ++ read_image_rows entries images)
+          (ap₂
+          (λ (entries : List (Sibling FileNode)) (images : List ImageModel).
+          cells_of_rows c.loop-image.rows.items ++ read_image_rows entries images)
           (sym nodes) (sym left)
           ∙ c.loop-image.invariant.so_far);
     }

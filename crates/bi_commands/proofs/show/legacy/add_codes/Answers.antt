@@ -1,12 +1,12 @@
 use Rattle.std.proofs.Common.{codes, sym, ap, ◌∙◌, append-nil, unwrap_or}
 use Rattle.std.specs.Fmt.{decimal}
-use Rattle.bi_commands.specs.Rows.{cells_of}
+use Rattle.bi_commands.specs.Rows.{cells_of_rows}
 use Rattle.bi_commands.proofs.ShownRows.{next_pair}
 use Rattle.bi_commands.proofs.show.legacy.add_codes.Goals as goal
 
 pub returns : goal.returns
 returns c =
-    let rows = cells_of c.args.rows.now.items in
+    let rows = cells_of_rows c.args.rows.now.items in
     let fields = c.args.fields in
     next_pair rows _ _ _ (codes "compression") _ _
     (next_pair rows _ _ _ (codes "arch") _ _

@@ -1,5 +1,5 @@
 use Rattle.std.proofs.Common.{codes, sym, append-nil}
-use Rattle.bi_commands.specs.Rows.{cells_of}
+use Rattle.bi_commands.specs.Rows.{cells_of_rows}
 use Rattle.bi_commands.specs.Shown.{hexadecimal}
 use Rattle.bi_commands.proofs.AsciiTexts.{address, is_ascii}
 use Rattle.bi_commands.proofs.ShownRows.{next_pair}
@@ -13,7 +13,7 @@ field_cell-requires-2 c = is_ascii (hexadecimal c.args.fields.entry) (address c.
 
 pub returns : goal.returns
 returns c =
-    let rows = cells_of c.args.rows.now.items in
+    let rows = cells_of_rows c.args.rows.now.items in
     next_pair rows _ _ _ (codes "data crc32") _ _
     (next_pair rows _ _ _ (codes "header crc32") _ _
     (next_pair rows _ _ _ (codes "entry") _ _

@@ -2,7 +2,7 @@ use Rattle.std.proofs.Common.{codes, refl, ap, ◌∙◌, [], List, Vec, String,
 use Rattle.std.specs.declared.alloc.Global.{Global}
 use Rattle.bi_legacy.specs.Meaning.{LegacyImage}
 use Rattle.bi_commands.specs.LegacyPages.{legacy_head}
-use Rattle.bi_commands.specs.Rows.{cells_of}
+use Rattle.bi_commands.specs.Rows.{cells_of_rows}
 use Rattle.bi_commands.proofs.ShownRows.{next_pair, next_rows}
 use Rattle.bi_commands.proofs.show.legacy.head_rows.Goals as goal
 
@@ -13,7 +13,7 @@ returns c =
     (next_pair [] _ _ _ (codes "size") _ _
     (next_pair [] _ _ _ (codes "date") _ _
     (next_pair [] _ _ _ (codes "name") _ _
-    (next_pair [] _ _ _ (codes "kind") _ _ (ap (λ (l : List (Vec (String Global) Global)). cells_of l) c.new-rows.ensures.items)
+    (next_pair [] _ _ _ (codes "kind") _ _ (ap (λ (l : List (Vec (String Global) Global)). cells_of_rows l) c.new-rows.ensures.items)
     c.in_ok-add_pair.ensures c.in_ok-kind.ensures.ok)
     c.in_ok-add_pair-2.ensures c.in_ok-name.ensures)
     c.in_ok-add_pair-3.ensures refl)

@@ -2,7 +2,7 @@ use Rattle.std.proofs.Common.{ap, ◌∙◌, ◌++◌, List, ℕ, refl, string_b
 use Rattle.bi_legacy.specs.Meaning.{LegacyImage}
 use Rattle.bi_commands.specs.Dates.{IsTimeText}
 use Rattle.bi_commands.specs.Pages.{concerns_text_of_page}
-use Rattle.bi_commands.specs.Rows.{cells_of}
+use Rattle.bi_commands.specs.Rows.{cells_of_rows}
 use Rattle.bi_commands.proofs.ShownPages.{shown_table, three_tables}
 use Rattle.bi_commands.proofs.show.legacy.legacy_page.Goals as goal
 
@@ -14,7 +14,7 @@ returns c =
       is_read = c.requires.read;
       time = time;
       is_time = subst (λ seconds. IsTimeText seconds time) (ap (λ (image : LegacyImage). image.time) c.fields.ensures) c.in_ok-time.ensures;
-      regions = cells_of c.in_ok-legacy_layout.field-0.items;
+      regions = cells_of_rows c.in_ok-legacy_layout.field-0.items;
       are_regions = c.in_ok-legacy_layout.ensures;
       concerns = string_bytes c.in_ok-concern_lines.field-0;
       are_concerns = c.in_ok-concern_lines.ensures;

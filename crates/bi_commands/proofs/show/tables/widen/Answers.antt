@@ -1,6 +1,6 @@
 use Rattle.std.proofs.Common.{ap, sym, ◌∙◌, max, set, arith, Vec, ℕ}
 use Rattle.std.specs.declared.alloc.Global.{Global}
-use Rattle.bi_commands.proofs.TableFacts.{with_cell, with_new_cell}
+use Rattle.bi_commands.proofs.TableFacts.{widths_with_cell, widths_with_new_cell}
 use Rattle.bi_commands.proofs.show.tables.widen.Goals as goal
 use Rattle.bi_commands.proofs.show.tables.widen.Goals.{then-column-len, else-column-len+in_ok-push}
 
@@ -13,11 +13,15 @@ loop-column-preserved c =
       | then-column-len w ↦
           ap (λ (v : Vec ℕ Global). v.items) w.widths-is
           ∙ ap (set current.items column) (w.max.ensures ∙ ap (λ n. max n w.len-then-column-len.result) w.index.ensures)
-          ∙ with_cell c.args.widths.now.items current.items c.args.row.now column cell w.len-then-column-len.result w.index.result.now (omega arith)
-          (sym c.index-row-column.is) (w.len-then-column-len.ensures ∙ cell.bytes.ok.0) c.loop-column.invariant (omega (arith, current.ok.0))
+          ∙ widths_with_cell c.args.widths.now.items current.items c.args.row.now column cell
+          w.len-then-column-len.result w.index.result.now (omega arith)
+          (sym c.index-row-column.is) (w.len-then-column-len.ensures ∙ cell.bytes.ok.0)
+          c.loop-column.invariant (omega (arith, current.ok.0))
       | else-column-len+in_ok-push w ↦
           ap (λ (v : Vec ℕ Global). v.items) w.widths-is
           ∙ w.in_ok-push.ensures.items
-          ∙ with_new_cell c.args.widths.now.items current.items c.args.row.now column cell w.len-else-column-len.result (omega arith)
-          (sym c.index-row-column.is) (w.len-else-column-len.ensures ∙ cell.bytes.ok.0) c.loop-column.invariant (omega (arith, current.ok.0))
+          ∙ widths_with_new_cell c.args.widths.now.items current.items c.args.row.now column cell
+          w.len-else-column-len.result (omega arith)
+          (sym c.index-row-column.is) (w.len-else-column-len.ensures ∙ cell.bytes.ok.0)
+          c.loop-column.invariant (omega (arith, current.ok.0))
     ]

@@ -10,5 +10,6 @@ pub returns : goal.returns
 returns c =
     let first = checked_hash_of c.in-Some.first in
     let later : List CheckedHash = hashes_left c.next.new.self in
-    joined_in_turn hash_word (first ∷ later) later first _ _ _ refl c.new-text.ensures.bytes c.in_ok-add_hash.ensures c.in_ok-add_later_hashes.ensures
+    joined_in_turn hash_word (first ∷ later) later first _ _ _ refl c.new-text.ensures.bytes
+    c.in_ok-add_hash.ensures c.in_ok-add_later_hashes.ensures
     ∙ ap hashes_cell (sym c.in-Some.ensures.steps)
