@@ -3,6 +3,16 @@
 
 use bootimg::{Error, Fit, FitImage, Key, Legacy, Limits, Place};
 
+/// The calls that refuse a file that is not a FIT.
+const FIT_CALLS: [&str; 6] = [
+    "fit",
+    "reservations",
+    "images",
+    "configurations",
+    "properties",
+    "children",
+];
+
 fn main() -> Result<(), Box<dyn std::error::Error>> {
     for path in std::env::args().skip(1) {
         let file = std::fs::read(&path)?;
@@ -12,8 +22,11 @@ fn main() -> Result<(), Box<dyn std::error::Error>> {
             Err(error) => print_error(&["legacy", "parts"], error),
         }
         match Fit::read(&file, Limits::default()) {
-            Ok(fit) => print_fit(&fit),
-            Err(error) => print_error(&["fit", "reservations", "images", "configurations"], error),
+            Ok(fit) => {
+                print_fit(&fit);
+                print_node(&fit, b"/")?;
+            }
+            Err(error) => print_error(&FIT_CALLS, error),
         }
     }
     Ok(())
@@ -80,6 +93,26 @@ fn print_fit(fit: &Fit) {
         "default {}",
         fit.default.unwrap_or(fit.configurations.len())
     );
+}
+
+/// Prints the node at a path, and the nodes below it.
+fn print_node(fit: &Fit, path: &[u8]) -> Result<(), Error> {
+    println!("node {}", digits(path));
+    for property in fit.properties(path)? {
+        println!(
+            "property {} {}",
+            digits(property.name),
+            digits(property.value)
+        );
+        assert_eq!(fit.property(path, property.name)?, property.value);
+    }
+    assert_eq!(fit.property(path, b"\0"), Err(Error::NoProperty));
+    for name in fit.children(path)? {
+        let above = path.strip_suffix(b"/").unwrap_or(path);
+        print_node(fit, &[above, b"/", name].concat())?;
+    }
+    assert_eq!(fit.children(&[path, b"/"].concat()), Err(Error::NoNode));
+    Ok(())
 }
 
 /// Prints the indices of the images under a key, or the number of the reason why there are none.

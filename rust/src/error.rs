@@ -113,6 +113,10 @@ pub enum Error {
     BadList,
     /// No image has the name at this index of the list, counted from 0. It is the first such name.
     MissingImage(usize),
+    /// No node has the path.
+    NoNode,
+    /// The node has no property with the name.
+    NoProperty,
     /// A status of a later version of the library.
     Unknown,
 }
@@ -127,6 +131,8 @@ impl fmt::Display for Error {
             Error::NoKey => formatter.write_str("no such key"),
             Error::BadList => formatter.write_str("bad list"),
             Error::MissingImage(index) => write!(formatter, "missing image {index}"),
+            Error::NoNode => formatter.write_str("no such node"),
+            Error::NoProperty => formatter.write_str("no such property"),
             Error::Unknown => formatter.write_str("unknown status"),
         }
     }
@@ -148,6 +154,8 @@ pub(crate) fn failure(status: u32, answer: &sys::Answer) -> Error {
         (_, 5) => Error::NoKey,
         (_, 6) => Error::BadList,
         (_, 7) => Error::MissingImage(answer.value),
+        (_, 10) => Error::NoNode,
+        (_, 11) => Error::NoProperty,
         _ => Error::Unknown,
     }
 }

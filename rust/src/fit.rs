@@ -68,6 +68,8 @@ pub struct Fit<'a> {
     pub configurations: Vec<Configuration<'a>>,
     /// The index of the default configuration.
     pub default: Option<usize>,
+    pub(crate) file: &'a [u8],
+    pub(crate) limits: Limits,
 }
 
 impl<'a> Fit<'a> {
@@ -94,6 +96,8 @@ impl<'a> Fit<'a> {
             images,
             default: (default < configurations.len()).then_some(default),
             configurations,
+            file,
+            limits,
         })
     }
 

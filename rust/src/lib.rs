@@ -20,12 +20,14 @@
 mod error;
 mod fit;
 mod legacy;
+mod nodes;
 mod sys;
 mod texts;
 
 pub use error::{Cause, Error, Refusal};
 pub use fit::{Configuration, Fit, FitImage, Place, Reservation};
 pub use legacy::Legacy;
+pub use nodes::Property;
 pub use texts::{
     check, check_json, compare, compare_json, convert, describe, describe_json, listing,
     listing_json, normalise, same_meaning, update, verify, verify_json, Changes, Comparison,

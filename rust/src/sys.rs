@@ -61,6 +61,14 @@ pub struct Image {
     pub place: u32,
 }
 
+/// A property of a node of a FIT.
+#[repr(C)]
+#[derive(Clone, Copy, Debug, Default)]
+pub struct Property {
+    pub name: Region,
+    pub value: Region,
+}
+
 pub const DONE: u32 = 0;
 pub const REFUSED: u32 = 1;
 pub const OUT_OF_MEMORY: u32 = 2;
@@ -87,6 +95,19 @@ pub type Comparing = unsafe extern "C" fn(
 /// A call on one file that has an array.
 pub type Listing<T> =
     unsafe extern "C" fn(*const u8, usize, u32, u32, *mut T, usize, *mut Answer) -> u32;
+
+/// A call on a node of a file that has an array.
+pub type NodeListing<T> = unsafe extern "C" fn(
+    *const u8,
+    usize,
+    *const u8,
+    usize,
+    u32,
+    u32,
+    *mut T,
+    usize,
+    *mut Answer,
+) -> u32;
 
 /// A call on one file that sets a struct.
 pub type Setting<T> = unsafe extern "C" fn(*const u8, usize, u32, u32, *mut T, *mut Answer) -> u32;
@@ -291,6 +312,39 @@ extern "C" {
         depth: u32,
         images: *mut usize,
         count: usize,
+        answer: *mut Answer,
+    ) -> u32;
+    pub fn bootimg_children(
+        file: *const u8,
+        size: usize,
+        path: *const u8,
+        path_size: usize,
+        limit: u32,
+        depth: u32,
+        names: *mut Region,
+        count: usize,
+        answer: *mut Answer,
+    ) -> u32;
+    pub fn bootimg_properties(
+        file: *const u8,
+        size: usize,
+        path: *const u8,
+        path_size: usize,
+        limit: u32,
+        depth: u32,
+        properties: *mut Property,
+        count: usize,
+        answer: *mut Answer,
+    ) -> u32;
+    pub fn bootimg_property_value(
+        file: *const u8,
+        size: usize,
+        path: *const u8,
+        path_size: usize,
+        name: *const u8,
+        name_size: usize,
+        limit: u32,
+        depth: u32,
         answer: *mut Answer,
     ) -> u32;
     pub fn bootimg_version(buffer: *mut u8, room: usize, answer: *mut Answer) -> u32;

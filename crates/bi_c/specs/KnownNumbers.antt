@@ -2,6 +2,7 @@ use Rattle.std.specs.Prelude.{◌≡◌, ℕ, true, false, List, [], ◌∷◌, 
 use Rattle.bi_base.specs.declared.fault.Cause.TheVariants.{BadCell}
 use Rattle.bi_base.specs.declared.fault.Error.TheVariants as error
 use Rattle.bi_base.specs.declared.fault.Fault.{Fault}
+use Rattle.bi_base.specs.Limits.{Limits}
 use Rattle.bi_commands.specs.declared.compare.CompareError.TheVariants as compare
 use Rattle.bi_commands.specs.declared.extract.ExtractError.TheVariants as extract
 use Rattle.bi_commands.specs.Extracting.{Choice, OfOtherKind, NoSuchPart, NoSuchImage}
@@ -17,6 +18,7 @@ use Rattle.bi_c.specs.Answers.{status_of_failure}
 use Rattle.bi_c.specs.Arguments.{allowed_of, bounds, changes_of, form_of, key_of}
 use Rattle.bi_c.specs.Calls.{failure_of_compare_error, flag, kind_number}
 use Rattle.bi_c.specs.Extracting.{IsReasonNumber, failure_of_extract_error}
+use Rattle.bi_c.specs.NodeElements.{IsNodeReason, IsPropertyReason, LacksNode, LacksProperty}
 use Rattle.bi_c.specs.declared.answer.Answer.{Answer}
 use Rattle.bi_c.specs.declared.failure.Failure.TheVariants.{WrongArgument, Refused, OutOfMemory}
 use Rattle.bi_c.specs.declared.failure.Failure.TheVariants.{NotFound}
@@ -79,6 +81,13 @@ pub record ReasonsAreKnown : Type 0 where
   pub missing : HasReason (HasMissingImage 3) 7 3
   pub no_entry : HasReason NoSuchEntry 8 0
   pub no_payload : HasReason HasNoPayload 9 0
+
+-- The reasons why nothing is found by a path or a name.
+pub record NodeReasonsAreKnown : Type 0 where
+  pub no_node : (limits : Limits) (file path : List ℕ) → LacksNode limits file path
+      → IsNodeReason limits file path 10 0
+  pub no_property : (limits : Limits) (file path name : List ℕ)
+      → LacksProperty limits file path name → IsPropertyReason limits file path name 11 0
 
 -- The failure for each error of extracting.
 pub record ExtractFailuresAreKnown : Type 0 where

@@ -5,6 +5,7 @@ pub mod Extracting
 pub mod FitElements
 pub mod ImageElements
 pub mod KnownNumbers
+pub mod KnownPaths
 pub mod LegacyElements
 pub mod NodeElements
 pub mod TreeRegions

@@ -3,7 +3,7 @@
 
 ghost use Rattle.bi_c.specs.KnownNumbers.{StatusNumbersAreKnown, AnswersAreKnown};
 ghost use Rattle.bi_c.specs.KnownNumbers.{ReasonsAreKnown, ExtractFailuresAreKnown};
-ghost use Rattle.bi_c.specs.KnownNumbers.{ValuesAreKnown, ArgumentsAreKnown};
+ghost use Rattle.bi_c.specs.KnownNumbers.{NodeReasonsAreKnown, ValuesAreKnown, ArgumentsAreKnown};
 ghost use Rattle.bi_c.specs.KnownNumbers.{AllowedBitsAreKnown};
 
 /// The statuses are the numbers of the header.
@@ -19,6 +19,11 @@ pub fn answers_are_known()
 /// The reasons why nothing is extracted are the numbers of the header.
 pub fn reasons_are_known()
     ensures { ReasonsAreKnown }
+{}
+
+/// The reasons why nothing is found by a path or a name are the numbers of the header.
+pub fn node_reasons_are_known()
+    ensures { NodeReasonsAreKnown }
 {}
 
 /// Each error of extracting has a known failure.

@@ -14,6 +14,7 @@ mod fit;
 mod images;
 mod kind;
 mod known_numbers;
+mod known_paths;
 mod legacy;
 mod nodes;
 mod normalise;
