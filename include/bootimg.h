@@ -30,9 +30,9 @@
  *   BOOTIMG_NO_ROOM         The output is larger than the buffer. `size` and `value` are as for
  *                           BOOTIMG_DONE.
  *   BOOTIMG_WRONG_ARGUMENT  A number is out of the range of its argument.
- *   BOOTIMG_NOT_FOUND       There is nothing to extract. `reason` is one of BOOTIMG_WRONG_KIND to
- *                           BOOTIMG_NO_PAYLOAD. `value` is the index of the first name that no
- *                           image has for BOOTIMG_MISSING, and otherwise 0.
+ *   BOOTIMG_NOT_FOUND       There is nothing to extract or to list. `reason` is one of
+ *                           BOOTIMG_WRONG_KIND to BOOTIMG_NO_PAYLOAD. `value` is the index of the
+ *                           first name that no image has for BOOTIMG_MISSING, and otherwise 0.
  *
  * Numbers without meaning for the status or the call are 0. If the status is BOOTIMG_DONE, the
  * output is at the beginning of the buffer, and the bytes after it are unchanged. After any other
@@ -95,6 +95,12 @@ extern "C" {
 #define BOOTIMG_NO_INDEX 8u
 #define BOOTIMG_NO_PAYLOAD 9u
 
+/* `place` of an image: the property that places its payload. */
+#define BOOTIMG_PLACE_ABSENT 0u
+#define BOOTIMG_PLACE_DATA 1u
+#define BOOTIMG_PLACE_DATA_OFFSET 2u
+#define BOOTIMG_PLACE_DATA_POSITION 3u
+
 /* `kinds` of bootimg_check: the lines that are left out. */
 #define BOOTIMG_ALLOW_BAD_HASH 1u
 #define BOOTIMG_ALLOW_UNHASHED 2u
@@ -113,6 +119,46 @@ typedef struct bootimg_answer {
     uint32_t file;
     uint32_t reason;
 } bootimg_answer;
+
+/* Where bytes of a file are: the offset of the first one, and their number. */
+typedef struct bootimg_region {
+    size_t offset;
+    size_t size;
+} bootimg_region;
+
+/* The fields of the header of a legacy image. `time` is in seconds since 1970, and `load` and
+ * `entry` are addresses. The others are codes of U-Boot. */
+typedef struct bootimg_legacy_fields {
+    bootimg_region name;
+    uint32_t time;
+    uint32_t load;
+    uint32_t entry;
+    uint8_t os;
+    uint8_t arch;
+    uint8_t image_type;
+    uint8_t compression;
+} bootimg_legacy_fields;
+
+/* The fields of the blob of a FIT: the number of the boot processor, and its size in bytes. */
+typedef struct bootimg_fit_fields {
+    uint32_t boot_cpu;
+    uint32_t total_size;
+} bootimg_fit_fields;
+
+/* A memory reservation of a FIT: an address, and a size in bytes. */
+typedef struct bootimg_reservation {
+    uint64_t address;
+    uint64_t size;
+} bootimg_reservation;
+
+/* An image of a FIT. `place` is one of BOOTIMG_PLACE_ABSENT to BOOTIMG_PLACE_DATA_POSITION. If the
+ * image has no payload (an empty one counts as one), it is the first, and both numbers of `payload`
+ * are 0. */
+typedef struct bootimg_image {
+    bootimg_region name;
+    bootimg_region payload;
+    uint32_t place;
+} bootimg_image;
 
 /* Returns the kind of a file in `value`, by its first four bytes: BOOTIMG_LEGACY or BOOTIMG_FIT.
  * The other bytes are not examined. The call fails with Truncated at 0 for a file of fewer than
@@ -176,6 +222,51 @@ uint32_t bootimg_extract_config(const uint8_t *file, size_t file_size, const uin
 uint32_t bootimg_extract_default(const uint8_t *file, size_t file_size, uint32_t key,
                                  uint32_t index, uint32_t limit, uint32_t depth,
                                  bootimg_answer *answer);
+
+/* The calls that take an image apart copy nothing: names and payloads are regions of the caller's
+ * file, and inside it. Each call reads the whole file again. An array of the caller's is a buffer:
+ * it is followed by its length, and `size` is the number of elements. The output is at its
+ * beginning, and the elements after it are unchanged. If there is no room for all elements, the
+ * status is BOOTIMG_NO_ROOM, and the array is unchanged. */
+
+/* Sets the fields of the header of a legacy image. They are unchanged unless the status is
+ * BOOTIMG_DONE. The call fails with BadMagic at 0 for a file that is not a legacy image. */
+uint32_t bootimg_legacy(const uint8_t *file, size_t file_size, uint32_t limit, uint32_t depth,
+                        bootimg_legacy_fields *fields, bootimg_answer *answer);
+
+/* Writes where the parts of a legacy image are, in their order. `value` is the number of bytes of
+ * the file after the last part, or after the part table if there are no parts. The call fails as
+ * bootimg_legacy does. */
+uint32_t bootimg_parts(const uint8_t *file, size_t file_size, uint32_t limit, uint32_t depth,
+                       bootimg_region *parts, size_t parts_count, bootimg_answer *answer);
+
+/* Sets the fields of the blob of a FIT. They are unchanged unless the status is BOOTIMG_DONE. The
+ * call fails with BadMagic at 0 for a file that is not a FIT. So do the calls after it. */
+uint32_t bootimg_fit(const uint8_t *file, size_t file_size, uint32_t limit, uint32_t depth,
+                     bootimg_fit_fields *fields, bootimg_answer *answer);
+
+/* Writes the memory reservations of a FIT, in their order. */
+uint32_t bootimg_reservations(const uint8_t *file, size_t file_size, uint32_t limit, uint32_t depth,
+                              bootimg_reservation *reservations, size_t reservations_count,
+                              bootimg_answer *answer);
+
+/* Writes the images of a FIT, in their order. */
+uint32_t bootimg_images(const uint8_t *file, size_t file_size, uint32_t limit, uint32_t depth,
+                        bootimg_image *images, size_t images_count, bootimg_answer *answer);
+
+/* Writes where the names of the configurations of a FIT are, in their order. `value` is the index
+ * of the default configuration, or the number of configurations if there is none. */
+uint32_t bootimg_configurations(const uint8_t *file, size_t file_size, uint32_t limit,
+                                uint32_t depth, bootimg_region *names, size_t names_count,
+                                bootimg_answer *answer);
+
+/* Writes the indices of the images that the configuration with the given name lists under a key,
+ * one of BOOTIMG_KERNEL to BOOTIMG_SCRIPT, in the order of the list. An index is that in the array
+ * of bootimg_images. The name is not NUL-terminated. If nothing is listed, the status is
+ * BOOTIMG_NOT_FOUND, and `reason` is one of BOOTIMG_NO_CONFIG to BOOTIMG_MISSING. */
+uint32_t bootimg_listed(const uint8_t *file, size_t file_size, const uint8_t *name,
+                        size_t name_size, uint32_t key, uint32_t limit, uint32_t depth,
+                        size_t *images, size_t images_count, bootimg_answer *answer);
 
 /* Returns in `value` whether two files mean the same thing: 1 if they do, otherwise 0. */
 uint32_t bootimg_same_meaning(const uint8_t *one, size_t one_size, const uint8_t *other,

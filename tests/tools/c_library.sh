@@ -3,8 +3,9 @@
 # the functions that the library exports, with the parameters, the struct and the constants of the sources. The module has the same
 # numbers. tests/tools/c_library/calls.c makes each call, as gcc and clang compile it with their sanitizers: on the examples and the
 # vectors of tests/conformance, it and the module do what the program does. The module takes files in any buffer, without a copy
-# (tests/tools/c_library/buffers.py), what `bootimg.open` returns is what the vectors say (tests/tools/c_library/objects.py), and mypy finds
-# nothing wrong in its types. The programs in docs/LIBRARY.md print what the document shows. The script needs gcc, g++, clang, nm,
+# (tests/tools/c_library/buffers.py), what `bootimg.open` returns is what the vectors say (tests/tools/c_library/objects.py), and what the
+# calls for C that take images apart return is the same (tests/tools/c_library/structure.c). mypy finds nothing wrong in its types. The
+# programs in docs/LIBRARY.md print what the document shows; that in Rust is left out without cargo. The script needs gcc, g++, clang, nm,
 # pkg-config and python3, and installs Debian's if one is missing and it runs as root, and so it does mypy, without which it leaves out the
 # types.
 set -u
@@ -57,11 +58,14 @@ is_found() {
 }
 check "a field of another size is found" is_found "size_t value;" "uint32_t value;"
 check "exchanged fields are found" is_found "uint32_t cause;" "uint32_t later, cause;"
+check "a region of another kind is found" is_found "bootimg_region payload;" "uint8_t payload[8];"
+check "a code of another size is found" is_found "uint8_t arch;" "uint16_t arch;"
 check "a parameter of another type is found" is_found "bootimg_version(uint8_t \*buffer" "bootimg_version(const uint8_t *buffer"
 check "exchanged parameters are found" is_found "uint32_t key, uint32_t index" "uint32_t index, uint32_t key"
 check "another number of a status is found" is_found "BOOTIMG_NO_ROOM 3u" "BOOTIMG_NO_ROOM 4u"
 check "another number of a kind is found" is_found "BOOTIMG_FIT 2u" "BOOTIMG_FIT 1u"
 check "another number of a form is found" is_found "BOOTIMG_EXTERNAL 1u" "BOOTIMG_EXTERNAL 2u"
+check "another number of a place is found" is_found "PLACE_DATA_OFFSET 2u" "PLACE_DATA_OFFSET 3u"
 check "another number of a key is found" is_found "BOOTIMG_FDT 1u" "BOOTIMG_FDT 2u"
 check "another number of a change is found" is_found "BOOTIMG_CHANGE_HASHES 2u" "BOOTIMG_CHANGE_HASHES 4u"
 check "another number of a reason is found" is_found "BOOTIMG_NO_INDEX 8u" "BOOTIMG_NO_INDEX 9u"
@@ -139,7 +143,12 @@ module="python3 -m bootimg"
 for compiler in gcc clang; do
     check "$compiler compiles the calls" $compiler -std=gnu99 -Wall -Wextra -Werror -g -fsanitize=address,undefined \
         -I"$root/include" "$root/tests/tools/c_library/calls.c" "$library" "$heap" -lpthread -o calls
+    check "$compiler compiles the calls that take images apart" $compiler -std=gnu99 -Wall -Wextra -Werror -g \
+        -fsanitize=address,undefined -I"$root/include" "$root/tests/tools/c_library/structure.c" "$library" "$heap" -lpthread -o structure
     [ "$failed" = 0 ] || finish
+    find runs "$examples" -type f ! -name '*.json' ! -name '*.md' | sort > images
+    # shellcheck disable=SC2046
+    passes python3 "$root/tests/tools/c_library/structure.py" libbootimg.so structure $(cat images)
     for image in "$examples"/*.itb "$examples"/*.uimage "$examples"/boot.scr "$examples"/board.its; do
         for command in normalise "normalise --external" list describe verify check convert "list --limit 100" \
             "list --json" "describe --json" "verify --json" "check --json" "describe --json --limit 1000" \

@@ -5,14 +5,12 @@ use mir.Val.{bool_byte}
 use Rattle.bi_base.specs.declared.fault.Error.{Error}
 use Rattle.bi_base.specs.declared.fault.Error.TheVariants as error
 use Rattle.bi_base.specs.Limits.{Limits, IsInRange}
-use Rattle.bi_commands.specs.declared.compare.CompareError.{CompareError}
-use Rattle.bi_commands.specs.declared.compare.CompareError.TheVariants as compare
 use Rattle.bi_c.specs.declared.answer.Answer.{Answer}
 use Rattle.bi_c.specs.declared.failure.Failure.{Failure}
 use Rattle.bi_c.specs.Answers.{answer_of, done, no_room, Fills, Filled, HadNoRoom, FilledNothing, IsFailure, IsTextOf, IsFailureOf}
 use Rattle.bi_c.specs.Answers.{failure_of_error}
 use Rattle.bi_c.specs.Arguments.{bounds}
-use Rattle.bi_c.specs.Calls.{flag, IsTextOnly, IsTextWithFlag, IsFailureOfOne, IsFailureOfTwo, failure_of_compare_error}
+use Rattle.bi_c.specs.Calls.{flag, IsTextOnly, IsTextWithFlag, IsFailureOfOne}
 
 -- A call from C that fails returns the failure of its error, and one that succeeds returns its text and its yes or no as a number.
 
@@ -30,8 +28,8 @@ byte_is_flag true = refl
 byte_is_flag false = refl
 
 -- An output that was written to a buffer, or had no room there.
-pub buffer_is_filled : (IsOutput : List ℕ → ℕ → Type 0) (HasFailed : Failure → Type 0) (text before after : List ℕ) (value : ℕ)
-    (answer : Answer) (status : ℕ) → IsOutput text value → answer ≡ answer_of (length text) value
+pub buffer_is_filled : {T : Type 0} (IsOutput : List T → ℕ → Type 0) (HasFailed : Failure → Type 0) (text before after : List T)
+    (value : ℕ) (answer : Answer) (status : ℕ) → IsOutput text value → answer ≡ answer_of (length text) value
     → ((length text ≤ length before) × (status ≡ done) × (after ≡ text ++ drop (length text) before))
     ⊎ ((length before < length text) × (status ≡ no_room) × (after ≡ before))
     → Fills IsOutput HasFailed before after answer status
@@ -41,8 +39,8 @@ buffer_is_filled IsOutput HasFailed text before after value answer status is tol
     (inr none) = HadNoRoom text value is none.0 none.2 told none.1
 
 -- What a call that fills a buffer promises implies more.
-pub fills_as : (IsOutput IsOther : List ℕ → ℕ → Type 0) (HasFailed HasOther : Failure → Type 0) (before after : List ℕ) (answer : Answer)
-    (status : ℕ) → ((text : List ℕ) (value : ℕ) → IsOutput text value → IsOther text value)
+pub fills_as : {T : Type 0} (IsOutput IsOther : List T → ℕ → Type 0) (HasFailed HasOther : Failure → Type 0) (before after : List T)
+    (answer : Answer) (status : ℕ) → ((text : List T) (value : ℕ) → IsOutput text value → IsOther text value)
     → ((failure : Failure) → HasFailed failure → HasOther failure) → Fills IsOutput HasFailed before after answer status →
     Fills IsOther HasOther before after answer status
 fills_as IsOutput IsOther HasFailed HasOther before after answer status output failed
@@ -73,20 +71,6 @@ failed_of_one limit depth HasError limits cause failure in_range same is_failure
     failed_by (IsInRange limit depth) (HasError (bounds limit depth)) cause failure in_range is_failure (no_read (bounds limit depth))
     (no_write (bounds limit depth))
     (subst (λ (l : Limits). HasError l cause) same is)
-
--- The failure of a call on two files, by its error.
-pub failed_of_two : (limit depth : ℕ) (HasError : Limits → CompareError → Type 0) (limits : Limits) (cause : CompareError)
-    (failure : Failure) → IsInRange limit depth → limits ≡ bounds limit depth → failure ≡ failure_of_compare_error cause
-    → HasError limits cause → IsFailureOfTwo limit depth (HasError (bounds limit depth)) failure
-failed_of_two limit depth HasError limits cause failure in_range same is_failure is =
-    subst (IsFailureOfTwo limit depth (HasError (bounds limit depth))) (sym is_failure)
-    (by cause (subst (λ (l : Limits). HasError l cause) same is))
-  where
-    by : (cause : CompareError) → HasError (bounds limit depth) cause →
-        IsFailureOfTwo limit depth (HasError (bounds limit depth)) (failure_of_compare_error cause)
-    by (compare.One fault) is = (in_range, inl (refl, is))
-    by (compare.Other fault) is = (in_range, inr (refl, is))
-    by compare.OutOfMemory is = (in_range, is)
 
 -- The output of a call that has limits and no other numbers.
 pub text_of_call : (limit depth : ℕ) (Is : Limits → List ℕ → Type 0) (limits : Limits) (text bytes : List ℕ) → IsInRange limit depth →
@@ -138,7 +122,7 @@ text_fills limit depth Is HasError text_of limits made before after answer statu
     (λ cause is. failed_of_one limit depth HasError limits cause (failure_of_error cause) in_range same refl no_read no_write is)
     output failed fills
 
--- or a text and a yes or no,
+-- or a text and a yes or no.
 pub text_with_flag_fills : {V : Type 0} (limit depth : ℕ) (Is : Limits → Bool → List ℕ → Type 0) (HasError : Limits → Error → Type 0)
     (text_of : V → List ℕ) (yes_of : V → Bool) (limits : Limits) (made : Result V Error) (before after : List ℕ) (answer : Answer)
     (status : ℕ)
@@ -153,20 +137,4 @@ text_with_flag_fills limit depth Is HasError text_of yes_of limits made before a
     failure_of_error (IsTextWithFlag limit depth Is) (IsFailureOfOne limit depth HasError) made before after answer status
     (λ value is. text_with_flag_of_call limit depth Is limits (yes_of value) (text_of value) in_range same is)
     (λ cause is. failed_of_one limit depth HasError limits cause (failure_of_error cause) in_range same refl no_read no_write is)
-    output failed fills
-
--- and of a call on two files.
-pub comparison_fills : {V : Type 0} (limit depth : ℕ) (Is : Limits → Bool → List ℕ → Type 0)
-    (HasError : Limits → CompareError → Type 0) (text_of : V → List ℕ) (yes_of : V → Bool) (limits : Limits)
-    (made : Result V CompareError) (before after : List ℕ) (answer : Answer) (status : ℕ)
-    → IsInRange limit depth → limits ≡ bounds limit depth → IfOk made (λ value. Is limits (yes_of value) (text_of value))
-    → IfErr made (HasError limits)
-    → Fills (IsTextOf text_of (λ value. flag (yes_of value)) made) (IsFailureOf failure_of_compare_error made) before after answer status
-    → Fills (IsTextWithFlag limit depth Is) (IsFailureOfTwo limit depth (HasError (bounds limit depth))) before after answer status
-comparison_fills limit depth Is HasError text_of yes_of limits made before after answer status in_range same output failed fills =
-    made_fills (λ value. Is limits (yes_of value) (text_of value)) (HasError limits) text_of (λ value. flag (yes_of value))
-    failure_of_compare_error (IsTextWithFlag limit depth Is) (IsFailureOfTwo limit depth (HasError (bounds limit depth))) made before after
-    answer status
-    (λ value is. text_with_flag_of_call limit depth Is limits (yes_of value) (text_of value) in_range same is)
-    (λ cause is. failed_of_two limit depth HasError limits cause (failure_of_compare_error cause) in_range same refl is)
     output failed fills

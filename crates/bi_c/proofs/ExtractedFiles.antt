@@ -14,7 +14,7 @@ use Rattle.bi_commands.specs.Extracting.{HasMissingImage, NoSuchEntry, HasNoPayl
 use Rattle.bi_c.specs.declared.answer.Answer.{Answer}
 use Rattle.bi_c.specs.declared.failure.Failure.{Failure}
 use Rattle.bi_c.specs.declared.failure.Failure.TheVariants.{WrongArgument, Refused, OutOfMemory, NotFound}
-use Rattle.bi_c.specs.declared.regions.Region.{Region}
+use Rattle.bi_c.specs.declared.region.Region.{Region}
 use Rattle.bi_c.specs.Answers.{Answers, Returned, Failed as HasFailed}
 use Rattle.bi_c.specs.Extracting.{IsChosenAt, IsFound, IsOffset, IsPayloadOffset, IsReasonNumber, IsSelectFailure, IsExtracted}
 use Rattle.bi_c.specs.Extracting.{IsExtractCallFailure}

@@ -1,7 +1,16 @@
+pub mod ArrayFilling
 pub mod CallAnswers
 pub mod CheckedFiles
+pub mod ComparedFiles
 pub mod ExtractedFiles
+pub mod FitElements
+pub mod FitFiles
+pub mod ImageElements
+pub mod ImageFiles
+pub mod LegacyElements
 pub mod ListedChoices
+pub mod ListedIndices
 pub mod NormalisedFiles
 pub mod Places
 pub mod SliceWriting
+pub mod TreeRegions

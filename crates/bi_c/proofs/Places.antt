@@ -20,7 +20,7 @@ use Rattle.bi_legacy.proofs.PartOffsets.{up4_of_four, length-part_table}
 use Rattle.bi_commands.specs.declared.extract.ExtractError.TheVariants.{NoPart, NoPayload}
 use Rattle.bi_commands.specs.Extracting.{Choice, HasNoPayload, IsReason, choice_of_part, choice_of_payload, choice_by_name}
 use Rattle.bi_commands.proofs.Choices.{choice_at, chosen_by_name}
-use Rattle.bi_c.specs.declared.regions.Region.{Region}
+use Rattle.bi_c.specs.declared.region.Region.{Region}
 use Rattle.bi_c.specs.Extracting.{IsChosenAt, IsNamedOffset, IsListedOffset, IsDefaultOffset}
 
 -- The parts and payloads of an image that was read are in the file at the offsets that are returned.

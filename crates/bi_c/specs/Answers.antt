@@ -65,21 +65,33 @@ pub data Answers (IsOutput : (size value : ℕ) → Type 0) (HasFailed : Failure
     Failed : (failure : Failure) → HasFailed failure → answer ≡ answer_of_failure failure
         → status ≡ status_of_failure failure → Answers IsOutput HasFailed answer status
 
--- A call that writes its output to the beginning of a buffer. The bytes after it stay. If the
--- buffer does not have room for the output, or the call fails, the buffer is as it was. Without
+-- A call that writes its output to the beginning of a buffer or an array. The elements after it
+-- stay. If there is no room for the output, or the call fails, the buffer is as it was. Without
 -- room, the struct has the size of the output.
-pub data Fills (IsOutput : (text : List ℕ) → (value : ℕ) → Type 0) (HasFailed : Failure → Type 0)
-    (before after : List ℕ) (answer : Answer) (status : ℕ) : Type 0
+pub data Fills {T : Type 0} (IsOutput : (output : List T) → (value : ℕ) → Type 0)
+    (HasFailed : Failure → Type 0) (before after : List T) (answer : Answer) (status : ℕ) : Type 0
   where
-    Filled : (text : List ℕ) (value : ℕ) → IsOutput text value → length text ≤ length before
-        → after ≡ text ++ drop (length text) before → answer ≡ answer_of (length text) value
-        → status ≡ done → Fills IsOutput HasFailed before after answer status
-    HadNoRoom : (text : List ℕ) (value : ℕ) → IsOutput text value → length before < length text
-        → after ≡ before → answer ≡ answer_of (length text) value → status ≡ no_room
+    Filled : (output : List T) (value : ℕ) → IsOutput output value
+        → length output ≤ length before → after ≡ output ++ drop (length output) before
+        → answer ≡ answer_of (length output) value → status ≡ done
+        → Fills IsOutput HasFailed before after answer status
+    HadNoRoom : (output : List T) (value : ℕ) → IsOutput output value
+        → length before < length output → after ≡ before
+        → answer ≡ answer_of (length output) value → status ≡ no_room
         → Fills IsOutput HasFailed before after answer status
     FilledNothing : (failure : Failure) → HasFailed failure → after ≡ before
         → answer ≡ answer_of_failure failure → status ≡ status_of_failure failure
         → Fills IsOutput HasFailed before after answer status
+
+-- A call that sets a struct of the caller's. If the call fails, the struct is as it was.
+pub data Sets {T : Type 0} (IsOutput : T → Type 0) (HasFailed : Failure → Type 0) (before after : T)
+    (answer : Answer) (status : ℕ) : Type 0
+  where
+    WasSet : IsOutput after → answer ≡ answer_of 0 0 → status ≡ done
+        → Sets IsOutput HasFailed before after answer status
+    WasNotSet : (failure : Failure) → HasFailed failure → after ≡ before
+        → answer ≡ answer_of_failure failure → status ≡ status_of_failure failure
+        → Sets IsOutput HasFailed before after answer status
 
 -- The failure of a call on one file. Its arguments must be valid, and its error is one of these.
 abbrev pub IsFailure : (AreValid : Type 0) → (HasError : Error → Type 0) → Failure → Type 0
@@ -95,10 +107,12 @@ abbrev pub failure_of_error : Error → Failure
 failure_of_error (error.Refused fault) = Refused 1 fault
 failure_of_error other = OutOfMemory
 
--- The output is this text, and the call returns this number.
-pub record IsJust (wanted : List ℕ) (number : ℕ) (text : List ℕ) (value : ℕ) : Type 0 where
-  pub is_text : text ≡ wanted
-  pub is_number : value ≡ number
+-- The output is this one, and the call returns this number.
+pub record IsJust {T : Type 0} (wanted : List T) (number : ℕ) (output : List T) (value : ℕ)
+    : Type 0
+  where
+    pub is_text : output ≡ wanted
+    pub is_number : value ≡ number
 
 -- The failure for an error that a call on one file in memory can have.
 pub record IsFailureBy (HasError : Error → Type 0) (failure : Failure) : Type 0 where

@@ -2,4 +2,8 @@ pub mod Answers
 pub mod Arguments
 pub mod Calls
 pub mod Extracting
+pub mod FitElements
+pub mod ImageElements
 pub mod KnownNumbers
+pub mod LegacyElements
+pub mod TreeRegions

@@ -2,8 +2,10 @@
 
 ghost use Rattle.std.specs.Prelude.{◌≡◌};
 ghost use Rattle.bi_c.specs.Answers.{failure_of_error};
+ghost use Rattle.bi_c.specs.FitElements.{failure_of_list_error};
 
 use bi_base::{Error, Fault};
+use bi_fit::ConfigError;
 
 /// Why a call fails.
 #[derive(Clone, Copy)]
@@ -27,5 +29,18 @@ pub(crate) fn failure_of(error: Error) -> Failure
     match error {
         Error::Refused(fault) => Failure::Refused(1, fault),
         _ => Failure::OutOfMemory,
+    }
+}
+
+/// Returns the failure for an error of listing images.
+pub(crate) fn failure_of_list(error: ConfigError) -> Failure
+    ensures { result ≡ failure_of_list_error error }
+{
+    match error {
+        ConfigError::NoConfig => Failure::NotFound(4, 0),
+        ConfigError::NoKey => Failure::NotFound(5, 0),
+        ConfigError::BadList => Failure::NotFound(6, 0),
+        ConfigError::Missing(index) => Failure::NotFound(7, index),
+        ConfigError::OutOfMemory => Failure::OutOfMemory,
     }
 }

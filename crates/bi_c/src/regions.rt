@@ -16,21 +16,13 @@ ghost use Rattle.bi_commands.specs.Extracting.{choice_by_name, choice_of_part, c
 ghost use Rattle.bi_c.specs.Extracting.{IsChosenAt, IsDefaultOffset, IsFound, IsListedOffset};
 ghost use Rattle.bi_c.specs.Extracting.{IsNamedOffset, IsOffset, IsPayloadOffset};
 
+use crate::region::Region;
 use bi_base::Limits;
 use bi_commands::extract::{ExtractError, Select};
 use bi_fit::{ConfigError, Fit, Key, Place};
 use bi_legacy::Legacy;
 use bi_norm::BootImage;
 use std::alloc::Global;
-
-/// Where bytes of a file are.
-#[derive(Clone, Copy)]
-pub(crate) struct Region {
-    /// The offset of the first byte in the file.
-    pub(crate) offset: usize,
-    /// The number of bytes.
-    pub(crate) size: usize,
-}
 
 /// Reads a boot image, and returns where in its file the selected bytes are. The errors are those
 /// of `extract`.

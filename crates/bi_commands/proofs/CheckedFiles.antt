@@ -48,7 +48,7 @@ placed_end file (DataPosition position (Some size)) None is = absurd (let e = is
 placed_end file (DataPosition position (Some size)) (Some payload) is = refl
 
 -- Where the content of a file ends.
-end_of_content : (file : List ℕ) (total : ℕ) (nodes : Nodes FileNode) (images : List ImageModel) → total ≡ totalsize file →
+pub end_of_content : (file : List ℕ) (total : ℕ) (nodes : Nodes FileNode) (images : List ImageModel) → total ≡ totalsize file →
     AllZip (IsReadImage file) (siblings nodes) images →
     end_of_read_payloads total images ≡ content_end file nodes (map (λ (image : ImageModel). image.payload) images)
 end_of_content file total none [] same is = same
@@ -58,7 +58,7 @@ end_of_content file total (node name own children later) (image ∷ images) same
     ap₂ max (ap (λ place. end_at place image.payload) is.0.place ∙ placed_end file (source_of own) image.payload is.0.payload) (end_of_content file total later images same is.1)
 
 -- The image nodes of a file that was read.
-abbrev nodes_found : (limits : Limits) (file : List ℕ) (content : FitModel) (is : IsReadFit limits file content) →
+abbrev pub nodes_found : (limits : Limits) (file : List ℕ) (content : FitModel) (is : IsReadFit limits file content) →
     file_images content.blob ≡ is.means.is_file.images
 nodes_found limits file content is =
     ap (λ root. nodes_or_none (image_nodes root)) (sym is.same_root) ∙ ap nodes_or_none is.means.is_file.has_images

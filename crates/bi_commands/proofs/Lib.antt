@@ -67,3 +67,10 @@ pub mod ScanLaws
 pub mod CutImages
 pub mod ScanFacts
 pub mod ScanCounts
+pub mod DateFacts
+pub mod TableFacts
+pub mod ShownCells
+pub mod ShownRows
+pub mod ShownPages
+pub mod LayoutFacts
+pub mod LayoutsOfFiles

@@ -2,7 +2,6 @@ use Rattle.std.proofs.Common.{◌≡◌, ◌<◌, ◌⊎◌, ℕ, ◌*◌, ◌+�
 use Rattle.std.specs.Fmt.{digits}
 use Rattle.std.proofs.lemmas.List.{length-append}
 use Rattle.bi_base.specs.Cells.{cell}
-use Rattle.bi_base.specs.declared.fault.Fault.{Fault}
 use Rattle.bi_fit.specs.declared.form.Form.TheVariants.{Embedded}
 use Rattle.bi_fit.specs.File.{IsFitFile}
 use Rattle.bi_fit.specs.ImageTree.{ImageTree}
@@ -21,6 +20,7 @@ use Rattle.bi_norm.proofs.KindLaws.{one_kind}
 use Rattle.bi_norm.proofs.TextBoundFacts.{shared_means}
 use Rattle.bi_commands.specs.declared.compare.CompareError.{CompareError}
 use Rattle.bi_commands.specs.declared.compare.CompareError.TheVariants.{One, Other, OutOfMemory}
+use Rattle.bi_commands.specs.declared.format.Format.TheVariants.{Lines}
 use Rattle.bi_commands.specs.Describing.{CanBeDescribed, IsTooLongToDescribe}
 use Rattle.bi_commands.specs.Descriptions.{description, description_lines, description_texts}
 use Rattle.bi_commands.specs.KnownBounds.{PayloadBoundsAreKnown, UpdateBoundsAreKnown, three_payloads}
@@ -135,16 +135,16 @@ description_bounds_are_known = record {
 -- ---- errors
 
 -- The first meaning is too long for 88 bytes, and the second is not.
-longer_cannot : ¬ (CanBeDescribed (limited_to 88) longer_meaning)
+longer_cannot : ¬ (CanBeDescribed Lines (limited_to 88) longer_meaning)
 longer_cannot can = omega (arith, can.short, longer_length)
 
-longer_is_too_long : IsTooLongToDescribe (limited_to 88) longer_meaning
+longer_is_too_long : IsTooLongToDescribe Lines (limited_to 88) longer_meaning
 longer_is_too_long = inr (omega (arith, longer_length))
 
-shorter_can : CanBeDescribed (limited_to 88) shorter_meaning
+shorter_can : CanBeDescribed Lines (limited_to 88) shorter_meaning
 shorter_can = record { payloads = λ over. omega (arith, over); short = omega (arith, shorter_length) }
 
-shorter_is_not : ¬ (IsTooLongToDescribe (limited_to 88) shorter_meaning)
+shorter_is_not : ¬ (IsTooLongToDescribe Lines (limited_to 88) shorter_meaning)
 shorter_is_not is = elim is [ inl over ↦ omega (arith, over) | inr over ↦ omega (arith, over, shorter_length) ]
 
 -- Neither of two short ones is refused.

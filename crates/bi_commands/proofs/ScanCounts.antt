@@ -1,12 +1,13 @@
-use Rattle.std.proofs.Common.{◌≡◌, ℕ, ◌+◌, ◌-◌, ◌*◌, ◌≤◌, Bool, true, false, not, List, [], ◌∷◌, ◌++◌, length, map, Some, bytes_eq, count_by, cond}
-use Rattle.std.proofs.Common.{drop, refl, sym, ap, subst, ◌∙◌, arith, if◌then◌else◌, length-append}
+use Rattle.std.proofs.Common.{◌≡◌, ℕ, ◌+◌, ◌-◌, ◌*◌, ◌≤◌, Bool, true, false, not, List, [], ◌∷◌, ◌++◌, length, map, Some}
+use Rattle.std.proofs.Common.{bytes_eq, count_by, cond, drop, refl, sym, ap, subst, ◌∙◌, arith, if◌then◌else◌, length-append}
 use Rattle.std.specs.List.{AllZip, sum}
 use Rattle.std.proofs.lemmas.List.{length-take, length-drop}
 use Rattle.std.proofs.lemmas.List.Sums.{sum_by-cons}
 use Rattle.bi_base.specs.Cells.{cell, slice, u32_at}
 use Rattle.bi_base.specs.Limits.{Limits}
 use Rattle.bi_base.proofs.CellLaws.{length-cell}
-use Rattle.bi_blob.specs.Blob.{Header, HoldsTree, IsBlob, Reservation, TreeBlocks, lacks_structure_size, off_dt_struct, totalsize, tree_blocks}
+use Rattle.bi_blob.specs.Blob.{Header, HoldsTree, IsBlob, Reservation, TreeBlocks, lacks_structure_size, off_dt_struct, totalsize}
+use Rattle.bi_blob.specs.Blob.{tree_blocks}
 use Rattle.bi_blob.specs.Events.{EncodeEvents, FileEvent, FileNodeEnd, FileNodeProperty, FileNodeStart, file_events, file_events_of}
 use Rattle.bi_blob.specs.Tokens.{BeginNode, End, EndNode, Nop, Prop, Token, width}
 use Rattle.bi_blob.specs.Tree.{FileNode, Nodes, Root, as_nodes, node, node_count, none}
@@ -124,7 +125,9 @@ accepted_claim limits image (OfLegacy legacy_image) means =
 accepted_claim limits image (OfFit tree) means =
     let fine = Header-HasNoHeaderFault limits image means.within.short means.is_file.blob.header in (
       totalsize image,
-      OfBlob (record { begins = record { whole = fine.1.0; magic = begins_with_magic image tree means.is_file }; passes = fine.1.1.1 }) refl,
+      OfBlob
+          (record { begins = record { whole = fine.1.0; magic = begins_with_magic image tree means.is_file }; passes = fine.1.1.1 })
+          refl,
       blob_is_wide image tree.cpu tree.reservations means.is_file.root means.is_file.blob
           (has_child means.is_file.root.children means.is_file.images means.is_file.has_images),
     )

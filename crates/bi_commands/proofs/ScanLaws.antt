@@ -110,7 +110,8 @@ one_line one_meaning limits input offset one other is (WithImage extent meaning 
     ∙ sym same
 one_line one_meaning limits input offset one other (WithImage extent meaning is same) (WithoutImage nothing other_same) =
     absurd (nothing meaning is.means)
-one_line one_meaning limits input offset one other (WithoutImage nothing same) (WithoutImage other_nothing other_same) = same ∙ sym other_same
+one_line one_meaning limits input offset one other (WithoutImage nothing same) (WithoutImage other_nothing other_same) =
+    same ∙ sym other_same
 
 -- and one list of lines.
 same_lines : OneFileMeaning → (limits : Limits) (input offsets : List ℕ) (lines others : List (List ℕ)) →
@@ -127,5 +128,6 @@ same_lines one_meaning limits input (offset ∷ offsets) (line ∷ lines) (other
 pub one_scan : OneFileMeaning → OneScan
 one_scan one_meaning limits input one other is other_is =
     is.has.is_text
-    ∙ ap concat (same_lines one_meaning limits input (input_offsets input) is.has.lines other_is.has.lines is.has.are_lines other_is.has.are_lines)
+    ∙ ap concat
+    (same_lines one_meaning limits input (input_offsets input) is.has.lines other_is.has.lines is.has.are_lines other_is.has.are_lines)
     ∙ sym other_is.has.is_text

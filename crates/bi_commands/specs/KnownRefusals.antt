@@ -10,6 +10,7 @@ use Rattle.bi_norm.specs.KnownComparisons.{file_that_ends_early}
 use Rattle.bi_norm.specs.Meaning.{Meaning, OfLegacy, OfFit}
 use Rattle.bi_commands.specs.declared.compare.CompareError.{CompareError}
 use Rattle.bi_commands.specs.declared.compare.CompareError.TheVariants.{One, Other}
+use Rattle.bi_commands.specs.declared.format.Format.TheVariants.{Lines}
 use Rattle.bi_commands.specs.Comparing.{IsReadingError, IsDescribingError}
 use Rattle.bi_commands.specs.Describing.{CanBeDescribed, IsTooLongToDescribe}
 use Rattle.bi_commands.specs.KnownBounds.{three_payloads}
@@ -26,12 +27,12 @@ shorter_meaning = OfFit (plain_tree [] [])
 
 -- A description that is as long as the limit is within it, and the payloads count too.
 pub record DescriptionBoundsAreKnown : Type 0 where
-  pub as_long : CanBeDescribed (limited_to 192) longer_meaning
-  pub as_long_is_within : ¬ (IsTooLongToDescribe (limited_to 192) longer_meaning)
-  pub longer : ¬ (CanBeDescribed (limited_to 191) longer_meaning)
-  pub longer_is_over : IsTooLongToDescribe (limited_to 191) longer_meaning
-  pub payloads : ¬ (CanBeDescribed (limited_to 2999) three_payloads)
-  pub payloads_are_over : IsTooLongToDescribe (limited_to 2999) three_payloads
+  pub as_long : CanBeDescribed Lines (limited_to 192) longer_meaning
+  pub as_long_is_within : ¬ (IsTooLongToDescribe Lines (limited_to 192) longer_meaning)
+  pub longer : ¬ (CanBeDescribed Lines (limited_to 191) longer_meaning)
+  pub longer_is_over : IsTooLongToDescribe Lines (limited_to 191) longer_meaning
+  pub payloads : ¬ (CanBeDescribed Lines (limited_to 2999) three_payloads)
+  pub payloads_are_over : IsTooLongToDescribe Lines (limited_to 2999) three_payloads
 
 -- Describing two meanings within 88 bytes may fail with this error.
 abbrev pub FailsDescribing : (one other : Meaning) → CompareError → Type 0

@@ -56,3 +56,14 @@ pub mod Offsets
 pub mod Scanning
 pub mod ScanLaws
 pub mod KnownScans
+pub mod Dates
+pub mod Pages
+pub mod Rows
+pub mod CodeNames
+pub mod AllCodes
+pub mod PageCells
+pub mod LegacyPages
+pub mod FitPages
+pub mod Layouts
+pub mod ReadPages
+pub mod ShownFiles

@@ -25,6 +25,7 @@ mod listed;
 pub mod parts;
 mod payload_bounds;
 pub mod scan;
+pub mod show;
 pub mod shown;
 pub mod unshown;
 pub mod update;

@@ -1,4 +1,4 @@
-use Rattle.std.proofs.Common.{◌≡◌, ◌∙◌, ℕ, List, [], ◌∷◌, Option, None, Some, codes, map, unwrap_or, ap, refl, sym}
+use Rattle.std.proofs.Common.{◌≡◌, ◌∙◌, ℕ, List, [], Option, None, Some, map, unwrap_or, ap, refl, sym}
 use Rattle.std.specs.Prelude.{option_map}
 use Rattle.std.specs.Option.{option_map_or}
 use Rattle.bi_commands.specs.Differences.{words_of_line}
@@ -64,9 +64,11 @@ pub options_are_known : OptionsAreKnown
 unfolding program_app clap_on_literals
 options_are_known = record {
   normalise = gives_values _ _ _ refl refl refl;
+  normalize = gives_values _ _ _ refl refl refl;
   list = gives_values _ _ _ refl refl refl;
   describe = gives_values _ _ _ refl refl refl;
   compare = gives_values _ _ _ refl refl refl;
+  diff = gives_values _ _ _ refl refl refl;
   verify = gives_values _ _ _ refl refl refl;
   check = gives_values _ _ _ refl refl refl;
   scan = gives_values _ _ _ refl refl refl;
@@ -90,6 +92,7 @@ mistakes_are_known = record {
   one_image = refl;
   two_files = refl;
   other_option = refl;
+  no_json = refl;
   option_twice = refl;
   missing_value = refl;
 }

@@ -2,7 +2,7 @@ use Rattle.std.proofs.Common.{◌≡◌, ◌≢◌, ◌++◌, ◌∷◌, [], ◌
 use Rattle.std.proofs.Common.{inl, inr, arith}
 use Rattle.std.specs.Fmt.{decimal, digits}
 use Rattle.std.proofs.lemmas.List.{append_assoc}
-use Rattle.bootimg.specs.Files.{Closed, FileStep, IsBeside, IsSaved, KnownFiles, Made, NameTaken, Renamed, TookSteps}
+use Rattle.bootimg.specs.Files.{Closed, IsBeside, Made, NameTaken, Renamed, TookSteps}
 use Rattle.bootimg.specs.KnownSteps.{BesideNamesAreKnown, HasBesideNames, SavedInSteps}
 use Rattle.bootimg.proofs.NewFiles.{steps_in_turn}
 

@@ -50,28 +50,25 @@ default_limit = with_value (codes "limit") (codes "2147483647")
 abbrev pub only_defaults : List ValuesOf
 only_defaults = default_limit ∷ without_value (codes "output") ∷ without_value (codes "file") ∷ []
 
--- The value of `--json`, if it is not given, and if it is.
-abbrev pub no_json : ValuesOf
-no_json = with_value (codes "json") (codes "false")
-
-abbrev pub with_json : ValuesOf
-with_json = with_value (codes "json") (codes "true")
+-- The same of a command that can write JSON.
+abbrev pub defaults_with_json : List ValuesOf
+defaults_with_json = with_value (codes "json") (codes "false") ∷ only_defaults
 
 -- The values of options that are not given.
 pub record DefaultsAreKnown : Type 0 where
   pub normalise : GivesValues (codes "normalise") (codes "normalise")
       (with_value (codes "external") (codes "false") ∷ only_defaults)
-  pub list : GivesValues (codes "list") (codes "list") (no_json ∷ only_defaults)
-  pub describe : GivesValues (codes "describe") (codes "describe") (no_json ∷ only_defaults)
+  pub list : GivesValues (codes "list") (codes "list") defaults_with_json
+  pub describe : GivesValues (codes "describe") (codes "describe") defaults_with_json
   pub compare : GivesValues (codes "compare a b") (codes "compare")
       (with_value (codes "quiet") (codes "false")
-      ∷ no_json
+      ∷ with_value (codes "json") (codes "false")
       ∷ default_limit
       ∷ without_value (codes "output")
       ∷ [])
-  pub verify : GivesValues (codes "verify") (codes "verify") (no_json ∷ only_defaults)
+  pub verify : GivesValues (codes "verify") (codes "verify") defaults_with_json
   pub check : GivesValues (codes "check") (codes "check")
-      (without_value (codes "allow") ∷ no_json ∷ only_defaults)
+      (without_value (codes "allow") ∷ defaults_with_json)
   pub scan : GivesValues (codes "scan") (codes "scan") only_defaults
   pub update : GivesValues (codes "update") (codes "update")
       (without_value (codes "time")
@@ -119,29 +116,37 @@ limit_output_and_file =
     ∷ with_value (codes "file") (codes "in")
     ∷ []
 
--- Each option of each command.
+-- The same with `--json` too.
+abbrev pub json_and_others : List ValuesOf
+json_and_others = with_value (codes "json") (codes "true") ∷ limit_output_and_file
+
+-- Each option of each command, and the other names of two commands.
 pub record OptionsAreKnown : Type 0 where
   pub normalise : GivesValues (codes "normalise --external --limit 64 -o out in")
       (codes "normalise")
       (with_value (codes "external") (codes "true") ∷ limit_output_and_file)
+  pub normalize : GivesValues (codes "normalize in") (codes "normalise")
+      (with_value (codes "file") (codes "in") ∷ [])
   pub list : GivesValues (codes "list --json --limit 64 --output out in") (codes "list")
-      (with_json ∷ limit_output_and_file)
-  pub describe : GivesValues (codes "describe --limit=64 --json -o out in") (codes "describe")
-      (with_json ∷ limit_output_and_file)
+      json_and_others
+  pub describe : GivesValues (codes "describe --json --limit=64 -o out in") (codes "describe")
+      json_and_others
   pub compare : GivesValues (codes "compare --quiet --json --limit 64 -o out - in")
       (codes "compare")
       (with_value (codes "quiet") (codes "true")
-      ∷ with_json
+      ∷ with_value (codes "json") (codes "true")
       ∷ with_value (codes "limit") (codes "64")
       ∷ with_value (codes "output") (codes "out")
       ∷ with_value (codes "one") (codes "-")
       ∷ with_value (codes "other") (codes "in")
       ∷ [])
-  pub verify : GivesValues (codes "verify in --limit 64 -o out --json") (codes "verify")
-      (with_json ∷ limit_output_and_file)
+  pub diff : GivesValues (codes "diff a b") (codes "compare")
+      (with_value (codes "one") (codes "a") ∷ with_value (codes "other") (codes "b") ∷ [])
+  pub verify : GivesValues (codes "verify in --json --limit 64 -o out") (codes "verify")
+      json_and_others
   pub check : GivesValues (codes "check --allow weak-hash,missing --json --limit 64 -o out in")
       (codes "check")
-      (with_value (codes "allow") (codes "weak-hash,missing") ∷ with_json ∷ limit_output_and_file)
+      (with_value (codes "allow") (codes "weak-hash,missing") ∷ json_and_others)
   pub scan : GivesValues (codes "scan --limit 64 -o out in") (codes "scan") limit_output_and_file
   pub update : GivesValues (codes "update --time 5 --hashes --external --limit 64 -o out in")
       (codes "update")
@@ -212,6 +217,8 @@ pub record MistakesAreKnown : Type 0 where
       ≡ MissingRequiredArgument ∷ []
   pub two_files : fault_of program_app (words_of_line (codes "list a b")) ≡ UnknownArgument ∷ []
   pub other_option : fault_of program_app (words_of_line (codes "list --external"))
+      ≡ UnknownArgument ∷ []
+  pub no_json : fault_of program_app (words_of_line (codes "convert --json"))
       ≡ UnknownArgument ∷ []
   pub option_twice : fault_of program_app (words_of_line (codes "list --limit 64 --limit 65"))
       ≡ ArgumentConflict ∷ []

@@ -1,8 +1,9 @@
-use Rattle.std.specs.Prelude.{◌≡◌, ℕ, Bool, true, false, List, [], ◌∷◌, codes}
+use Rattle.std.specs.Prelude.{◌≡◌, ℕ, true, false, List, codes, Err}
 use Rattle.bi_base.specs.declared.fault.Cause.TheVariants.{BadMagic, BadHeaderCrc, TooLarge}
 use Rattle.bi_base.specs.declared.fault.Error.TheVariants.{Refused, OutOfMemory, ReadFailed}
 use Rattle.bi_base.specs.declared.fault.Error.TheVariants.{WriteFailed}
 use Rattle.bi_base.specs.declared.fault.Fault.{Fault}
+use Rattle.bi_base.specs.Traces.{WriteTrace}
 use Rattle.bi_commands.specs.KnownTexts.{lent}
 use Rattle.bi_commands.specs.declared.compare.CompareError.{CompareError}
 use Rattle.bi_commands.specs.declared.compare.CompareError.TheVariants as compare
@@ -10,14 +11,17 @@ use Rattle.bi_commands.specs.declared.extract.ExtractError.{ExtractError}
 use Rattle.bi_commands.specs.declared.extract.ExtractError.TheVariants as extract
 use Rattle.bi_commands.specs.declared.format.Format.TheVariants.{Lines}
 use Rattle.bi_fit.specs.declared.configurations.ConfigError.TheVariants as list
+use Rattle.clap.specs.declared.error.kind.ErrorKind.{ErrorKind}
 use Rattle.bootimg.specs.ComparedFiles.{compare_status, failure_of_comparing, refused_source}
 use Rattle.bootimg.specs.Failures.{failure_of}
-use Rattle.bootimg.specs.Runs.{failure_line, note_line}
+use Rattle.bootimg.specs.Runs.{failure_line, note_line, IsEnd, IsMistake, IsRejection, IsTextRun}
+use Rattle.bootimg.specs.Runs.{Run}
 use Rattle.bootimg.specs.Tasks.{status_of}
 use Rattle.bootimg.specs.declared.command_line.source.ComparePlan.{ComparePlan}
 use Rattle.bootimg.specs.declared.command_line.source.ImageSource.{ImageSource}
 use Rattle.bootimg.specs.declared.command_line.source.ImageSource.TheVariants.{Standard, File}
 use Rattle.bootimg.specs.declared.failure.Failure.{Failure}
+use Rattle.bootimg.specs.declared.jobs.Problem.{Problem}
 use Rattle.bootimg.specs.declared.failure.Failure.TheVariants.{Call, NoSelection, NoChange}
 use Rattle.bootimg.specs.declared.failure.Failure.TheVariants.{BadValue, BadImage, CannotOpen}
 use Rattle.bootimg.specs.declared.failure.Failure.TheVariants.{NotWritten}
@@ -25,12 +29,19 @@ use Rattle.bootimg.specs.declared.failure.Failure.TheVariants.{NotWritten}
 -- How runs end, by which a reader can judge the definitions.
 
 -- The exit status is 1 if a verdict is not good, if a concern has a line, if no image has one in a
--- scan, or if two images do not mean the same, and else 0.
+-- scan, or if two images do not mean the same. It is 2 after a failure, and if the arguments are
+-- rejected or wrong.
 pub record StatusesAreKnown : Type 0 where
   pub good : status_of true ≡ 0
   pub not_good : status_of false ≡ 1
   pub same : compare_status true ≡ 0
   pub different : compare_status false ≡ 1
+  pub failed : (errors new_errors : WriteTrace) (status : ℕ) (failed : Problem)
+      → IsEnd errors new_errors status (Err failed) → status ≡ 2
+  pub rejected : (source : ImageSource) (failure : Failure) (run : Run)
+      → IsRejection source failure run → run.status ≡ 2
+  pub mistaken : (kind : ErrorKind) (text : List ℕ) (run : Run) → IsMistake kind
+      → IsTextRun kind text run → run.status ≡ 2
 
 -- An image in the file `r1`.
 abbrev pub file_r1 : ImageSource

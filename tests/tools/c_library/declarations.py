@@ -1,7 +1,7 @@
 """Writes a C program that compiles only if a header agrees with the library's sources.
 
 declarations.py SOURCES HEADER MODULE: for each export of SOURCES/*.rt the program declares the function again, with the parameters of the
-source, after it includes <bootimg.h>; for the struct it asserts the size, and the offset and the size of each field; and it asserts the
+source, after it includes <bootimg.h>; for each struct it asserts the size, and the offset and the size of each field; and it asserts the
 value of each constant, as the code of the library has it. The script itself fails if the header has other functions or constants than the
 sources, or other names of parameters, or if the module for Python has other numbers.
 """
@@ -11,15 +11,20 @@ import re
 import sys
 from pathlib import Path
 
-# What a parameter of the source is in C.
-TYPES = {
-    "Global": [],
-    "&[u8]": ["const uint8_t *", "size_t"],
-    "&mut [u8]": ["uint8_t *", "size_t"],
-    "&mut Answer": ["bootimg_answer *"],
-    "u32": ["uint32_t"],
-    "usize": ["size_t"],
+# The numbers and the structs of the source in C.
+NUMBERS = {"u8": "uint8_t", "u32": "uint32_t", "u64": "uint64_t", "usize": "size_t"}
+STRUCTS = {
+    "Answer": "bootimg_answer",
+    "Region": "bootimg_region",
+    "FitFields": "bootimg_fit_fields",
+    "LegacyFields": "bootimg_legacy_fields",
+    "ReservationElement": "bootimg_reservation",
+    "ImageElement": "bootimg_image",
 }
+# What a parameter of the source is in C.
+TYPES = {"Global": [], "&[u8]": ["const uint8_t *", "size_t"]}
+for name, in_c in (NUMBERS | STRUCTS).items():
+    TYPES |= {name: [in_c], f"&mut {name}": [f"{in_c} *"], f"&mut [{name}]": [f"{in_c} *", "size_t"]}
 
 sources = {path.name: path.read_text(encoding="utf-8") for path in sorted(Path(sys.argv[1]).glob("*.rt"))}
 lines = ["#include <bootimg.h>", "#include <stddef.h>"]
@@ -47,26 +52,38 @@ for source in sources.values():
         typed = [(parameter, kind.strip()) for parameter, kind in re.findall(r"(\w+):\s*([^,]+)", parameters)]
         in_c = [one for _, kind in typed for one in TYPES[kind]]
         lines.append(f"{TYPES[result][0]} {name}({', '.join(in_c)});")
-        exported[name] = [parameter + ending for parameter, kind in typed for ending in ("", "_size")[: len(TYPES[kind])]]
+        exported[name] = [
+            parameter + ending
+            for parameter, kind in typed
+            for ending in ("", "_size" if "[u8]" in kind else "_count")[: len(TYPES[kind])]
+        ]
 
-# A struct of the layout of C: each field at the next multiple of its size.
-fields = re.search(r"#\[repr\(C\)\].*?pub struct Answer \{(.*?)\n\}", sources["answer.rt"], re.S)[1]
-offset, largest = "0", []
-for field, kind in re.findall(r"pub (\w+): (\w+),", fields):
-    size = f"sizeof({TYPES[kind][0]})"
-    offset = f"(({offset}) + {size} - 1) / {size} * {size}"
-    assert_that(f"offsetof(bootimg_answer, {field}) == {offset}")
-    assert_that(f"sizeof(((bootimg_answer *)0)->{field}) == {size}")
-    offset = f"({offset}) + {size}"
-    largest.append(size)
-assert_that(f"sizeof(bootimg_answer) == (({offset}) + sizeof(size_t) - 1) / sizeof(size_t) * sizeof(size_t)")
+# The structs have the layout of C: each field is at the next multiple of its size, or of that of a size_t if it is a struct. Each struct
+# is as long as some size_t.
+found = {}
+for source in sources.values():
+    found |= dict(re.findall(r"#\[repr\(C\)\]\n[^{]*?pub struct (\w+) \{(.*?)\n\}", source, re.S))
+if {*found} != {*STRUCTS}:
+    sys.exit(f"the structs of the source are {sorted(found)}")
+for struct, fields in found.items():
+    in_c, offset = STRUCTS[struct], "0"
+    for field, kind in re.findall(r"pub (\w+): (\w+),", fields):
+        size = f"sizeof({TYPES[kind][0]})"
+        aligned = "sizeof(size_t)" if kind in STRUCTS else size
+        offset = f"(({offset}) + {aligned} - 1) / {aligned} * {aligned}"
+        assert_that(f"offsetof({in_c}, {field}) == {offset}")
+        assert_that(f"sizeof((({in_c} *)0)->{field}) == {size}")
+        offset = f"({offset}) + {size}"
+    assert_that(f"sizeof({in_c}) == (({offset}) + sizeof(size_t) - 1) / sizeof(size_t) * sizeof(size_t)")
 
 # The numbers of the code, by their names in the header. A pattern finds the name and the number, or in some files the number first.
 FOUND = [
     ("", "answer.rt", r"const (?P<name>[A-Z_]+): u32 = (?P<number>\d+);"),
     ("", "kind.rt", r"Ok\(Kind::(?P<name>\w+)\) => succeed\(0, (?P<number>\d+), answer\)"),
     ("", "arguments.rt", r"(?P<number>\d+) => Some\((?:Form|Key)::(?P<name>\w+)\)"),
-    ("", "extract.rt", r"Error::(?:Config\(ConfigError::)?(?P<name>\w+)[()a-z]* => Failure::NotFound\((?P<number>\d+), "),
+    ("", "extract.rt", r"ExtractError::(?P<name>\w+) => Failure::NotFound\((?P<number>\d+), "),
+    ("", "failure.rt", r"ConfigError::(?P<name>\w+)[()a-z]* => Failure::NotFound\((?P<number>\d+), "),
+    ("PLACE_", "images.rt", r"Place::(?P<name>\w+)(?:\(offset\))? => \((?:0|offset as usize), (?P<number>\d+)\)"),
     ("CHANGE_", "update.rt", r"let new_(?P<name>time) = if has_bit\((?P<number>\d+), changes\)"),
     ("CHANGE_", "update.rt", r"(?P<name>hashes): has_bit\((?P<number>\d+), changes\)"),
     ("ALLOW_", "check.rt", r"(?P<name>\w+): has_bit\((?P<number>\d+), kinds\)"),

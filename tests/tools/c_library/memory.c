@@ -25,7 +25,9 @@ void *__wrap_realloc(void *old, size_t size)
     return allocations++ == failing ? NULL : __real_realloc(old, size);
 }
 
-static uint8_t file[1 << 20], text[1 << 21], wanted[1 << 21];
+static uint8_t file[1 << 20];
+/* A buffer may also be an array of structs. */
+static uint8_t text[1 << 21] __attribute__((aligned(16))), wanted[1 << 21] __attribute__((aligned(16)));
 static size_t size;
 
 static uint32_t make(int call, uint8_t *buffer, bootimg_answer *answer)
@@ -50,7 +52,13 @@ static uint32_t make(int call, uint8_t *buffer, bootimg_answer *answer)
     case 15: return bootimg_verify_json(file, size, BOOTIMG_LIMIT, 64, buffer, sizeof text, answer);
     case 16: return bootimg_check_json(file, size, 0, BOOTIMG_LIMIT, 64, buffer, sizeof text, answer);
     case 17: return bootimg_describe_json(file, size, BOOTIMG_LIMIT, 64, buffer, sizeof text, answer);
-    default: return bootimg_compare_json(file, size, file, size - 1, BOOTIMG_LIMIT, 64, buffer, sizeof text, answer);
+    case 18: return bootimg_compare_json(file, size, file, size - 1, BOOTIMG_LIMIT, 64, buffer, sizeof text, answer);
+    case 19: return bootimg_parts(file, size, BOOTIMG_LIMIT, 64, (void *)buffer, 100, answer);
+    case 20: return bootimg_images(file, size, BOOTIMG_LIMIT, 64, (void *)buffer, 100, answer);
+    case 21: return bootimg_fit(file, size, BOOTIMG_LIMIT, 64, (void *)buffer, answer);
+    case 22: return bootimg_reservations(file, size, BOOTIMG_LIMIT, 64, (void *)buffer, 100, answer);
+    case 23: return bootimg_configurations(file, size, BOOTIMG_LIMIT, 64, (void *)buffer, 100, answer);
+    default: return bootimg_listed(file, size, name, 6, BOOTIMG_KERNEL, BOOTIMG_LIMIT, 64, (void *)buffer, 100, answer);
     }
 }
 
@@ -85,7 +93,7 @@ int main(int count, char **words)
     size = input == NULL ? 0 : fread(file, 1, sizeof file, input);
     if (size == 0)
         return 2;
-    for (int call = 0; call <= 18; call++) {
+    for (int call = 0; call <= 24; call++) {
         bootimg_answer expected;
         uint32_t status;
         memset(wanted, 0xa5, sizeof wanted);

@@ -55,7 +55,7 @@ pub(super) fn check_fit<S: Sink>(
 }
 
 /// Appends the text of the concerns, and returns whether there are none. Fails as the sink does.
-fn put_text<'a, S: Sink>(
+pub(crate) fn put_text<'a, S: Sink>(
     file: &[u8],
     fit: &Fit<'a>,
     digests: &RegionDigests<'a>,

@@ -21,7 +21,7 @@ use bi_legacy::Legacy;
 
 /// Appends the text of the concern about a legacy image that was read from this file, and returns
 /// whether there is none. Fails as the sink does.
-pub(super) fn check_legacy<S: Sink>(
+pub(crate) fn check_legacy<S: Sink>(
     file: &[u8],
     image: &Legacy,
     checker: Checker,

@@ -3,7 +3,8 @@ use Rattle.bi_commands.specs.Comparing.{IsComparison, IsComparisonError}
 use Rattle.bi_commands.specs.declared.format.Format.TheVariants.{Json}
 use Rattle.bi_c.specs.declared.failure.Failure.TheVariants.{WrongArgument}
 use Rattle.bi_c.specs.Answers.{FilledNothing}
-use Rattle.bi_c.proofs.CallAnswers.{not_so, is_so, comparison_fills}
+use Rattle.bi_c.proofs.CallAnswers.{not_so, is_so}
+use Rattle.bi_c.proofs.ComparedFiles.{comparison_fills}
 use Rattle.bi_c.proofs.compare.bootimg_compare_json.Goals as goal
 
 pub returns-in_default : goal.returns-in_default

@@ -4,7 +4,8 @@ use Rattle.bi_norm.specs.Comparing.{AreCompared}
 use Rattle.bi_commands.specs.Comparing.{IsReadingError}
 use Rattle.bi_c.specs.declared.failure.Failure.TheVariants.{WrongArgument}
 use Rattle.bi_c.specs.Answers.{Returned, Failed}
-use Rattle.bi_c.proofs.CallAnswers.{not_so, is_so, byte_is_flag, failed_of_two}
+use Rattle.bi_c.proofs.CallAnswers.{not_so, is_so, byte_is_flag}
+use Rattle.bi_c.proofs.ComparedFiles.{failed_of_two}
 use Rattle.bi_c.proofs.compare.bootimg_same_meaning.Goals as goal
 
 pub returns-in_default : goal.returns-in_default

@@ -1,4 +1,4 @@
-use Rattle.bootimg.proofs.RunLines.{failure_lines_are_known}
+use Rattle.bootimg.proofs.RunEnds.{failure_lines_are_known}
 use Rattle.bootimg.proofs.known_runs.failure_lines_are_known.Goals as goal
 
 pub returns : goal.returns

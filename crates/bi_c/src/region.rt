@@ -1,0 +1,11 @@
+//! Where bytes of a file are.
+
+/// Where bytes of a file are.
+#[repr(C)]
+#[derive(Clone, Copy, Debug, PartialEq, Eq)]
+pub struct Region {
+    /// The offset of the first byte in the file.
+    pub offset: usize,
+    /// The number of bytes.
+    pub size: usize,
+}

@@ -1,0 +1,78 @@
+use Rattle.std.proofs.Common.{◌≡◌, ℕ, List, Err, inl, inr, refl}
+use Rattle.std.specs.Fmt.{digits}
+use Rattle.bi_base.specs.Traces.{WriteTrace}
+use Rattle.clap.specs.declared.error.kind.ErrorKind.{ErrorKind}
+use Rattle.bootimg.specs.KnownRuns.{FailureLinesAreKnown, ExtractLinesAreKnown, CompareLinesAreKnown, NotesAreKnown, StatusesAreKnown}
+use Rattle.bootimg.specs.Runs.{Run, IsAskedFor, IsEnd, EndsWell, EndsWithFailure, IsMistake, IsTextRun, IsWritten, IsNotWritten, IsUsage}
+use Rattle.bootimg.specs.declared.jobs.Problem.{Problem}
+
+-- Statuses are known, and failures and notes have known lines.
+
+-- After a failure the status is 2.
+status_after_failure : (errors new_errors : WriteTrace) (status : ℕ) (failed : Problem) → IsEnd errors new_errors status (Err failed)
+    → status ≡ 2
+status_after_failure errors new_errors status failed (EndsWell done is notes same) = absurd cc
+status_after_failure errors new_errors status failed (EndsWithFailure other is reports same) = same
+
+-- A text that is a mistake is not asked for.
+not_asked_for : (kind : ErrorKind) → IsMistake kind → IsAskedFor kind → ⊥
+not_asked_for kind mistake (inl is) = mistake.0 is
+not_asked_for kind mistake (inr is) = mistake.1 is
+
+status_after_mistake : (kind : ErrorKind) (text : List ℕ) (run : Run) → IsMistake kind → IsTextRun kind text run → run.status ≡ 2
+status_after_mistake kind text run mistake (IsWritten asked wrote errors input steps status) = absurd (not_asked_for kind mistake asked)
+status_after_mistake kind text run mistake (IsNotWritten asked error stopped reports input steps status) = status
+status_after_mistake kind text run mistake (IsUsage is logs output input steps status) = status
+
+pub statuses_are_known : StatusesAreKnown
+statuses_are_known = record {
+  good = refl;
+  not_good = refl;
+  same = refl;
+  different = refl;
+  failed = status_after_failure;
+  rejected = λ source failure run is. is.status;
+  mistaken = status_after_mistake;
+}
+
+pub failure_lines_are_known : FailureLinesAreKnown
+unfolding digits
+failure_lines_are_known = record {
+  refused = refl;
+  refused_at_offset = refl;
+  out_of_memory = refl;
+  read_failed = refl;
+  write_failed = refl;
+  no_selection = refl;
+  no_change = refl;
+  bad_value = refl;
+  bad_image = refl;
+  cannot_open = refl;
+  not_written = refl;
+  shown_name = refl;
+  standard_input = refl;
+}
+
+pub extract_lines_are_known : ExtractLinesAreKnown
+unfolding digits
+extract_lines_are_known = record {
+  failed = refl;
+  wrong_kind = refl;
+  no_part = refl;
+  no_image = refl;
+  no_configuration = refl;
+  no_key = refl;
+  bad_list = refl;
+  missing = refl;
+  out_of_memory = refl;
+  no_index = refl;
+  no_payload = refl;
+}
+
+pub compare_lines_are_known : CompareLinesAreKnown
+unfolding digits
+compare_lines_are_known = record { one = refl; other = refl; out_of_memory = refl }
+
+pub notes_are_known : NotesAreKnown
+unfolding digits
+notes_are_known = record { one = refl; many = refl }

@@ -1,0 +1,93 @@
+"""Compares what the calls for C that take images apart return with the module for Python.
+
+structure.py LIBRARY STRUCTURE FILE..: STRUCTURE, the program of structure.c, has to print of each FILE what `bootimg.open` returns of it
+over the shared LIBRARY. The last line is `N passed, M failed`.
+"""
+
+import os
+import subprocess
+import sys
+from pathlib import Path
+
+sys.dont_write_bytecode = True
+root = Path(__file__).resolve().parents[3]
+os.environ["BOOTIMG_LIBRARY"] = str(Path(sys.argv[1]).resolve())
+sys.path.insert(0, str(root / "python"))
+sys.path.insert(0, str(root / "tests/conformance"))
+import bootimg
+import reference
+
+LEGACY_MAGIC, FIT_MAGIC = bytes.fromhex("27051956"), bytes.fromhex("d00dfeed")
+PLACES = (None, "data", "data-offset", "data-position")
+
+
+def digits(name):
+    return name.encode("utf-8", "surrogateescape").hex() or "-"
+
+
+def lines_of(path):
+    """The lines that are printed of a file."""
+    yield f"file {path}"
+    image = refusal = None
+    magic = path.read_bytes()[:4]
+    try:
+        image = bootimg.open(path)
+    except bootimg.Refused as refused:
+        refusal = str(refused)
+    yield from legacy_lines(image) if image and image.kind == "legacy" else refusals(
+        ("legacy", "parts"), "BadMagic at 0" if image or magic == FIT_MAGIC else refusal)
+    yield from fit_lines(image) if image and image.kind == "fit" else refusals(
+        ("fit", "reservations", "images", "configurations"), "BadMagic at 0" if image or magic == LEGACY_MAGIC else refusal)
+
+
+def refusals(calls, refusal):
+    return [f"{call}: {refusal}" for call in calls]
+
+
+def legacy_lines(image):
+    header = image.header
+    yield f"name {digits(header.name)}"
+    yield from (f"time {header.time}", f"load {header.load}", f"entry {header.entry}")
+    yield "codes " + " ".join(str(code_of(header, field)) for field in reference.FIELDS)
+    yield from (f"part {part.offset} {part.size}" for part in image.parts)
+    yield f"unused {image.unused}"
+
+
+def fit_lines(image):
+    yield f"boot-cpu {image.header.boot_cpu}"
+    yield f"total-size {image.header.total_size}"
+    yield from (f"reservation {one.address} {one.size}" for one in image.header.reservations)
+    yield from (f"image {digits(one.name)} {PLACES.index(one.source)} {one.offset or 0} {one.size or 0}" for one in image.images)
+    for configuration in image.configurations:
+        yield f"configuration {digits(configuration.name)}"
+        yield from (key_line(image, configuration, number, key) for number, key in enumerate(bootimg.KEYS))
+    names = [configuration.name for configuration in image.configurations]
+    yield f"default {names.index(image.default) if image.default in names else len(names)}"
+
+
+def key_line(image, configuration, number, key):
+    """The line of a key: the indices of the images, or the number of the reason why there are none."""
+    try:
+        return f"key {number}" + "".join(f" {image.images.index(one)}" for one in configuration.images(key))
+    except bootimg.NotFound as reason:
+        return f"listed: reason {bootimg.REASONS.index(reason.reason) + 1} {reason.index or 0}"
+
+
+def code_of(header, field):
+    """The code in a header, whose name is that of the vectors' reference."""
+    code = getattr(header, field)
+    return code if isinstance(code, int) else next(number for number, name in reference.CODES[field].items() if name == code)
+
+
+paths = [Path(path) for path in sys.argv[3:]]
+done = subprocess.run([Path(sys.argv[2]).resolve(), *paths], capture_output=True, text=True, check=False)
+if done.returncode:
+    print(done.stderr)
+printed = done.stdout.split("file ")[1:]
+wanted = ["\n".join(lines_of(path)).removeprefix("file ") + "\n" for path in paths]
+failed = sum(one != other for one, other in zip(printed, wanted)) + abs(len(printed) - len(wanted))
+for one, other in zip(printed, wanted):
+    if one != other:
+        print(f"FAILED: it prints:\n{one}and not:\n{other}")
+print(f"{len(wanted) - failed} passed, {failed} failed")
+sys.exit(failed != 0)
