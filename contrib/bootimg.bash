@@ -32,17 +32,18 @@ _bootimg() {
             [[ $word != *,* || $word == *[^a-z,-]* ]] || words="${word%,*},${words// / "${word%,*}",}"
             ;;
         -o | --output | @FILE) files=yes ;;
-        --limit | --part | --image | --config | --index | --name | --time | --load | --entry | --description) ;;
+        --limit | --offset | --part | --image | --config | --index | --name | --time | --load | --entry | --description) ;;
         *)
             files=yes
             case ${COMP_WORDS[1]} in
-            normalise | normalize) words="--external --limit -o --output" ;;
-            list | describe | verify) words="--json --limit -o --output" ;;
-            scan | convert) words="--limit -o --output" ;;
+            normalise | normalize) words="--external --offset --limit -o --output" ;;
+            list | describe | verify) words="--json --offset --limit -o --output" ;;
+            scan) words="--limit -o --output" ;;
+            convert) words="--offset --limit -o --output" ;;
             compare | diff) words="--quiet --json --limit -o --output" ;;
-            check) words="--allow --json --limit -o --output" ;;
-            update) words="--time --hashes --external --limit -o --output" ;;
-            extract) words="--part --image --config --default --key --index --escaped --limit -o --output" ;;
+            check) words="--allow --json --offset --limit -o --output" ;;
+            update) words="--time --hashes --external --offset --limit -o --output" ;;
+            extract) words="--part --image --config --default --key --index --escaped --offset --limit -o --output" ;;
             build-legacy) files= words="--os --arch --type --compression --name --time --load --entry --limit -o --output" ;;
             build-fit) files= words="--external --description --time --limit -o --output" ;;
             explain)

@@ -41,6 +41,8 @@ set -l reading normalise normalize list describe compare diff verify check scan 
 complete -c bootimg -n "__bootimg_is $reading" -F
 complete -c bootimg -n "__bootimg_is $reading build-legacy build-fit" -l limit -x -d 'Refuse an image of more than N bytes'
 complete -c bootimg -n "__bootimg_is $reading build-legacy build-fit explain" -s o -l output -r -F -d 'Write the output to a file'
+complete -c bootimg -n '__bootimg_is normalise normalize list describe verify check update extract convert' -l offset -x \
+    -d 'Where the image begins in the input'
 complete -c bootimg -n '__bootimg_is list describe compare diff verify check' -l json -d 'Write JSON instead of lines'
 complete -c bootimg -n '__bootimg_is normalise normalize update build-fit' -l external -d 'Write the payloads after the tree'
 complete -c bootimg -n '__bootimg_is update build-legacy build-fit' -l time -x -d 'The time of creation, in seconds since 1970'

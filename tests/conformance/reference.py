@@ -449,11 +449,11 @@ def about_image(name):
 
 
 def of_image(call):
-    """The command that makes this call on one image."""
+    """The command that makes this call on one image, which begins at an offset of the input."""
     def command(files, options):
         name = (options["words"] or ["-"])[0]
         with about_image(name):
-            return call(files.image(name), options)
+            return call(within(files.image(name), options["limit"])[options.get("offset", 0):], options)
     return command
 
 
@@ -1008,19 +1008,20 @@ def limit_of(text):
 # For each command, its options with how each is parsed and its default. A flag has None; an option without a default has `...` if it
 # is required.
 FLAG = None
+OFFSET = {"offset": (number, "0")}
 COMMANDS = {
-    "list": (of_image(list_image), {"json": FLAG}),
-    "describe": (of_image(describe), {"json": FLAG}),
+    "list": (of_image(list_image), {"json": FLAG, **OFFSET}),
+    "describe": (of_image(describe), {"json": FLAG, **OFFSET}),
     "compare": (compare, {"quiet": FLAG, "json": FLAG}),
-    "verify": (of_image(verify), {"json": FLAG}),
-    "check": (of_image(check), {"allow": (kinds, ()), "json": FLAG}),
+    "verify": (of_image(verify), {"json": FLAG, **OFFSET}),
+    "check": (of_image(check), {"allow": (kinds, ()), "json": FLAG, **OFFSET}),
     "scan": (of_image(scan), {}),
-    "update": (of_image(update), {"time": (number, ()), "hashes": FLAG, "external": FLAG}),
+    "update": (of_image(update), {"time": (number, ()), "hashes": FLAG, "external": FLAG, **OFFSET}),
     "extract": (of_image(extract), {
         "part": (number, ()), "image": (str, ()), "config": (str, ()), "default": FLAG, "key": (key, "kernel"), "index": (number, "0"),
-        "escaped": FLAG}),
-    "normalise": (of_image(normalise), {"external": FLAG}),
-    "convert": (of_image(convert), {}),
+        "escaped": FLAG, **OFFSET}),
+    "normalise": (of_image(normalise), {"external": FLAG, **OFFSET}),
+    "convert": (of_image(convert), OFFSET),
     "build-legacy": (build_legacy, {
         "os": (lambda text: code("os", text), ...), "arch": (lambda text: code("arch", text), ...),
         "type": (lambda text: code("type", text), ...), "compression": (lambda text: code("compression", text), "none"),

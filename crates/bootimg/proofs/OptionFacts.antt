@@ -93,6 +93,7 @@ mistakes_are_known = record {
   two_files = refl;
   other_option = refl;
   no_json = refl;
+  no_offset = refl;
   option_twice = refl;
   missing_value = refl;
 }

@@ -30,7 +30,7 @@ use Rattle.bootimg.specs.CommandLine.{IsEntry, IsNameOf, SelectsDefault, default
 use Rattle.bootimg.specs.CommandLine.{given_count, listed_words, list_of, option_of, parts_of, value_of}
 use Rattle.bootimg.specs.KnownArguments.{IsOnlyCode, IsOnlyNumber}
 use Rattle.bootimg.specs.KnownRequests.{AllowedWordsAreKnown, AreFieldsOfLine, ChangesAreKnown}
-use Rattle.bootimg.specs.KnownRequests.{CommandNamesAreKnown, FlagsAreKnown, HoldsFor}
+use Rattle.bootimg.specs.KnownRequests.{CommandNamesAreKnown, FlagsAreKnown, HoldsFor, ImageOffsetsAreKnown}
 use Rattle.bootimg.specs.KnownRequests.{IsFileNamed, IsImageOfWord, IsOnlyOne, IsPartNamed, PartWordsAreKnown, PlansAreKnown}
 use Rattle.bootimg.specs.KnownRequests.{SelectionsAreKnown, SelectsEntry, SelectsImage, SourcesAreKnown, line_of_fields}
 use Rattle.bootimg.specs.KnownRequests.{name_of_plan, name_of_task}
@@ -170,6 +170,31 @@ sources_are_known = record {
       (is_standard _ plan.one (option_is (codes "compare - -") (codes "compare") options is (codes "one") ∙ refl) holds.one)
       (is_standard _ plan.other (option_is (codes "compare - -") (codes "compare") options is (codes "other") ∙ refl) holds.other)
       holds.names_a_file;
+}
+
+-- A number that is given.
+number_given : (argument text : List ℕ) (wanted : ℕ) → argument ≡ text → IsOnlyNumber text wanted → (number : ℕ)
+    → IsNumber argument number → number ≡ wanted
+number_given argument text wanted same only number is = only.1 number (subst (λ a. IsNumber a number) same is)
+
+pub image_offsets_are_known : ImageOffsetsAreKnown
+unfolding program_app clap_on_literals
+image_offsets_are_known = record {
+  given = λ options is.
+      number_given _ (codes "74") 74
+      (value_is (codes "list --offset 74 in") (codes "list") options is (codes "offset") (codes "0") ∙ refl)
+      (decimal_digits (codes "74") refl refl);
+  not_given = λ options is.
+      number_given _ (codes "0") 0 (value_is (codes "list in") (codes "list") options is (codes "offset") (codes "0") ∙ refl)
+      (decimal_digits (codes "0") refl refl);
+  of_scan = λ options is.
+      number_given _ (codes "0") 0 (value_is (codes "scan in") (codes "scan") options is (codes "offset") (codes "0") ∙ refl)
+      (decimal_digits (codes "0") refl refl);
+  bad = λ options is number holds.
+      is_no_number (codes "x") refl refl number
+      (subst (λ a. IsNumber a number)
+      (value_is (codes "list --offset x in") (codes "list") options is (codes "offset") (codes "0") ∙ refl)
+      holds);
 }
 
 length_of_word : (source : PartSource) → IsPartSource (codes "0x10") source → source ≡ part.Input 16
@@ -479,11 +504,7 @@ selections_are_known = record {
 
 -- ---- building
 
--- A number or a name that is given.
-number_given : (argument text : List ℕ) (wanted : ℕ) → argument ≡ text → IsOnlyNumber text wanted → (number : ℕ)
-    → IsNumber argument number → number ≡ wanted
-number_given argument text wanted same only number is = only.1 number (subst (λ a. IsNumber a number) same is)
-
+-- A name that is given.
 code_given : (field : CodeField) (argument text : List ℕ) (wanted : ℕ) → argument ≡ text → IsOnlyCode field text wanted → (code : ℕ)
     → IsCode field argument code → code ≡ wanted
 code_given field argument text wanted same only code is = only.1 code (subst (λ a. IsCode field a code) same is)

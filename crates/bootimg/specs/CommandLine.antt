@@ -21,6 +21,7 @@ use Rattle.bootimg.specs.Numbers.{IsNumber}
 use Rattle.bootimg.specs.declared.codes.CodeField.TheVariants.{Os, Arch, ImageType, Compression}
 use Rattle.bootimg.specs.declared.command_line.Outcome.{Outcome}
 use Rattle.bootimg.specs.declared.command_line.Outcome.TheVariants as outcome
+use Rattle.bootimg.specs.declared.command_line.ImagePlan.{ImagePlan}
 use Rattle.bootimg.specs.declared.command_line.Job.{Job}
 use Rattle.bootimg.specs.declared.command_line.Job.TheVariants.{Run, Compare, Build, Explain}
 use Rattle.bootimg.specs.declared.command_line.Request.{Request}
@@ -69,7 +70,7 @@ HasLengths (Fit plan) = length plan.payloads.items ≡ length plan.images.items
 
 -- If a job is to build a flattened image tree, there are as many lengths or files as images.
 abbrev pub HasJobLengths : Job → Type 0
-HasJobLengths (Run task source) = ⊤
+HasJobLengths (Run plan) = ⊤
 HasJobLengths (Compare plan) = ⊤
 HasJobLengths (Explain cause) = ⊤
 HasJobLengths (Build plan) = HasLengths plan
@@ -123,6 +124,10 @@ pub record IsLimits (argument : List ℕ) (limits : Limits) : Type 0 where
   pub least : 64 ≤ limits.file
   pub most : limits.file ≤ 0x7fffffff
   pub depth : limits.depth ≡ 64
+
+-- The value of `--offset`. It is the default for a command without that option.
+abbrev pub offset_of : ArgMatches → List ℕ
+offset_of options = value_of options (codes "offset") (codes "0")
 
 -- The text of the flag `--external`: `true` or `false`.
 abbrev pub external_flag : ArgMatches → Option (List ℕ)
@@ -462,6 +467,12 @@ IsTask name options (task.Extract selection) =
     (name ≡ codes "extract") × IsSelected options selection
 IsTask name options task.Convert = name ≡ codes "convert"
 
+-- The command of this name, with its options, is this plan for one image.
+pub record IsImagePlan (name : List ℕ) (options : ArgMatches) (plan : ImagePlan) : Type 0 where
+  pub task : IsTask name options plan.task
+  pub offset : IsNumber (offset_of options) plan.offset
+  pub source : IsImageSource (option_of options (codes "file")) plan.source
+
 -- The command of this name, with its options, builds this.
 abbrev pub IsBuildPlan : List ℕ → ArgMatches → BuildPlan → Type 0
 IsBuildPlan name options (Legacy plan) =
@@ -470,8 +481,7 @@ IsBuildPlan name options (Fit plan) = (name ≡ codes "build-fit") × IsFitPlan 
 
 -- The command of this name, with its options, is this job.
 abbrev pub IsJob : List ℕ → ArgMatches → Job → Type 0
-IsJob name options (Run task source) =
-    IsTask name options task × IsImageSource (option_of options (codes "file")) source
+IsJob name options (Run plan) = IsImagePlan name options plan
 IsJob name options (Compare plan) = (name ≡ codes "compare") × IsComparePlan options plan
 IsJob name options (Explain cause) =
     (name ≡ codes "explain") × IsExplained (option_of options (codes "cause")) cause
@@ -485,6 +495,8 @@ pub data IsTaskFailure (name : List ℕ) (options : ArgMatches) (failure : Failu
       → IsTaskFailure name options failure
   NotSelected : name ≡ codes "extract" → IsSelectionFailure options failure
       → IsTaskFailure name options failure
+  NotPlaced : (task : Task) → IsTask name options task
+      → IsBadValue (IsNumber (offset_of options)) failure → IsTaskFailure name options failure
   NotLegacy : name ≡ codes "build-legacy" → IsBadValue (IsLegacyPlan options) failure
       → IsTaskFailure name options failure
   NotLimited : name ≡ codes "build-fit" → IsBadValue (IsLimits (limit_of options)) failure

@@ -15,7 +15,8 @@ use Rattle.bootimg.specs.CommandLine.{AreEscaped, ChangesHashes, Gives, IsAllowe
 use Rattle.bootimg.specs.CommandLine.{IsChanges, IsChangesFailure, IsComparePlan, IsFields, IsForm}
 use Rattle.bootimg.specs.CommandLine.{IsFormat, IsImageSource, IsImageText, IsJob, IsPartSource}
 use Rattle.bootimg.specs.CommandLine.{IsQuiet, IsSelected, IsSelectionFailure, IsTask, NoneIs}
-use Rattle.bootimg.specs.CommandLine.{SelectsDefault}
+use Rattle.bootimg.specs.CommandLine.{SelectsDefault, offset_of}
+use Rattle.bootimg.specs.Numbers.{IsNumber}
 use Rattle.bootimg.specs.declared.command_line.Job.TheVariants.{Compare, Explain}
 use Rattle.bootimg.specs.declared.command_line.Task.{Task}
 use Rattle.bootimg.specs.declared.command_line.Task.TheVariants as task
@@ -122,6 +123,17 @@ pub record SourcesAreKnown : Type 0 where
       → IsFileNamed (codes "a") plan.one × IsFileNamed (codes "b") plan.other)
   pub two_inputs : HoldsFor (codes "compare - -") (codes "compare")
       (λ options. NoneIs (IsComparePlan options))
+
+-- Where an image begins: at the offset that is given, and else at the beginning of the input.
+pub record ImageOffsetsAreKnown : Type 0 where
+  pub given : HoldsFor (codes "list --offset 74 in") (codes "list")
+      (λ options. IsOnlyOne (IsNumber (offset_of options)) 74)
+  pub not_given : HoldsFor (codes "list in") (codes "list")
+      (λ options. IsOnlyOne (IsNumber (offset_of options)) 0)
+  pub of_scan : HoldsFor (codes "scan in") (codes "scan")
+      (λ options. IsOnlyOne (IsNumber (offset_of options)) 0)
+  pub bad : HoldsFor (codes "list --offset x in") (codes "list")
+      (λ options. NoneIs (IsNumber (offset_of options)))
 
 -- The part is in the file of this name.
 abbrev pub IsPartNamed : (name : List ℕ) → PartSource → Type 0

@@ -34,7 +34,7 @@ use clap::error::ErrorKind;
 use explain::explained_cause;
 pub use extract::Selected;
 use extract::selection;
-use options::{form, format, limits};
+use options::{form, format, limits, number};
 pub use part::PartSource;
 pub use source::{ComparePlan, ImageSource};
 use source::{compare_plan, source};
@@ -65,11 +65,22 @@ pub enum Task {
     Convert,
 }
 
+/// What is done with one image.
+#[derive(Drop)]
+pub struct ImagePlan<'a> {
+    /// The task.
+    pub task: Task,
+    /// Where the image begins in the input: an offset in bytes.
+    pub offset: u32,
+    /// Where the input is read from.
+    pub source: ImageSource<'a>,
+}
+
 /// What the program does with its streams.
 #[derive(Drop)]
 pub enum Job<'a> {
-    /// Do the task with this image.
-    Run(Task, ImageSource<'a>),
+    /// Do a task with one image.
+    Run(ImagePlan<'a>),
     /// Compare two images.
     Compare(ComparePlan<'a>),
     /// Write what this cause of a refusal means, or what each one means.
@@ -182,7 +193,13 @@ fn parse_job<'a>(alloc: Global, name: &str, options: &ArgMatches<'a>) -> Result<
         return Ok(Job::Build(BuildPlan::Fit(plan)));
     }
     let task = parse_task(alloc, name, options)?;
-    Ok(Job::Run(task, source(options, "file")))
+    // A command without `--offset` has its default, as one without `--limit` does.
+    let offset = number(options, "offset")?;
+    Ok(Job::Run(ImagePlan {
+        task,
+        offset,
+        source: source(options, "file"),
+    }))
 }
 
 /// Returns the task of the command of this name with the options. Fails as `parse_arguments` does.

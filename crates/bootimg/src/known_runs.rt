@@ -5,7 +5,8 @@ ghost use Rattle.bootimg.specs.KnownArguments.{DefaultsAreKnown, OptionsAreKnown
 ghost use Rattle.bootimg.specs.KnownArguments.{MistakesAreKnown, NumbersAreKnown, CodesAreKnown};
 ghost use Rattle.bootimg.specs.KnownArguments.{LimitsAreKnown, InputsAreKnown};
 ghost use Rattle.bootimg.specs.KnownRequests.{FlagsAreKnown, CommandNamesAreKnown};
-ghost use Rattle.bootimg.specs.KnownRequests.{SourcesAreKnown, PartWordsAreKnown};
+ghost use Rattle.bootimg.specs.KnownRequests.{SourcesAreKnown, ImageOffsetsAreKnown};
+ghost use Rattle.bootimg.specs.KnownRequests.{PartWordsAreKnown};
 ghost use Rattle.bootimg.specs.KnownRequests.{AllowedWordsAreKnown, ChangesAreKnown};
 ghost use Rattle.bootimg.specs.KnownRequests.{SelectionsAreKnown, PlansAreKnown};
 ghost use Rattle.bootimg.specs.KnownRuns.{StatusesAreKnown, FailureLinesAreKnown};
@@ -61,6 +62,11 @@ pub fn command_names_are_known()
 /// Images are in standard input or in known files.
 pub fn sources_are_known()
     ensures { SourcesAreKnown }
+{}
+
+/// Images begin at known offsets of their inputs.
+pub fn image_offsets_are_known()
+    ensures { ImageOffsetsAreKnown }
 {}
 
 /// Small words are known parts, or none.

@@ -45,14 +45,14 @@ impl Done {
     }
 }
 
-impl Command for Task {
+impl<'a> Command for &'a Task {
     type Value = Done;
 
     type Failure = Failure;
 
     ghost can_run = { λ _. ⊤ };
 
-    ghost promise = { task_promise };
+    ghost promise = { λ task. task_promise task.now };
 
     fn run<S: Sink>(
         &self,
@@ -61,7 +61,7 @@ impl Command for Task {
         limits: Limits,
         sink: &mut S,
     ) -> Result<Done, Failure> {
-        match self {
+        match *self {
             Task::Normalise(form) => {
                 let signatures = Normaliser { form: *form }.run(alloc, input, limits, sink)?;
                 return Ok(Done {
@@ -118,7 +118,7 @@ impl Command for Task {
 
     ghost wraps_from = { λ _ _ _ _ same. same };
 
-    ghost laws = { task_laws };
+    ghost laws = { λ task. task_laws task.now };
 }
 
 /// Returns the exit status after `verify`, `check` or `scan`.

@@ -311,6 +311,13 @@ const ESCAPED: OptionText = OptionText {
     form: OptionForm::Flag,
 };
 
+const OFFSET: OptionText = OptionText {
+    name: "offset",
+    value_name: "N",
+    help: "Where the image begins in the input: its first N bytes are skipped",
+    form: OptionForm::Default(ZERO),
+};
+
 const KEY: OptionText = OptionText {
     name: "key",
     value_name: "KEY",
@@ -425,7 +432,7 @@ static READING_COMMANDS: [CommandText; 7] = [
                  Signature nodes are kept, and not checked: a signature may no longer be valid. A\n\
                  note on standard error has their number, if there are any.\n\n\
                  Example: bootimg normalise kernel.uimage > normal.uimage",
-        options: &[EXTERNAL_NORMAL, LIMIT, OUTPUT, FILE],
+        options: &[EXTERNAL_NORMAL, OFFSET, LIMIT, OUTPUT, FILE],
     },
     CommandText {
         name: "list",
@@ -439,7 +446,7 @@ static READING_COMMANDS: [CommandText; 7] = [
                  offset of each payload, and what each configuration lists, but not where loaders\n\
                  put it: describe does. Sizes and offsets are in bytes.\n\n\
                  Example: bootimg list kernel.uimage",
-        options: &[JSON, LIMIT, OUTPUT, FILE],
+        options: &[JSON, OFFSET, LIMIT, OUTPUT, FILE],
     },
     CommandText {
         name: "describe",
@@ -453,7 +460,7 @@ static READING_COMMANDS: [CommandText; 7] = [
                  or after it. Each payload or part has a line with its size and SHA-256. Neither\n\
                  the payloads together nor the description may be longer than the limit.\n\n\
                  Example: bootimg describe kernel.itb",
-        options: &[JSON, LIMIT, OUTPUT, FILE],
+        options: &[JSON, OFFSET, LIMIT, OUTPUT, FILE],
     },
     CommandText {
         name: "compare",
@@ -482,7 +489,7 @@ static READING_COMMANDS: [CommandText; 7] = [
                  if a flattened image tree has no hash node, so that nothing is checked: bootimg\n\
                  check finds what is not protected.\n\n\
                  Example: bootimg verify kernel.itb",
-        options: &[JSON, LIMIT, OUTPUT, FILE],
+        options: &[JSON, OFFSET, LIMIT, OUTPUT, FILE],
     },
     CommandText {
         name: "check",
@@ -504,7 +511,7 @@ static READING_COMMANDS: [CommandText; 7] = [
                  flattened image tree together. Signatures are not checked.\n\n\
                  The exit status is 0 if nothing was found, and 1 if something was.\n\n\
                  Example: bootimg check --allow weak-hash,trailing kernel.itb",
-        options: &[ALLOW, JSON, LIMIT, OUTPUT, FILE],
+        options: &[ALLOW, JSON, OFFSET, LIMIT, OUTPUT, FILE],
     },
     CommandText {
         name: "scan",
@@ -540,7 +547,15 @@ static CHANGING_COMMANDS: [CommandText; 3] = [
                  tree together. Signature nodes are kept, and not checked: a note on standard\n\
                  error has their number, if there are any.\n\n\
                  Example: bootimg update --hashes --time 1700000000 kernel.itb > new.itb",
-        options: &[NEW_TIME, HASHES, EXTERNAL_NORMAL, LIMIT, OUTPUT, FILE],
+        options: &[
+            NEW_TIME,
+            HASHES,
+            EXTERNAL_NORMAL,
+            OFFSET,
+            LIMIT,
+            OUTPUT,
+            FILE,
+        ],
     },
     CommandText {
         name: "extract",
@@ -558,7 +573,7 @@ static CHANGING_COMMANDS: [CommandText; 3] = [
                  Example: bootimg extract --part 1 multi.uimage > ramdisk\n\
                  Example: bootimg extract --default --key fdt kernel.itb > board.dtb",
         options: &[
-            PART, IMAGE, CONFIG, DEFAULT, KEY, INDEX, ESCAPED, LIMIT, OUTPUT, FILE,
+            PART, IMAGE, CONFIG, DEFAULT, KEY, INDEX, ESCAPED, OFFSET, LIMIT, OUTPUT, FILE,
         ],
     },
     CommandText {
@@ -572,7 +587,7 @@ static CHANGING_COMMANDS: [CommandText; 3] = [
                  and a devicetree, in this order. Each payload has its SHA-256, and configuration\n\
                  conf-1 lists the images.\n\n\
                  Example: bootimg convert kernel.uimage > kernel.itb",
-        options: &[LIMIT, OUTPUT, FILE],
+        options: &[OFFSET, LIMIT, OUTPUT, FILE],
     },
 ];
 

@@ -13,7 +13,7 @@ use Rattle.bi_commands.specs.UpdatedFiles.{IsUpdated, IsUpdateError}
 use Rattle.bootimg.specs.Selections.{select_of}
 use Rattle.bootimg.proofs.SelectionNames.{same_chosen, same_failure}
 use Rattle.bootimg.proofs.TaskFailures.{call_failed, extract_failed}
-use Rattle.bootimg.proofs.tasks.TaskCommand.run.Goals as goal
+use Rattle.bootimg.proofs.tasks.RefTaskCommand.run.Goals as goal
 
 pub returns-in_err-signatures-in-Normalise-clause-failed : goal.returns-in_err-signatures-in-Normalise-clause-failed
 returns-in_err-signatures-in-Normalise-clause-failed g c =
