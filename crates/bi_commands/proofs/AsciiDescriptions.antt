@@ -79,7 +79,7 @@ legacy_shown image bytes = (
 )
 
 -- A path.
-path_shown : (names : List (List ℕ)) → AllByRecursion AreBytes names → HasAscii (path names)
+pub path_shown : (names : List (List ℕ)) → AllByRecursion AreBytes names → HasAscii (path names)
 path_shown [] are = by_test (codes "/") refl
 path_shown (name ∷ names) are =
     each_text AreBytes (λ other. 47 ∷ shown_text other) (λ other bytes. (omega arith, name_shown other bytes)) (name ∷ names) are

@@ -3,7 +3,8 @@ use Rattle.std.specs.Prelude.{IfSome}
 use Rattle.std.specs.List.{AllByRecursion, join_with_byte}
 use Rattle.std.specs.Option.{option_map}
 use Rattle.bi_base.specs.Cells.{AreBytes}
-use Rattle.bi_commands.specs.Json.{JsonText, Member, json_array, json_line, json_null, json_object, json_string, member_text, string_or_null}
+use Rattle.bi_commands.specs.Json.{JsonText, Member, json_array, json_line, json_null, json_object, json_string, member_text}
+use Rattle.bi_commands.specs.Json.{string_or_null}
 use Rattle.bi_commands.specs.Shown.{shown_text}
 use Rattle.bi_commands.specs.ValueTexts.{escaped_byte, hexadecimal_digits}
 use Rattle.bi_commands.proofs.AsciiTexts.{HasAscii, both, by_test, bytes_digits, escape_ascii, words_ascii, name_shown}
@@ -13,7 +14,8 @@ use Rattle.bi_commands.proofs.AsciiTexts.{HasAscii, both, by_test, bytes_digits,
 -- The characters of a string.
 escaped_ascii : (text : List ℕ) → HasAscii text → HasAscii (flat_map escaped_byte text)
 escaped_ascii [] are = tt
-escaped_ascii (byte ∷ later) are = both (escaped_byte byte) (flat_map escaped_byte later) (escape_ascii byte are.0) (escaped_ascii later are.1)
+escaped_ascii (byte ∷ later) are = both (escaped_byte byte) (flat_map escaped_byte later) (escape_ascii byte are.0)
+    (escaped_ascii later are.1)
 
 pub string_ascii : (text : List ℕ) → HasAscii text → HasAscii (json_string text)
 string_ascii text are = (omega arith, both (flat_map escaped_byte text) (34 ∷ []) (escaped_ascii text are) (omega arith, tt))
@@ -33,7 +35,11 @@ maybe_digits_ascii (Some value) bytes = string_ascii (hexadecimal_digits value) 
 
 -- An array.
 pub array_ascii : (values : List JsonText) → AllByRecursion HasAscii values → HasAscii (json_array values)
-array_ascii values are = (omega arith, both (join_with_byte 44 values) (93 ∷ []) (words_ascii 44 (omega arith) values are) (omega arith, tt))
+array_ascii values are = (
+  omega arith,
+  both (join_with_byte 44 values) (93 ∷ []) (words_ascii 44 (omega arith) values are)
+      (omega arith, tt),
+)
 
 -- An object.
 abbrev pub IsAsciiMember : Member → Type 0
@@ -46,8 +52,11 @@ members_ascii (member ∷ later) are =
 
 pub object_ascii : (members : List Member) → AllByRecursion IsAsciiMember members → HasAscii (json_object members)
 object_ascii members are =
-    let texts = map member_text members in
-    (omega arith, both (join_with_byte 44 texts) (125 ∷ []) (words_ascii 44 (omega arith) texts (members_ascii members are)) (omega arith, tt))
+    let texts = map member_text members in (
+      omega arith,
+      both (join_with_byte 44 texts) (125 ∷ []) (words_ascii 44 (omega arith) texts (members_ascii members are))
+          (omega arith, tt),
+    )
 
 -- A value and a newline.
 pub line_ascii : (value : JsonText) → HasAscii value → HasAscii (json_line value)

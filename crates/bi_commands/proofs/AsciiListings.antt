@@ -143,7 +143,7 @@ node_names_bytes none bytes = tt
 node_names_bytes (node name own children later) bytes = (bytes.0, node_names_bytes later bytes.2)
 
 -- The names of the image nodes of a file are bytes.
-image_names : (file : List ℕ) (tree : ImageTree) (is : IsFitFile file tree) → AllByRecursion AreBytes (names is.images)
+pub image_names : (file : List ℕ) (tree : ImageTree) (is : IsFitFile file tree) → AllByRecursion AreBytes (names is.images)
 image_names file tree is =
     subst (AllByRecursion AreBytes)
     (names-without_payloads by_name ∙ (names-with_each from_entries plain ∙ names-with_each properties_of is.images))
@@ -181,7 +181,7 @@ listed_bytes (byte ∷ later) bytes = by (byte == 0) (listed_bytes later (AreByt
     by false rest = with_byte_bytes byte (bytes.each 0) (listed_names later) rest
 
 -- The names of what a configuration lists are bytes.
-abbrev IsByteList : ListResult → Type 0
+abbrev pub IsByteList : ListResult → Type 0
 IsByteList (ListedImages images) = AllByRecursion (λ (image : ListedImage). AreBytes image.name) images
 IsByteList refusal = ⊤
 
@@ -244,7 +244,7 @@ configurations_are_nodes tree is = by (children_of configurations_name tree.root
       bytes-children_of configurations_name tree.root.children inner found is.name_bytes,
     )
 
-listed_of_bytes : (tree : ImageTree) → IsImageTree tree → (name : List ℕ) (key : Key) → IsByteList (listed_of tree name key)
+pub listed_of_bytes : (tree : ImageTree) → IsImageTree tree → (name : List ℕ) (key : Key) → IsByteList (listed_of tree name key)
 listed_of_bytes tree is name key = by (node_named (configuration_nodes tree) name) refl
   where
     by : (o : Option (Sibling PropertyMap)) → node_named (configuration_nodes tree) name ≡ o →

@@ -1,4 +1,5 @@
-use Rattle.std.proofs.Common.{◌≡◌, ℕ, ◌==◌, Bool, true, false, cond, List, [], ◌∷◌, ◌++◌, map, flat_map, filter, codes, bytes_eq, length, refl, sym, subst}
+use Rattle.std.proofs.Common.{◌≡◌, ℕ, ◌==◌, Bool, true, false, cond, List, [], ◌∷◌, ◌++◌, map, flat_map, filter, codes, bytes_eq, length}
+use Rattle.std.proofs.Common.{refl, sym, subst}
 use Rattle.std.proofs.Common.{Option, Some, None, not, drop, ◌-◌}
 use Rattle.std.specs.Prelude.{⊤, IfSome, IsAscii, option_and_then}
 use Rattle.std.specs.List.{AllByRecursion, list_all, list_any}
@@ -24,8 +25,10 @@ use Rattle.bi_commands.specs.declared.check.Allowed.{Allowed}
 use Rattle.bi_commands.specs.declared.check.ConcernKind.{ConcernKind}
 use Rattle.bi_commands.specs.declared.check.ConcernKind.TheVariants as kind
 use Rattle.bi_commands.specs.CheckedFiles.{IsChecked, concerns_text}
-use Rattle.bi_commands.specs.Checking.{Concern, BadHash, UnhashedImage, WeakHash, BadKey, MissingImage, BadDefault, TrailingBytes, allows, kind_of}
-use Rattle.bi_commands.specs.Checking.{AreConcerns, OfLegacyImage, OfImageTree, content_end, concern_line, concern_lines, configuration_concerns, default_concerns}
+use Rattle.bi_commands.specs.Checking.{Concern, BadHash, UnhashedImage, WeakHash, BadKey, MissingImage, BadDefault, TrailingBytes, allows}
+use Rattle.bi_commands.specs.Checking.{kind_of}
+use Rattle.bi_commands.specs.Checking.{AreConcerns, OfLegacyImage, OfImageTree, content_end, concern_line, concern_lines}
+use Rattle.bi_commands.specs.Checking.{configuration_concerns, default_concerns}
 use Rattle.bi_commands.specs.Checking.{hash_concerns, hashes_of_image, image_concerns, is_good, is_strong, kept_concerns, kind_word}
 use Rattle.bi_commands.specs.Checking.{list_concerns, names_one_of, payload_concerns, tree_concerns, trailing_concerns}
 use Rattle.bi_commands.specs.declared.format.Format.{Format}
@@ -38,7 +41,8 @@ use Rattle.bi_commands.specs.Reports.{report_of, shown_or_none, value_word, verd
 use Rattle.bi_commands.specs.Shown.{shown_text}
 use Rattle.bi_commands.specs.ValueTexts.{hexadecimal_digits}
 use Rattle.bi_commands.specs.VerifiedFiles.{IsReport, report_text}
-use Rattle.bi_commands.proofs.AsciiJson.{IsAsciiMember, array_ascii, line_ascii, maybe_digits_ascii, maybe_name_ascii, name_ascii, object_ascii, string_ascii}
+use Rattle.bi_commands.proofs.AsciiJson.{IsAsciiMember, array_ascii, line_ascii, maybe_digits_ascii, maybe_name_ascii, name_ascii}
+use Rattle.bi_commands.proofs.AsciiJson.{object_ascii, string_ascii}
 use Rattle.bi_commands.proofs.AsciiListings.{configurations_are_nodes, default_bytes, key_word, node_names_bytes, before_nul_bytes}
 use Rattle.bi_commands.proofs.AsciiTexts.{HasAscii, AreAsciiWords, ascii_line, both, by_test, bytes_digits, decimal_shown, is_ascii}
 use Rattle.bi_commands.proofs.AsciiTexts.{name_shown}
@@ -48,7 +52,7 @@ use Rattle.bi_commands.proofs.AsciiTexts.{name_shown}
 -- ---- hash nodes
 
 -- What a hash node has is bytes.
-abbrev IsByteHash : CheckedHash → Type 0
+abbrev pub IsByteHash : CheckedHash → Type 0
 IsByteHash hash = AreBytes hash.image × AreBytes hash.node_name × IfSome hash.algo AreBytes × IfSome hash.value AreBytes
 
 -- The text of a property.
@@ -88,7 +92,7 @@ hashes_bytes image named (node name own children later) are bytes =
     by false is rest = rw is rest
 
 -- An image whose name is bytes, and whose hash nodes are.
-abbrev IsByteImage : Image → Type 0
+abbrev pub IsByteImage : Image → Type 0
 IsByteImage image = AreBytes image.entry.name × AllByRecursion IsByteHash (hashes_of_image image)
 
 images_bytes : (nodes : Nodes PropertyMap) (payloads : List (Option (List ℕ))) → AreNodes ArePropertiesByName nodes → HaveByteNames nodes →
@@ -96,18 +100,22 @@ images_bytes : (nodes : Nodes PropertyMap) (payloads : List (Option (List ℕ)))
 images_bytes none payloads are bytes = tt
 images_bytes (node name own children later) [] are bytes = tt
 images_bytes (node name own children later) (payload ∷ payloads) are bytes =
-    let entry : Sibling PropertyMap = record { name = name; own = own; children = children; later = later } in
-    ((bytes.0, hashes_bytes (record { entry = entry; payload = payload }) bytes.0 children are.1 bytes.1), images_bytes later payloads are.2 bytes.2)
+    let entry : Sibling PropertyMap = record { name = name; own = own; children = children; later = later } in (
+      (bytes.0, hashes_bytes (record { entry = entry; payload = payload }) bytes.0 children are.1 bytes.1),
+      images_bytes later payloads are.2
+          bytes.2,
+    )
 
 -- The images of a tree.
-tree_images : (tree : ImageTree) → IsImageTree tree → AllByRecursion IsByteImage (images_of tree)
+pub tree_images : (tree : ImageTree) → IsImageTree tree → AllByRecursion IsByteImage (images_of tree)
 tree_images tree is = by (children_of images_name tree.root.children) refl
   where
     by : (o : Option (Nodes PropertyMap)) → children_of images_name tree.root.children ≡ o →
         AllByRecursion IsByteImage (images_with (siblings (nodes_or_none o)) tree.payloads)
     by None found = tt
     by (Some inner) found =
-        images_bytes inner tree.payloads (AreNodes-children_of ArePropertiesByName images_name tree.root.children inner found is.is_tree.children)
+        images_bytes inner tree.payloads (AreNodes-children_of ArePropertiesByName images_name tree.root.children inner found
+        is.is_tree.children)
         (bytes-children_of images_name tree.root.children inner found is.name_bytes)
 
 -- ---- reports
@@ -134,20 +142,27 @@ value_shown (Some value) bytes = by (bytes_eq value [])
 hash_shown : (hash : CheckedHash) → IsByteHash hash → HasAscii (report_line (HashVerdict hash))
 hash_shown hash bytes =
     ascii_line
-    (shown_text hash.image ∷ shown_text hash.node_name ∷ shown_or_none hash.algo ∷ verdict_word hash.verdict ∷ value_word hash.value ∷ [])
-    (name_shown hash.image bytes.0, (name_shown hash.node_name bytes.1, (maybe_shown hash.algo bytes.2, (verdict_shown hash.verdict, (value_shown hash.value bytes.3, tt)))))
+    (shown_text hash.image ∷ shown_text hash.node_name ∷ shown_or_none hash.algo ∷ verdict_word hash.verdict ∷ value_word hash.value ∷ []) (
+      name_shown hash.image bytes.0,
+      (
+        name_shown hash.node_name bytes.1,
+        (maybe_shown hash.algo bytes.2, (verdict_shown hash.verdict, (value_shown hash.value bytes.3, tt))),
+      ),
+    )
 
 hash_lines_shown : (hashes : List CheckedHash) (last : List ReportLine) → AllByRecursion IsByteHash hashes →
     HasAscii (flat_map report_line last) → HasAscii (flat_map report_line (map HashVerdict hashes ++ last))
 hash_lines_shown [] last bytes rest = rest
 hash_lines_shown (hash ∷ later) last bytes rest =
-    both (report_line (HashVerdict hash)) (flat_map report_line (map HashVerdict later ++ last)) (hash_shown hash bytes.0) (hash_lines_shown later last bytes.1 rest)
+    both (report_line (HashVerdict hash)) (flat_map report_line (map HashVerdict later ++ last)) (hash_shown hash bytes.0)
+    (hash_lines_shown later last bytes.1 rest)
 
-all_hashes : (images : List Image) → AllByRecursion IsByteImage images →
+pub all_hashes : (images : List Image) → AllByRecursion IsByteImage images →
     AllByRecursion IsByteHash (flat_map (λ (image : Image). map (checked_hash image) (hash_nodes image)) images)
 all_hashes [] bytes = tt
 all_hashes (image ∷ later) bytes =
-    each-append IsByteHash (hashes_of_image image) (flat_map (λ (image : Image). map (checked_hash image) (hash_nodes image)) later) bytes.0.1 (all_hashes later bytes.1)
+    each-append IsByteHash (hashes_of_image image) (flat_map (λ (image : Image). map (checked_hash image) (hash_nodes image)) later)
+    bytes.0.1 (all_hashes later bytes.1)
 
 -- The lines of a report.
 lines_ascii : (tree : ImageTree) → AllByRecursion IsByteHash (verdicts_of tree) → HasAscii (report_of (OfFit tree))
@@ -157,7 +172,8 @@ lines_ascii tree bytes =
     let last : HasAscii (flat_map report_line (Summary counts ∷ [])) =
     both (report_line (Summary counts)) []
     (ascii_line
-    (codes "summary" ∷ codes "good" ∷ _ ∷ codes "bad" ∷ _ ∷ codes "unknown-algorithm" ∷ _ ∷ codes "no-payload" ∷ _ ∷ codes "malformed" ∷ _ ∷ []) (
+    (codes "summary" ∷ codes "good" ∷ _ ∷ codes "bad" ∷ _ ∷ codes "unknown-algorithm" ∷ _ ∷ codes "no-payload" ∷ _ ∷ codes "malformed" ∷ _
+    ∷ []) (
       by_test (codes "summary") refl,
       (
         by_test (codes "good") refl,
@@ -245,7 +261,8 @@ report_is_ascii format limits file text report =
     by : (form : Format) (meaning : Meaning) → Means limits file meaning → HasAscii (report_text form meaning)
     by Lines (OfLegacy image) means = by_test (report_of (OfLegacy image)) refl
     by Json (OfLegacy image) means = by_test (report_text Json (OfLegacy image)) refl
-    by Lines (OfFit tree) means = lines_ascii tree (all_hashes (images_of tree) (tree_images tree (file_means_image_tree file tree means.is_file)))
+    by Lines (OfFit tree) means = lines_ascii tree (all_hashes (images_of tree)
+        (tree_images tree (file_means_image_tree file tree means.is_file)))
     by Json (OfFit tree) means =
         line_ascii (report_object (OfFit tree))
         (object_is_ascii tree (all_hashes (images_of tree) (tree_images tree (file_means_image_tree file tree means.is_file))))
@@ -253,7 +270,7 @@ report_is_ascii format limits file text report =
 -- ---- concerns
 
 -- What a concern has is bytes.
-abbrev IsByteConcern : Concern → Type 0
+abbrev pub IsByteConcern : Concern → Type 0
 IsByteConcern (BadHash hash) = IsByteHash hash
 IsByteConcern (UnhashedImage image) = AreBytes image
 IsByteConcern (WeakHash image good) = AreBytes image × AllByRecursion IsByteHash good
@@ -269,15 +286,27 @@ algorithms_shown (hash ∷ later) bytes = (maybe_shown hash.algo bytes.0.2, algo
 
 concern_shown : (concern : Concern) → IsByteConcern concern → HasAscii (concern_line concern)
 concern_shown (BadHash hash) bytes =
-    ascii_line (codes "bad-hash" ∷ shown_text hash.image ∷ shown_text hash.node_name ∷ shown_or_none hash.algo ∷ verdict_word hash.verdict ∷ [])
-    (by_test (codes "bad-hash") refl, (name_shown hash.image bytes.0, (name_shown hash.node_name bytes.1, (maybe_shown hash.algo bytes.2, (verdict_shown hash.verdict, tt)))))
+    ascii_line (codes "bad-hash" ∷ shown_text hash.image ∷ shown_text hash.node_name ∷ shown_or_none hash.algo ∷ verdict_word hash.verdict
+    ∷ []) (
+      by_test (codes "bad-hash") refl,
+      (
+        name_shown hash.image bytes.0,
+        (
+          name_shown hash.node_name bytes.1,
+          (maybe_shown hash.algo bytes.2, (verdict_shown hash.verdict, tt)),
+        ),
+      ),
+    )
 concern_shown (UnhashedImage image) bytes =
     ascii_line (codes "unhashed" ∷ shown_text image ∷ []) (by_test (codes "unhashed") refl, (name_shown image bytes, tt))
 concern_shown (WeakHash image good) bytes =
     ascii_line (codes "weak-hash" ∷ shown_text image ∷ map (λ (hash : CheckedHash). shown_or_none hash.algo) good)
     (by_test (codes "weak-hash") refl, (name_shown image bytes.0, algorithms_shown good bytes.1))
 concern_shown (BadKey configuration key) bytes =
-    ascii_line (codes "bad-list" ∷ shown_text configuration ∷ _ ∷ []) (by_test (codes "bad-list") refl, (name_shown configuration bytes, (key_word key, tt)))
+    ascii_line (codes "bad-list" ∷ shown_text configuration ∷ _ ∷ []) (
+      by_test (codes "bad-list") refl,
+      (name_shown configuration bytes, (key_word key, tt)),
+    )
 concern_shown (MissingImage configuration key index) bytes =
     ascii_line (codes "missing" ∷ shown_text configuration ∷ _ ∷ _ ∷ [])
     (by_test (codes "missing") refl, (name_shown configuration bytes, (key_word key, (decimal_shown index, tt))))
@@ -347,7 +376,7 @@ objects_ascii (concern ∷ later) bytes = (
   objects_ascii later bytes.1,
 )
 
-kept_bytes : (allowed : Allowed) (concerns : List Concern) → AllByRecursion IsByteConcern concerns →
+pub kept_bytes : (allowed : Allowed) (concerns : List Concern) → AllByRecursion IsByteConcern concerns →
     AllByRecursion IsByteConcern (kept_concerns allowed concerns)
 kept_bytes allowed [] bytes = tt
 kept_bytes allowed (concern ∷ later) bytes = by (allows allowed (kind_of concern)) refl (kept_bytes allowed later bytes.1)
@@ -375,7 +404,8 @@ if_not false concern bytes = (bytes, tt)
 hash_bytes : (hashes : List CheckedHash) → AllByRecursion IsByteHash hashes → AllByRecursion IsByteConcern (flat_map hash_concerns hashes)
 hash_bytes [] bytes = tt
 hash_bytes (hash ∷ later) bytes =
-    each-append IsByteConcern (hash_concerns hash) (flat_map hash_concerns later) (if_not (is_good hash) (BadHash hash) bytes.0) (hash_bytes later bytes.1)
+    each-append IsByteConcern (hash_concerns hash) (flat_map hash_concerns later) (if_not (is_good hash) (BadHash hash) bytes.0)
+    (hash_bytes later bytes.1)
 
 good_bytes : (hashes : List CheckedHash) → AllByRecursion IsByteHash hashes → AllByRecursion IsByteHash (filter is_good hashes)
 good_bytes [] bytes = tt
@@ -401,8 +431,10 @@ images_shown : (images : List Image) → AllByRecursion IsByteImage images → A
 images_shown [] bytes = tt
 images_shown (image ∷ later) bytes =
     each-append IsByteConcern (image_concerns image) (flat_map image_concerns later)
-    (each-append IsByteConcern (flat_map hash_concerns (hashes_of_image image)) (payload_concerns image.entry.name image.payload (hashes_of_image image))
-    (hash_bytes (hashes_of_image image) bytes.0.1) (payload_bytes image.entry.name image.payload (hashes_of_image image) bytes.0.0 bytes.0.1))
+    (each-append IsByteConcern (flat_map hash_concerns (hashes_of_image image))
+    (payload_concerns image.entry.name image.payload (hashes_of_image image))
+    (hash_bytes (hashes_of_image image) bytes.0.1) (payload_bytes image.entry.name image.payload (hashes_of_image image) bytes.0.0
+    bytes.0.1))
     (images_shown later bytes.1)
 
 -- Those about configurations.
@@ -454,19 +486,30 @@ text_shown Lines allowed concerns bytes = lines_shown allowed concerns bytes
 text_shown Json allowed concerns bytes =
     let values = map concern_object (kept_concerns allowed concerns) in
     line_ascii (concerns_object (kept_concerns allowed concerns))
-    (object_ascii ((codes "concerns", json_array values) ∷ [])
-    ((by_test (codes "concerns") refl, array_ascii values (objects_ascii (kept_concerns allowed concerns) (kept_bytes allowed concerns bytes))), tt))
+    (object_ascii ((codes "concerns", json_array values) ∷ []) (
+      (
+        by_test (codes "concerns") refl,
+        array_ascii values (objects_ascii (kept_concerns allowed concerns)
+            (kept_bytes allowed concerns bytes)),
+      ),
+      tt,
+    ))
+
+-- What the concerns about a file have is bytes.
+pub concern_bytes : (limits : Limits) (file : List ℕ) (concerns : List Concern) → AreConcerns limits file concerns →
+    AllByRecursion IsByteConcern concerns
+concern_bytes limits file concerns (OfLegacyImage parsed is are) =
+    subst (AllByRecursion IsByteConcern) (sym are) (trailing_shown (drop (length file - parsed.unused) file))
+concern_bytes limits file concerns (OfImageTree tree means are) =
+    let rest : List ℕ = drop (content_end file means.is_file.images tree.payloads) file in
+    subst (AllByRecursion IsByteConcern) (sym are)
+    (each-append IsByteConcern (tree_concerns tree) (trailing_concerns rest)
+    (tree_shown tree (file_means_image_tree file tree means.is_file)) (trailing_shown rest))
 
 -- The text of the concerns about a file is ASCII, in any form.
 pub checked_is_ascii : (format : Format) (allowed : Allowed) (limits : Limits) (file text : List ℕ) →
     IsChecked format allowed limits file text → IsAscii text
 checked_is_ascii format allowed limits file text checked =
     subst IsAscii (sym checked.is_text)
-    (is_ascii (concerns_text format allowed checked.concerns) (text_shown format allowed checked.concerns (by checked.are_concerns)))
-  where
-    by : {concerns : List Concern} → AreConcerns limits file concerns → AllByRecursion IsByteConcern concerns
-    by (OfLegacyImage parsed is are) = subst (AllByRecursion IsByteConcern) (sym are) (trailing_shown (drop (length file - parsed.unused) file))
-    by (OfImageTree tree means are) =
-        let rest : List ℕ = drop (content_end file means.is_file.images tree.payloads) file in
-        subst (AllByRecursion IsByteConcern) (sym are)
-        (each-append IsByteConcern (tree_concerns tree) (trailing_concerns rest) (tree_shown tree (file_means_image_tree file tree means.is_file)) (trailing_shown rest))
+    (is_ascii (concerns_text format allowed checked.concerns)
+    (text_shown format allowed checked.concerns (concern_bytes limits file checked.concerns checked.are_concerns)))

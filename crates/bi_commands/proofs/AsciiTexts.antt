@@ -153,7 +153,7 @@ escaped_bytes (byte ∷ later) are =
     (escape_ascii byte (omega (arith, leb-true byte 0x7e (and_parts (nat_le 0x20 byte) (nat_le byte 0x7e) first.0).1)))
     (escaped_bytes later first.1)
 
-in_quotes : (text : List ℕ) → is_quotable text ≡ true → HasAscii (quoted_text text)
+pub in_quotes : (text : List ℕ) → is_quotable text ≡ true → HasAscii (quoted_text text)
 in_quotes text is = (
   omega arith,
   both (flat_map escaped_byte text) (34 ∷ []) (escaped_bytes text (and_parts (not (bytes_eq text [])) (list_all is_printable text) is).1)

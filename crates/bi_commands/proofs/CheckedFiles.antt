@@ -1,12 +1,12 @@
-use Rattle.std.proofs.Common.{◌≡◌, ◌↔◌, ℕ, ◌-◌, max, Bool, IsTrue, Result, Ok, Err, IfOk, IfErr, OnOk, List, [], ◌∷◌, ◌++◌, Option, Some, None, length, drop, map}
+use Rattle.std.proofs.Common.{◌≡◌, ◌↔◌, ℕ, ◌-◌, max, Bool, IsTrue, Result, Ok, Err, IfOk, IfErr, OnOk, List, [], ◌∷◌, ◌++◌, Option, Some}
+use Rattle.std.proofs.Common.{None, length, drop, map}
 use Rattle.std.proofs.Common.{refl, sym, ap, ap₂, subst, ◌∙◌, append_assoc, inl, inr}
 use Rattle.std.specs.List.{AllZip}
 use Rattle.bi_base.specs.Commands.{Appended, AppendFailed, WasRefused, SinkFailed}
 use Rattle.bi_base.specs.declared.fault.Error.{Error}
 use Rattle.bi_base.specs.declared.fault.Error.TheVariants.{Refused, OutOfMemory, ReadFailed, WriteFailed}
 use Rattle.bi_base.specs.Limits.{Limits}
-use Rattle.bi_base.specs.Sinks.{FailsWithin, Wrote}
-use Rattle.bi_base.specs.VecSinks.{Grows, IsOutOfMemory}
+use Rattle.bi_base.specs.Sinks.{Wrote}
 use Rattle.bi_blob.specs.Blob.{totalsize}
 use Rattle.bi_blob.specs.Lookups.{siblings}
 use Rattle.bi_blob.specs.Tree.{Nodes, none, node, FileNode}
@@ -18,13 +18,14 @@ use Rattle.bi_fit.specs.Reading.{IsReadFit}
 use Rattle.bi_legacy.specs.Reading.{LegacyModel, IsReadLegacy}
 use Rattle.bi_norm.specs.Meaning.{OfLegacy, OfFit}
 use Rattle.bi_norm.specs.Reading.{IsBootImageReadError}
-use Rattle.bi_norm.proofs.NormalForms.{needs_memory, only_legacy, only_tree}
+use Rattle.bi_norm.proofs.NormalForms.{only_legacy, only_tree}
 use Rattle.bi_commands.specs.declared.check.Checker.{Checker}
 use Rattle.bi_commands.specs.CheckedFiles.{IsChecked, IsCheckError, IsCheckOutput, concerns_text}
 use Rattle.bi_commands.specs.Checking.{Concern, OfLegacyImage, OfImageTree, content_end, kept_concerns, payload_end, tree_concerns}
 use Rattle.bi_commands.specs.Checking.{trailing_concerns}
 use Rattle.bi_commands.specs.PayloadBounds.{IsOverPayloadBound}
-use Rattle.bi_commands.specs.ReadChecking.{IsReadCheckError, IsReadCheckText, concern_texts, configurations_concerns, end_at, end_of_read_payloads, images_concerns}
+use Rattle.bi_commands.specs.ReadChecking.{IsReadCheckError, IsReadCheckText, concern_texts, configurations_concerns, end_at}
+use Rattle.bi_commands.specs.ReadChecking.{end_of_read_payloads, images_concerns}
 use Rattle.bi_commands.specs.HashedImages.{images_of_blob}
 use Rattle.bi_commands.specs.ReadChecking.{read_concerns, read_default_concerns}
 use Rattle.bi_commands.proofs.ConcernTexts.{texts_append}
@@ -48,17 +49,18 @@ placed_end file (DataPosition position (Some size)) None is = absurd (let e = is
 placed_end file (DataPosition position (Some size)) (Some payload) is = refl
 
 -- Where the content of a file ends.
-end_of_content : (file : List ℕ) (total : ℕ) (nodes : Nodes FileNode) (images : List ImageModel) → total ≡ totalsize file →
+pub end_of_content : (file : List ℕ) (total : ℕ) (nodes : Nodes FileNode) (images : List ImageModel) → total ≡ totalsize file →
     AllZip (IsReadImage file) (siblings nodes) images →
     end_of_read_payloads total images ≡ content_end file nodes (map (λ (image : ImageModel). image.payload) images)
 end_of_content file total none [] same is = same
 end_of_content file total none (image ∷ images) same is = absurd is
 end_of_content file total (node name own children later) [] same is = absurd is
 end_of_content file total (node name own children later) (image ∷ images) same is =
-    ap₂ max (ap (λ place. end_at place image.payload) is.0.place ∙ placed_end file (source_of own) image.payload is.0.payload) (end_of_content file total later images same is.1)
+    ap₂ max (ap (λ place. end_at place image.payload) is.0.place ∙ placed_end file (source_of own) image.payload is.0.payload)
+    (end_of_content file total later images same is.1)
 
 -- The image nodes of a file that was read.
-abbrev nodes_found : (limits : Limits) (file : List ℕ) (content : FitModel) (is : IsReadFit limits file content) →
+abbrev pub nodes_found : (limits : Limits) (file : List ℕ) (content : FitModel) (is : IsReadFit limits file content) →
     file_images content.blob ≡ is.means.is_file.images
 nodes_found limits file content is =
     ap (λ root. nodes_or_none (image_nodes root)) (sym is.same_root) ∙ ap nodes_or_none is.means.is_file.has_images
@@ -79,7 +81,8 @@ pub concerns_of_file : (limits : Limits) (file : List ℕ) (content : FitModel) 
     ≡ tree_concerns (tree_of content) ++ trailing_concerns (drop (content_end file is.means.is_file.images (tree_of content).payloads) file)
 concerns_of_file limits file content is =
     let left : List Concern = configurations_concerns content ++ read_default_concerns content in
-    ap₂ (λ (a b : List Concern). a ++ (configurations_concerns content ++ (read_default_concerns content ++ b))) (concerns_of_images content) (ap (λ n. trailing_concerns (drop n file)) (content_end_read limits file content is))
+    ap₂ (λ (a b : List Concern). a ++ (configurations_concerns content ++ (read_default_concerns content ++ b)))
+    (concerns_of_images content) (ap (λ n. trailing_concerns (drop n file)) (content_end_read limits file content is))
     ∙ simp append_assoc refl
 
 -- A legacy image that was read is checked by the concern about the bytes after it,
@@ -145,7 +148,11 @@ pub fit_appended : {S : Type 0} (appends : S → List ℕ → S → Type 0) (che
 unfolding tree_checked
 fit_appended appends checker limits file content old new (Ok clean) is wrote tested within = record {
   text = concerns_text checker.format checker.allowed (read_concerns file content);
-  is_text = record { checked = tree_checked checker limits file _ content is (record { within = within; is_text = refl }); is_empty = tested };
+  is_text = record {
+    checked = tree_checked checker limits file _ content is (record { within = within; is_text = refl });
+    is_empty =
+        tested;
+  };
   appended = wrote;
 }
 fit_appended appends checker limits file content old new (Err error) is wrote tested within = tt

@@ -95,14 +95,20 @@ names_read file (entry ∷ entries) (image ∷ later) read =
     ap (λ name. name ∷ map (λ (entry : Sibling FileNode). entry.name) entries) (sym read.0.name)
     ∙ ap (λ names. image.name ∷ names) (names_read file entries later read.1)
 
+-- The image nodes of a tree have the names of the images that were read.
+pub names_of_content : (content : FitModel) → IsHeld content →
+    map (λ (entry : Sibling PropertyMap). entry.name) (siblings (nodes_or_none (image_nodes (tree_of content).root)))
+    ≡ map (λ (image : ImageModel). image.name) content.images
+names_of_content content held =
+    names-siblings (nodes_or_none (image_nodes (tree_of content).root)) ∙ names_meant (root_of content.blob).children
+    ∙ sym (names-siblings (nodes_or_none (image_nodes (root_of content.blob))))
+    ∙ names_read content.blob.file (siblings (nodes_or_none (image_nodes (root_of content.blob)))) content.images held.images
+
 -- What the name of an image chooses is what its index does.
 pub chosen_by_name : (content : FitModel) (name : List ℕ) → IsHeld content →
     choice_by_name (tree_of content) name ≡ choice_at content.images (index_of name content.images)
 chosen_by_name content name held =
-    found_by_name name (siblings (nodes_or_none (image_nodes (tree_of content).root))) content.images
-    (names-siblings (nodes_or_none (image_nodes (tree_of content).root)) ∙ names_meant (root_of content.blob).children
-    ∙ sym (names-siblings (nodes_or_none (image_nodes (root_of content.blob))))
-    ∙ names_read content.blob.file (siblings (nodes_or_none (image_nodes (root_of content.blob)))) content.images held.images)
+    found_by_name name (siblings (nodes_or_none (image_nodes (tree_of content).root))) content.images (names_of_content content held)
 
 -- The payload of the image that was found is chosen.
 pub payload_chosen : (content : FitModel) (name : List ℕ) (index : ℕ) (payload : Option (Bor (List ℕ))) → IsHeld content →

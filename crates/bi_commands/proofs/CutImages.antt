@@ -1,22 +1,22 @@
-use Rattle.std.proofs.Common.{◌≡◌, ℕ, ◌+◌, ◌-◌, ◌<◌, ◌≤◌, Bool, true, false, List, [], ◌∷◌, ◌++◌, Option, Some, None, length, take, drop}
+use Rattle.std.proofs.Common.{◌≡◌, ℕ, ◌+◌, ◌-◌, ◌≤◌, Bool, true, false, List, [], ◌∷◌, ◌++◌, Option, Some, None, length, take, drop}
 use Rattle.std.proofs.Common.{◌%◌, if◌then◌else◌, refl, sym, ap, ap₂, subst, ◌∙◌, append-nil, append_assoc, arith}
-use Rattle.std.specs.Prelude.{◌==◌, IfSome, unwrap_or}
+use Rattle.std.specs.Prelude.{◌==◌, IfSome}
 use Rattle.std.specs.Int.{from_be_bytes, w32}
 use Rattle.std.specs.List.{AllZip}
 use Rattle.std.proofs.lemmas.List.{drop-take, length-append, length-drop, length-take, length-take-le, take-take, take_at}
-use Rattle.bi_base.specs.Cells.{AreBytes, slice, u32_at, up4}
+use Rattle.bi_base.specs.Cells.{slice, u32_at, up4}
 use Rattle.bi_base.specs.Limits.{Limits}
 use Rattle.bi_base.proofs.ByteLists.{AreBytes-take}
 use Rattle.bi_base.proofs.CellLaws.{length-slice}
-use Rattle.bi_blob.specs.Blob.{BeginsWithReservations, Header, HoldsTree, IsBlob, Reservation, header_length, lacks_structure_size}
+use Rattle.bi_blob.specs.Blob.{BeginsWithReservations, Header, IsBlob, Reservation, header_length, lacks_structure_size}
 use Rattle.bi_blob.specs.Blob.{off_dt_strings, off_dt_struct, off_mem_rsvmap, size_dt_strings, size_dt_struct, structure_end, strings_end}
 use Rattle.bi_blob.specs.Blob.{totalsize}
 use Rattle.bi_blob.specs.Events.{EncodeEvents, file_events_of}
 use Rattle.bi_blob.specs.Tree.{FileNode, FileProperty, Root}
 use Rattle.bi_fit.specs.File.{FitMeans, IsFitFile}
 use Rattle.bi_fit.specs.ImageTree.{ImageTree, each_own}
-use Rattle.bi_fit.specs.Payloads.{Data, DataOffset, DataPosition, HasPayload, IsPayload, NoSource, PayloadSource, cell_number, external_base}
-use Rattle.bi_fit.specs.Payloads.{IsAtPlace, IsRegion, payload_place, source_of}
+use Rattle.bi_fit.specs.Payloads.{Data, DataOffset, DataPosition, HasPayload, IsPayload, NoSource, PayloadSource, cell_number}
+use Rattle.bi_fit.specs.Payloads.{IsAtPlace, IsRegion, external_base, payload_place, source_of}
 use Rattle.bi_fit.proofs.FilePayloads.{payloads_are_at_places}
 use Rattle.bi_fit.proofs.Meanings.{same_in_some}
 use Rattle.bi_legacy.specs.File.{IsLegacyFile, LegacyMeans, header}
@@ -26,8 +26,8 @@ use Rattle.bi_norm.specs.Meaning.{Meaning, OfLegacy, OfFit, Means}
 use Rattle.bi_commands.specs.Checking.{content_end}
 use Rattle.bi_commands.specs.CleanFiles.{EndsBy, IsAfterContent}
 use Rattle.bi_commands.specs.Offsets.{input_from}
-use Rattle.bi_commands.specs.ScanLaws.{IsWholeImage, ScannedImagesAreWhole}
-use Rattle.bi_commands.specs.Scanning.{HasExtent, IsImageAt}
+use Rattle.bi_commands.specs.ScanLaws.{ScannedImagesAreWhole}
+use Rattle.bi_commands.specs.Scanning.{HasExtent}
 use Rattle.bi_commands.proofs.CleanLaws.ContentEnds.{AreAtPlaces, after_content, not_before_end}
 use Rattle.bi_commands.proofs.ScanLaws.{inside}
 
@@ -174,7 +174,8 @@ module _ (file : List ℕ) (end : ℕ) (head : Header file) (after : totalsize f
           (omega (arith, head.structure_ordered, head.structure_within))
           ∙ blob.holds.is_at;
       is_encoded = blob.holds.is_encoded;
-      encodes = subst (λ (begin : ℕ). EncodeEvents (slice (take end file) (off_dt_strings (take end file)) (size_dt_strings (take end file)))
+      encodes = subst
+          (λ (begin : ℕ). EncodeEvents (slice (take end file) (off_dt_strings (take end file)) (size_dt_strings (take end file)))
           begin blob.holds.tokens (file_events_of root))
           (sym (cell_of_cut 8 (omega arith)))
           (subst (λ (strings : List ℕ). EncodeEvents strings (off_dt_struct file) blob.holds.tokens (file_events_of root))
@@ -287,7 +288,10 @@ cut_fit limits file tree means end is = (
     within : end ≤ length file
     within = subst (λ (end : ℕ). end ≤ length file) (sym is)
         (not_before_end file fit.images tree.payloads (length file)
-        (record { after_blob = fit.blob.header.file_holds_total; after_payloads = all_end_in_file file (each_own fit.images) tree.payloads places }))
+        (record {
+          after_blob = fit.blob.header.file_holds_total;
+          after_payloads = all_end_in_file file (each_own fit.images) tree.payloads places;
+        }))
 
     content : IsAfterContent file fit.images tree.payloads end
     content = after_content file fit.images tree.payloads places end (omega (arith, is))
@@ -297,7 +301,8 @@ cut_fit limits file tree means end is = (
 cut_image : (limits : Limits) (file : List ℕ) (meaning : Meaning) (extent : ℕ) → Means limits file meaning →
     HasExtent limits file meaning extent → (extent ≤ length file) × Means limits (take extent file) meaning
 cut_image limits file (OfLegacy image) extent means is =
-    subst (λ (extent : ℕ). (extent ≤ length file) × LegacyMeans limits (take extent file) image) (sym is) (cut_legacy limits file image means)
+    subst (λ (extent : ℕ). (extent ≤ length file) × LegacyMeans limits (take extent file) image) (sym is)
+    (cut_legacy limits file image means)
 cut_image limits file (OfFit tree) extent means (means_too, is) = cut_fit limits file tree means_too extent is
 
 pub scanned_images_are_whole : ScannedImagesAreWhole

@@ -126,7 +126,8 @@ report_in_parts Lines content counts counted =
     (flat_map-map report_line HashVerdict hashes
     ∙ sym (flat_map-map (λ (text : List ℕ). text) hash_line hashes)
     ∙ ap (λ (texts : List (List ℕ)). flat_map (λ text. text) texts) (sym (texts_of_images Lines content)))
-    (append-nil (report_line (Summary (counts_of hashes))) ∙ ap (λ (numbers : Counts). report_line (Summary (counts_model numbers))) (sym counted))
+    (append-nil (report_line (Summary (counts_of hashes))) ∙ ap (λ (numbers : Counts). report_line (Summary (counts_model numbers)))
+    (sym counted))
 report_in_parts Json content counts counted =
     let hashes = verdicts_of (tree_of content) in
     let values = join_with_byte 44 (map hash_object hashes) in
@@ -160,7 +161,12 @@ pub fit_reported : {S : Type 0} (appends : S → List ℕ → S → Type 0) (for
     IfOk result (λ good. IsTrue good ↔ AreGood (verdicts_of (tree_of content))) →
     IfOk result (λ good. Appended appends (IsVerifyOutput format limits good file) old new)
 fit_reported appends format limits file content old new (Ok good) is written are =
-    record { text = report_text format (OfFit (tree_of content)); is_text = tree_reported format limits file content good is are; appended = written }
+    record {
+      text = report_text format (OfFit (tree_of content));
+      is_text = tree_reported format limits file content good is are;
+      appended =
+          written;
+    }
 fit_reported appends format limits file content old new (Err error) is written are = tt
 
 pub fit_not_reported : {S V : Type 0} (fails : S → List ℕ → S → Error → Type 0) (format : Format) (limits : Limits) (file : List ℕ)
@@ -168,4 +174,5 @@ pub fit_not_reported : {S V : Type 0} (fails : S → List ℕ → S → Error �
     IfErr result (AppendFailed fails (λ text. text ≡ report_text format (OfFit (tree_of content))) (λ error. error ≡ OutOfMemory) old new) →
     IfErr result (AppendFailed fails (IsReport format limits file) (IsBootImageReadError limits file) old new)
 fit_not_reported fails format limits file content old new (Ok value) is failed = tt
-fit_not_reported fails format limits file content old new (Err error) is failed = not_verified fails format limits file content old new error is failed
+fit_not_reported fails format limits file content old new (Err error) is failed =
+    not_verified fails format limits file content old new error is failed

@@ -1,5 +1,4 @@
-use Rattle.std.proofs.Common.{◌≡◌, ◌+◌, ◌-◌, ℕ, List, [], length, drop, IsFalse, refl, ap, subst, ◌∙◌, arith}
-use Rattle.std.proofs.lemmas.Bool.{eqb-false}
+use Rattle.std.proofs.Common.{◌≡◌, ◌+◌, ◌-◌, ℕ, List, length, drop, IsFalse, refl, ap, subst, ◌∙◌, arith}
 use Rattle.bi_base.specs.Cells.{cell}
 use Rattle.bi_base.specs.Limits.{widest}
 use Rattle.bi_legacy.specs.File.{header, LegacyMeans}

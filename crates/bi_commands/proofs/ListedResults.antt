@@ -27,7 +27,8 @@ texts_of_node : (checker : Checker) (content : FitModel) → IsHeld content → 
 texts_of_node checker content held entry is =
     let concerns : Key → List Concern = λ key. list_concerns entry.name key (file_listed content.images entry key) in
     ap (concern_texts checker)
-    (same_concerns _ concerns (λ (key : Key). ap (list_concerns entry.name key) (listed_is content held entry.name entry key is.is_found)) all_keys)
+    (same_concerns _ concerns (λ (key : Key). ap (list_concerns entry.name key) (listed_is content held entry.name entry key is.is_found))
+    all_keys)
     ∙ texts_flat_map checker concerns all_keys
 
 -- About several.

@@ -92,14 +92,14 @@ number : (n : ℕ) → NoneBelow (decimal n)
 unfolding digits
 number n = digits_put 64 10 false n [] tt
 
-bytes_digits : (bytes : List ℕ) → NoneBelow (hexadecimal_digits bytes)
-bytes_digits bytes = each-flat_map (digits_of_byte false) (hex_digits false) bytes
+pub visible_digits : (bytes : List ℕ) → NoneBelow (hexadecimal_digits bytes)
+visible_digits bytes = each-flat_map (digits_of_byte false) (hex_digits false) bytes
 
 address : (n : ℕ) → NoneBelow (hexadecimal n)
-address n = (omega arith, (omega arith, bytes_digits (cell n)))
+address n = (omega arith, (omega arith, visible_digits (cell n)))
 
-address_64 : (n : ℕ) → NoneBelow (hexadecimal_64 n)
-address_64 n = (omega arith, (omega arith, bytes_digits (cell8 n)))
+pub visible_address : (n : ℕ) → NoneBelow (hexadecimal_64 n)
+visible_address n = (omega arith, (omega arith, visible_digits (cell8 n)))
 
 plain_byte : (byte : ℕ) (b : Bool) → is_plain byte ≡ b → NoneBelow (cond b (byte ∷ []) (37 ∷ digits_of_byte true byte))
 plain_byte byte false is = (omega arith, hex_digits true byte)
@@ -113,8 +113,8 @@ plain_byte byte true is = (
 )
 
 -- A name as it is printed.
-name_shown : (name : List ℕ) → NoneBelow (shown_text name)
-name_shown name = by (bytes_eq name []) (bytes_eq name (codes "-"))
+pub visible_name : (name : List ℕ) → NoneBelow (shown_text name)
+visible_name name = by (bytes_eq name []) (bytes_eq name (codes "-"))
   where
     by : (a b : Bool) → NoneBelow (cond a (codes "-") (cond b (codes "%2D") (flat_map shown_byte name)))
     by true b = known (codes "-") refl
@@ -124,11 +124,11 @@ name_shown name = by (bytes_eq name []) (bytes_eq name (codes "-"))
 -- A path.
 path_shown : (names : List (List ℕ)) → NoneBelow (path names)
 path_shown [] = known (codes "/") refl
-path_shown (name ∷ names) = each-flat_map (λ other. 47 ∷ shown_text other) (λ other. (omega arith, name_shown other)) (name ∷ names)
+path_shown (name ∷ names) = each-flat_map (λ other. 47 ∷ shown_text other) (λ other. (omega arith, visible_name other)) (name ∷ names)
 
 -- Texts that are printed in quotes.
-escaped : (byte : ℕ) → 32 ≤ byte → NoneBelow (escaped_byte byte)
-escaped byte above = by (byte == 34 || byte == 92)
+pub visible_escape : (byte : ℕ) → 32 ≤ byte → NoneBelow (escaped_byte byte)
+visible_escape byte above = by (byte == 34 || byte == 92)
   where
     by : (b : Bool) → NoneBelow (cond b (92 ∷ byte ∷ []) (byte ∷ []))
     by true = (omega arith, (above, tt))
@@ -139,7 +139,7 @@ escaped_bytes [] are = tt
 escaped_bytes (byte ∷ later) are =
     let both = and_parts (is_printable byte) (list_all is_printable later) are in
     each-append (λ byte. 32 ≤ byte) (escaped_byte byte) (flat_map escaped_byte later)
-    (escaped byte (leb-true 0x20 byte (and_parts (nat_le 0x20 byte) (nat_le byte 0x7e) both.0).0)) (escaped_bytes later both.1)
+    (visible_escape byte (leb-true 0x20 byte (and_parts (nat_le 0x20 byte) (nat_le byte 0x7e) both.0).0)) (escaped_bytes later both.1)
 
 in_quotes : (text : List ℕ) → is_quotable text ≡ true → NoneBelow (quoted_text text)
 in_quotes text is = (
@@ -162,11 +162,11 @@ value_shown value = by (bytes_eq value []) (are_quotable_texts value) refl
         ArePrintableWords (cond a [] (cond b (map quoted_text (listed_names value)) ((codes "0x" ++ hexadecimal_digits value) ∷ [])))
     by true b is = tt
     by false true is = all_in_quotes (listed_names value) (and_parts _ (list_all is_quotable (listed_names value)) is).1
-    by false false is = ((omega arith, (omega arith, bytes_digits value)), tt)
+    by false false is = ((omega arith, (omega arith, visible_digits value)), tt)
 
 -- The words for a digest.
 digest_shown : (digest : PayloadDigest) → ArePrintableWords (digest_words digest)
-digest_shown digest = (known (codes "size") refl, (number digest.size, (known (codes "sha256") refl, (bytes_digits digest.sha256, tt))))
+digest_shown digest = (known (codes "size") refl, (number digest.size, (known (codes "sha256") refl, (visible_digits digest.sha256, tt))))
 
 -- The lines of a legacy image.
 code_shown : (names : List CodeName) → AllByRecursion (λ (name : CodeName). NoneBelow name.name) names → (code : ℕ) →
@@ -193,7 +193,7 @@ legacy_shown : (image : LegacyImage) → ArePrintableLines (legacy_lines image)
 legacy_shown image = (
   (known (codes "kind") refl, (known (codes "legacy") refl, tt)),
   (
-    (known (codes "name") refl, (name_shown image.name, tt)),
+    (known (codes "name") refl, (visible_name image.name, tt)),
     (
       (known (codes "time") refl, (number image.time, tt)),
       (
@@ -226,7 +226,7 @@ payload_shown text is (OfImage None) = ((known (codes "payload") refl, (is, (kno
 payload_shown text is (OfImage (Some digest)) = ((known (codes "payload") refl, (is, digest_shown digest)), tt)
 
 property_shown : (text : List ℕ) → NoneBelow text → (property : Property) → ArePrintableWords (property_words text property)
-property_shown text is property = (known (codes "property") refl, (is, (name_shown property.0, value_shown property.1)))
+property_shown text is property = (known (codes "property") refl, (is, (visible_name property.0, value_shown property.1)))
 
 own_shown : (text : List ℕ) → NoneBelow text → (own : DescribedNode) → ArePrintableLines (own_lines text own)
 own_shown text is own = (
@@ -246,7 +246,13 @@ nodes_shown above (node name own children later) =
     (nodes_shown (above ++ name ∷ []) children) (nodes_shown above later))
 
 reservation_shown : (reservation : Reservation) → ArePrintableWords (reservation_words reservation)
-reservation_shown reservation = (known (codes "reservation") refl, (address_64 reservation.address, (address_64 reservation.size, tt)))
+reservation_shown reservation = (
+  known (codes "reservation") refl,
+  (
+    visible_address reservation.address,
+    (visible_address reservation.size, tt),
+  ),
+)
 
 tree_shown : (tree : ImageTree) → ArePrintableLines (tree_lines tree)
 tree_shown tree =

@@ -1,4 +1,5 @@
-use Rattle.std.proofs.Common.{◌≡◌, ◌⊎◌, ℕ, zero, suc, ◌+◌, ◌-◌, ◌<◌, ◌≤◌, List, [], ◌∷◌, ◌++◌, length, inl, inr, refl, sym, ap, ap₂, subst, ◌∙◌, arith}
+use Rattle.std.proofs.Common.{◌≡◌, ◌⊎◌, ℕ, zero, suc, ◌+◌, ◌-◌, ◌<◌, ◌≤◌, List, [], ◌∷◌, ◌++◌, length, inl, inr}
+use Rattle.std.proofs.Common.{refl, sym, ap, ap₂, subst, ◌∙◌, arith}
 use Rattle.std.specs.List.{AllZip, range_with_len, sum}
 use Rattle.std.proofs.lemmas.List.Sums.{sum_by_push}
 use Rattle.std.proofs.lemmas.Bool.{cases_eq}
@@ -8,7 +9,7 @@ use Rattle.bi_base.specs.Crc.{crc32}
 use Rattle.bi_base.specs.Limits.{Limits, widest}
 use Rattle.bi_base.specs.declared.fault.Fault.{Fault}
 use Rattle.bi_blob.specs.Blob.{totalsize}
-use Rattle.bi_blob.specs.BlobFaults.{HeaderCheck, HeaderPasses}
+use Rattle.bi_blob.specs.BlobFaults.{HeaderPasses}
 use Rattle.bi_blob.proofs.Blobs.TestedChecks.{IsDecided, header_decided, le_decided}
 use Rattle.bi_legacy.specs.Faults as legacy
 use Rattle.bi_norm.specs.declared.kind.Kind.{Kind}
@@ -73,38 +74,49 @@ claim_of_image image = by (legacy_decided image) (blob_decided image) where
   by (inr fails) (inl claim) = (totalsize image, OfBlob claim refl)
   by (inr fails) (inr none) = (0, OfNothing fails none refl)
 
--- The claims of the first images are some of those of more images,
-more_claims : (input claims : List ℕ) (count more : ℕ) →
-    AllZip (λ offset. IsClaim (input_from offset input)) (range_with_len 0 count) claims →
-    (all : List ℕ) × AllZip (λ offset. IsClaim (input_from offset input)) (range_with_len 0 (count + more)) all × (sum claims ≤ sum all)
-more_claims input claims count zero are = (
-  claims,
-  subst (λ (count : ℕ). AllZip (λ offset. IsClaim (input_from offset input)) (range_with_len 0 count) claims)
-      (let same : count ≡ count + zero = omega arith in same) are,
+-- ---- the claims of the first images
+
+-- The images at the first offsets of an input claim this many bytes together.
+abbrev pub HasFirstClaims : (input : List ℕ) → (count total : ℕ) → Type 0
+HasFirstClaims input count total =
+    (claims : List ℕ) × AllZip (λ offset. IsClaim (input_from offset input)) (range_with_len 0 count) claims × (sum claims ≡ total)
+
+-- The next image claims more.
+pub next_claim : (input image : List ℕ) (count total claim : ℕ) → HasFirstClaims input count total → image ≡ input_from count input →
+    IsClaim image claim → HasFirstClaims input (count + 1) (total + claim)
+next_claim input image count total claim (claims, are, same) is claimed = (
+  claims ++ claim ∷ [],
+  next_offset (λ offset. IsClaim (input_from offset input)) count claims claim are
+      (subst (λ (image : List ℕ). IsClaim image claim) is claimed),
+  sum_by_push (λ (each : ℕ). each) claims claim ∙ ap (λ (n : ℕ). n + claim) same,
+)
+
+-- So more images claim as much at least,
+more_claims : (input : List ℕ) (count total more : ℕ) → HasFirstClaims input count total →
+    (all : ℕ) × HasFirstClaims input (count + more) all × (total ≤ all)
+more_claims input count total zero first = (
+  total,
+  subst (λ (count : ℕ). HasFirstClaims input count total) (let same : count ≡ count + zero = omega arith in same) first,
   omega arith,
 )
-more_claims input claims count (suc more) are =
+more_claims input count total (suc more) first =
     let next = claim_of_image (input_from count input) in
-    let all = more_claims input (claims ++ next.0 ∷ []) (count + 1) more
-    (next_offset (λ offset. IsClaim (input_from offset input)) count claims next.0 are next.1) in (
+    let all = more_claims input (count + 1) (total + next.0) more
+    (next_claim input (input_from count input) count total next.0 first refl next.1) in (
       all.0,
-      subst (λ (count : ℕ). AllZip (λ offset. IsClaim (input_from offset input)) (range_with_len 0 count) all.0)
-          (let same : count + 1 + more ≡ count + suc more = omega arith in same) all.1,
-      omega (arith, all.2, sum_by_push (λ (claim : ℕ). claim) claims next.0),
+      subst (λ (count : ℕ). HasFirstClaims input count all.0) (let same : count + 1 + more ≡ count + suc more = omega arith in same) all.1,
+      omega (arith, all.2),
     )
 
--- so if the first images claim more than the limit, all do.
-pub over_claims : (limits : Limits) (input claims : List ℕ) (count : ℕ) → count ≤ length input →
-    AllZip (λ offset. IsClaim (input_from offset input)) (range_with_len 0 count) claims → limits.file < sum claims →
-    IsOverClaims limits input
-over_claims limits input claims count within are over =
-    let all = more_claims input claims count (length input - count) are in
-    record {
-      claims = all.0;
-      are_claims = subst (λ (count : ℕ). AllZip (λ offset. IsClaim (input_from offset input)) (range_with_len 0 count) all.0)
-          (let same : count + (length input - count) ≡ length input = omega (arith, within) in same) all.1;
-      over = omega (arith, over, all.2);
-    }
+-- and if the first images claim more than the limit, all do.
+pub over_claims : (limits : Limits) (input : List ℕ) (count total : ℕ) → count ≤ length input → HasFirstClaims input count total →
+    limits.file < total → IsOverClaims limits input
+over_claims limits input count total within first over =
+    let all = more_claims input count total (length input - count) first in
+    let whole : HasFirstClaims input (length input) all.0 =
+    subst (λ (count : ℕ). HasFirstClaims input count all.0)
+    (let same : count + (length input - count) ≡ length input = omega (arith, within) in same) all.1 in
+    record { claims = whole.0; are_claims = whole.1; over = omega (arith, over, all.2, whole.2) }
 
 -- ---- one claim
 

@@ -1,24 +1,22 @@
-use Rattle.std.proofs.Common.{◌≡◌, ℕ, ◌+◌, ◌-◌, ◌*◌, ◌≤◌, Bool, true, false, not, List, [], ◌∷◌, ◌++◌, length, map, Some, bytes_eq, count_by, cond}
-use Rattle.std.proofs.Common.{drop, refl, sym, ap, subst, ◌∙◌, arith, if◌then◌else◌, length-append}
+use Rattle.std.proofs.Common.{◌≡◌, ℕ, ◌+◌, ◌-◌, ◌*◌, ◌≤◌, Bool, true, false, not, List, [], ◌∷◌, ◌++◌, length, map, Some}
+use Rattle.std.proofs.Common.{bytes_eq, cond, drop, refl, ap, arith, if◌then◌else◌, length-append}
 use Rattle.std.specs.List.{AllZip, sum}
-use Rattle.std.proofs.lemmas.List.{length-take, length-drop}
+use Rattle.std.proofs.lemmas.List.{length-take}
 use Rattle.std.proofs.lemmas.List.Sums.{sum_by-cons}
-use Rattle.bi_base.specs.Cells.{cell, slice, u32_at}
+use Rattle.bi_base.specs.Cells.{cell, u32_at}
 use Rattle.bi_base.specs.Limits.{Limits}
 use Rattle.bi_base.proofs.CellLaws.{length-cell}
-use Rattle.bi_blob.specs.Blob.{Header, HoldsTree, IsBlob, Reservation, TreeBlocks, lacks_structure_size, off_dt_struct, totalsize, tree_blocks}
+use Rattle.bi_blob.specs.Blob.{Header, HoldsTree, IsBlob, Reservation, TreeBlocks, lacks_structure_size, off_dt_struct, totalsize}
+use Rattle.bi_blob.specs.Blob.{tree_blocks}
 use Rattle.bi_blob.specs.Events.{EncodeEvents, FileEvent, FileNodeEnd, FileNodeProperty, FileNodeStart, file_events, file_events_of}
 use Rattle.bi_blob.specs.Tokens.{BeginNode, End, EndNode, Nop, Prop, Token, width}
 use Rattle.bi_blob.specs.Tree.{FileNode, Nodes, Root, as_nodes, node, node_count, none}
 use Rattle.bi_blob.proofs.Blobs.Headers.{Header-HasNoHeaderFault}
 use Rattle.bi_blob.proofs.Blobs.Tokens.{width-at_least}
 use Rattle.bi_blob.proofs.Blobs.TokenEncoding.{AreEncodings-length, place_after_all, place_after_all-append}
-use Rattle.bi_fit.specs.File.{FitMeans}
-use Rattle.bi_fit.specs.ImageTree.{ImageTree, children_of}
+use Rattle.bi_fit.specs.ImageTree.{children_of}
 use Rattle.bi_fit.specs.Names.{images_name}
 use Rattle.bi_fit.proofs.Meanings.{begins_with_magic}
-use Rattle.bi_legacy.specs.File.{LegacyMeans}
-use Rattle.bi_legacy.specs.Meaning.{LegacyImage}
 use Rattle.bi_legacy.proofs.MeansNoFault.{means_no_fault}
 use Rattle.bi_norm.specs.Meaning.{Meaning, OfLegacy, OfFit, Means}
 use Rattle.bi_norm.proofs.FilesWithoutMeaning.{means_legacy}
@@ -124,7 +122,9 @@ accepted_claim limits image (OfLegacy legacy_image) means =
 accepted_claim limits image (OfFit tree) means =
     let fine = Header-HasNoHeaderFault limits image means.within.short means.is_file.blob.header in (
       totalsize image,
-      OfBlob (record { begins = record { whole = fine.1.0; magic = begins_with_magic image tree means.is_file }; passes = fine.1.1.1 }) refl,
+      OfBlob
+          (record { begins = record { whole = fine.1.0; magic = begins_with_magic image tree means.is_file }; passes = fine.1.1.1 })
+          refl,
       blob_is_wide image tree.cpu tree.reservations means.is_file.root means.is_file.blob
           (has_child means.is_file.root.children means.is_file.images means.is_file.has_images),
     )

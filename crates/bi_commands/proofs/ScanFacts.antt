@@ -1,5 +1,5 @@
-use Rattle.std.proofs.Common.{◌≡◌, ℕ, ◌+◌, ◌<◌, ◌≤◌, ◌^◌, Bool, true, false, not, ◌&&◌, ◌||◌, ◌==◌, nat_le, List, [], ◌∷◌, ◌++◌, length, map, take}
-use Rattle.std.proofs.Common.{codes, replicate, refl, sym, ap, subst, ◌∙◌, inl, inr, true≢false, lit≤, lit<, arith}
+use Rattle.std.proofs.Common.{◌≡◌, ℕ, ◌+◌, ◌<◌, ◌≤◌, ◌^◌, Bool, true, false, not, ◌&&◌, ◌||◌, ◌==◌, nat_le, List, [], ◌∷◌, ◌++◌}
+use Rattle.std.proofs.Common.{length, map, take, codes, replicate, refl, sym, ap, subst, ◌∙◌, inl, inr, true≢false, lit≤, lit<, arith}
 use Rattle.std.specs.Fmt.{digits}
 use Rattle.std.specs.List.{AllZip, concat, list_all, range_with_len, sum}
 use Rattle.std.proofs.lemmas.Bool.{and_parts, eq-eqb, eqb-false, le-leb}
@@ -73,7 +73,8 @@ quiet : {A : Type 0} (R : ℕ → A → Type 0) (input : List ℕ) (nothing : A)
     list_all (λ offset. not (begins (input_from offset input))) offsets ≡ true → AllZip R offsets (map (λ offset. nothing) offsets)
 quiet R input nothing each [] all = tt
 quiet R input nothing each (offset ∷ later) all =
-    let first = and_parts (not (begins (input_from offset input))) (list_all (λ offset. not (begins (input_from offset input))) later) all in
+    let first = and_parts (not (begins (input_from offset input)))
+    (list_all (λ offset. not (begins (input_from offset input))) later) all in
     (each offset (not_true (begins (input_from offset input)) first.0), quiet R input nothing each later first.1)
 
 -- What holds at some offsets and at others.
@@ -107,7 +108,9 @@ claims_are_known = record {
   cut_legacy = only_legacy_claim (take 72 kernel_file) refl (λ claim. omega (arith, claim.passes.1.1.0));
   great = only_legacy_claim great_header refl (λ claim. omega (arith, claim.passes.1.1.0));
   tree = OfBlob (record { begins = record { whole = lit≤ tt; magic = refl }; passes = blob_passes (smallest_text ++ 0xff ∷ []) refl }) refl;
-  version_16 = OfBlob (record { begins = record { whole = lit≤ tt; magic = refl }; passes = blob_passes (with_cell smallest_text 20 16) refl }) refl;
+  version_16 = OfBlob
+      (record { begins = record { whole = lit≤ tt; magic = refl }; passes = blob_passes (with_cell smallest_text 20 16) refl })
+      refl;
   version_15 = only_blob_claim (with_cell smallest_text 20 15) refl (λ claim. omega (arith, claim.passes.1.0));
   cut_tree = only_blob_claim (take 87 smallest_text) refl (λ claim. omega (arith, claim.passes.1.1.1.1.0));
   legacy_alone = only_legacy_claim (cell legacy_magic) refl (λ claim. omega (arith, claim.passes.0));
@@ -432,7 +435,8 @@ magics_scan : IsScanText (scan_limits 64) three_magics []
 unfolding u32_at cell
 magics_scan =
     known_scan (scan_limits 64) three_magics [] (nothing_at (range_with_len 0 13)) (lit≤ tt)
-    (at_both (IsKnownAt (scan_limits 64) three_magics) (0 ∷ []) (range_with_len 1 12) (nothing_at (0 ∷ [])) (nothing_at (range_with_len 1 12))
+    (at_both (IsKnownAt (scan_limits 64) three_magics) (0 ∷ []) (range_with_len 1 12) (nothing_at (0 ∷ []))
+    (nothing_at (range_with_len 1 12))
     (nothing_is_known (scan_limits 64) three_magics (0 ∷ []) refl) (
       (
         WithoutImage (legacy_alone (scan_limits 64) (input_from 1 three_magics) refl (lit< tt)) refl,

@@ -1,21 +1,20 @@
-use Rattle.std.proofs.Common.{◌≡◌, ◌≢◌, ℕ, zero, suc, ◌+◌, ◌<◌, List, [], ◌∷◌, length, get_or, drop, Some, refl, sym, ap, ap₂, subst}
+use Rattle.std.proofs.Common.{◌≡◌, ◌≢◌, ℕ, zero, suc, ◌+◌, ◌<◌, List, [], ◌∷◌, length, get_or, refl, sym, ap, ap₂, subst}
 use Rattle.std.proofs.Common.{◌∙◌, arith}
-use Rattle.std.specs.List.{AllZip, Contains, concat, range_with_len}
+use Rattle.std.specs.List.{AllZip, concat, range_with_len}
 use Rattle.std.proofs.lemmas.List.{length-drop}
 use Rattle.std.proofs.lemmas.List.FromFn.{length-range_with_len}
 use Rattle.std.proofs.lemmas.Slice.Zip.{AllZip-long}
 use Rattle.bi_base.specs.Limits.{Limits}
 use Rattle.bi_blob.specs.Tree.{Nodes, FileNode}
 use Rattle.bi_blob.proofs.Blobs.OneBlob.{one_blob}
-use Rattle.bi_fit.specs.File.{FitMeans}
-use Rattle.bi_fit.specs.ImageTree.{ImageTree, image_nodes}
+use Rattle.bi_fit.specs.ImageTree.{image_nodes}
 use Rattle.bi_fit.proofs.Meanings.{same_in_some}
 use Rattle.bi_norm.specs.Laws.{OneFileMeaning}
 use Rattle.bi_norm.specs.Meaning.{Meaning, OfLegacy, OfFit, Means}
 use Rattle.bi_commands.specs.Checking.{content_end}
 use Rattle.bi_commands.specs.Offsets.{input_from}
 use Rattle.bi_commands.specs.ScanLaws.{EachImageHasItsLine, OneScan}
-use Rattle.bi_commands.specs.Scanning.{HasExtent, IsImageAt, IsLineAt, IsScanText, WithImage, WithoutImage, input_offsets, scan_line}
+use Rattle.bi_commands.specs.Scanning.{HasExtent, IsImageAt, IsLineAt, WithImage, WithoutImage, input_offsets, scan_line}
 use Rattle.bi_commands.proofs.ScannedLines.{means_kind}
 
 -- The lines of a scan are those of the images at offsets, one for each, and there is only one list of them.
@@ -110,7 +109,8 @@ one_line one_meaning limits input offset one other is (WithImage extent meaning 
     ∙ sym same
 one_line one_meaning limits input offset one other (WithImage extent meaning is same) (WithoutImage nothing other_same) =
     absurd (nothing meaning is.means)
-one_line one_meaning limits input offset one other (WithoutImage nothing same) (WithoutImage other_nothing other_same) = same ∙ sym other_same
+one_line one_meaning limits input offset one other (WithoutImage nothing same) (WithoutImage other_nothing other_same) =
+    same ∙ sym other_same
 
 -- and one list of lines.
 same_lines : OneFileMeaning → (limits : Limits) (input offsets : List ℕ) (lines others : List (List ℕ)) →
@@ -127,5 +127,6 @@ same_lines one_meaning limits input (offset ∷ offsets) (line ∷ lines) (other
 pub one_scan : OneFileMeaning → OneScan
 one_scan one_meaning limits input one other is other_is =
     is.has.is_text
-    ∙ ap concat (same_lines one_meaning limits input (input_offsets input) is.has.lines other_is.has.lines is.has.are_lines other_is.has.are_lines)
+    ∙ ap concat
+    (same_lines one_meaning limits input (input_offsets input) is.has.lines other_is.has.lines is.has.are_lines other_is.has.are_lines)
     ∙ sym other_is.has.is_text

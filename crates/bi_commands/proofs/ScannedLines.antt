@@ -1,4 +1,4 @@
-use Rattle.std.proofs.Common.{◌≡◌, ℕ, ◌+◌, ◌≤◌, Bool, true, false, Result, Ok, Err, OnOk, IfErr, is_err, List, [], ◌∷◌, ◌++◌, length, map}
+use Rattle.std.proofs.Common.{◌≡◌, ℕ, ◌+◌, true, Result, Ok, Err, OnOk, IfErr, is_err, List, [], ◌∷◌, ◌++◌, length}
 use Rattle.std.proofs.Common.{codes, refl, sym, ap, subst, ◌∙◌, append-nil, append_assoc, arith}
 use Rattle.std.specs.Prelude.{IsAscii}
 use Rattle.std.specs.Fmt.{decimal}
@@ -25,7 +25,7 @@ use Rattle.bi_norm.specs.Meaning.{Meaning, OfLegacy, OfFit, Means, MeansNothing}
 use Rattle.bi_norm.proofs.FilesWithoutMeaning.{means_legacy}
 use Rattle.bi_commands.specs.Offsets.{input_from}
 use Rattle.bi_commands.specs.ReadChecking.{end_of_read_payloads}
-use Rattle.bi_commands.specs.Scanning.{HasLines, IsLineAt, IsScanText, WithImage, WithoutImage, input_offsets, scan_line}
+use Rattle.bi_commands.specs.Scanning.{HasLines, IsLineAt, IsScanText, WithImage, WithoutImage, input_offsets}
 use Rattle.bi_commands.specs.Shown.{line, shown_text}
 use Rattle.bi_commands.proofs.AsciiTexts.{HasAscii, ascii_line, both, by_test, decimal_shown, is_ascii, name_shown}
 use Rattle.bi_commands.proofs.CheckedFiles.{content_end_read}

@@ -20,7 +20,8 @@ commas_in_parts : (is_later : Bool) (xs ys : List (List ℕ)) →
     with_commas is_later (xs ++ ys) ≡ with_commas is_later xs ++ with_commas (is_later_after is_later xs) ys
 commas_in_parts is_later [] ys = refl
 commas_in_parts is_later (x ∷ xs) ys =
-    ap (λ (l : List ℕ). comma is_later ++ (x ++ l)) (commas_in_parts true xs ys ∙ ap (λ b. with_commas true xs ++ with_commas b ys) (after_true xs))
+    ap (λ (l : List ℕ). comma is_later ++ (x ++ l)) (commas_in_parts true xs ys ∙ ap (λ b. with_commas true xs ++ with_commas b ys)
+    (after_true xs))
     ∙ ap (λ (l : List ℕ). comma is_later ++ l) (sym (append_assoc x (with_commas true xs) (with_commas true ys)))
     ∙ sym (append_assoc (comma is_later) (x ++ with_commas true xs) (with_commas true ys))
   where
@@ -74,7 +75,8 @@ turn_goes_on appends together old mid new format first now next more later left 
       ∙ sym (in_two_parts format now more later)
       ∙ ap (in_turn format now) (sym is))
       ∙ so_far.texts;
-  later = ap (λ (b : Bool). is_later_after b later) then ∙ sym (later_after_both now more later) ∙ ap (is_later_after now) (sym is) ∙ so_far.later;
+  later = ap (λ (b : Bool). is_later_after b later) then ∙ sym (later_after_both now more later) ∙ ap (is_later_after now) (sym is)
+      ∙ so_far.later;
 }
 
 -- None is left at last.
@@ -83,7 +85,8 @@ pub turn_ends : {S : Type 0} (appends : S → List ℕ → S → Type 0) (old ne
     appends old (in_turn format first all) new × (now ≡ is_later_after first all)
 turn_ends appends old new format first now left all so_far none = (
   subst (λ bytes. appends old bytes new)
-      (sym (append-nil so_far.done) ∙ ap (λ (l : List ℕ). so_far.done ++ l) (sym (nothing format now) ∙ ap (in_turn format now) (sym none)) ∙ so_far.texts)
+      (sym (append-nil so_far.done) ∙ ap (λ (l : List ℕ). so_far.done ++ l) (sym (nothing format now) ∙ ap (in_turn format now) (sym none))
+      ∙ so_far.texts)
       so_far.written,
   ap (is_later_after now) (sym none) ∙ so_far.later,
 )
@@ -104,7 +107,8 @@ turn_fails appends fails after before old mid new format first now more later le
     (append_assoc done (in_turn format now more) rest
     ∙ ap (λ (l : List ℕ). done ++ l) (sym (in_two_parts format now more later) ∙ ap (in_turn format now) (sym is))
     ∙ so_far.texts)
-    (before old new (done ++ in_turn format now more) rest error (after old mid new done (in_turn format now more) error so_far.written failed))
+    (before old new (done ++ in_turn format now more) rest error (after old mid new done (in_turn format now more) error so_far.written
+    failed))
 
 -- This failure is passed on by `?`.
 pub turn_passed : {S : Type 0} (appends : S → List ℕ → S → Type 0) (fails : S → List ℕ → S → Error → Type 0) (old : S) (format : Format)

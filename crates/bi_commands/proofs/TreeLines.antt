@@ -1,18 +1,12 @@
-use Rattle.std.proofs.Common.{◌≡◌, ℕ, ◌-◌, ◌<◌, ◌≤◌, List, [], ◌∷◌, ◌++◌, codes, take, length}
+use Rattle.std.proofs.Common.{◌≡◌, ℕ, ◌-◌, List, [], ◌∷◌, ◌++◌, codes, take, length}
 use Rattle.std.proofs.Common.{map, refl, sym, ap, ◌∙◌, arith, append_assoc, append-nil, length-append}
 use Rattle.std.specs.FinMap.{entries}
 use Rattle.std.proofs.lemmas.List.{take-append-le}
 use Rattle.std.proofs.Math.Seq.{take-length}
 use Rattle.bi_blob.specs.Tree.{Nodes, none, node, Property}
-use Rattle.bi_base.specs.Limits.{Limits}
-use Rattle.bi_fit.specs.NormalNodes.{payloads_of}
-use Rattle.bi_fit.specs.declared.image.Image.{Image}
-use Rattle.bi_fit.specs.Content.{FitModel, ImageModel, image_model, tree_of}
 use Rattle.bi_fit.specs.ImageTree.{ImageTree}
-use Rattle.bi_norm.specs.Meaning.{OfFit}
 use Rattle.bi_commands.specs.Descriptions.{Words, DescribedNode, NodePayload, NotAnImage, OfImage, described_nodes, node_lines, path}
 use Rattle.bi_commands.specs.Descriptions.{payload_words, property_words, tree_lines}
-use Rattle.bi_commands.specs.PayloadBounds.{IsOverPayloadBound, payloads_length}
 use Rattle.bi_commands.specs.ReadDescription.{root_lines}
 use Rattle.bi_commands.specs.TreeEntries.{EntryModel, NodeEnds, PropertyEntry, entry_lines, node_entries, own_entries, payload_entries}
 use Rattle.bi_commands.specs.TreeEntries.{tree_entries}
@@ -83,14 +77,3 @@ lines_of_tree tree =
     (property_lines [] (entries tree.root.own) (node_entries nodes)
     ∙ ap (λ lines. own ++ lines) (ap (entry_lines []) (sym (append-nil (node_entries nodes))) ∙ lines_of_nodes [] nodes []
     ∙ append-nil (node_lines [] nodes)))
-
--- Payloads that are no longer than the limit are not over the payload bound.
-pub within_bound : (limits : Limits) (content : FitModel) (images : List Image) (limit : ℕ) → limit ≡ limits.file →
-    map image_model images ≡ content.images → payloads_length (payloads_of images) ≤ limit →
-    ¬ (IsOverPayloadBound limits (OfFit (tree_of content)))
-within_bound limits content images limit is same within over =
-    let lengths : payloads_length (payloads_of images)
-    ≡ payloads_length (tree_of content).payloads = ap
-    (λ (images : List ImageModel). payloads_length (map (λ (image : ImageModel). image.payload) images)) same in
-    let longer : limits.file < payloads_length (tree_of content).payloads = over in
-    omega (arith, is, within, lengths, longer)

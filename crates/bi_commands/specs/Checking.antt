@@ -197,6 +197,18 @@ pub data AreConcerns (limits : Limits) (file : List ℕ) (concerns : List Concer
 
 -- ---- what is allowed
 
+-- No kind is allowed.
+abbrev pub nothing_allowed : Allowed
+nothing_allowed = record {
+  bad_hash = false;
+  unhashed = false;
+  weak_hash = false;
+  bad_list = false;
+  missing = false;
+  bad_default = false;
+  trailing = false;
+}
+
 -- Whether the lines of this kind are left out.
 abbrev pub allows : Allowed → ConcernKind → Bool
 allows allowed kind.BadHash = allowed.bad_hash

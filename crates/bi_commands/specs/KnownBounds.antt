@@ -1,4 +1,4 @@
-use Rattle.std.specs.Prelude.{ℕ, [], ◌∷◌, None, Some, codes, replicate}
+use Rattle.std.specs.Prelude.{[], ◌∷◌, None, Some, codes, replicate}
 use Rattle.bi_fit.specs.declared.form.Form.TheVariants.{Embedded}
 use Rattle.bi_fit.specs.ImageTree.{ImageTree}
 use Rattle.bi_fit.specs.KnownFiles.{plain_tree, shared_file, shared_region, shared_tree}

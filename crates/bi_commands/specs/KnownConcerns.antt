@@ -1,4 +1,4 @@
-use Rattle.std.specs.Prelude.{◌≡◌, ℕ, false, true, List, [], ◌∷◌, ◌++◌, Option, None, Some, codes}
+use Rattle.std.specs.Prelude.{◌≡◌, ℕ, true, List, [], ◌∷◌, ◌++◌, Option, None, Some, codes}
 use Rattle.std.specs.Prelude.{drop, filter, map, option_map}
 use Rattle.bi_base.specs.Limits.{widest}
 use Rattle.bi_blob.specs.Layout.{tree_with_places}
@@ -17,24 +17,12 @@ use Rattle.bi_commands.specs.declared.check.ConcernKind.{ConcernKind}
 use Rattle.bi_commands.specs.declared.check.ConcernKind.TheVariants as kind
 use Rattle.bi_commands.specs.Checking.{Concern, BadHash, TrailingBytes, AreConcerns}
 use Rattle.bi_commands.specs.Checking.{allows, kind_word, concern_lines, content_end}
-use Rattle.bi_commands.specs.Checking.{default_concerns, hashed_concerns, trailing_concerns}
-use Rattle.bi_commands.specs.Checking.{tree_concerns}
+use Rattle.bi_commands.specs.Checking.{default_concerns, hashed_concerns, nothing_allowed}
+use Rattle.bi_commands.specs.Checking.{trailing_concerns, tree_concerns}
 use Rattle.bi_commands.specs.CleanFiles.{IsClean}
 use Rattle.bi_commands.specs.KnownTexts.{hash_with, lines, three_root}
 
 -- The concerns about small trees, by which a reader can judge the definitions.
-
--- No kind is allowed.
-abbrev pub nothing_allowed : Allowed
-nothing_allowed = record {
-  bad_hash = false;
-  unhashed = false;
-  weak_hash = false;
-  bad_list = false;
-  missing = false;
-  bad_default = false;
-  trailing = false;
-}
 
 -- The lines of the concerns about a tree with a hash node of each verdict, and about one whose
 -- configurations have lists of each kind and whose default is none of them. With lists allowed, the

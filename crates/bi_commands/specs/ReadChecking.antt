@@ -42,15 +42,15 @@ abbrev pub good_algorithm : CheckedHash → List ℕ
 good_algorithm hash = if is_good hash then 32 ∷ shown_or_none hash.algo else []
 
 -- The offset of a payload, 0 if there is none.
-abbrev pub offset_of : Place → ℕ
-offset_of Absent = 0
-offset_of (Data offset) = offset
-offset_of (DataOffset offset) = offset
-offset_of (DataPosition offset) = offset
+abbrev pub offset_at : Place → ℕ
+offset_at Absent = 0
+offset_at (Data offset) = offset
+offset_at (DataOffset offset) = offset
+offset_at (DataPosition offset) = offset
 
 -- Where a payload at this place ends, 0 if there is none.
 abbrev pub end_at : Place → Option (List ℕ) → ℕ
-end_at place payload = offset_of place + payload_length payload
+end_at place payload = offset_at place + payload_length payload
 
 -- Where the last of a blob of this size and these images ends.
 abbrev pub end_of_read_payloads : (total_size : ℕ) → List ImageModel → ℕ

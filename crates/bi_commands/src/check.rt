@@ -11,7 +11,7 @@ ghost use Rattle.bi_commands.specs.Checking.{kind_word, allows as allows_kind};
 pub(crate) mod concern;
 mod concern_json;
 mod configurations;
-mod fit;
+pub(crate) mod fit;
 mod images;
 pub(crate) mod trailing;
 

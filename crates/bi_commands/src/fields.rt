@@ -18,8 +18,8 @@ mod values;
 use crate::shown::is_plain;
 use bi_base::{Error, Sink};
 use itoa::Buffer;
-pub(crate) use values::are_quotable_texts;
 use values::put_value;
+pub(crate) use values::{are_quotable_texts, is_printable, put_bytes};
 
 /// A field of a line: a word, or the words for a value.
 #[derive(Clone, Copy)]

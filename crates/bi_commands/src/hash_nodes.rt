@@ -37,7 +37,7 @@ impl<'a, 'b> HashNodes<'a, 'b> {
     ghost use Rattle.bi_commands.specs.HashedImages.{hashes_left};
 
     /// Returns the hash nodes of the image of a node.
-    fn new(
+    pub(crate) fn new(
         node: NodeRef<'a, 'b>,
         image: &Image<'a>,
         digests: &'b RegionDigests<'a>,

@@ -7,6 +7,9 @@ ghost use Rattle.bi_commands.specs.KnownConcerns.{TrailingBytesAreKnown, LegacyC
 ghost use Rattle.bi_commands.specs.KnownConcerns.{AllowedKindsAreKnown};
 ghost use Rattle.bi_commands.specs.KnownDescriptions.{ValuesAreShown, DescriptionsAreKnown};
 ghost use Rattle.bi_commands.specs.KnownDifferences.{DifferencesAreKnown, ComparisonsAreKnown};
+ghost use Rattle.bi_commands.specs.KnownJson.{JsonIsKnown};
+ghost use Rattle.bi_commands.specs.KnownPayloadFiles.{FileNamesAreKnown, ImageFilesAreKnown};
+ghost use Rattle.bi_commands.specs.KnownPayloadFiles.{PartFilesAreKnown, SafeNamesAreKnown};
 ghost use Rattle.bi_commands.specs.KnownScans.{ClaimsAreKnown, OffsetsAreKnown, ScansAreKnown};
 ghost use Rattle.bi_commands.specs.KnownTexts.{NamesAreShown, ChoicesAreKnown, ReportsAreKnown};
 ghost use Rattle.bi_commands.specs.KnownTexts.{LegacyListingsAreKnown, FitListingIsKnown};
@@ -117,4 +120,33 @@ pub fn scans_are_known()
 /// after the end.
 pub fn offsets_are_known()
     ensures { OffsetsAreKnown }
+{}
+
+/// Small texts are JSON, and others are not: a comma after the last member, a number that begins
+/// with a zero, a control character or a quote in a string, or no text.
+pub fn json_is_known()
+    ensures { JsonIsKnown }
+{}
+
+/// The files of parts and images have known names: those of names with a first dot, another dot, a
+/// space or a percent sign, and of the name `-`.
+pub fn file_names_are_known()
+    ensures { FileNamesAreKnown }
+{}
+
+/// Small names are safe names of files, or they are not: an empty one, one that begins with a dot,
+/// and one with a slash or a space.
+pub fn safe_names_are_known()
+    ensures { SafeNamesAreKnown }
+{}
+
+/// The files of the parts of a kernel image and of a multi-file image are known.
+pub fn part_files_are_known()
+    ensures { PartFilesAreKnown }
+{}
+
+/// The files of the images of small trees are known: an image without a payload has none. Payloads
+/// that are together as long as the limit are within it.
+pub fn image_files_are_known()
+    ensures { ImageFilesAreKnown }
 {}

@@ -3,6 +3,9 @@
 
 ghost use Rattle.bi_commands.specs.CleanFiles.{EmptyIsClean};
 ghost use Rattle.bi_commands.specs.DescriptionLaws.{SameDescriptionIsSimilar};
+ghost use Rattle.bi_commands.specs.JsonLaws.{ComparisonsAreJson, ConcernsAreJson};
+ghost use Rattle.bi_commands.specs.JsonLaws.{DescriptionsAreJson, ListingsAreJson, ReportsAreJson};
+ghost use Rattle.bi_commands.specs.ExtractingAll.{EachPayloadHasItsFile, FileNamesAreSafe};
 ghost use Rattle.bi_commands.specs.Parts.{LengthsAreCut};
 ghost use Rattle.bi_commands.specs.ScanLaws.{EachImageHasItsLine, LinesAreFew, OneScan};
 ghost use Rattle.bi_commands.specs.ScanLaws.{ScanHasNoFault, ScannedImagesAreWhole};
@@ -61,4 +64,40 @@ pub fn scan_has_no_fault()
 /// at least.
 pub fn lines_are_few()
     ensures { LinesAreFew }
+{}
+
+/// A listing in JSON is one line of JSON.
+pub fn listings_are_json()
+    ensures { ListingsAreJson }
+{}
+
+/// A description in JSON is one line of JSON.
+pub fn descriptions_are_json()
+    ensures { DescriptionsAreJson }
+{}
+
+/// A report of `verify` in JSON is one line of JSON.
+pub fn reports_are_json()
+    ensures { ReportsAreJson }
+{}
+
+/// The concerns that `check` writes in JSON are one line of JSON.
+pub fn concerns_are_json()
+    ensures { ConcernsAreJson }
+{}
+
+/// A comparison in JSON is one line of JSON.
+pub fn comparisons_are_json()
+    ensures { ComparisonsAreJson }
+{}
+
+/// Each payload of a boot image has a file: the part of each index, in the order of the parts, and
+/// the payload of the image of each name.
+pub fn each_payload_has_its_file()
+    ensures { EachPayloadHasItsFile }
+{}
+
+/// The files of the payloads of a boot image have safe names, and no two have the same name.
+pub fn file_names_are_safe()
+    ensures { FileNamesAreSafe }
 {}

@@ -1,18 +1,50 @@
 //! The bound on the payloads that a command hashes.
 
-ghost use Rattle.std.specs.Prelude.{◌≡◌, ◌<◌, ◌≤◌, ◌^◌, OnOk, IfErr};
+ghost use Rattle.std.specs.Prelude.{◌≡◌, ◌<◌, ◌≤◌, ◌^◌, OnOk, IfOk, IfErr};
 ghost use Rattle.std.specs.Option.{option_map};
 ghost use Rattle.bi_base.specs.Reading.{too_large};
+ghost use Rattle.bi_fit.specs.Content.{tree_of};
 ghost use Rattle.bi_fit.specs.NormalNodes.{payloads_of};
-ghost use Rattle.bi_commands.specs.PayloadBounds.{payload_length, payloads_length};
+ghost use Rattle.bi_norm.specs.Meaning.{OfFit};
+ghost use Rattle.bi_commands.specs.PayloadBounds.{IsOverPayloadBound, payload_length};
+ghost use Rattle.bi_commands.specs.PayloadBounds.{payloads_length};
 
-use bi_base::{Cause, Fault, refuse};
-use bi_fit::Image;
+use bi_base::{Cause, Fault, Limits, refuse};
+use bi_fit::{Fit, Image};
+
+/// A flattened image tree whose payloads together are no longer than the limit for files. Only
+/// `new` makes one, so what takes it hashes no payload before their lengths are known.
+#[derive(Clone, Copy)]
+pub(crate) struct BoundedFit<'b, 'a> {
+    fit: &'b Fit<'a>,
+}
+
+impl<'b, 'a> BoundedFit<'b, 'a> {
+    /// Checks that the payloads of the images together are no longer than the limit for files.
+    ///
+    /// Error: TooLarge at that limit, if they are longer.
+    pub(crate) fn new(fit: &'b Fit<'a>, limits: Limits) -> Result<BoundedFit<'b, 'a>, Fault>
+        ensures same { IfOk result (λ bounded. bounded.fit.now ≡ fit.entry.now) }
+        ensures within { OnOk result (¬ (IsOverPayloadBound limits (OfFit (tree_of fit.now)))) }
+        ensures fault { IfErr result (λ fault. (fault ≡ too_large limits.file)
+            × IsOverPayloadBound limits (OfFit (tree_of fit.now))) }
+    {
+        check_payloads(fit.images(), limits.file())?;
+        Ok(BoundedFit { fit })
+    }
+
+    /// Returns the tree.
+    pub(crate) fn fit(self) -> &'b Fit<'a>
+        ensures { result.now ≡ self.entry.fit.now }
+    {
+        self.fit
+    }
+}
 
 /// Checks that the payloads of images together are no longer than a limit.
 ///
 /// Error: TooLarge at the limit, if they are longer.
-pub(crate) fn check_payloads(images: &[Image], limit: u32) -> Result<(), Fault>
+fn check_payloads(images: &[Image], limit: u32) -> Result<(), Fault>
     ensures ok { OnOk result (payloads_length (payloads_of images.now) ≤ limit) }
     ensures fault { IfErr result (λ fault. (fault ≡ too_large limit)
         × (limit < payloads_length (payloads_of images.now))) }

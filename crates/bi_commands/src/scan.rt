@@ -15,15 +15,18 @@ use lines::put_lines;
 use std::alloc::Global;
 use std::io::{Read, Write};
 
-/// Returns a line for each boot image inside a file, in the order of their offsets, also for one
-/// inside another. An image may begin at any offset. It is the file from there on, and is accepted
-/// if `BootImage::read` accepts that within the same limits. The line has the offset, the kind, how
-/// many bytes the image has, and the name of a legacy image, or the number of images of a flattened
-/// image tree. A flattened image tree ends where the blob ends, or the payload that ends last.
+/// Returns a line for each boot image inside a file, in the order of their offsets, even for one
+/// inside another. An image may begin at any offset, aligned or not. It is the file from there on,
+/// and it is accepted if `BootImage::read` accepts that within the same limits. A legacy image ends
+/// with its data. A flattened image tree ends where the blob ends, or the payload that ends last.
 ///
-/// Error: TooLarge at the limit, if the file is longer, or if the headers inside it, those with the
-/// right checks, name together more bytes than that. So the time grows with the limit, whatever the
-/// file has. OutOfMemory may come after these checks.
+/// A line has the offset, `legacy` or `fit`, how many bytes the image has, and the name of a legacy
+/// image or the number of images of a flattened image tree.
+///
+/// Error: TooLarge at the limit, if the file is longer, or if its images together claim more bytes
+/// than that. A legacy image claims its header and its data, and a blob its total size, if the
+/// header is right and the file has all of it. So the limit bounds the work, whatever the file
+/// contains. OutOfMemory occurs only after these checks.
 pub fn scan(alloc: Global, file: &[u8], limits: Limits) -> Result<String, Error>
     ensures scanned { IfOk result (λ text. IsScanText limits file.now (string_bytes text)) }
     ensures failed { IfErr result (IsScanError limits file.now) }

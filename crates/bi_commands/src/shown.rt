@@ -25,7 +25,7 @@ pub fn shown_name(alloc: Global, name: &[u8]) -> Result<String, AllocError>
 }
 
 /// Appends the bytes of a name as they are printed.
-fn put_bytes(text: &mut String, name: &[u8]) -> Result<(), AllocError>
+pub(crate) fn put_bytes(text: &mut String, name: &[u8]) -> Result<(), AllocError>
     ensures { OnOk result (string_bytes text.new ≡ string_bytes text.old
         ++ flat_map shown_byte name.now) }
 {

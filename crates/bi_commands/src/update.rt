@@ -10,7 +10,7 @@ ghost use Rattle.bi_commands.specs.UpdatedFiles.{IsUpdated, IsUpdateOutput, IsUp
 ghost use Rattle.bi_commands.specs.UpdatedFiles.{HasNewDigests, IsDigestsError};
 ghost use Rattle.bi_commands.specs.UpdatedFiles.{update_promise, update_laws};
 
-use crate::payload_bounds::check_payloads;
+use crate::payload_bounds::BoundedFit;
 use bi_base::{Command, Error, Limits, Sink, VecSink, pipe_to};
 pub use bi_fit::Changes;
 use bi_fit::{Fit, Form};
@@ -178,8 +178,10 @@ fn new_digests(
         HasNewDigests changes limits (tree_of fit.now) digests.items) }
     ensures failed { IfErr result (IsDigestsError changes limits (tree_of fit.now)) }
 {
-    if changes.hashes {
-        check_payloads(fit.images(), limits.file())?;
+    if !changes.hashes {
+        return Ok(Vec::new(alloc));
     }
-    fit.new_digests(alloc, changes)
+    BoundedFit::new(fit, limits)?
+        .fit()
+        .new_digests(alloc, changes)
 }

@@ -13,10 +13,11 @@ ghost use Rattle.bi_commands.specs.VerdictCounts.{are_good as are_good_of, hash_
 ghost use Rattle.bi_commands.specs.VerdictCounts.{one_more_verdict, plus_hashes};
 
 use crate::hash_nodes::is_hash;
+use crate::payload_bounds::BoundedFit;
 use bi_fdt::NodeRef;
 use bi_fit::Fit;
 use bi_hash::{Region, RegionDigests, Verdict};
-use std::alloc::AllocError;
+use std::alloc::{AllocError, Global};
 
 /// How many hash nodes have each verdict.
 #[derive(Clone, Copy, Default)]
@@ -49,6 +50,22 @@ impl Counts {
     {
         self.bad == 0 && self.unknown_algorithm == 0 && self.no_payload == 0 && self.malformed == 0
     }
+}
+
+/// Returns the digests of a flattened image tree. Each that a verdict needs is computed. Fails if
+/// memory runs out.
+pub(crate) fn digests_of_verdicts<'a>(
+    alloc: Global,
+    bounded: BoundedFit<'_, 'a>,
+) -> Result<RegionDigests<'a>, AllocError>
+    requires held { IsHeld bounded.fit.now }
+    ensures placed { IfOk result (λ digests.
+        AreAtTheirPlaces digests bounded.entry.fit.now.images) }
+{
+    let fit = bounded.fit();
+    let mut digests = fit.region_digests(alloc);
+    let _ = count_verdicts(fit, &mut digests)?;
+    Ok(digests)
 }
 
 /// Judges each hash node of a flattened image tree, so that each digest that a verdict needs is

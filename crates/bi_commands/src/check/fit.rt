@@ -17,8 +17,8 @@ use super::Checker;
 use super::configurations::{put_configurations, put_default};
 use super::images::put_images;
 use super::trailing::{content_end, put_after_concerns, put_before_concerns, put_trailing};
-use crate::payload_bounds::check_payloads;
-use crate::verdict_counts::count_verdicts;
+use crate::payload_bounds::BoundedFit;
+use crate::verdict_counts::digests_of_verdicts;
 use bi_base::{Error, Limits, Sink};
 use bi_fit::Fit;
 use bi_hash::RegionDigests;
@@ -47,15 +47,14 @@ pub(super) fn check_fit<S: Sink>(
         (IsReadCheckText checker limits file.now fit.now)
         (IsReadCheckError limits fit.now) sink.old sink.new) }
 {
-    check_payloads(fit.images(), limits.file())?;
-    let mut digests = fit.region_digests(alloc);
-    let _ = count_verdicts(fit, &mut digests)?;
+    let bounded = BoundedFit::new(fit, limits)?;
+    let digests = digests_of_verdicts(alloc, bounded)?;
     let clean = put_text(file, fit, &digests, checker, sink)?;
     Ok(clean)
 }
 
 /// Appends the text of the concerns, and returns whether there are none. Fails as the sink does.
-fn put_text<'a, S: Sink>(
+pub(crate) fn put_text<'a, S: Sink>(
     file: &[u8],
     fit: &Fit<'a>,
     digests: &RegionDigests<'a>,

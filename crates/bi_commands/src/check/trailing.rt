@@ -8,7 +8,7 @@ ghost use Rattle.bi_commands.specs.CheckedFiles.{concerns_text};
 ghost use Rattle.bi_commands.specs.Checking.{kept_concerns, trailing_concerns};
 ghost use Rattle.bi_commands.specs.Formats.{WroteInTurn};
 ghost use Rattle.bi_commands.specs.ReadChecking.{after_concerns, before_concerns, concern_texts};
-ghost use Rattle.bi_commands.specs.ReadChecking.{end_at, offset_of as offset_at};
+ghost use Rattle.bi_commands.specs.ReadChecking.{end_at, offset_at};
 ghost use Rattle.bi_commands.specs.ReadChecking.{end_of_read_payloads};
 
 use super::Checker;
@@ -21,7 +21,7 @@ use bi_legacy::Legacy;
 
 /// Appends the text of the concern about a legacy image that was read from this file, and returns
 /// whether there is none. Fails as the sink does.
-pub(super) fn check_legacy<S: Sink>(
+pub(crate) fn check_legacy<S: Sink>(
     file: &[u8],
     image: &Legacy,
     checker: Checker,

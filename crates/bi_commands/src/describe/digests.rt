@@ -10,7 +10,8 @@ ghost use Rattle.bi_commands.specs.TreeEntries.{digest_made};
 
 use super::entries::PayloadDigest;
 use super::image_payload::ImagePayload;
-use bi_fit::{Fit, Image};
+use crate::payload_bounds::BoundedFit;
+use bi_fit::Image;
 use bi_hash::{Algo, RegionDigests};
 use std::alloc::{AllocError, Global};
 
@@ -18,11 +19,12 @@ use std::alloc::{AllocError, Global};
 /// many images have it as their payload.
 pub(super) fn payloads_of<'a>(
     alloc: Global,
-    fit: &Fit<'a>,
+    bounded: BoundedFit<'_, 'a>,
 ) -> Result<Vec<ImagePayload<'a>>, AllocError>
     ensures { IfOk result (λ payloads. bytes_of_payloads payloads.items
-        ≡ (tree_of fit.now).payloads) }
+        ≡ (tree_of bounded.entry.fit.now).payloads) }
 {
+    let fit = bounded.fit();
     let mut digests = fit.region_digests(alloc);
     let mut payloads = Vec::with_capacity(alloc, fit.image_count())?;
     for image in fit.images() {

@@ -19,7 +19,7 @@ use super::lines::{most_open, put_tree};
 use crate::common_lines::put_reservation_lines;
 use crate::fields::{Field, put_lines};
 use crate::format::Format;
-use crate::payload_bounds::check_payloads;
+use crate::payload_bounds::BoundedFit;
 use bi_base::{Error, Limits, Sink};
 use bi_fdt::Blob;
 use bi_fit::Fit;
@@ -40,9 +40,9 @@ pub(super) fn describe_fit<S: Sink>(
         (IsDescriptionOf format limits (OfFit (tree_of fit.now)))
         (IsImageError format limits (OfFit (tree_of fit.now))) sink.old sink.new) }
 {
-    check_payloads(fit.images(), limits.file())?;
+    let bounded = BoundedFit::new(fit, limits)?;
     let order = fit.name_order(alloc, limits.file())?;
-    let entries = entries_of(alloc, fit, &order)?;
+    let entries = entries_of(alloc, bounded, &order)?;
     let mut names = vec![in alloc; b"".as_slice(); most_open(&entries)]?;
     let mut measure = LimitedSink::new(limits.file());
     put_fit(fit.blob(), &entries, &mut names, format, &mut measure)?;

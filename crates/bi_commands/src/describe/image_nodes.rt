@@ -16,25 +16,26 @@ use super::entries::Entry;
 use super::image_payload::ImagePayload;
 use super::nodes::{add_children, add_node, begin_node};
 use super::properties::{add_image_properties, add_properties};
+use crate::payload_bounds::BoundedFit;
 use bi_fdt::NodeRef;
-use bi_fit::{Fit, NameOrder};
+use bi_fit::NameOrder;
 use std::alloc::{AllocError, Global};
 
 /// Returns the entries of a flattened image tree: those of the properties of the root, and those of
 /// all nodes below it.
 pub(super) fn entries_of<'a>(
     alloc: Global,
-    fit: &Fit<'a>,
+    bounded: BoundedFit<'_, 'a>,
     order: &NameOrder<'a>,
 ) -> Result<Vec<Entry<'a>>, AllocError>
-    requires held { IsHeld fit.now }
-    requires order { IsNameOrder fit.now.blob.table order.now }
+    requires held { IsHeld bounded.fit.now }
+    requires order { IsNameOrder bounded.fit.now.blob.table order.now }
     ensures { IfOk result (λ entries. map as_entry entries.items
-        ≡ tree_entries (tree_of fit.now)) }
+        ≡ tree_entries (tree_of bounded.entry.fit.now)) }
 {
-    let payloads = payloads_of(alloc, fit)?;
+    let payloads = payloads_of(alloc, bounded)?;
     let mut entries = Vec::new(alloc);
-    let root = fit.blob().root();
+    let root = bounded.fit().blob().root();
     add_properties(&mut entries, root, order)?;
     add_root_children(&mut entries, root, &payloads, order)?;
     Ok(entries)

@@ -58,7 +58,7 @@ fn have_texts(value: &[u8]) -> bool
 }
 
 /// Returns whether a byte is a printable ASCII character, the space included.
-fn is_printable(byte: u8) -> bool
+pub(crate) fn is_printable(byte: u8) -> bool
     ensures { result ≡ is_printable_byte byte }
 {
     (0x20..=0x7e).contains(&byte)
@@ -96,7 +96,7 @@ fn put_quoted_byte<S: Sink>(byte: u8, sink: &mut S) -> Result<(), Error>
 }
 
 /// Appends a value as `0x` and its digits. Fails as the sink does.
-fn put_bytes<S: Sink>(value: &[u8], sink: &mut S) -> Result<(), Error>
+pub(crate) fn put_bytes<S: Sink>(value: &[u8], sink: &mut S) -> Result<(), Error>
     ensures { Wrote S.appends S.fails sink.old (codes "0x" ++ hexadecimal_digits value.now) result
         sink.new }
 {

@@ -1,4 +1,4 @@
-use Rattle.std.proofs.Common.{string_bytes, ap, sym, subst, refl, ◌∙◌}
+use Rattle.std.proofs.Common.{ap, sym, subst, refl, ◌∙◌}
 use Rattle.std.proofs.lemmas.Result.{err_from_is_err_and}
 use Rattle.std.specs.Prelude.{IsAscii}
 use Rattle.bi_commands.specs.declared.compare.CompareError.TheVariants.{OutOfMemory}

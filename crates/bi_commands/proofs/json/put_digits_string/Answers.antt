@@ -22,8 +22,10 @@ returns-in_err-put_digits g c =
     let one : List ℕ = 34 ∷ [] in
     let two : List ℕ = hexadecimal_digits c.args.bytes.now in
     let three : List ℕ = 34 ∷ [] in
-    next_fails S.appends S.fails laws.fails_after laws.fails_before c.args.sink.now c.put.new.self c.put_digits.new.sink one two three _ _ c.from_residual-in_err-put_digits.result
-    (one_more_piece one two three _ (ap (λ (digits : List ℕ). 34 ∷ (digits ++ 34 ∷ [])) (digits_unescaped c.args.bytes.now))) c.from_residual-in_err-put_digits.ensures.1 c.in_ok-put.ensures c.in_err-put_digits.ensures
+    next_fails S.appends S.fails laws.fails_after laws.fails_before c.args.sink.now c.put.new.self c.put_digits.new.sink one two three _ _
+    c.from_residual-in_err-put_digits.result
+    (one_more_piece one two three _ (ap (λ (digits : List ℕ). 34 ∷ (digits ++ 34 ∷ [])) (digits_unescaped c.args.bytes.now)))
+    c.from_residual-in_err-put_digits.ensures.1 c.in_ok-put.ensures c.in_err-put_digits.ensures
 
 pub returns : goal.returns
 returns g c =
@@ -32,5 +34,8 @@ returns g c =
     let one : List ℕ = 34 ∷ [] in
     let two : List ℕ = hexadecimal_digits c.args.bytes.now in
     let three : List ℕ = 34 ∷ [] in
-    last_writes S.appends S.fails laws.appends_in_turn laws.fails_after c.args.sink.now c.put_digits.new.sink c.put-2.new.self (one ++ two) three _ c.put-2.result
-    (one_more_piece one two three _ (ap (λ (digits : List ℕ). 34 ∷ (digits ++ 34 ∷ [])) (digits_unescaped c.args.bytes.now))) (laws.appends_in_turn c.args.sink.now c.put.new.self c.put_digits.new.sink one two c.in_ok-put.ensures c.in_ok-put_digits.ensures) c.put-2.ensures
+    last_writes S.appends S.fails laws.appends_in_turn laws.fails_after c.args.sink.now c.put_digits.new.sink c.put-2.new.self (one ++ two)
+    three _ c.put-2.result
+    (one_more_piece one two three _ (ap (λ (digits : List ℕ). 34 ∷ (digits ++ 34 ∷ [])) (digits_unescaped c.args.bytes.now)))
+    (laws.appends_in_turn c.args.sink.now c.put.new.self c.put_digits.new.sink one two c.in_ok-put.ensures c.in_ok-put_digits.ensures)
+    c.put-2.ensures

@@ -19,5 +19,6 @@ returns g c =
     let laws = g.met.S.Sink in
     let one : List ℕ = 44 ∷ [] in
     let two : List ℕ = member_text (member_of c.args.member) in
-    last_writes S.appends S.fails laws.appends_in_turn laws.fails_after c.args.sink.now c.put.new.self c.put_member.new.sink one two _ c.put_member.result
+    last_writes S.appends S.fails laws.appends_in_turn laws.fails_after c.args.sink.now c.put.new.self c.put_member.new.sink one two _
+    c.put_member.result
     refl c.in_ok-put.ensures c.put_member.ensures

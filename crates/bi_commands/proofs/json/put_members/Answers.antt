@@ -13,7 +13,8 @@ returns-in_err-put_member-in-len1-up g c =
     let members = c.args.members.now in
     let d : MadeMember = (record { ref_ptr = (0, 0); now = [] }, Text (record { ref_ptr = (0, 0); now = [] })) in
     first_of_all_fails S.appends S.fails laws.fails_before c.args.sink.now c.put_member.new.sink
-    (member_text (member_of (get_or members 0 d))) (flat_map later_member (take (length members - 1) (drop 1 members))) _ _ c.from_residual.result
+    (member_text (member_of (get_or members 0 d))) (flat_map later_member (take (length members - 1) (drop 1 members))) _ _
+    c.from_residual.result
     (members_split members d c.in-len1-up.len_at_least) c.from_residual.ensures.1 c.in_err-put_member-in-len1-up.ensures
 
 pub returns-in_ok-put_member-in-len1-up : goal.returns-in_ok-put_member-in-len1-up
@@ -23,5 +24,6 @@ returns-in_ok-put_member-in-len1-up g c =
     let members = c.args.members.now in
     let d : MadeMember = (record { ref_ptr = (0, 0); now = [] }, Text (record { ref_ptr = (0, 0); now = [] })) in
     last_writes S.appends S.fails laws.appends_in_turn laws.fails_after c.args.sink.now c.put_member.new.sink c.put_later_members.new.sink
-    (member_text (member_of (get_or members 0 d))) (flat_map later_member (take (length members - 1) (drop 1 members))) _ c.put_later_members.result
+    (member_text (member_of (get_or members 0 d))) (flat_map later_member (take (length members - 1) (drop 1 members))) _
+    c.put_later_members.result
     (members_split members d c.in-len1-up.len_at_least) c.in_ok-put_member-in-len1-up.ensures c.put_later_members.ensures

@@ -5,4 +5,5 @@ use Rattle.bi_commands.proofs.json.put_name_bytes.Given as goal
 
 -- Those before this one were appended.
 abbrev pub invariant-loop-byte : goal.invariant-loop-byte
-invariant-loop-byte g l = g.S.Sink.appends l.initial.sink (flat_map (λ byte. flat_map escaped_byte (shown_byte byte)) (take l.byte-index l.name)) l.sink
+invariant-loop-byte g l = g.S.Sink.appends l.initial.sink (flat_map (λ byte. flat_map escaped_byte (shown_byte byte))
+    (take l.byte-index l.name)) l.sink

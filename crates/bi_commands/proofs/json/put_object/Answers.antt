@@ -23,7 +23,8 @@ returns-in_err-put_members g c =
     let one : List ℕ = 123 ∷ [] in
     let two : List ℕ = join_with_byte 44 (map member_text (map member_of c.args.members.now)) in
     let three : List ℕ = 125 ∷ [] in
-    next_fails S.appends S.fails laws.fails_after laws.fails_before c.args.sink.now c.put.new.self c.put_members.new.sink one two three _ _ c.from_residual-in_err-put_members.result
+    next_fails S.appends S.fails laws.fails_after laws.fails_before c.args.sink.now c.put.new.self c.put_members.new.sink one two three _ _
+    c.from_residual-in_err-put_members.result
     (one_more_piece one two three _ refl) c.from_residual-in_err-put_members.ensures.1 c.in_ok-put.ensures c.in_err-put_members.ensures
 
 pub returns : goal.returns
@@ -33,5 +34,7 @@ returns g c =
     let one : List ℕ = 123 ∷ [] in
     let two : List ℕ = join_with_byte 44 (map member_text (map member_of c.args.members.now)) in
     let three : List ℕ = 125 ∷ [] in
-    last_writes S.appends S.fails laws.appends_in_turn laws.fails_after c.args.sink.now c.put_members.new.sink c.put-2.new.self (one ++ two) three _ c.put-2.result
-    (one_more_piece one two three _ refl) (laws.appends_in_turn c.args.sink.now c.put.new.self c.put_members.new.sink one two c.in_ok-put.ensures c.in_ok-put_members.ensures) c.put-2.ensures
+    last_writes S.appends S.fails laws.appends_in_turn laws.fails_after c.args.sink.now c.put_members.new.sink c.put-2.new.self (one ++ two)
+    three _ c.put-2.result
+    (one_more_piece one two three _ refl) (laws.appends_in_turn c.args.sink.now c.put.new.self c.put_members.new.sink one two
+    c.in_ok-put.ensures c.in_ok-put_members.ensures) c.put-2.ensures

@@ -7,5 +7,6 @@ use Rattle.bi_commands.proofs.verify.put_hashes.Given as goal
 -- The hash nodes that are left follow those that were appended.
 abbrev pub invariant-loop-hash : goal.invariant-loop-hash
 invariant-loop-hash g l =
-    AreInTurn g.S.Sink.appends l.initial.sink l.sink l.fn.format l.fn.is_later l.later (map (hash_text l.fn.format) (hashes_left l.hash-iterator))
+    AreInTurn g.S.Sink.appends l.initial.sink l.sink l.fn.format l.fn.is_later l.later
+    (map (hash_text l.fn.format) (hashes_left l.hash-iterator))
     (map (hash_text l.fn.format) (hashes_left l.fn.hashes))

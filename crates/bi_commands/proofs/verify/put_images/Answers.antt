@@ -13,8 +13,10 @@ loop-image-init g c =
 pub loop-image-preserved : goal.loop-image-preserved
 loop-image-preserved g c =
     let image = image_value c.in-Some.image in
-    turn_goes_on g.S.Sink.appends g.met.S.Sink.appends_in_turn c.args.sink.now c.loop-image.sink c.put_hashes.new.sink c.args.format false c.loop-image.is_later _
-    (map (hash_text c.args.format) image.hashes) (hash_texts c.args.format c.next.new.self) _ _ c.loop-image.invariant (ap (hash_texts c.args.format) c.in-Some.ensures.steps)
+    turn_goes_on g.S.Sink.appends g.met.S.Sink.appends_in_turn c.args.sink.now c.loop-image.sink c.put_hashes.new.sink c.args.format false
+    c.loop-image.is_later _
+    (map (hash_text c.args.format) image.hashes) (hash_texts c.args.format c.next.new.self) _ _ c.loop-image.invariant
+    (ap (hash_texts c.args.format) c.in-Some.ensures.steps)
     c.in_ok-is_later.ensures.1 c.in_ok-is_later.ensures.0
 
 pub returns-in_err-is_later : goal.returns-in_err-is_later
@@ -23,7 +25,8 @@ returns-in_err-is_later g c =
     let laws = g.met.S.Sink in
     let image = image_value c.in-Some.image in
     passed_on S.appends S.fails c.args.sink.now _ _ c.from_residual.result c.put_hashes.new.sink c.from_residual.ensures.1
-    (turn_fails S.appends S.fails laws.fails_after laws.fails_before c.args.sink.now c.loop-image.sink c.put_hashes.new.sink c.args.format false c.loop-image.is_later
+    (turn_fails S.appends S.fails laws.fails_after laws.fails_before c.args.sink.now c.loop-image.sink c.put_hashes.new.sink c.args.format
+    false c.loop-image.is_later
     (map (hash_text c.args.format) image.hashes) (hash_texts c.args.format c.next.new.self) _ _ _ c.loop-image.invariant
     (ap (hash_texts c.args.format) c.in-Some.ensures.steps) c.in_err-is_later.ensures)
 

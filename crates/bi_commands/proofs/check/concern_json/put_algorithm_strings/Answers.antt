@@ -14,16 +14,21 @@ loop-hash-init g c =
 
 pub loop-hash-preserved : goal.loop-hash-preserved
 loop-hash-preserved g c =
-    turn_goes_on g.S.Sink.appends g.met.S.Sink.appends_in_turn c.args.sink.now c.loop-hash.sink c.put_good_algorithm_string.new.sink Json false c.loop-hash.is_later _
-    (good_algorithm_json (checked_hash_of c.in-Some.hash)) (flat_map good_algorithm_json (hashes_left c.next.new.self)) _ _ c.loop-hash.invariant (ap (flat_map good_algorithm_json) c.in-Some.ensures.steps) c.in_ok-is_later.ensures.1 c.in_ok-is_later.ensures.0
+    turn_goes_on g.S.Sink.appends g.met.S.Sink.appends_in_turn c.args.sink.now c.loop-hash.sink c.put_good_algorithm_string.new.sink Json
+    false c.loop-hash.is_later _
+    (good_algorithm_json (checked_hash_of c.in-Some.hash)) (flat_map good_algorithm_json (hashes_left c.next.new.self)) _ _
+    c.loop-hash.invariant (ap (flat_map good_algorithm_json) c.in-Some.ensures.steps) c.in_ok-is_later.ensures.1
+    c.in_ok-is_later.ensures.0
 
 pub returns-in_err-is_later : goal.returns-in_err-is_later
 returns-in_err-is_later g c =
     let S = g.S.Sink in
     let laws = g.met.S.Sink in
     passed_on S.appends S.fails c.args.sink.now _ _ c.from_residual.result c.put_good_algorithm_string.new.sink c.from_residual.ensures.1
-    (turn_fails S.appends S.fails laws.fails_after laws.fails_before c.args.sink.now c.loop-hash.sink c.put_good_algorithm_string.new.sink Json false c.loop-hash.is_later
-    (good_algorithm_json (checked_hash_of c.in-Some.hash)) (flat_map good_algorithm_json (hashes_left c.next.new.self)) _ _ _ c.loop-hash.invariant (ap (flat_map good_algorithm_json) c.in-Some.ensures.steps) c.in_err-is_later.ensures)
+    (turn_fails S.appends S.fails laws.fails_after laws.fails_before c.args.sink.now c.loop-hash.sink c.put_good_algorithm_string.new.sink
+    Json false c.loop-hash.is_later
+    (good_algorithm_json (checked_hash_of c.in-Some.hash)) (flat_map good_algorithm_json (hashes_left c.next.new.self)) _ _ _
+    c.loop-hash.invariant (ap (flat_map good_algorithm_json) c.in-Some.ensures.steps) c.in_err-is_later.ensures)
 
 pub returns : goal.returns
 returns g c =

@@ -8,5 +8,6 @@ use Rattle.bi_commands.proofs.check.configurations.put_configuration.Given as go
 -- The concerns about the keys that are left follow those that were appended.
 abbrev pub invariant-loop-key : goal.invariant-loop-key
 invariant-loop-key g l =
-    AreInTurn g.S.Sink.appends l.initial.sink l.sink l.fn.checker.format l.fn.is_later l.later (flat_map (key_concern_texts l.fn.checker l.fn.fit.images (node_of l.fn.node)) (drop l.key-index all_keys))
+    AreInTurn g.S.Sink.appends l.initial.sink l.sink l.fn.checker.format l.fn.is_later l.later
+    (flat_map (key_concern_texts l.fn.checker l.fn.fit.images (node_of l.fn.node)) (drop l.key-index all_keys))
     (configuration_concern_texts l.fn.checker l.fn.fit.images (node_of l.fn.node))

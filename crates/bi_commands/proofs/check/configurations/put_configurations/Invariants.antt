@@ -7,5 +7,6 @@ use Rattle.bi_commands.proofs.check.configurations.put_configurations.Given as g
 -- The concerns about the configurations that are left follow those that were appended.
 abbrev pub invariant-loop-node : goal.invariant-loop-node
 invariant-loop-node g l =
-    AreInTurn g.S.Sink.appends l.initial.sink l.sink l.fn.checker.format l.fn.is_later l.later (flat_map (configuration_concern_texts l.fn.checker l.fn.fit.images) (children_left l.node-iterator))
+    AreInTurn g.S.Sink.appends l.initial.sink l.sink l.fn.checker.format l.fn.is_later l.later
+    (flat_map (configuration_concern_texts l.fn.checker l.fn.fit.images) (children_left l.node-iterator))
     (concern_texts l.fn.checker (configurations_concerns l.fn.fit))

@@ -13,5 +13,6 @@ returns-then-is_good g c =
 
 pub returns-else-is_good : goal.returns-else-is_good
 returns-else-is_good g c =
-    subst (λ concerns. WroteInTurn g.S.Sink.appends g.S.Sink.fails c.args.sink.now c.args.checker.format c.args.is_later (concern_texts c.args.checker concerns) c.put_concern.result c.put_concern.new.sink)
+    subst (λ concerns. WroteInTurn g.S.Sink.appends g.S.Sink.fails c.args.sink.now c.args.checker.format c.args.is_later
+    (concern_texts c.args.checker concerns) c.put_concern.result c.put_concern.new.sink)
     (sym (bad_hash_concerns (checked_hash_of c.args.hash) (sym c.if-is_good.ensures))) c.put_concern.ensures

@@ -8,5 +8,6 @@ use Rattle.bi_commands.proofs.check.images.put_hashes.Given as goal
 -- The concerns about the hash nodes that are left follow those that were appended.
 abbrev pub invariant-loop-hash : goal.invariant-loop-hash
 invariant-loop-hash g l =
-    AreInTurn g.S.Sink.appends l.initial.sink l.sink l.fn.checker.format l.fn.is_later l.later (concern_texts l.fn.checker (flat_map hash_concerns (hashes_left l.hash-iterator)))
+    AreInTurn g.S.Sink.appends l.initial.sink l.sink l.fn.checker.format l.fn.is_later l.later
+    (concern_texts l.fn.checker (flat_map hash_concerns (hashes_left l.hash-iterator)))
     (concern_texts l.fn.checker (flat_map hash_concerns (hashes_left l.fn.hashes)))

@@ -15,7 +15,9 @@ returns-in_err-put_before_concerns-clause-text g c =
     let one : List ℕ = before_concerns c.args.checker.format in
     let two : List ℕ = in_turn c.args.checker.format false (concern_texts c.args.checker (trailing_concerns c.args.bytes.now)) in
     let three : List ℕ = after_concerns c.args.checker.format in
-    first_of_all_fails S.appends S.fails laws.fails_before c.args.sink.now c.put_before_concerns.new.sink one (two ++ three) _ _ c.from_residual.result (text_in_parts c.args.checker.format c.args.checker.allowed (trailing_concerns c.args.bytes.now)) c.from_residual.ensures.1 c.in_err-put_before_concerns.ensures
+    first_of_all_fails S.appends S.fails laws.fails_before c.args.sink.now c.put_before_concerns.new.sink one (two ++ three) _ _
+    c.from_residual.result (text_in_parts c.args.checker.format c.args.checker.allowed (trailing_concerns c.args.bytes.now))
+    c.from_residual.ensures.1 c.in_err-put_before_concerns.ensures
 
 pub returns-in_err-any-clause-text : goal.returns-in_err-any-clause-text
 returns-in_err-any-clause-text g c =
@@ -24,8 +26,10 @@ returns-in_err-any-clause-text g c =
     let one : List ℕ = before_concerns c.args.checker.format in
     let two : List ℕ = in_turn c.args.checker.format false (concern_texts c.args.checker (trailing_concerns c.args.bytes.now)) in
     let three : List ℕ = after_concerns c.args.checker.format in
-    next_fails S.appends S.fails laws.fails_after laws.fails_before c.args.sink.now c.put_before_concerns.new.sink c.put_trailing.new.sink one two three _ _ c.from_residual-in_err-any.result
-    (one_more_piece one two three _ (text_in_parts c.args.checker.format c.args.checker.allowed (trailing_concerns c.args.bytes.now))) c.from_residual-in_err-any.ensures.1 c.in_ok-put_before_concerns.ensures c.in_err-any.ensures
+    next_fails S.appends S.fails laws.fails_after laws.fails_before c.args.sink.now c.put_before_concerns.new.sink c.put_trailing.new.sink
+    one two three _ _ c.from_residual-in_err-any.result
+    (one_more_piece one two three _ (text_in_parts c.args.checker.format c.args.checker.allowed (trailing_concerns c.args.bytes.now)))
+    c.from_residual-in_err-any.ensures.1 c.in_ok-put_before_concerns.ensures c.in_err-any.ensures
 
 pub returns-in_err-put_after_concerns-clause-text : goal.returns-in_err-put_after_concerns-clause-text
 returns-in_err-put_after_concerns-clause-text g c =
@@ -34,8 +38,13 @@ returns-in_err-put_after_concerns-clause-text g c =
     let one : List ℕ = before_concerns c.args.checker.format in
     let two : List ℕ = in_turn c.args.checker.format false (concern_texts c.args.checker (trailing_concerns c.args.bytes.now)) in
     let three : List ℕ = after_concerns c.args.checker.format in
-    last_writes S.appends S.fails laws.appends_in_turn laws.fails_after c.args.sink.now c.put_trailing.new.sink c.put_after_concerns.new.sink (one ++ two) three _ c.from_residual-in_err-put_after_concerns.result
-    (one_more_piece one two three _ (text_in_parts c.args.checker.format c.args.checker.allowed (trailing_concerns c.args.bytes.now))) (laws.appends_in_turn c.args.sink.now c.put_before_concerns.new.sink c.put_trailing.new.sink one two c.in_ok-put_before_concerns.ensures c.in_ok-any.ensures.0) (passed_on S.appends S.fails c.put_trailing.new.sink three _ c.from_residual-in_err-put_after_concerns.result c.put_after_concerns.new.sink c.from_residual-in_err-put_after_concerns.ensures.1 c.in_err-put_after_concerns.ensures)
+    last_writes S.appends S.fails laws.appends_in_turn laws.fails_after c.args.sink.now c.put_trailing.new.sink
+    c.put_after_concerns.new.sink (one ++ two) three _ c.from_residual-in_err-put_after_concerns.result
+    (one_more_piece one two three _ (text_in_parts c.args.checker.format c.args.checker.allowed (trailing_concerns c.args.bytes.now)))
+    (laws.appends_in_turn c.args.sink.now c.put_before_concerns.new.sink c.put_trailing.new.sink one two
+    c.in_ok-put_before_concerns.ensures c.in_ok-any.ensures.0)
+    (passed_on S.appends S.fails c.put_trailing.new.sink three _ c.from_residual-in_err-put_after_concerns.result
+    c.put_after_concerns.new.sink c.from_residual-in_err-put_after_concerns.ensures.1 c.in_err-put_after_concerns.ensures)
 
 pub returns-clause-text : goal.returns-clause-text
 returns-clause-text g c =
@@ -44,9 +53,13 @@ returns-clause-text g c =
     let one : List ℕ = before_concerns c.args.checker.format in
     let two : List ℕ = in_turn c.args.checker.format false (concern_texts c.args.checker (trailing_concerns c.args.bytes.now)) in
     let three : List ℕ = after_concerns c.args.checker.format in
-    one_more_appended S.appends laws.appends_in_turn c.args.sink.now c.put_trailing.new.sink c.put_after_concerns.new.sink (one ++ two) three _
-    (one_more_piece one two three _ (text_in_parts c.args.checker.format c.args.checker.allowed (trailing_concerns c.args.bytes.now))) (laws.appends_in_turn c.args.sink.now c.put_before_concerns.new.sink c.put_trailing.new.sink one two c.in_ok-put_before_concerns.ensures c.in_ok-any.ensures.0) c.in_ok-put_after_concerns.ensures
+    one_more_appended S.appends laws.appends_in_turn c.args.sink.now c.put_trailing.new.sink c.put_after_concerns.new.sink (one ++ two)
+    three _
+    (one_more_piece one two three _ (text_in_parts c.args.checker.format c.args.checker.allowed (trailing_concerns c.args.bytes.now)))
+    (laws.appends_in_turn c.args.sink.now c.put_before_concerns.new.sink c.put_trailing.new.sink one two
+    c.in_ok-put_before_concerns.ensures c.in_ok-any.ensures.0) c.in_ok-put_after_concerns.ensures
 
 pub returns-clause-clean : goal.returns-clause-clean
 returns-clause-clean g c =
-    none_appended (concern_text c.args.checker.format) (kept_concerns c.args.checker.allowed (trailing_concerns c.args.bytes.now)) c.in_ok-any.any c.in_ok-any.ensures.1
+    none_appended (concern_text c.args.checker.format) (kept_concerns c.args.checker.allowed (trailing_concerns c.args.bytes.now))
+    c.in_ok-any.any c.in_ok-any.ensures.1

@@ -48,7 +48,8 @@ returns-in_err-put-2 g c =
     let three_and_more = one_more_piece (one ++ two) three (four ++ five) _ two_and_more in
     let two_done = laws.appends_in_turn c.args.sink.now c.put.new.self c.put_members.new.sink one two c.in_ok-put.ensures
     c.in_ok-put_members.ensures in
-    next_fails S.appends S.fails laws.fails_after laws.fails_before c.args.sink.now c.put_members.new.sink c.put-2.new.self (one ++ two) three
+    next_fails S.appends S.fails laws.fails_after laws.fails_before c.args.sink.now c.put_members.new.sink c.put-2.new.self (one ++ two)
+    three
     (four ++ five) _ _ c.from_residual-in_err-put-2.result three_and_more c.from_residual-in_err-put-2.ensures.1
     two_done c.in_err-put-2.ensures
 
@@ -69,7 +70,8 @@ returns-in_err-put_differences g c =
     c.in_ok-put_members.ensures in
     let three_done = laws.appends_in_turn c.args.sink.now c.put_members.new.sink c.put-2.new.self (one ++ two) three two_done
     c.in_ok-put-2.ensures in
-    next_fails S.appends S.fails laws.fails_after laws.fails_before c.args.sink.now c.put-2.new.self c.put_differences.new.sink ((one ++ two) ++ three) four
+    next_fails S.appends S.fails laws.fails_after laws.fails_before c.args.sink.now c.put-2.new.self c.put_differences.new.sink
+    ((one ++ two) ++ three) four
     five _ _ c.from_residual-in_err-put_differences.result four_and_last c.from_residual-in_err-put_differences.ensures.1
     three_done c.in_err-put_differences.ensures
 

@@ -1,4 +1,4 @@
-use Rattle.std.proofs.Common.{true, false, [], ◌∷◌, List, ℕ, map, ap, sym, subst, refl, arith, rules}
+use Rattle.std.proofs.Common.{true, false, [], ◌∷◌, List, ℕ, map, ap, subst, refl, arith, rules}
 use Rattle.std.proofs.lemmas.Str.Pattern.{split_parts}
 use Rattle.bi_base.proofs.SinkLaws.{passed_on}
 use Rattle.bi_commands.specs.declared.format.Format.TheVariants.{Json}

@@ -9,5 +9,5 @@ invariant-loop-image l =
     let left = map image_model (drop l.image-index l.image-items) in
     record {
       placed : AreAtTheirPlaces l.digests left;
-      so_far : bytes_of_payloads l.payloads.items ++ payloads_of_models left ≡ payloads_of_models l.fit.images;
+      so_far : bytes_of_payloads l.payloads.items ++ payloads_of_models left ≡ payloads_of_models l.bounded.fit.now.images;
     }

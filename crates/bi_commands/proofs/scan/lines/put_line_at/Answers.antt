@@ -4,8 +4,8 @@ use Rattle.bi_commands.proofs.scan.lines.put_line_at.Goals as goal
 
 pub returns-then-is_err-clause-line : goal.returns-then-is_err-clause-line
 returns-then-is_err-clause-line c =
-    no_kind_no_line c.args.limits c.args.file.now c.image_at-image.result.now c.args.lines.now c.args.offset c.kind_of.result c.image_at-image.ensures
-    (search rules) c.kind_of.ensures.fault
+    no_kind_no_line c.args.limits c.args.file.now c.image_at-image.result.now c.args.lines.now c.args.offset c.kind_of.result
+    c.image_at-image.ensures (search rules) c.kind_of.ensures.fault
 
 pub returns-in-Ok-Legacy-clause-line : goal.returns-in-Ok-Legacy-clause-line
 returns-in-Ok-Legacy-clause-line c =

@@ -18,5 +18,6 @@ returns g c =
     let laws = g.met.S.Sink in
     let one : List ℕ = legacy_report_object in
     let two : List ℕ = 10 ∷ [] in
-    last_writes S.appends S.fails laws.appends_in_turn laws.fails_after c.args.sink.now c.put_object.new.sink c.put.new.self one two _ c.put.result
+    last_writes S.appends S.fails laws.appends_in_turn laws.fails_after c.args.sink.now c.put_object.new.sink c.put.new.self one two _
+    c.put.result
     refl c.in_ok-put_object.ensures c.put.ensures

@@ -22,8 +22,10 @@ returns-in_err-put_summary_object g c =
     let one : List ℕ = codes "],\"summary\":" in
     let two : List ℕ = summary_object (counts_model c.args.counts) in
     let three : List ℕ = codes "}\n" in
-    next_fails S.appends S.fails laws.fails_after laws.fails_before c.args.sink.now c.put.new.self c.put_summary_object.new.sink one two three _ _ c.from_residual-in_err-put_summary_object.result
-    (one_more_piece one two three _ refl) c.from_residual-in_err-put_summary_object.ensures.1 c.in_ok-put.ensures c.in_err-put_summary_object.ensures
+    next_fails S.appends S.fails laws.fails_after laws.fails_before c.args.sink.now c.put.new.self c.put_summary_object.new.sink one two
+    three _ _ c.from_residual-in_err-put_summary_object.result
+    (one_more_piece one two three _ refl) c.from_residual-in_err-put_summary_object.ensures.1 c.in_ok-put.ensures
+    c.in_err-put_summary_object.ensures
 
 pub returns : goal.returns
 returns g c =
@@ -32,5 +34,7 @@ returns g c =
     let one : List ℕ = codes "],\"summary\":" in
     let two : List ℕ = summary_object (counts_model c.args.counts) in
     let three : List ℕ = codes "}\n" in
-    last_writes S.appends S.fails laws.appends_in_turn laws.fails_after c.args.sink.now c.put_summary_object.new.sink c.put-2.new.self (one ++ two) three _ c.put-2.result
-    (one_more_piece one two three _ refl) (laws.appends_in_turn c.args.sink.now c.put.new.self c.put_summary_object.new.sink one two c.in_ok-put.ensures c.in_ok-put_summary_object.ensures) c.put-2.ensures
+    last_writes S.appends S.fails laws.appends_in_turn laws.fails_after c.args.sink.now c.put_summary_object.new.sink c.put-2.new.self
+    (one ++ two) three _ c.put-2.result
+    (one_more_piece one two three _ refl) (laws.appends_in_turn c.args.sink.now c.put.new.self c.put_summary_object.new.sink one two
+    c.in_ok-put.ensures c.in_ok-put_summary_object.ensures) c.put-2.ensures

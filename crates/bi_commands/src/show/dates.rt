@@ -1,0 +1,137 @@
+//! Dates in the Gregorian calendar.
+
+ghost use Rattle.std.specs.Prelude.{◌≡◌, ◌+◌, ◌-◌, ◌<◌, ◌≤◌, ◌++◌, IfOk, OnOk, string_bytes};
+ghost use Rattle.bi_commands.specs.Dates.{IsDate, IsTimeText, clock_text, date_text};
+ghost use Rattle.bi_commands.specs.Dates.{days_of_years};
+ghost use Rattle.bi_commands.specs.Dates.{is_leap_year as is_leap, month_lengths as lengths_of};
+ghost use Rattle.bi_commands.specs.Dates.{two_digits, year_length as length_of_year};
+
+use std::alloc::{AllocError, Global};
+
+/// A date.
+#[derive(Clone, Copy)]
+pub(super) struct Date {
+    pub(super) year: u32,
+    /// The month, from 1 on.
+    pub(super) month: u32,
+    /// The day of the month, from 1 on.
+    pub(super) day: u32,
+}
+
+/// The seconds of a day.
+const DAY: u32 = 86400;
+
+/// Returns the text of a time, by how many seconds after 1970-01-01 00:00:00 UTC it is.
+pub(super) fn time_text(alloc: Global, seconds: u32) -> Result<String, AllocError>
+    ensures { IfOk result (λ text. IsTimeText seconds (string_bytes text)) }
+{
+    let date = date_of(seconds / DAY);
+    let mut text = String::new(alloc);
+    add_date(&mut text, date)?;
+    text.push(' ')?;
+    add_clock(&mut text, seconds % DAY)?;
+    text.push_str(" UTC")?;
+    Ok(text)
+}
+
+/// Returns the date that is this many days after 1970-01-01.
+fn date_of(days: u32) -> Date
+    requires { days < 49711 }
+    ensures { IsDate days result }
+{
+    let mut year = 1970;
+    let mut left = days;
+    while left >= year_length(year) {
+        left -= year_length(year);
+        year += 1;
+    }
+    date_in_year(year, left)
+}
+
+/// Returns the date in a year from 1970 on, by how many days of the year come before it.
+fn date_in_year(year: u32, days: u32) -> Date
+    requires from_1970 { 1970 ≤ year }
+    requires in_year { days < length_of_year year }
+    ensures { IsDate (days_of_years (year - 1970) + days) result }
+{
+    let mut left = days;
+    let mut month = 1;
+    for length in month_lengths(year) {
+        if left < length {
+            return Date {
+                year,
+                month,
+                day: left + 1,
+            };
+        }
+        left -= length;
+        month += 1;
+    }
+    unreachable!()
+}
+
+/// Returns how many days a year has.
+fn year_length(year: u32) -> u32
+    ensures { result ≡ length_of_year year }
+{
+    if is_leap_year(year) { 366 } else { 365 }
+}
+
+/// Returns how many days each month of a year has, from January on.
+fn month_lengths(year: u32) -> [u32; 12]
+    ensures { result ≡ lengths_of year }
+{
+    let february = if is_leap_year(year) { 29 } else { 28 };
+    [31, february, 31, 30, 31, 30, 31, 31, 30, 31, 30, 31]
+}
+
+/// Returns whether a year has a 29 February.
+fn is_leap_year(year: u32) -> bool
+    ensures { result ≡ is_leap year }
+{
+    year % 4 == 0 && (year % 100 != 0 || year % 400 == 0)
+}
+
+/// Appends a date.
+fn add_date(text: &mut String, date: Date) -> Result<(), AllocError>
+    requires year { date.year < 10000 }
+    requires month { date.month < 100 }
+    requires day { date.day < 100 }
+    ensures { OnOk result (string_bytes text.new ≡ string_bytes text.old ++ date_text date) }
+{
+    add_two_digits(text, date.year / 100)?;
+    add_two_digits(text, date.year % 100)?;
+    text.push('-')?;
+    add_two_digits(text, date.month)?;
+    text.push('-')?;
+    add_two_digits(text, date.day)
+}
+
+/// Appends a time of day, by how many seconds have passed.
+fn add_clock(text: &mut String, seconds: u32) -> Result<(), AllocError>
+    requires { seconds < 86400 }
+    ensures { OnOk result (string_bytes text.new ≡ string_bytes text.old ++ clock_text seconds) }
+{
+    add_two_digits(text, seconds / 3600)?;
+    text.push(':')?;
+    add_two_digits(text, seconds / 60 % 60)?;
+    text.push(':')?;
+    add_two_digits(text, seconds % 60)
+}
+
+/// Appends a number as two decimal digits.
+fn add_two_digits(text: &mut String, number: u32) -> Result<(), AllocError>
+    requires { number < 100 }
+    ensures { OnOk result (string_bytes text.new ≡ string_bytes text.old ++ two_digits number) }
+{
+    text.push(digit(number / 10))?;
+    text.push(digit(number % 10))
+}
+
+/// Returns a decimal digit.
+fn digit(number: u32) -> char
+    requires { number < 10 }
+    ensures { result ≡ 48 + number }
+{
+    char::from(b'0' + number as u8)
+}
