@@ -43,7 +43,7 @@ is_numeral_decides base text =
     (Decides-ltb (digits_value base text) (2 ^ 32))
 
 -- A text of decimal digits is the number that these say, and no other. It does not begin with `0x`.
-decimal_digits : (text : List ℕ) → is_numeral 10 text ≡ true → bytes_eq (take 2 text) (codes "0x") ≡ false
+pub decimal_digits : (text : List ℕ) → is_numeral 10 text ≡ true → bytes_eq (take 2 text) (codes "0x") ≡ false
     → IsOnlyNumber text (digits_value 10 text)
 decimal_digits text holds plain =
     let is = (is_numeral_decides 10 text).0 holds in (
@@ -59,7 +59,8 @@ decimal_digits text holds plain =
         true≢false (sym ((bytes_eq-Decides (take 2 text) (codes "0x")).1 (ap (λ l. take 2 l) same)) ∙ plain)
 
 -- Hexadecimal digits after `0x` are the number that they say, and no other.
-hexadecimal_digits_after : (digits : List ℕ) → is_numeral 16 digits ≡ true → IsOnlyNumber (codes "0x" ++ digits) (digits_value 16 digits)
+pub hexadecimal_digits_after : (digits : List ℕ) → is_numeral 16 digits ≡ true
+    → IsOnlyNumber (codes "0x" ++ digits) (digits_value 16 digits)
 hexadecimal_digits_after digits holds =
     let is = (is_numeral_decides 16 digits).0 holds in (
       record { written = inr (digits, refl, record { each = is.0; value = refl }); fits = is.1 },
@@ -73,9 +74,10 @@ hexadecimal_digits_after digits holds =
     no_letter all = omega (arith, all.1.0)
 
 -- Any other text is no number.
-no_number : (text : List ℕ) → is_numeral 10 text ≡ false → (bytes_eq (take 2 text) (codes "0x") && is_numeral 16 (drop 2 text)) ≡ false
+pub is_no_number : (text : List ℕ) → is_numeral 10 text ≡ false
+    → (bytes_eq (take 2 text) (codes "0x") && is_numeral 16 (drop 2 text)) ≡ false
     → NoneIs (IsNumber text)
-no_number text not_decimal not_hexadecimal number is = elim is.written [
+is_no_number text not_decimal not_hexadecimal number is = elim is.written [
   | inl decimal ↦
       let fits : digits_value 10 text < 2 ^ 32 = subst (λ n. n < 2 ^ 32) (sym decimal.value) is.fits in
       true≢false (sym ((is_numeral_decides 10 text).1 (decimal.each, fits)) ∙ not_decimal)
@@ -99,18 +101,18 @@ numbers_are_known = record {
   hexadecimal = hexadecimal_digits_after (codes "10") refl;
   both_cases = hexadecimal_digits_after (codes "aBcDeF") refl;
   greatest_hexadecimal = hexadecimal_digits_after (codes "0ffffffff") refl;
-  no_bytes = no_number [] refl refl;
-  no_digits = no_number (codes "0x") refl refl;
-  other_prefix = no_number (codes "0X10") refl refl;
-  plus = no_number (codes "+1") refl refl;
-  plus_inside = no_number (codes "0x+1") refl refl;
-  minus = no_number (codes "-1") refl refl;
-  space = no_number (codes " 1") refl refl;
-  underscore = no_number (codes "1_000") refl refl;
-  letter = no_number (codes "1f") refl refl;
-  other_letter = no_number (codes "0x1g") refl refl;
-  past_greatest = no_number (codes "4294967296") refl refl;
-  past_greatest_hexadecimal = no_number (codes "0x100000000") refl refl;
+  no_bytes = is_no_number [] refl refl;
+  no_digits = is_no_number (codes "0x") refl refl;
+  other_prefix = is_no_number (codes "0X10") refl refl;
+  plus = is_no_number (codes "+1") refl refl;
+  plus_inside = is_no_number (codes "0x+1") refl refl;
+  minus = is_no_number (codes "-1") refl refl;
+  space = is_no_number (codes " 1") refl refl;
+  underscore = is_no_number (codes "1_000") refl refl;
+  letter = is_no_number (codes "1f") refl refl;
+  other_letter = is_no_number (codes "0x1g") refl refl;
+  past_greatest = is_no_number (codes "4294967296") refl refl;
+  past_greatest_hexadecimal = is_no_number (codes "0x100000000") refl refl;
 }
 
 -- ---- codes
@@ -162,9 +164,9 @@ no_code_named : (field : CodeField) (argument : List ℕ) → has_name (codes_of
 no_code_named field argument none named is = true≢false (sym (code_has_name (codes_of field) named argument is) ∙ none)
 
 -- The name of a code is this code and no other.
-named_code : (field : CodeField) (argument : List ℕ) (code : ℕ) → name_of_code (codes_of field) code ≡ Some argument
+pub code_with_name : (field : CodeField) (argument : List ℕ) (code : ℕ) → name_of_code (codes_of field) code ≡ Some argument
     → names_only (codes_of field) argument code ≡ true → IsOnlyCode field argument code
-named_code field argument code is all = (Named is, only) where
+code_with_name field argument code is all = (Named is, only) where
   only : (other : ℕ) → IsCode field argument other → other ≡ code
   only other (Named named) = code_is_wanted (codes_of field) other code argument all named
   only other (Numbered none number small) = absurd (none code is)
@@ -185,14 +187,14 @@ no_code field argument none too_large code (Numbered no_name number small) = too
 
 pub codes_are_known : CodesAreKnown
 codes_are_known = record {
-  name = named_code Os (codes "linux") 5 refl refl;
-  zero = named_code Compression (codes "none") 0 refl refl;
+  name = code_with_name Os (codes "linux") 5 refl refl;
+  zero = code_with_name Compression (codes "none") 0 refl refl;
   named_number = numbered_code Os (codes "5") 5 refl (decimal_digits (codes "5") refl refl) (lit< tt);
   other_number = numbered_code Arch (codes "0xff") 255 refl (hexadecimal_digits_after (codes "ff") refl) (lit< tt);
   past_greatest = no_code Os (codes "256") refl
       (λ number is small. omega (arith, small, (decimal_digits (codes "256") refl refl).1 number is));
-  name_of_other_field = no_code Os (codes "arm") refl (λ number is small. no_number (codes "arm") refl refl number is);
-  no_name = no_code Compression (codes "Gzip") refl (λ number is small. no_number (codes "Gzip") refl refl number is);
+  name_of_other_field = no_code Os (codes "arm") refl (λ number is small. is_no_number (codes "arm") refl refl number is);
+  no_name = no_code Compression (codes "Gzip") refl (λ number is small. is_no_number (codes "Gzip") refl refl number is);
 }
 
 -- ---- limits
@@ -211,5 +213,5 @@ limits_are_known = record {
   greatest = limit_in_range (codes "0x7fffffff") 2147483647 (hexadecimal_digits_after (codes "7fffffff") refl) (lit≤ tt) (lit≤ tt);
   below_least = λ limits is. omega (arith, is.least, (decimal_digits (codes "63") refl refl).1 limits.file is.file);
   past_greatest = λ limits is. omega (arith, is.most, (decimal_digits (codes "2147483648") refl refl).1 limits.file is.file);
-  no_number = λ limits is. no_number (codes "1k") refl refl limits.file is.file;
+  no_number = λ limits is. is_no_number (codes "1k") refl refl limits.file is.file;
 }

@@ -3,23 +3,22 @@ use Rattle.bi_base.specs.declared.fault.Cause.{Cause}
 use Rattle.bi_base.specs.Limits.{Limits}
 use Rattle.bi_base.specs.Reading.{IsInputRead}
 use Rattle.bi_base.specs.Traces.{ReadTrace, WriteTrace, WritesWell}
+use Rattle.bootimg.specs.declared.command_line.ImagePlan.{ImagePlan}
 use Rattle.bootimg.specs.declared.command_line.Job.{Job}
-use Rattle.bootimg.specs.declared.command_line.Job.TheVariants.{Compare, Build, Explain}
-use Rattle.bootimg.specs.declared.command_line.Task.{Task}
+use Rattle.bootimg.specs.declared.command_line.Job.TheVariants.{Run as RunTask, Compare, Build, Explain}
 use Rattle.bootimg.specs.declared.command_line.build.BuildPlan.{BuildPlan}
 use Rattle.bootimg.specs.declared.command_line.source.ComparePlan.{ComparePlan}
 use Rattle.bootimg.specs.declared.command_line.source.ImageSource.{ImageSource}
 use Rattle.bootimg.specs.declared.command_line.source.ImageSource.TheVariants.{Standard, File}
 use Rattle.bootimg.specs.declared.failure.Failure.{Failure}
-use Rattle.bootimg.specs.declared.failure.Failure.TheVariants.{CannotOpen}
 use Rattle.bootimg.specs.Files.{FileStep, NameHas, IsNoRegularFile, IsOpenFile, KnownFiles, NotOpened, Opened, ReaderClosed}
 use Rattle.bootimg.specs.Files.{IsNotSaved, IsSaved, TookSteps, WasNotOpened, WasOpened}
 use Rattle.bootimg.specs.declared.jobs.Problem.{Problem}
 use Rattle.bootimg.specs.declared.tasks.Done.{Done}
-use Rattle.bootimg.specs.Runs.{Inputs, Work, with_input, problem, IsNotRead, IsImageRead, InputRead, FileRead, IsImageNotRead, InputNotRead}
-use Rattle.bootimg.specs.Runs.{FileNotRead, IsFileRead, IsFileNotRead, OpenedNotRead, IsTaskWork, IsImageWork, DoneOnInput}
-use Rattle.bootimg.specs.Runs.{DoneOnFile, FileNotOpened, IsComparedWork, IsCompareWork, BothRead, OtherNotRead, IsFailedWork, IsBuildWork}
-use Rattle.bootimg.specs.Runs.{IsExplainWork, IsJobWork, IsHeldWork, IsHeldFailure, failure_in_memory, Run, work_of, inputs_before}
+use Rattle.bootimg.specs.Runs.{Inputs, Work, problem, IsNotRead, IsImageRead, InputRead, FileRead, IsImageNotRead, InputNotRead}
+use Rattle.bootimg.specs.Runs.{FileNotRead, IsFileRead, IsFileNotRead, OpenedNotRead}
+use Rattle.bootimg.specs.Runs.{IsComparedWork, IsCompareWork, BothRead, OtherNotRead, IsFailedWork, IsBuildWork}
+use Rattle.bootimg.specs.Runs.{IsExplainWork, IsImageWork, IsJobWork, IsHeldWork, IsHeldFailure, failure_in_memory, Run, work_of, inputs_before}
 use Rattle.bootimg.specs.Runs.{inputs_after, IsOutputRun, IsSavedWork, OutputSaved, OutputNotSaved, ToStandardOutput, ToFile}
 use Rattle.bootimg.proofs.NewFiles.{steps_in_turn}
 
@@ -93,31 +92,6 @@ file_not_read files limits old new source name (Ok v) is same not_read = tt
 file_not_read files limits old new source name (Err failure) is same not_read =
     subst (λ s. IsImageNotRead files limits old new failure s) (sym is) (FileNotRead name not_read same)
 
--- A task over standard input, over a file that was opened, and without one.
-pub done_on_input : (files : KnownFiles) (task : Task) (limits : Limits) (source : ImageSource) (work : Work)
-    (old new : Option (List FileStep)) → source ≡ Standard → IsTaskWork task limits source work → new ≡ old
-    → IsImageWork files task limits work old new source
-done_on_input files task limits source work old new is done same =
-    subst (λ s. IsImageWork files task limits work old new s) (sym is)
-    (DoneOnInput (subst (λ s. IsTaskWork task limits s work) is done) same)
-
-pub done_on_file : (files : KnownFiles) (task : Task) (limits : Limits) (source : ImageSource) (name : Bor (List ℕ)) (work : Work)
-    (opened end : ReadTrace) (old new : Option (List FileStep)) → source ≡ File name → WasOpened files name.now opened end old new
-    → IsTaskWork task limits source (with_input work opened end) → work.new_input ≡ work.input
-    → IsImageWork files task limits work old new source
-done_on_file files task limits source name work opened end old new is was_opened done same =
-    subst (λ s. IsImageWork files task limits work old new s) (sym is)
-    (DoneOnFile name opened end was_opened (subst (λ s. IsTaskWork task limits s (with_input work opened end)) is done) same)
-
-pub done_without_file : (files : KnownFiles) (task : Task) (limits : Limits) (source : ImageSource) (name : Bor (List ℕ)) (work : Work)
-    (old new : Option (List FileStep)) → source ≡ File name → WasNotOpened files name.now old new → work.new_input ≡ work.input
-    → work.new_output ≡ work.output → work.outcome ≡ Err (problem source CannotOpen)
-    → IsImageWork files task limits work old new source
-done_without_file files task limits source name work old new is none read written outcome =
-    subst (λ s. IsImageWork files task limits work old new s) (sym is)
-    (FileNotOpened name none
-    (record { nothing_written = written; outcome = subst (λ s. work.outcome ≡ Err (problem s CannotOpen)) is outcome }) read)
-
 -- ---- comparing
 
 -- Two images that were read were compared. Reading the first one did not change what is known of the files.
@@ -144,6 +118,12 @@ other_not_read files later plan limits work old new one middle failure one_read 
     failed
 
 -- ---- jobs
+
+-- The job is to do a task with one image.
+pub task_is_done : (files : KnownFiles) (job : Job) (plan : ImagePlan) (limits : Limits) (work : Work)
+    (old new : Option (List FileStep)) → job ≡ RunTask plan → IsImageWork files plan limits work old new
+    → IsJobWork files job limits work old new
+task_is_done files job plan limits work old new is done = subst (λ j. IsJobWork files j limits work old new) (sym is) done
 
 -- The job is to compare two images.
 pub images_are_compared : (files : KnownFiles) (job : Job) (plan : ComparePlan) (limits : Limits) (work : Work)

@@ -1,15 +1,16 @@
 use Rattle.std.proofs.Common.{◌≡◌, ◌<◌, ℕ, Bool, true, false, List, Option, Result, Ok, Err, arith, subst, sym}
 use Rattle.bi_base.specs.declared.fault.Cause.{Cause}
 use Rattle.bi_base.specs.Limits.{Limits}
+use Rattle.bi_commands.specs.Offsets.{input_from}
 use Rattle.bi_commands.specs.declared.parts.Part.{Part}
+use Rattle.bootimg.specs.declared.command_line.ImagePlan.{ImagePlan}
 use Rattle.bootimg.specs.declared.command_line.Job.{Job}
 use Rattle.bootimg.specs.declared.command_line.Job.TheVariants.{Run as RunTask, Compare, Build, Explain}
 use Rattle.bootimg.specs.declared.command_line.Task.{Task}
 use Rattle.bootimg.specs.declared.command_line.Task.TheVariants.{Normalise, List as ListImage, Verify, Check, Describe, Extract}
-use Rattle.bootimg.specs.declared.command_line.Task.TheVariants.{Update, Convert}
+use Rattle.bootimg.specs.declared.command_line.Task.TheVariants.{Update, Convert, Scan, Show}
 use Rattle.bootimg.specs.declared.command_line.build.BuildPlan.{BuildPlan}
 use Rattle.bootimg.specs.declared.command_line.source.ComparePlan.{ComparePlan}
-use Rattle.bootimg.specs.declared.command_line.source.ImageSource.{ImageSource}
 use Rattle.bootimg.specs.declared.jobs.Problem.{Problem}
 use Rattle.bootimg.specs.declared.tasks.Done.{Done}
 use Rattle.bootimg.specs.ComparedFiles.{compare_status}
@@ -37,10 +38,12 @@ ended_below_2 status done ended below = subst (λ s. s < 2) (sym ended.is_status
 task_done_below_2 : (task : Task) (limits : Limits) (done : Done) (input output : List ℕ) → TaskDone task limits done input output
     → done.status < 2
 task_done_below_2 (Normalise form) limits done input output is = subst (λ s. s < 2) (sym is.1) (omega arith)
+task_done_below_2 (Show presenter) limits done input output is = ended_below_2 0 done is.1 (omega arith)
 task_done_below_2 (ListImage format) limits done input output is = ended_below_2 0 done is.1 (omega arith)
 task_done_below_2 (Describe format) limits done input output is = ended_below_2 0 done is.1 (omega arith)
 task_done_below_2 (Verify format) limits done input output is = ended_below_2 (status_of is.0) done is.2 (good_below_2 is.0)
 task_done_below_2 (Check allowed format) limits done input output is = ended_below_2 (status_of is.0) done is.2 (good_below_2 is.0)
+task_done_below_2 Scan limits done input output is = ended_below_2 (status_of is.0) done is.2 (good_below_2 is.0)
 task_done_below_2 (Update changes form) limits done input output is = subst (λ s. s < 2) (sym is.1) (omega arith)
 task_done_below_2 (Extract selection) limits done input output is = ended_below_2 0 done is.1 (omega arith)
 task_done_below_2 Convert limits done input output is = ended_below_2 0 done is.1 (omega arith)
@@ -53,19 +56,20 @@ same_done outcome one other is also below =
 not_done : {P : Type 0} (outcome : Result Done Problem) (failed : Problem) (done : Done) → outcome ≡ Err failed → outcome ≡ Ok done → P
 not_done outcome failed done is also = absurd (cc)
 
-task_work_below_2 : (task : Task) (limits : Limits) (source : ImageSource) (work : Work) (done : Done)
-    → IsTaskWork task limits source work → work.outcome ≡ Ok done → done.status < 2
-task_work_below_2 task limits source work done (Succeeded other piped outcome) ok =
+task_work_below_2 : (plan : ImagePlan) (limits : Limits) (work : Work) (done : Done) → IsTaskWork plan limits work
+    → work.outcome ≡ Ok done → done.status < 2
+task_work_below_2 plan limits work done (Succeeded other piped outcome) ok =
+    let moved = piped.done.moved in
     same_done work.outcome other done outcome ok
-    (task_done_below_2 task limits other piped.done.moved.input piped.done.moved.output piped.done.moved.is_output)
-task_work_below_2 task limits source work done (HasFailed failure piped outcome) ok = not_done work.outcome _ done outcome ok
+    (task_done_below_2 plan.task limits other (input_from plan.offset moved.input) moved.output moved.is_output.holds)
+task_work_below_2 plan limits work done (HasFailed failure piped outcome) ok = not_done work.outcome _ done outcome ok
 
-image_work_below_2 : (files : KnownFiles) (task : Task) (limits : Limits) (work : Work) (old new : Option (List FileStep))
-    (source : ImageSource) (done : Done) → IsImageWork files task limits work old new source → work.outcome ≡ Ok done → done.status < 2
-image_work_below_2 files task limits work old new source done (DoneOnInput is same) ok = task_work_below_2 task limits _ work done is ok
-image_work_below_2 files task limits work old new source done (DoneOnFile name opened end was is same) ok =
-    task_work_below_2 task limits _ (with_input work opened end) done is ok
-image_work_below_2 files task limits work old new source done (FileNotOpened name none failed same) ok =
+image_work_below_2 : (files : KnownFiles) (plan : ImagePlan) (limits : Limits) (work : Work) (old new : Option (List FileStep))
+    (done : Done) → IsImageWork files plan limits work old new → work.outcome ≡ Ok done → done.status < 2
+image_work_below_2 files plan limits work old new done (DoneOnInput standard is same) ok = task_work_below_2 plan limits work done is ok
+image_work_below_2 files plan limits work old new done (DoneOnFile name file opened end was is same) ok =
+    task_work_below_2 plan limits (with_input work opened end) done is ok
+image_work_below_2 files plan limits work old new done (FileNotOpened name file none failed same) ok =
     not_done work.outcome _ done failed.outcome ok
 
 compared_below_2 : (plan : ComparePlan) (limits : Limits) (one other : List ℕ) (work : Work) (done : Done)
@@ -110,8 +114,7 @@ build_work_below_2 files plan limits work old new done (NoRoom first is same) ok
 
 pub job_status_below_2 : (files : KnownFiles) (job : Job) (limits : Limits) (work : Work) (old new : Option (List FileStep)) (done : Done)
     → IsJobWork files job limits work old new → work.outcome ≡ Ok done → done.status < 2
-job_status_below_2 files (RunTask task source) limits work old new done is ok =
-    image_work_below_2 files task limits work old new source done is ok
+job_status_below_2 files (RunTask plan) limits work old new done is ok = image_work_below_2 files plan limits work old new done is ok
 job_status_below_2 files (Compare plan) limits work old new done is ok = compare_work_below_2 files plan limits work old new done is ok
 job_status_below_2 files (Explain cause) limits work old new done is ok = explain_work_below_2 cause work done is.0 ok
 job_status_below_2 files (Build plan) limits work old new done is ok = build_work_below_2 files plan limits work old new done is ok

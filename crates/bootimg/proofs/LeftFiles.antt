@@ -7,7 +7,7 @@ use Rattle.bi_commands.specs.declared.parts.Part.TheVariants.{Bytes, Length}
 use Rattle.bootimg.specs.declared.command_line.Job.{Job}
 use Rattle.bootimg.specs.declared.command_line.Job.TheVariants.{Run as RunTask, Compare, Build, Explain}
 use Rattle.bootimg.specs.declared.command_line.Request.{Request}
-use Rattle.bootimg.specs.declared.command_line.Task.{Task}
+use Rattle.bootimg.specs.declared.command_line.ImagePlan.{ImagePlan}
 use Rattle.bootimg.specs.declared.command_line.build.BuildPlan.{BuildPlan}
 use Rattle.bootimg.specs.declared.command_line.part.PartSource.{PartSource}
 use Rattle.bootimg.specs.declared.command_line.part.PartSource.TheVariants as part
@@ -82,12 +82,12 @@ parts_keep base files limits (s ∷ sources) (p ∷ parts) old new are =
     keeps_in_turn base old are.0 new (part_keeps base files limits s p old are.0 are.1)
     (parts_keep base files limits sources parts are.0 new are.2)
 
-image_work_keeps : (base : Names) (files : KnownFiles) (task : Task) (limits : Limits) (work : Work) (old new : Option (List FileStep))
-    (source : ImageSource) → IsImageWork files task limits work old new source → KeepsNames base old new
-image_work_keeps base files task limits work old new source (DoneOnInput done same) = keeps_same base old new same
-image_work_keeps base files task limits work old new source (DoneOnFile name opened end is done same) =
+image_work_keeps : (base : Names) (files : KnownFiles) (plan : ImagePlan) (limits : Limits) (work : Work)
+    (old new : Option (List FileStep)) → IsImageWork files plan limits work old new → KeepsNames base old new
+image_work_keeps base files plan limits work old new (DoneOnInput standard done same) = keeps_same base old new same
+image_work_keeps base files plan limits work old new (DoneOnFile name file opened end is done same) =
     opened_keeps base files name.now opened end old new is
-image_work_keeps base files task limits work old new source (FileNotOpened name none failed same) =
+image_work_keeps base files plan limits work old new (FileNotOpened name file none failed same) =
     not_opened_keeps base files name.now old new none
 
 compare_work_keeps : (base : Names) (files : KnownFiles) (plan : ComparePlan) (limits : Limits) (work : Work)
@@ -115,8 +115,7 @@ build_work_keeps base files plan limits work old new (NoRoom first is same) =
 
 job_work_keeps_names : (base : Names) (files : KnownFiles) (job : Job) (limits : Limits) (work : Work) (old new : Option (List FileStep))
     → IsJobWork files job limits work old new → KeepsNames base old new
-job_work_keeps_names base files
-    (RunTask task source) limits work old new done = image_work_keeps base files task limits work old new source done
+job_work_keeps_names base files (RunTask plan) limits work old new done = image_work_keeps base files plan limits work old new done
 job_work_keeps_names base files (Compare plan) limits work old new done = compare_work_keeps base files plan limits work old new done
 job_work_keeps_names base files (Explain cause) limits work old new done = keeps_same base old new done.1
 job_work_keeps_names base files (Build plan) limits work old new done = build_work_keeps base files plan limits work old new done

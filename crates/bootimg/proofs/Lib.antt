@@ -19,5 +19,6 @@ pub mod MemoryLogs
 pub mod JobStatuses
 pub mod ArgumentFacts
 pub mod OptionFacts
+pub mod RequestFacts
 pub mod RunEnds
 pub mod StepFacts

@@ -46,11 +46,13 @@ pub defaults_are_known : DefaultsAreKnown
 unfolding program_app clap_on_literals
 defaults_are_known = record {
   normalise = gives_values _ _ _ refl refl refl;
+  show = gives_values _ _ _ refl refl refl;
   list = gives_values _ _ _ refl refl refl;
   describe = gives_values _ _ _ refl refl refl;
   compare = gives_values _ _ _ refl refl refl;
   verify = gives_values _ _ _ refl refl refl;
   check = gives_values _ _ _ refl refl refl;
+  scan = gives_values _ _ _ refl refl refl;
   update = gives_values _ _ _ refl refl refl;
   extract = gives_values _ _ _ refl refl refl;
   convert = gives_values _ _ _ refl refl refl;
@@ -64,12 +66,14 @@ unfolding program_app clap_on_literals
 options_are_known = record {
   normalise = gives_values _ _ _ refl refl refl;
   normalize = gives_values _ _ _ refl refl refl;
+  show = gives_values _ _ _ refl refl refl;
   list = gives_values _ _ _ refl refl refl;
   describe = gives_values _ _ _ refl refl refl;
   compare = gives_values _ _ _ refl refl refl;
   diff = gives_values _ _ _ refl refl refl;
   verify = gives_values _ _ _ refl refl refl;
   check = gives_values _ _ _ refl refl refl;
+  scan = gives_values _ _ _ refl refl refl;
   update = gives_values _ _ _ refl refl refl;
   extract = gives_values _ _ _ refl refl refl;
   extract_flags = gives_values _ _ _ refl refl refl;
@@ -91,6 +95,9 @@ mistakes_are_known = record {
   two_files = refl;
   other_option = refl;
   no_json = refl;
+  no_offset = refl;
+  no_offset_of_page = refl;
+  no_layout = refl;
   option_twice = refl;
   missing_value = refl;
 }

@@ -9,14 +9,13 @@ use Rattle.bi_base.specs.Writing.{WroteAll, WriteStopped}
 use Rattle.bi_base.specs.declared.fault.Error.{Error}
 use Rattle.bi_base.specs.Limits.{Limits}
 use Rattle.bi_base.specs.Pipes.{IsTracedPipe}
-use Rattle.bootimg.specs.declared.command_line.Task.{Task}
+use Rattle.bootimg.specs.declared.command_line.ImagePlan.{ImagePlan}
 use Rattle.bootimg.specs.declared.command_line.source.ImageSource.{ImageSource}
 use Rattle.bootimg.specs.declared.failure.Failure.{Failure}
 use Rattle.bootimg.specs.Files.{FileStep, KnownFiles}
 use Rattle.bootimg.specs.declared.tasks.Done.{Done}
 use Rattle.bootimg.specs.Runs.{IsPlainRun, IsRun, IsTaskWork, Logs, IsLogged, HasStopped, IsRejection, Reports, Run, Work, Succeeded}
-use Rattle.bootimg.specs.Runs.{HasFailed, IsAskedFor, IsMistake, problem}
-use Rattle.bootimg.specs.Tasks.{task_promise}
+use Rattle.bootimg.specs.Runs.{HasFailed, IsAskedFor, IsMistake, plan_promise, problem}
 
 -- A run of the program over traced streams is one over plain streams, and it succeeds, fails or is rejected as its calls do.
 
@@ -81,24 +80,23 @@ run_is_rejected source failure run read written changed reports status = record 
 }
 
 -- A task that was done, or that failed, is work on it.
-pub run_succeeds : (task : Task) (limits : Limits) (source : ImageSource) (work : Work) (result : Result Done Failure) (done : Done)
-    → result ≡ Ok done
-    → IsTracedPipe (task_promise task limits) limits work.input work.new_input work.output work.new_output result
-    → work.outcome ≡ Ok done → IsTaskWork task limits source work
-run_succeeds task limits source work result done same piped outcome =
+pub run_succeeds : (plan : ImagePlan) (limits : Limits) (work : Work) (result : Result Done Failure) (done : Done) → result ≡ Ok done
+    → IsTracedPipe (plan_promise plan limits) limits work.input work.new_input work.output work.new_output result
+    → work.outcome ≡ Ok done → IsTaskWork plan limits work
+run_succeeds plan limits work result done same piped outcome =
     Succeeded done
     (subst
-    (λ (r : Result Done Failure). IsTracedPipe (task_promise task limits) limits work.input work.new_input work.output work.new_output r)
+    (λ (r : Result Done Failure). IsTracedPipe (plan_promise plan limits) limits work.input work.new_input work.output work.new_output r)
     same piped)
     outcome
 
-pub has_failed : (task : Task) (limits : Limits) (source : ImageSource) (work : Work) (result : Result Done Failure) (failure : Failure)
+pub has_failed : (plan : ImagePlan) (limits : Limits) (work : Work) (result : Result Done Failure) (failure : Failure)
     → result ≡ Err failure
-    → IsTracedPipe (task_promise task limits) limits work.input work.new_input work.output work.new_output result
-    → work.outcome ≡ Err (problem source failure) → IsTaskWork task limits source work
-has_failed task limits source work result failure same piped outcome =
+    → IsTracedPipe (plan_promise plan limits) limits work.input work.new_input work.output work.new_output result
+    → work.outcome ≡ Err (problem plan.source failure) → IsTaskWork plan limits work
+has_failed plan limits work result failure same piped outcome =
     HasFailed failure
     (subst
-    (λ (r : Result Done Failure). IsTracedPipe (task_promise task limits) limits work.input work.new_input work.output work.new_output r)
+    (λ (r : Result Done Failure). IsTracedPipe (plan_promise plan limits) limits work.input work.new_input work.output work.new_output r)
     same piped)
     outcome

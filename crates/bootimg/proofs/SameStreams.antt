@@ -6,7 +6,7 @@ use Rattle.bi_base.specs.Traces.{WriteTrace}
 use Rattle.bi_commands.specs.declared.parts.Part.{Part}
 use Rattle.bootimg.specs.declared.command_line.Job.{Job}
 use Rattle.bootimg.specs.declared.command_line.Job.TheVariants.{Run as RunTask, Compare, Build, Explain}
-use Rattle.bootimg.specs.declared.command_line.Task.{Task}
+use Rattle.bootimg.specs.declared.command_line.ImagePlan.{ImagePlan}
 use Rattle.bootimg.specs.declared.command_line.build.BuildPlan.{BuildPlan}
 use Rattle.bootimg.specs.declared.command_line.source.ComparePlan.{ComparePlan}
 use Rattle.bootimg.specs.declared.command_line.source.ImageSource.{ImageSource}
@@ -64,19 +64,18 @@ pub record KeepsWork (work : Work) : Type 0 where
   pub reader : work.new_input.reader ≡ work.input.reader
   pub writer : work.new_output.writer ≡ work.output.writer
 
-task_work_keeps : (task : Task) (limits : Limits) (source : ImageSource) (work : Work) → IsTaskWork task limits source work
-    → KeepsWork work
-task_work_keeps task limits source work (Succeeded done piped outcome) =
+task_work_keeps : (plan : ImagePlan) (limits : Limits) (work : Work) → IsTaskWork plan limits work → KeepsWork work
+task_work_keeps plan limits work (Succeeded done piped outcome) =
     record { reader = piped.same_streams.same_reader; writer = piped.same_streams.same_writer }
-task_work_keeps task limits source work (HasFailed failure piped outcome) =
+task_work_keeps plan limits work (HasFailed failure piped outcome) =
     record { reader = piped.same_streams.same_reader; writer = piped.same_streams.same_writer }
 
-image_work_keeps : (files : KnownFiles) (task : Task) (limits : Limits) (work : Work) (old new : Option (List FileStep))
-    (source : ImageSource) → IsImageWork files task limits work old new source → KeepsWork work
-image_work_keeps files task limits work old new source (DoneOnInput done steps) = task_work_keeps _ _ _ _ done
-image_work_keeps files task limits work old new source (DoneOnFile name opened end is done same) =
-    record { reader = ap (λ trace. trace.reader) same; writer = (task_work_keeps task limits _ (with_input work opened end) done).writer }
-image_work_keeps files task limits work old new source (FileNotOpened name none failed same) =
+image_work_keeps : (files : KnownFiles) (plan : ImagePlan) (limits : Limits) (work : Work) (old new : Option (List FileStep))
+    → IsImageWork files plan limits work old new → KeepsWork work
+image_work_keeps files plan limits work old new (DoneOnInput standard done steps) = task_work_keeps _ _ _ done
+image_work_keeps files plan limits work old new (DoneOnFile name file opened end is done same) =
+    record { reader = ap (λ trace. trace.reader) same; writer = (task_work_keeps plan limits (with_input work opened end) done).writer }
+image_work_keeps files plan limits work old new (FileNotOpened name file none failed same) =
     record { reader = ap (λ trace. trace.reader) same; writer = ap (λ trace. trace.writer) failed.nothing_written }
 
 -- The output is the same after two images were compared.
@@ -133,7 +132,7 @@ build_work_keeps files plan limits work old new (NoRoom first is same) =
 -- A job keeps its input and its output.
 pub job_work_keeps : (files : KnownFiles) (job : Job) (limits : Limits) (work : Work) (old new : Option (List FileStep))
     → IsJobWork files job limits work old new → KeepsWork work
-job_work_keeps files (RunTask task source) limits work old new done = image_work_keeps _ _ _ _ _ _ _ done
+job_work_keeps files (RunTask plan) limits work old new done = image_work_keeps _ _ _ _ _ _ done
 job_work_keeps files (Compare plan) limits work old new done = compare_work_keeps _ _ _ _ _ _ done
 job_work_keeps files (Explain cause) limits work old new done = explain_work_keeps _ _ done.0
 job_work_keeps files (Build plan) limits work old new done = build_work_keeps _ _ _ _ _ _ done

@@ -21,6 +21,7 @@ use Rattle.bootimg.specs.Numbers.{IsNumber}
 use Rattle.bootimg.specs.declared.codes.CodeField.TheVariants.{Os, Arch, ImageType, Compression}
 use Rattle.bootimg.specs.declared.command_line.Outcome.{Outcome}
 use Rattle.bootimg.specs.declared.command_line.Outcome.TheVariants as outcome
+use Rattle.bootimg.specs.declared.command_line.ImagePlan.{ImagePlan}
 use Rattle.bootimg.specs.declared.command_line.Job.{Job}
 use Rattle.bootimg.specs.declared.command_line.Job.TheVariants.{Run, Compare, Build, Explain}
 use Rattle.bootimg.specs.declared.command_line.Request.{Request}
@@ -69,7 +70,7 @@ HasLengths (Fit plan) = length plan.payloads.items ≡ length plan.images.items
 
 -- If a job is to build a flattened image tree, there are as many lengths or files as images.
 abbrev pub HasJobLengths : Job → Type 0
-HasJobLengths (Run task source) = ⊤
+HasJobLengths (Run plan) = ⊤
 HasJobLengths (Compare plan) = ⊤
 HasJobLengths (Explain cause) = ⊤
 HasJobLengths (Build plan) = HasLengths plan
@@ -124,6 +125,10 @@ pub record IsLimits (argument : List ℕ) (limits : Limits) : Type 0 where
   pub most : limits.file ≤ 0x7fffffff
   pub depth : limits.depth ≡ 64
 
+-- The value of `--offset`. It is the default for a command without that option.
+abbrev pub given_offset : ArgMatches → List ℕ
+given_offset options = value_of options (codes "offset") (codes "0")
+
 -- The text of the flag `--external`: `true` or `false`.
 abbrev pub external_flag : ArgMatches → Option (List ℕ)
 external_flag options = one_text (found_of options) (codes "external")
@@ -143,6 +148,18 @@ pub record IsFormat (options : ArgMatches) (format : Format) : Type 0 where
   pub given : json_flag options ≡ Some (codes "true") → format ≡ Json
   pub not_given : json_flag options ≡ Some (codes "false") → format ≡ Lines
   pub unknown : json_flag options ≡ None → format ≡ Lines
+
+-- ---- show
+
+-- The text of the flag `--layout`: `true` or `false`.
+abbrev pub layout_flag : ArgMatches → Option (List ℕ)
+layout_flag options = one_text (found_of options) (codes "layout")
+
+-- The layout of the file is shown with `--layout`, and else not.
+pub record ShowsLayout (options : ArgMatches) (layout : Bool) : Type 0 where
+  pub given : layout_flag options ≡ Some (codes "true") → layout ≡ true
+  pub not_given : layout_flag options ≡ Some (codes "false") → layout ≡ false
+  pub unknown : layout_flag options ≡ None → layout ≡ false
 
 -- ---- images
 
@@ -450,16 +467,25 @@ IsFitPlanFailure options failure = ⊥
 -- The command of this name, with its options, is this task.
 abbrev pub IsTask : List ℕ → ArgMatches → Task → Type 0
 IsTask name options (task.Normalise form) = (name ≡ codes "normalise") × IsForm options form
+IsTask name options (task.Show presenter) =
+    (name ≡ codes "show") × ShowsLayout options presenter.layout
 IsTask name options (task.List format) = (name ≡ codes "list") × IsFormat options format
 IsTask name options (task.Describe format) = (name ≡ codes "describe") × IsFormat options format
 IsTask name options (task.Verify format) = (name ≡ codes "verify") × IsFormat options format
 IsTask name options (task.Check allowed format) =
     (name ≡ codes "check") × IsAllowedBy (allow_option options) allowed × IsFormat options format
+IsTask name options task.Scan = name ≡ codes "scan"
 IsTask name options (task.Update changes form) =
     (name ≡ codes "update") × IsChanges options changes × IsForm options form
 IsTask name options (task.Extract selection) =
     (name ≡ codes "extract") × IsSelected options selection
 IsTask name options task.Convert = name ≡ codes "convert"
+
+-- The command of this name, with its options, is this plan for one image.
+pub record IsImagePlan (name : List ℕ) (options : ArgMatches) (plan : ImagePlan) : Type 0 where
+  pub task : IsTask name options plan.task
+  pub offset : IsNumber (given_offset options) plan.offset
+  pub source : IsImageSource (option_of options (codes "file")) plan.source
 
 -- The command of this name, with its options, builds this.
 abbrev pub IsBuildPlan : List ℕ → ArgMatches → BuildPlan → Type 0
@@ -469,8 +495,7 @@ IsBuildPlan name options (Fit plan) = (name ≡ codes "build-fit") × IsFitPlan 
 
 -- The command of this name, with its options, is this job.
 abbrev pub IsJob : List ℕ → ArgMatches → Job → Type 0
-IsJob name options (Run task source) =
-    IsTask name options task × IsImageSource (option_of options (codes "file")) source
+IsJob name options (Run plan) = IsImagePlan name options plan
 IsJob name options (Compare plan) = (name ≡ codes "compare") × IsComparePlan options plan
 IsJob name options (Explain cause) =
     (name ≡ codes "explain") × IsExplained (option_of options (codes "cause")) cause
@@ -484,6 +509,8 @@ pub data IsTaskFailure (name : List ℕ) (options : ArgMatches) (failure : Failu
       → IsTaskFailure name options failure
   NotSelected : name ≡ codes "extract" → IsSelectionFailure options failure
       → IsTaskFailure name options failure
+  NotPlaced : (task : Task) → IsTask name options task
+      → IsBadValue (IsNumber (given_offset options)) failure → IsTaskFailure name options failure
   NotLegacy : name ≡ codes "build-legacy" → IsBadValue (IsLegacyPlan options) failure
       → IsTaskFailure name options failure
   NotLimited : name ≡ codes "build-fit" → IsBadValue (IsLimits (limit_of options)) failure

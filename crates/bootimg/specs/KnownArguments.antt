@@ -46,9 +46,14 @@ pub record GivesValues (line name : List ℕ) (values : List ValuesOf) : Type 0 
 abbrev pub default_limit : ValuesOf
 default_limit = with_value (codes "limit") (codes "2147483647")
 
--- What a command on one image has without options.
+-- What `show` and `scan` have without options, beside `--layout`. They have no `--offset`.
+abbrev pub defaults_without_offset : List ValuesOf
+defaults_without_offset =
+    default_limit ∷ without_value (codes "output") ∷ without_value (codes "file") ∷ []
+
+-- What any other command on one image has without options.
 abbrev pub only_defaults : List ValuesOf
-only_defaults = default_limit ∷ without_value (codes "output") ∷ without_value (codes "file") ∷ []
+only_defaults = with_value (codes "offset") (codes "0") ∷ defaults_without_offset
 
 -- The same of a command that can write JSON.
 abbrev pub defaults_with_json : List ValuesOf
@@ -58,6 +63,10 @@ defaults_with_json = with_value (codes "json") (codes "false") ∷ only_defaults
 pub record DefaultsAreKnown : Type 0 where
   pub normalise : GivesValues (codes "normalise") (codes "normalise")
       (with_value (codes "external") (codes "false") ∷ only_defaults)
+  pub show : GivesValues (codes "show") (codes "show")
+      (with_value (codes "layout") (codes "false")
+      ∷ without_value (codes "offset")
+      ∷ defaults_without_offset)
   pub list : GivesValues (codes "list") (codes "list") defaults_with_json
   pub describe : GivesValues (codes "describe") (codes "describe") defaults_with_json
   pub compare : GivesValues (codes "compare a b") (codes "compare")
@@ -69,6 +78,8 @@ pub record DefaultsAreKnown : Type 0 where
   pub verify : GivesValues (codes "verify") (codes "verify") defaults_with_json
   pub check : GivesValues (codes "check") (codes "check")
       (without_value (codes "allow") ∷ defaults_with_json)
+  pub scan : GivesValues (codes "scan") (codes "scan")
+      (without_value (codes "offset") ∷ defaults_without_offset)
   pub update : GivesValues (codes "update") (codes "update")
       (without_value (codes "time")
       ∷ with_value (codes "hashes") (codes "false")
@@ -107,7 +118,7 @@ pub record DefaultsAreKnown : Type 0 where
   pub explain : GivesValues (codes "explain") (codes "explain")
       (without_value (codes "output") ∷ without_value (codes "cause") ∷ [])
 
--- What a command on one image has with `--limit 64 -o out in`.
+-- What `show` and `scan` have with `--limit 64 -o out in`.
 abbrev pub limit_output_and_file : List ValuesOf
 limit_output_and_file =
     with_value (codes "limit") (codes "64")
@@ -115,20 +126,26 @@ limit_output_and_file =
     ∷ with_value (codes "file") (codes "in")
     ∷ []
 
--- The same with `--json` too.
+-- What any other command on one image has with `--offset 7` too, and with `--json` too.
+abbrev pub offset_and_others : List ValuesOf
+offset_and_others = with_value (codes "offset") (codes "7") ∷ limit_output_and_file
+
 abbrev pub json_and_others : List ValuesOf
-json_and_others = with_value (codes "json") (codes "true") ∷ limit_output_and_file
+json_and_others = with_value (codes "json") (codes "true") ∷ offset_and_others
 
 -- Each option of each command, and the other names of two commands.
 pub record OptionsAreKnown : Type 0 where
-  pub normalise : GivesValues (codes "normalise --external --limit 64 -o out in")
+  pub normalise : GivesValues (codes "normalise --external --offset 7 --limit 64 -o out in")
       (codes "normalise")
-      (with_value (codes "external") (codes "true") ∷ limit_output_and_file)
+      (with_value (codes "external") (codes "true") ∷ offset_and_others)
   pub normalize : GivesValues (codes "normalize in") (codes "normalise")
       (with_value (codes "file") (codes "in") ∷ [])
-  pub list : GivesValues (codes "list --json --limit 64 --output out in") (codes "list")
+  pub show : GivesValues (codes "show --layout --limit 64 -o out in") (codes "show")
+      (with_value (codes "layout") (codes "true") ∷ limit_output_and_file)
+  pub list : GivesValues (codes "list --json --offset 7 --limit 64 --output out in") (codes "list")
       json_and_others
-  pub describe : GivesValues (codes "describe --json --limit=64 -o out in") (codes "describe")
+  pub describe : GivesValues (codes "describe --json --offset=7 --limit=64 -o out in")
+      (codes "describe")
       json_and_others
   pub compare : GivesValues (codes "compare --quiet --json --limit 64 -o out - in")
       (codes "compare")
@@ -141,32 +158,37 @@ pub record OptionsAreKnown : Type 0 where
       ∷ [])
   pub diff : GivesValues (codes "diff a b") (codes "compare")
       (with_value (codes "one") (codes "a") ∷ with_value (codes "other") (codes "b") ∷ [])
-  pub verify : GivesValues (codes "verify in --json --limit 64 -o out") (codes "verify")
+  pub verify : GivesValues (codes "verify in --json --offset 7 --limit 64 -o out")
+      (codes "verify")
       json_and_others
-  pub check : GivesValues (codes "check --allow weak-hash,missing --json --limit 64 -o out in")
+  pub check : GivesValues
+      (codes "check --allow weak-hash,missing --json --offset 7 --limit 64 -o out in")
       (codes "check")
       (with_value (codes "allow") (codes "weak-hash,missing") ∷ json_and_others)
-  pub update : GivesValues (codes "update --time 5 --hashes --external --limit 64 -o out in")
+  pub scan : GivesValues (codes "scan --limit 64 -o out in") (codes "scan") limit_output_and_file
+  pub update : GivesValues
+      (codes "update --time 5 --hashes --external --offset 7 --limit 64 -o out in")
       (codes "update")
       (with_value (codes "time") (codes "5")
       ∷ with_value (codes "hashes") (codes "true")
       ∷ with_value (codes "external") (codes "true")
-      ∷ limit_output_and_file)
+      ∷ offset_and_others)
   pub extract : GivesValues
-      (codes "extract --part 1 --image a --config c --key fdt --index 2 --limit 64 -o out in")
+      (codes
+      "extract --part 1 --image a --config c --key fdt --index 2 --offset 7 --limit 64 -o out in")
       (codes "extract")
       (with_value (codes "part") (codes "1")
       ∷ with_value (codes "image") (codes "a")
       ∷ with_value (codes "config") (codes "c")
       ∷ with_value (codes "key") (codes "fdt")
       ∷ with_value (codes "index") (codes "2")
-      ∷ limit_output_and_file)
+      ∷ offset_and_others)
   pub extract_flags : GivesValues (codes "extract --default --escaped") (codes "extract")
       (with_value (codes "default") (codes "true")
       ∷ with_value (codes "escaped") (codes "true")
       ∷ [])
-  pub convert : GivesValues (codes "convert --limit 64 -o out in") (codes "convert")
-      limit_output_and_file
+  pub convert : GivesValues (codes "convert --offset 7 --limit 64 -o out in") (codes "convert")
+      offset_and_others
   pub build_legacy : GivesValues
       (codes "build-legacy --os linux --arch arm --type kernel --compression gzip --name k 5 @h")
       (codes "build-legacy")
@@ -217,6 +239,12 @@ pub record MistakesAreKnown : Type 0 where
   pub other_option : fault_of program_app (words_of_line (codes "list --external"))
       ≡ UnknownArgument ∷ []
   pub no_json : fault_of program_app (words_of_line (codes "convert --json"))
+      ≡ UnknownArgument ∷ []
+  pub no_offset : fault_of program_app (words_of_line (codes "scan --offset 0"))
+      ≡ UnknownArgument ∷ []
+  pub no_offset_of_page : fault_of program_app (words_of_line (codes "show --offset 0"))
+      ≡ UnknownArgument ∷ []
+  pub no_layout : fault_of program_app (words_of_line (codes "list --layout"))
       ≡ UnknownArgument ∷ []
   pub option_twice : fault_of program_app (words_of_line (codes "list --limit 64 --limit 65"))
       ≡ ArgumentConflict ∷ []

@@ -28,8 +28,9 @@ use Rattle.bootimg.specs.declared.failure.Failure.TheVariants.{NotWritten}
 
 -- How runs end, by which a reader can judge the definitions.
 
--- The exit status is 1 if a verdict is not good, if a concern has a line, or if two images do not
--- mean the same. It is 2 after a failure, and if the arguments are rejected or wrong.
+-- The exit status is 1 if a verdict is not good, if a concern has a line, if no image has one in a
+-- scan, or if two images do not mean the same. It is 2 after a failure, and if the arguments are
+-- rejected or wrong.
 pub record StatusesAreKnown : Type 0 where
   pub good : status_of true ≡ 0
   pub not_good : status_of false ≡ 1

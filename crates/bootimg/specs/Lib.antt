@@ -16,5 +16,6 @@ pub mod FilesAfter
 pub mod LeftFiles
 pub mod MemoryFiles
 pub mod KnownArguments
+pub mod KnownRequests
 pub mod KnownRuns
 pub mod KnownSteps

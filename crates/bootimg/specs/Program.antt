@@ -69,6 +69,10 @@ external = flag_option (codes "external")
 abbrev pub json : Rule
 json = flag_option (codes "json")
 
+-- `--offset`.
+abbrev pub offset : Rule
+offset = option_with_default (codes "offset") (codes "0")
+
 -- The file of an image.
 abbrev pub file : Rule
 file = positional (codes "file")
@@ -86,16 +90,20 @@ with_alias shape alias = record shape { aliases = alias ∷ [] }
 -- `normalise`, or `normalize`.
 abbrev pub normalise : Shape
 normalise =
-    with_alias (command (codes "normalise") (external ∷ limit ∷ output ∷ file ∷ []))
+    with_alias (command (codes "normalise") (external ∷ offset ∷ limit ∷ output ∷ file ∷ []))
     (codes "normalize")
+
+-- `show`.
+abbrev pub show : Shape
+show = command (codes "show") (flag_option (codes "layout") ∷ limit ∷ output ∷ file ∷ [])
 
 -- `list`.
 abbrev pub list : Shape
-list = command (codes "list") (json ∷ limit ∷ output ∷ file ∷ [])
+list = command (codes "list") (json ∷ offset ∷ limit ∷ output ∷ file ∷ [])
 
 -- `describe`.
 abbrev pub describe : Shape
-describe = command (codes "describe") (json ∷ limit ∷ output ∷ file ∷ [])
+describe = command (codes "describe") (json ∷ offset ∷ limit ∷ output ∷ file ∷ [])
 
 -- `compare`, or `diff`.
 abbrev pub compare : Shape
@@ -108,30 +116,34 @@ compare =
 
 -- `verify`.
 abbrev pub verify : Shape
-verify = command (codes "verify") (json ∷ limit ∷ output ∷ file ∷ [])
+verify = command (codes "verify") (json ∷ offset ∷ limit ∷ output ∷ file ∷ [])
 
 -- `check`.
 abbrev pub check : Shape
 check = command (codes "check")
-    (value_option (codes "allow") ∷ json ∷ limit ∷ output ∷ file ∷ [])
+    (value_option (codes "allow") ∷ json ∷ offset ∷ limit ∷ output ∷ file ∷ [])
+
+-- `scan`.
+abbrev pub scan : Shape
+scan = command (codes "scan") (limit ∷ output ∷ file ∷ [])
 
 -- `update`.
 abbrev pub update : Shape
 update = command (codes "update")
-    (value_option (codes "time") ∷ flag_option (codes "hashes") ∷ external ∷ limit ∷ output ∷ file
-    ∷ [])
+    (value_option (codes "time") ∷ flag_option (codes "hashes") ∷ external ∷ offset ∷ limit ∷ output
+    ∷ file ∷ [])
 
 -- `extract`.
 abbrev pub extract : Shape
 extract = command (codes "extract")
     (value_option (codes "part") ∷ value_option (codes "image") ∷ value_option (codes "config")
     ∷ flag_option (codes "default") ∷ option_with_default (codes "key") (codes "kernel")
-    ∷ option_with_default (codes "index") (codes "0") ∷ flag_option (codes "escaped") ∷ limit
-    ∷ output ∷ file ∷ [])
+    ∷ option_with_default (codes "index") (codes "0") ∷ flag_option (codes "escaped") ∷ offset
+    ∷ limit ∷ output ∷ file ∷ [])
 
 -- `convert`.
 abbrev pub convert : Shape
-convert = command (codes "convert") (limit ∷ output ∷ file ∷ [])
+convert = command (codes "convert") (offset ∷ limit ∷ output ∷ file ∷ [])
 
 -- `build-legacy`.
 abbrev pub build_legacy : Shape
@@ -156,9 +168,9 @@ explain = command (codes "explain") (output ∷ positional (codes "cause") ∷ [
 
 -- ---- the program
 
--- The commands that show what an image is, and the one that normalises it.
+-- The commands that show what an image is, the one that normalises it, and the one that finds it.
 abbrev pub reading_commands : List Shape
-reading_commands = normalise ∷ list ∷ describe ∷ compare ∷ verify ∷ check ∷ []
+reading_commands = normalise ∷ show ∷ list ∷ describe ∷ compare ∷ verify ∷ check ∷ scan ∷ []
 
 -- The commands that make something else of an image.
 abbrev pub changing_commands : List Shape

@@ -14,16 +14,17 @@ use Rattle.bi_base.specs.Traces.{ReadTrace, WriteTrace, ReadsWell, WritesWell}
 use Rattle.bi_base.specs.Writing.{WroteAll, WriteStopped, WroteAndFlushed, WriteOrFlushStopped}
 use Rattle.bi_base.specs.Commands.{CommandPromise}
 use Rattle.bi_commands.specs.BuildCommands.{build_legacy_promise, build_fit_promise}
+use Rattle.bi_commands.specs.Offsets.{promise_at}
 use Rattle.bi_commands.specs.declared.compare.CompareError.{CompareError}
 use Rattle.bi_commands.specs.declared.parts.Part.{Part}
 use Rattle.bi_commands.specs.declared.parts.Part.TheVariants.{Bytes, Length}
 use Rattle.clap.specs.declared.error.kind.ErrorKind.{ErrorKind}
 use Rattle.clap.specs.declared.error.kind.ErrorKind.TheVariants.{DisplayHelp, DisplayVersion}
+use Rattle.bootimg.specs.declared.command_line.ImagePlan.{ImagePlan}
 use Rattle.bootimg.specs.declared.command_line.Job.{Job}
 use Rattle.bootimg.specs.declared.command_line.Job.TheVariants.{Run as RunTask, Compare, Build}
 use Rattle.bootimg.specs.declared.command_line.Job.TheVariants.{Explain}
 use Rattle.bootimg.specs.declared.command_line.Request.{Request}
-use Rattle.bootimg.specs.declared.command_line.Task.{Task}
 use Rattle.bootimg.specs.declared.command_line.build.BuildPlan.{BuildPlan}
 use Rattle.bootimg.specs.declared.command_line.build.BuildPlan.TheVariants.{Legacy, Fit}
 use Rattle.bootimg.specs.declared.command_line.part.PartSource.{PartSource}
@@ -107,33 +108,37 @@ pub record IsFailedWork (source : ImageSource) (failure : Failure) (work : Work)
 
 -- ---- a task
 
--- The task was done, from `input` to its output. The source is only for the line of a failure.
-pub data IsTaskWork (task : Task) (limits : Limits) (source : ImageSource) (work : Work) : Type 0
-  where
-    Succeeded : (done : Done)
-        → IsTracedPipe (task_promise task limits) limits work.input work.new_input work.output
-        work.new_output (Ok done)
-        → work.outcome ≡ Ok done → IsTaskWork task limits source work
-    HasFailed : (failure : Failure)
-        → IsTracedPipe (task_promise task limits) limits work.input work.new_input work.output
-        work.new_output (Err failure)
-        → work.outcome ≡ Err (problem source failure) → IsTaskWork task limits source work
+-- What a task promises on the image at its offset.
+abbrev pub plan_promise : ImagePlan → Limits → CommandPromise Done Failure
+plan_promise plan = promise_at plan.offset (task_promise plan.task)
 
--- The task was done with an image from its source: standard input, and no step with a file was
+-- The task was done, from `input` to its output.
+pub data IsTaskWork (plan : ImagePlan) (limits : Limits) (work : Work) : Type 0 where
+  Succeeded : (done : Done)
+      → IsTracedPipe (plan_promise plan limits) limits work.input work.new_input work.output
+      work.new_output (Ok done)
+      → work.outcome ≡ Ok done → IsTaskWork plan limits work
+  HasFailed : (failure : Failure)
+      → IsTracedPipe (plan_promise plan limits) limits work.input work.new_input work.output
+      work.new_output (Err failure)
+      → work.outcome ≡ Err (problem plan.source failure) → IsTaskWork plan limits work
+
+-- The task was done with the input from its source: standard input, and no step with a file was
 -- taken; or a file that was opened and closed. Standard input is not read beside a file. `old` and
 -- `new` are the steps with files before the work and after it.
-pub data IsImageWork (files : KnownFiles) (task : Task) (limits : Limits) (work : Work)
-    (old new : Option (List FileStep)) : (source : ImageSource) → Type 0
+pub data IsImageWork (files : KnownFiles) (plan : ImagePlan) (limits : Limits) (work : Work)
+    (old new : Option (List FileStep)) : Type 0
   where
-    DoneOnInput : IsTaskWork task limits Standard work → new ≡ old
-        → IsImageWork files task limits work old new Standard
-    DoneOnFile : (name : Bor (List ℕ)) (opened end : ReadTrace)
+    DoneOnInput : plan.source ≡ Standard → IsTaskWork plan limits work → new ≡ old
+        → IsImageWork files plan limits work old new
+    DoneOnFile : (name : Bor (List ℕ)) → plan.source ≡ File name → (opened end : ReadTrace)
         → WasOpened files name.now opened end old new
-        → IsTaskWork task limits (File name) (with_input work opened end)
-        → work.new_input ≡ work.input → IsImageWork files task limits work old new (File name)
-    FileNotOpened : (name : Bor (List ℕ)) → WasNotOpened files name.now old new
-        → IsFailedWork (File name) CannotOpen work → work.new_input ≡ work.input
-        → IsImageWork files task limits work old new (File name)
+        → IsTaskWork plan limits (with_input work opened end)
+        → work.new_input ≡ work.input → IsImageWork files plan limits work old new
+    FileNotOpened : (name : Bor (List ℕ)) → plan.source ≡ File name
+        → WasNotOpened files name.now old new
+        → IsFailedWork plan.source CannotOpen work → work.new_input ≡ work.input
+        → IsImageWork files plan limits work old new
 
 -- ---- whole inputs and files
 
@@ -331,8 +336,7 @@ pub data IsBuildWork (files : KnownFiles) (plan : BuildPlan) (limits : Limits) (
 -- The job was done. `old` and `new` are the steps with files before it and after it.
 abbrev pub IsJobWork : KnownFiles → Job → Limits → Work → (old new : Option (List FileStep))
     → Type 0
-IsJobWork files (RunTask task source) limits work old new =
-    IsImageWork files task limits work old new source
+IsJobWork files (RunTask plan) limits work old new = IsImageWork files plan limits work old new
 IsJobWork files (Compare plan) limits work old new = IsCompareWork files plan limits work old new
 IsJobWork files (Explain cause) limits work old new = IsExplainWork cause work × (new ≡ old)
 IsJobWork files (Build plan) limits work old new = IsBuildWork files plan limits work old new

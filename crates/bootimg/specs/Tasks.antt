@@ -14,13 +14,15 @@ use Rattle.bi_commands.specs.CheckedFiles.{IsChecked, IsCheckError, IsCheckOutpu
 use Rattle.bi_commands.specs.Describing.{IsDescription, IsDescribeError}
 use Rattle.bi_commands.specs.Extracting.{IsChosen, IsExtractError}
 use Rattle.bi_commands.specs.ListedFiles.{IsListing}
+use Rattle.bi_commands.specs.ShownFiles.{IsPage}
+use Rattle.bi_commands.specs.Scanning.{IsScanText, IsScanError, IsScanOutput}
 use Rattle.bi_commands.specs.VerifiedFiles.{IsReport, IsVerifyOutput}
 use Rattle.bi_commands.specs.UpdatedFiles.{IsUpdated, IsUpdateError, IsUpdateOutput}
 use Rattle.bi_fit.specs.declared.configurations.ConfigError.TheVariants as list
 use Rattle.bootimg.specs.declared.command_line.Task.{Task}
 use Rattle.bootimg.specs.declared.command_line.Task.TheVariants.{Normalise, List as ListImage}
 use Rattle.bootimg.specs.declared.command_line.Task.TheVariants.{Verify, Check, Describe, Extract}
-use Rattle.bootimg.specs.declared.command_line.Task.TheVariants.{Update, Convert}
+use Rattle.bootimg.specs.declared.command_line.Task.TheVariants.{Update, Convert, Scan, Show}
 use Rattle.bootimg.specs.declared.failure.Failure.{Failure}
 use Rattle.bootimg.specs.declared.failure.Failure.TheVariants.{Call}
 use Rattle.bootimg.specs.declared.tasks.Done.{Done}
@@ -29,8 +31,8 @@ use Rattle.bootimg.specs.Selections.{select_of}
 
 -- What each task of the program does (profile of this project).
 
--- The exit status after `verify`, by whether no verdict is other than Good, and after `check`, by
--- whether it wrote no concern.
+-- The exit status after `verify`, by whether no verdict is other than Good, after `check`, by
+-- whether it wrote no concern, and after `scan`, by whether it wrote a line.
 abbrev pub status_of : (good : Bool) → ℕ
 status_of true = 0
 status_of false = 1
@@ -44,6 +46,8 @@ pub record EndedWith (status : ℕ) (done : Done) : Type 0 where
 abbrev pub TaskDone : Task → Limits → Done → (input output : List ℕ) → Type 0
 TaskDone (Normalise form) limits done input output =
     IsNormaliseOutput limits form done.signatures input output × (done.status ≡ 0)
+TaskDone (Show presenter) limits done input output =
+    IsPage presenter.layout limits input output × EndedWith 0 done
 TaskDone (ListImage format) limits done input output =
     IsListing format limits input output × EndedWith 0 done
 TaskDone (Describe format) limits done input output =
@@ -54,6 +58,8 @@ TaskDone (Verify format) limits done input output =
 TaskDone (Check allowed format) limits done input output =
     (clean : Bool) × IsCheckOutput format allowed limits clean input output
     × EndedWith (status_of clean) done
+TaskDone Scan limits done input output =
+    (found : Bool) × IsScanOutput limits found input output × EndedWith (status_of found) done
 TaskDone (Update changes form) limits done input output =
     IsUpdateOutput changes limits form done.signatures input output × (done.status ≡ 0)
 TaskDone (Extract selection) limits done input output =
@@ -63,10 +69,12 @@ TaskDone Convert limits done input output = IsConvertedFile limits input output 
 -- The task may begin to write this output for the input.
 abbrev pub TaskText : Task → Limits → (input output : List ℕ) → Type 0
 TaskText (Normalise form) limits input output = IsNormalForm limits form input output
+TaskText (Show presenter) limits input output = IsPage presenter.layout limits input output
 TaskText (ListImage format) limits input output = IsListing format limits input output
 TaskText (Describe format) limits input output = IsDescription format limits input output
 TaskText (Verify format) limits input output = IsReport format limits input output
 TaskText (Check allowed format) limits input output = IsChecked format allowed limits input output
+TaskText Scan limits input output = IsScanText limits input output
 TaskText (Update changes form) limits input output = IsUpdated changes limits form input output
 TaskText (Extract selection) limits input output =
     IsChosen (select_of selection) limits input output
@@ -88,6 +96,8 @@ pub record IsExtractFailure (HasError : ExtractError → Type 0) (failure : Fail
 abbrev pub TaskFails : Task → Limits → (input : List ℕ) → Failure → Type 0
 TaskFails (Normalise form) limits input failure =
     IsCallFailure (IsNormaliseError limits form input) failure
+TaskFails (Show presenter) limits input failure =
+    IsCallFailure (IsCheckError limits input) failure
 TaskFails (ListImage format) limits input failure =
     IsCallFailure (IsBootImageReadError limits input) failure
 TaskFails (Describe format) limits input failure =
@@ -96,6 +106,7 @@ TaskFails (Verify format) limits input failure =
     IsCallFailure (IsBootImageReadError limits input) failure
 TaskFails (Check allowed format) limits input failure =
     IsCallFailure (IsCheckError limits input) failure
+TaskFails Scan limits input failure = IsCallFailure (IsScanError limits input) failure
 TaskFails (Update changes form) limits input failure =
     IsCallFailure (IsUpdateError changes limits form input) failure
 TaskFails (Extract selection) limits input failure =
@@ -115,10 +126,12 @@ task_promise task limits = record {
 task_text : (task : Task) (limits : Limits) (done : Done) (input output : List ℕ)
     → TaskDone task limits done input output → TaskText task limits input output
 task_text (Normalise form) limits done input output is = is.0.normal
+task_text (Show presenter) limits done input output is = is.0
 task_text (ListImage format) limits done input output is = is.0
 task_text (Describe format) limits done input output is = is.0
 task_text (Verify format) limits done input output is = is.1.report
 task_text (Check allowed format) limits done input output is = is.1.checked
+task_text Scan limits done input output is = is.1.is_scan
 task_text (Update changes form) limits done input output updated = updated.0.is
 task_text (Extract selection) limits done input output is = is.0
 task_text Convert limits done input output is = is.0
@@ -172,6 +185,8 @@ task_in_memory : (task : Task) (limits : Limits) (input : List ℕ) (failure : F
     → TaskFails task limits input failure → IsNoStreamFailure failure
 task_in_memory (Normalise form) limits input failure is =
     call_in_memory (IsNormaliseError limits form input) (λ no. no) (λ no. no) failure is
+task_in_memory (Show presenter) limits input failure is =
+    call_in_memory (IsCheckError limits input) (λ no. no) (λ no. no) failure is
 task_in_memory (ListImage format) limits input failure is =
     call_in_memory (IsBootImageReadError limits input) (λ no. no) (λ no. no) failure is
 task_in_memory (Describe format) limits input failure is =
@@ -180,6 +195,8 @@ task_in_memory (Verify format) limits input failure is =
     call_in_memory (IsBootImageReadError limits input) (λ no. no) (λ no. no) failure is
 task_in_memory (Check allowed format) limits input failure is =
     call_in_memory (IsCheckError limits input) (λ no. no) (λ no. no) failure is
+task_in_memory Scan limits input failure is =
+    call_in_memory (IsScanError limits input) (λ no. no) (λ no. no) failure is
 task_in_memory (Update changes form) limits input failure is =
     call_in_memory (IsUpdateError changes limits form input) (λ no. no) (λ no. no) failure is
 task_in_memory (Extract selection) limits input failure is =

@@ -7,6 +7,7 @@ mod extract;
 mod image;
 mod options;
 mod part;
+mod show;
 mod source;
 mod table;
 mod update;
@@ -25,6 +26,7 @@ use allowed::allowed_kinds;
 use bi_base::{Cause, Error, Limits};
 use bi_commands::check::Allowed;
 use bi_commands::format::Format;
+use bi_commands::show::Presenter;
 use bi_commands::update::Changes;
 use bi_norm::Form;
 pub use build::{BuildPlan, FitPlan, LegacyPlan};
@@ -34,8 +36,9 @@ use clap::error::ErrorKind;
 use explain::explained_cause;
 pub use extract::Selected;
 use extract::selection;
-use options::{form, format, limits};
+use options::{form, format, limits, number};
 pub use part::PartSource;
+use show::presenter;
 pub use source::{ComparePlan, ImageSource};
 use source::{compare_plan, source};
 use std::alloc::{AllocError, AllocFailed, Global};
@@ -47,6 +50,8 @@ use update::changes;
 pub enum Task {
     /// Write the normal form. That of a flattened image tree has this form.
     Normalise(Form),
+    /// Write the page for a person, with the layout of the file or without it.
+    Show(Presenter),
     /// Write the listing, in this form.
     List(Format),
     /// Write the description of what the image means, in this form.
@@ -55,6 +60,8 @@ pub enum Task {
     Verify(Format),
     /// Write the concerns that are not of these kinds, in this form.
     Check(Allowed, Format),
+    /// Write a line for each image inside the input.
+    Scan,
     /// Write the normal form with these changes. That of a flattened image tree has this form.
     Update(Changes, Form),
     /// Write what the selection chooses.
@@ -63,11 +70,22 @@ pub enum Task {
     Convert,
 }
 
+/// What is done with one image.
+#[derive(Drop)]
+pub struct ImagePlan<'a> {
+    /// The task.
+    pub task: Task,
+    /// Where the image begins in the input: an offset in bytes.
+    pub offset: u32,
+    /// Where the input is read from.
+    pub source: ImageSource<'a>,
+}
+
 /// What the program does with its streams.
 #[derive(Drop)]
 pub enum Job<'a> {
-    /// Do the task with this image.
-    Run(Task, ImageSource<'a>),
+    /// Do a task with one image.
+    Run(ImagePlan<'a>),
     /// Compare two images.
     Compare(ComparePlan<'a>),
     /// Write what this cause of a refusal means, or what each one means.
@@ -180,7 +198,13 @@ fn parse_job<'a>(alloc: Global, name: &str, options: &ArgMatches<'a>) -> Result<
         return Ok(Job::Build(BuildPlan::Fit(plan)));
     }
     let task = parse_task(alloc, name, options)?;
-    Ok(Job::Run(task, source(options, "file")))
+    // A command without `--offset` has its default, as one without `--limit` does.
+    let offset = number(options, "offset")?;
+    Ok(Job::Run(ImagePlan {
+        task,
+        offset,
+        source: source(options, "file"),
+    }))
 }
 
 /// Returns the task of the command of this name with the options. Fails as `parse_arguments` does.
@@ -195,10 +219,12 @@ fn parse_task(alloc: Global, name: &str, options: &ArgMatches<'_>) -> Result<Tas
 {
     Ok(match name {
         "normalise" => Task::Normalise(form(options)),
+        "show" => Task::Show(presenter(options)),
         "list" => Task::List(format(options)),
         "describe" => Task::Describe(format(options)),
         "verify" => Task::Verify(format(options)),
         "check" => Task::Check(allowed_kinds(options)?, format(options)),
+        "scan" => Task::Scan,
         "update" => Task::Update(changes(options)?, form(options)),
         "extract" => Task::Extract(selection(alloc, options)?),
         "convert" => Task::Convert,

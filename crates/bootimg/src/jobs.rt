@@ -15,7 +15,7 @@ ghost use Rattle.bi_base.specs.Reading.{IsInputRead};
 ghost use Rattle.bi_base.specs.Traces.{ReadTrace};
 
 use crate::builds::build_image;
-use crate::command_line::{ComparePlan, ImageSource, Job, Task};
+use crate::command_line::{ComparePlan, ImagePlan, ImageSource, Job};
 use crate::explanations::explanation;
 use crate::failure::Failure;
 use crate::files::FileSystem;
@@ -23,6 +23,7 @@ use crate::tasks::Done;
 use bi_base::{
     Cause, Error, Limits, TracedRead, TracedWrite, pipe, read_all_traced, write_and_flush,
 };
+use bi_commands::at_offset::At;
 use bi_commands::compare::{CompareError, Comparison, compare, compare_json, have_same_meaning};
 use bi_commands::format::Format;
 use std::alloc::{AllocError, AllocFailed, Global};
@@ -89,26 +90,23 @@ pub fn do_job<'a, S: TracedRead, T: TracedWrite, F: FileSystem>(
     ensures same_files { F.known files.new ≡ F.known files.old }
 {
     match job {
-        Job::Run(task, source) => {
-            run_on_image(alloc, task, *source, limits, files, input, output)
-        }
+        Job::Run(plan) => run_on_image(alloc, plan, limits, files, input, output),
         Job::Compare(plan) => compare_images(alloc, *plan, limits, files, input, output),
         Job::Build(plan) => build_image(alloc, plan, limits, files, input, output),
         Job::Explain(cause) => explain(alloc, *cause, output),
     }
 }
 
-/// Does a task with the image from this source, and returns how it ended.
+/// Does a task with the image from its source, and returns how it ended.
 fn run_on_image<'a, S: TracedRead, T: TracedWrite, F: FileSystem>(
     alloc: Global,
-    task: &Task,
-    source: ImageSource<'a>,
+    plan: &ImagePlan<'a>,
     limits: Limits,
     files: &mut F,
     input: &mut S,
     output: &mut T,
 ) -> Result<Done, Problem<'a>>
-    ensures work { IsImageWork (F.known files.old) task.now limits
+    ensures work { IsImageWork (F.known files.old) plan.now limits
         (record {
           input = S.trace input.old;
           new_input = S.trace input.new;
@@ -116,21 +114,18 @@ fn run_on_image<'a, S: TracedRead, T: TracedWrite, F: FileSystem>(
           new_output = T.trace output.new;
           outcome = result;
         })
-        (F.steps files.old) (F.steps files.new) source.entry }
+        (F.steps files.old) (F.steps files.new) }
     ensures same_files { F.known files.new ≡ F.known files.old }
 {
-    match source {
-        ImageSource::Standard => run_task(alloc, task, source, limits, input, output),
+    match plan.source {
+        ImageSource::Standard => run_task(alloc, plan, limits, input, output),
         ImageSource::File(name) => match files.open(name) {
             Some(mut image) => {
-                let outcome = run_task(alloc, task, source, limits, &mut image, output);
+                let outcome = run_task(alloc, plan, limits, &mut image, output);
                 files.close_reader(name, image);
                 outcome
             }
-            None => Err(Problem {
-                source,
-                failure: Failure::CannotOpen,
-            }),
+            None => job_failed(plan.source, Failure::CannotOpen),
         },
     }
 }
@@ -138,13 +133,12 @@ fn run_on_image<'a, S: TracedRead, T: TracedWrite, F: FileSystem>(
 /// Does a task with an input that is read from this source, and returns how it ended.
 fn run_task<'a, S: TracedRead, T: TracedWrite>(
     alloc: Global,
-    task: &Task,
-    source: ImageSource<'a>,
+    plan: &ImagePlan<'a>,
     limits: Limits,
     input: &mut S,
     output: &mut T,
 ) -> Result<Done, Problem<'a>>
-    ensures { IsTaskWork task.now limits source.entry (record {
+    ensures { IsTaskWork plan.now limits (record {
       input = S.trace input.old;
       new_input = S.trace input.new;
       output = T.trace output.old;
@@ -152,9 +146,13 @@ fn run_task<'a, S: TracedRead, T: TracedWrite>(
       outcome = result;
     }) }
 {
-    match pipe(alloc, task, input, output, limits) {
+    let command = At {
+        command: &plan.task,
+        offset: plan.offset,
+    };
+    match pipe(alloc, &command, input, output, limits) {
         Ok(done) => Ok(done),
-        Err(failure) => Err(Problem { source, failure }),
+        Err(failure) => job_failed(plan.source, failure),
     }
 }
 

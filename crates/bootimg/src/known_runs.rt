@@ -4,6 +4,11 @@
 ghost use Rattle.bootimg.specs.KnownArguments.{DefaultsAreKnown, OptionsAreKnown};
 ghost use Rattle.bootimg.specs.KnownArguments.{MistakesAreKnown, NumbersAreKnown, CodesAreKnown};
 ghost use Rattle.bootimg.specs.KnownArguments.{LimitsAreKnown, InputsAreKnown};
+ghost use Rattle.bootimg.specs.KnownRequests.{FlagsAreKnown, CommandNamesAreKnown};
+ghost use Rattle.bootimg.specs.KnownRequests.{SourcesAreKnown, ImageOffsetsAreKnown};
+ghost use Rattle.bootimg.specs.KnownRequests.{PartWordsAreKnown};
+ghost use Rattle.bootimg.specs.KnownRequests.{AllowedWordsAreKnown, ChangesAreKnown};
+ghost use Rattle.bootimg.specs.KnownRequests.{SelectionsAreKnown, PlansAreKnown};
 ghost use Rattle.bootimg.specs.KnownRuns.{StatusesAreKnown, FailureLinesAreKnown};
 ghost use Rattle.bootimg.specs.KnownRuns.{ExtractLinesAreKnown, CompareLinesAreKnown};
 ghost use Rattle.bootimg.specs.KnownRuns.{NotesAreKnown};
@@ -42,6 +47,51 @@ pub fn limits_are_known()
 /// Standard input is read for parts with a length and without parts, and not for files alone.
 pub fn inputs_are_known()
     ensures { InputsAreKnown }
+{}
+
+/// Each flag has a known meaning, and so has its absence.
+pub fn flags_are_known()
+    ensures { FlagsAreKnown }
+{}
+
+/// Each task and each job is that of the command of its name.
+pub fn command_names_are_known()
+    ensures { CommandNamesAreKnown }
+{}
+
+/// Images are in standard input or in known files.
+pub fn sources_are_known()
+    ensures { SourcesAreKnown }
+{}
+
+/// Images begin at known offsets of their inputs.
+pub fn image_offsets_are_known()
+    ensures { ImageOffsetsAreKnown }
+{}
+
+/// Small words are known parts, or none.
+pub fn part_words_are_known()
+    ensures { PartWordsAreKnown }
+{}
+
+/// Small values of `--allow` allow known kinds of lines, or are refused.
+pub fn allowed_words_are_known()
+    ensures { AllowedWordsAreKnown }
+{}
+
+/// Small command lines request known updates, or fail for known reasons.
+pub fn changes_are_known()
+    ensures { ChangesAreKnown }
+{}
+
+/// Small command lines select known parts, images and entries, or fail for known reasons.
+pub fn selections_are_known()
+    ensures { SelectionsAreKnown }
+{}
+
+/// The options of a legacy image, and the fields of an image of a tree, have known meanings.
+pub fn plans_are_known()
+    ensures { PlansAreKnown }
 {}
 
 /// The exit status is 0 or 1 for known results, and 2 after a failure.

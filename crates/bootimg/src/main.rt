@@ -1,5 +1,5 @@
-//! `bootimg` normalises, lists, describes, compares, verifies, checks, updates, extracts from,
-//! converts and builds U-Boot's boot images.
+//! `bootimg` normalises, shows, lists, describes, compares, verifies, checks, finds, updates,
+//! extracts from, converts and builds U-Boot's boot images.
 #![tactic(auto)]
 
 mod builds;

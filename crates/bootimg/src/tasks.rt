@@ -11,6 +11,7 @@ use bi_commands::convert::Converter;
 use bi_commands::describe::Describer;
 use bi_commands::extract::Extractor;
 use bi_commands::list::Lister;
+use bi_commands::scan::Scanner;
 use bi_commands::update::Updater;
 use bi_commands::verify::Verifier;
 use bi_norm::Normaliser;
@@ -19,7 +20,8 @@ use std::alloc::Global;
 /// The exit status after success, help and the version included.
 pub const SUCCESS: u8 = 0;
 
-/// The exit status after `verify` wrote a verdict that is not good, or `check` a concern.
+/// The exit status after `verify` wrote a verdict that is not good, `check` a concern, or `scan` no
+/// line.
 const NOT_GOOD: u8 = 1;
 
 /// How a task ended that did not fail.
@@ -43,14 +45,14 @@ impl Done {
     }
 }
 
-impl Command for Task {
+impl<'a> Command for &'a Task {
     type Value = Done;
 
     type Failure = Failure;
 
     ghost can_run = { λ _. ⊤ };
 
-    ghost promise = { task_promise };
+    ghost promise = { λ task. task_promise task.now };
 
     fn run<S: Sink>(
         &self,
@@ -59,13 +61,17 @@ impl Command for Task {
         limits: Limits,
         sink: &mut S,
     ) -> Result<Done, Failure> {
-        match self {
+        match *self {
             Task::Normalise(form) => {
                 let signatures = Normaliser { form: *form }.run(alloc, input, limits, sink)?;
                 return Ok(Done {
                     status: SUCCESS,
                     signatures,
                 });
+            }
+            Task::Show(presenter) => {
+                presenter.run(alloc, input, limits, sink)?;
+                return Ok(Done::with_status(SUCCESS));
             }
             Task::List(format) => {
                 Lister { format: *format }.run(alloc, input, limits, sink)?;
@@ -86,6 +92,10 @@ impl Command for Task {
                 };
                 let clean = checker.run(alloc, input, limits, sink)?;
                 return Ok(Done::with_status(status(clean)));
+            }
+            Task::Scan => {
+                let found = Scanner.run(alloc, input, limits, sink)?;
+                return Ok(Done::with_status(status(found)));
             }
             Task::Update(changes, form) => {
                 let updater = Updater {
@@ -112,10 +122,10 @@ impl Command for Task {
 
     ghost wraps_from = { λ _ _ _ _ same. same };
 
-    ghost laws = { task_laws };
+    ghost laws = { λ task. task_laws task.now };
 }
 
-/// Returns the exit status after `verify` or `check`.
+/// Returns the exit status after `verify`, `check` or `scan`.
 fn status(good: bool) -> u8
     ensures { result ≡ status_of good }
 {

@@ -23,12 +23,12 @@ pub const NO_COMPRESSION: &str = "none";
 pub const ZERO: &str = "0";
 
 /// The version that `--version` prints, and the logic of the kit that the program is proved with.
-const VERSION: &str = "0.2.0 (Rattle logic dac8208d650f15bf)";
+const VERSION: &str = "0.3.0 (Rattle logic dac8208d650f15bf)";
 
 /// The text of `--help` before the usage.
 const ABOUT: &str =
-    "Normalises, lists, describes, compares, verifies, checks, updates, extracts, converts and \
-     builds U-Boot boot images";
+    "Normalises, shows, lists, describes, compares, verifies, checks, finds, updates, extracts, \
+     converts and builds U-Boot boot images";
 
 /// The text of `--help` after the options.
 const AFTER_HELP: &str =
@@ -38,7 +38,8 @@ const AFTER_HELP: &str =
      \x20   bootimg list kernel.uimage\n\n\
      The exit status is 0 after success. A failure is reported on standard error, and the exit\n\
      status is then 2. It is 1 if verify wrote a verdict that is not good, if check found what is\n\
-     not protected, or if compare found that two images do not mean the same thing.";
+     not protected, if compare found that two images do not mean the same thing, or if scan found\n\
+     no image.";
 
 /// How an option is given.
 #[derive(Clone, Copy)]
@@ -227,6 +228,13 @@ const JSON: OptionText = OptionText {
     form: OptionForm::Flag,
 };
 
+const LAYOUT: OptionText = OptionText {
+    name: "layout",
+    value_name: "",
+    help: "Also show the regions of the file by their offsets",
+    form: OptionForm::Flag,
+};
+
 const LIMIT: OptionText = OptionText {
     name: "limit",
     value_name: "N",
@@ -308,6 +316,13 @@ const ESCAPED: OptionText = OptionText {
     help: "NAME is as list prints it: % and any byte that is not graphic ASCII are % and two \
          hexadecimal digits in upper case, and no bytes are -",
     form: OptionForm::Flag,
+};
+
+const OFFSET: OptionText = OptionText {
+    name: "offset",
+    value_name: "N",
+    help: "Where the image begins in the input: its first N bytes are skipped",
+    form: OptionForm::Default(ZERO),
 };
 
 const KEY: OptionText = OptionText {
@@ -409,8 +424,9 @@ const IMAGES: OptionText = OptionText {
     form: OptionForm::Positionals,
 };
 
-/// The commands that show what an image is, after the one that normalises it.
-static READING_COMMANDS: [CommandText; 6] = [
+/// The commands that show what an image is, between the one that normalises it and the one that
+/// finds it.
+static READING_COMMANDS: [CommandText; 8] = [
     CommandText {
         name: "normalise",
         aliases: &["normalize"],
@@ -423,7 +439,24 @@ static READING_COMMANDS: [CommandText; 6] = [
                  Signature nodes are kept, and not checked: a signature may no longer be valid. A\n\
                  note on standard error has their number, if there are any.\n\n\
                  Example: bootimg normalise kernel.uimage > normal.uimage",
-        options: &[EXTERNAL_NORMAL, LIMIT, OUTPUT, FILE],
+        options: &[EXTERNAL_NORMAL, OFFSET, LIMIT, OUTPUT, FILE],
+    },
+    CommandText {
+        name: "show",
+        aliases: &[],
+        about: "Show an image to a person",
+        usage: "bootimg show [OPTIONS] [IMAGE]",
+        after_help: "\
+                 Reads an image, and writes to standard output a page for a person, in aligned\n\
+                 columns: what the image is, its date and size; its parts or payloads, with the\n\
+                 verdict on each hash node; its configurations and signature nodes, which are not\n\
+                 verified; with --layout, the regions of the file by their offsets, padding and\n\
+                 free space too; and last the lines of check. The form of the page may change\n\
+                 with each version: list, describe, verify and check are for scripts.\n\n\
+                 --limit also bounds the payloads of a flattened image tree together. The exit\n\
+                 status is 0 even if a verdict is not good.\n\n\
+                 Example: bootimg show --layout kernel.itb",
+        options: &[LAYOUT, LIMIT, OUTPUT, FILE],
     },
     CommandText {
         name: "list",
@@ -437,7 +470,7 @@ static READING_COMMANDS: [CommandText; 6] = [
                  offset of each payload, and what each configuration lists, but not where loaders\n\
                  put it: describe does. Sizes and offsets are in bytes.\n\n\
                  Example: bootimg list kernel.uimage",
-        options: &[JSON, LIMIT, OUTPUT, FILE],
+        options: &[JSON, OFFSET, LIMIT, OUTPUT, FILE],
     },
     CommandText {
         name: "describe",
@@ -451,7 +484,7 @@ static READING_COMMANDS: [CommandText; 6] = [
                  or after it. Each payload or part has a line with its size and SHA-256. Neither\n\
                  the payloads together nor the description may be longer than the limit.\n\n\
                  Example: bootimg describe kernel.itb",
-        options: &[JSON, LIMIT, OUTPUT, FILE],
+        options: &[JSON, OFFSET, LIMIT, OUTPUT, FILE],
     },
     CommandText {
         name: "compare",
@@ -480,7 +513,7 @@ static READING_COMMANDS: [CommandText; 6] = [
                  if a flattened image tree has no hash node, so that nothing is checked: bootimg\n\
                  check finds what is not protected.\n\n\
                  Example: bootimg verify kernel.itb",
-        options: &[JSON, LIMIT, OUTPUT, FILE],
+        options: &[JSON, OFFSET, LIMIT, OUTPUT, FILE],
     },
     CommandText {
         name: "check",
@@ -502,7 +535,23 @@ static READING_COMMANDS: [CommandText; 6] = [
                  flattened image tree together. Signatures are not checked.\n\n\
                  The exit status is 0 if nothing was found, and 1 if something was.\n\n\
                  Example: bootimg check --allow weak-hash,trailing kernel.itb",
-        options: &[ALLOW, JSON, LIMIT, OUTPUT, FILE],
+        options: &[ALLOW, JSON, OFFSET, LIMIT, OUTPUT, FILE],
+    },
+    CommandText {
+        name: "scan",
+        aliases: &[],
+        about: "Find the images inside a file",
+        usage: "bootimg scan [OPTIONS] [IMAGE]",
+        after_help: "\
+                 Reads a file, such as what a flash chip holds, and writes to standard output a\n\
+                 line for each image inside it, also for one inside another: the offset of its\n\
+                 first byte, legacy or fit, how many bytes it has, and the name of a legacy image\n\
+                 or the number of images of a flattened image tree. An image may begin at any\n\
+                 offset. Bytes that other commands would refuse have no line.\n\n\
+                 --limit also bounds the bytes that the headers inside the file name together.\n\n\
+                 The exit status is 0 if a line was written, and 1 if none was.\n\n\
+                 Example: bootimg scan flash.bin",
+        options: &[LIMIT, OUTPUT, FILE],
     },
 ];
 
@@ -522,7 +571,15 @@ static CHANGING_COMMANDS: [CommandText; 3] = [
                  tree together. Signature nodes are kept, and not checked: a note on standard\n\
                  error has their number, if there are any.\n\n\
                  Example: bootimg update --hashes --time 1700000000 kernel.itb > new.itb",
-        options: &[NEW_TIME, HASHES, EXTERNAL_NORMAL, LIMIT, OUTPUT, FILE],
+        options: &[
+            NEW_TIME,
+            HASHES,
+            EXTERNAL_NORMAL,
+            OFFSET,
+            LIMIT,
+            OUTPUT,
+            FILE,
+        ],
     },
     CommandText {
         name: "extract",
@@ -540,7 +597,7 @@ static CHANGING_COMMANDS: [CommandText; 3] = [
                  Example: bootimg extract --part 1 multi.uimage > ramdisk\n\
                  Example: bootimg extract --default --key fdt kernel.itb > board.dtb",
         options: &[
-            PART, IMAGE, CONFIG, DEFAULT, KEY, INDEX, ESCAPED, LIMIT, OUTPUT, FILE,
+            PART, IMAGE, CONFIG, DEFAULT, KEY, INDEX, ESCAPED, OFFSET, LIMIT, OUTPUT, FILE,
         ],
     },
     CommandText {
@@ -554,7 +611,7 @@ static CHANGING_COMMANDS: [CommandText; 3] = [
                  and a devicetree, in this order. Each payload has its SHA-256, and configuration\n\
                  conf-1 lists the images.\n\n\
                  Example: bootimg convert kernel.uimage > kernel.itb",
-        options: &[LIMIT, OUTPUT, FILE],
+        options: &[OFFSET, LIMIT, OUTPUT, FILE],
     },
 ];
 

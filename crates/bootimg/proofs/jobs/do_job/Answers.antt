@@ -1,5 +1,8 @@
-use Rattle.bootimg.proofs.ImageRuns.{image_is_built, images_are_compared, explained_work}
+use Rattle.bootimg.proofs.ImageRuns.{image_is_built, images_are_compared, explained_work, task_is_done}
 use Rattle.bootimg.proofs.jobs.do_job.Goals as goal
+
+pub returns-in-Run-clause-work : goal.returns-in-Run-clause-work
+returns-in-Run-clause-work g c = task_is_done _ c.args.job.now _ _ _ _ _ c.in-Run.is c.run_on_image.ensures.work
 
 pub returns-in-Compare-clause-work : goal.returns-in-Compare-clause-work
 returns-in-Compare-clause-work g c =

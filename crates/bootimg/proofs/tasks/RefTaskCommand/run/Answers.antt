@@ -7,12 +7,14 @@ use Rattle.bi_commands.specs.CheckedFiles.{IsChecked, IsCheckError}
 use Rattle.bi_commands.specs.Describing.{IsDescription, IsDescribeError}
 use Rattle.bi_commands.specs.Extracting.{IsChosen, IsExtractError}
 use Rattle.bi_commands.specs.ListedFiles.{IsListing}
+use Rattle.bi_commands.specs.ShownFiles.{IsPage}
+use Rattle.bi_commands.specs.Scanning.{IsScanText, IsScanError}
 use Rattle.bi_commands.specs.VerifiedFiles.{IsReport}
 use Rattle.bi_commands.specs.UpdatedFiles.{IsUpdated, IsUpdateError}
 use Rattle.bootimg.specs.Selections.{select_of}
 use Rattle.bootimg.proofs.SelectionNames.{same_chosen, same_failure}
 use Rattle.bootimg.proofs.TaskFailures.{call_failed, extract_failed}
-use Rattle.bootimg.proofs.tasks.TaskCommand.run.Goals as goal
+use Rattle.bootimg.proofs.tasks.RefTaskCommand.run.Goals as goal
 
 pub returns-in_err-signatures-in-Normalise-clause-failed : goal.returns-in_err-signatures-in-Normalise-clause-failed
 returns-in_err-signatures-in-Normalise-clause-failed g c =
@@ -22,6 +24,15 @@ returns-in_err-signatures-in-Normalise-clause-failed g c =
     rw (c.in-Normalise.is, p.1)
     (call_failed g.S.Sink.fails (IsNormalForm limits c.in-Normalise.form input) (IsNormaliseError limits c.in-Normalise.form input) c.args.sink.now c.run.new.sink c.in_err-signatures-in-Normalise.field-0.0 p.0 p.2
     c.in_err-signatures-in-Normalise.ensures.failed)
+
+pub returns-in_err-run-in-Show-clause-failed : goal.returns-in_err-run-in-Show-clause-failed
+returns-in_err-run-in-Show-clause-failed g c =
+    let limits = c.args.limits in
+    let input = c.args.input.now in
+    let p = err_from_is_err_and c.from_residual-in_err-run-in-Show.result c.from_residual-in_err-run-in-Show.ensures.1 in
+    rw (c.in-Show.is, p.1)
+    (call_failed g.S.Sink.fails (IsPage c.in-Show.presenter.layout limits input) (IsCheckError limits input) c.args.sink.now c.run-in-Show.new.sink c.in_err-run-in-Show.field-0.0 p.0 p.2
+    c.in_err-run-in-Show.ensures.failed)
 
 pub returns-in_err-run-in-List-clause-failed : goal.returns-in_err-run-in-List-clause-failed
 returns-in_err-run-in-List-clause-failed g c =
@@ -58,6 +69,15 @@ returns-in_err-clean-in-Check-clause-failed g c =
     rw (c.in-Check.is, p.1)
     (call_failed g.S.Sink.fails (IsChecked c.in-Check.format c.in-Check.allowed limits input) (IsCheckError limits input) c.args.sink.now c.run-in-Check.new.sink c.in_err-clean-in-Check.field-0.0 p.0 p.2
     c.in_err-clean-in-Check.ensures.failed)
+
+pub returns-in_err-found-in-Scan-clause-failed : goal.returns-in_err-found-in-Scan-clause-failed
+returns-in_err-found-in-Scan-clause-failed g c =
+    let limits = c.args.limits in
+    let input = c.args.input.now in
+    let p = err_from_is_err_and c.from_residual-in_err-found-in-Scan.result c.from_residual-in_err-found-in-Scan.ensures.1 in
+    rw (c.in-Scan.is, p.1)
+    (call_failed g.S.Sink.fails (IsScanText limits input) (IsScanError limits input) c.args.sink.now c.run-in-Scan.new.sink c.in_err-found-in-Scan.field-0.0 p.0 p.2
+    c.in_err-found-in-Scan.ensures.failed)
 
 pub returns-in_err-signatures-in-Update-clause-failed : goal.returns-in_err-signatures-in-Update-clause-failed
 returns-in_err-signatures-in-Update-clause-failed g c =
