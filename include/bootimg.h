@@ -7,9 +7,9 @@
  * between calls, and returns nothing allocated, so there is nothing to free. Several threads may
  * make calls at the same time, if no call writes to memory that another call uses.
  *
- * A pointer and the length after it are the first byte of some memory and its size in bytes. A
- * pointer must not be null, even if the length is 0. The buffer and the struct that a call writes
- * to must not overlap each other or the files of the call.
+ * A pointer and the length after it are the first byte of some memory and its size in bytes. The
+ * pointer may be null if the length is 0. The buffer and the struct that a call writes to must not
+ * overlap each other or the files of the call.
  *
  * `limit` is the greatest number of bytes of a file, and of an image, payload or description that
  * is made: 64 to BOOTIMG_LIMIT. Each call with `limit` refuses a longer file with TooLarge, and
@@ -20,21 +20,21 @@
  *
  * A call returns its status, and sets each number of the struct `answer`:
  *
- *   BOOTIMG_DONE            The call succeeded. `size` is the size of the output, and `value` the
+ *   BOOTIMG_OK              The call succeeded. `size` is the size of the output, and `value` the
  *                           number that the comment of the call names.
  *   BOOTIMG_REFUSED         A file is refused: the call fails with a cause. `cause` is its number
  *                           (see bootimg_cause_name). `offset` is its offset in the file in bytes,
  *                           and for TooLarge the limit. `file` is 1 for the first file of the call,
  *                           and 2 for the second.
- *   BOOTIMG_OUT_OF_MEMORY   An allocation failed.
+ *   BOOTIMG_OUT_OF_MEMORY   An allocation failed (that it did is tested, and not proved).
  *   BOOTIMG_NO_ROOM         The output is larger than the buffer. `size` and `value` are as for
- *                           BOOTIMG_DONE.
+ *                           BOOTIMG_OK.
  *   BOOTIMG_WRONG_ARGUMENT  A number is out of the range of its argument.
- *   BOOTIMG_NOT_FOUND       There is nothing to extract. `reason` is one of BOOTIMG_WRONG_KIND to
- *                           BOOTIMG_NO_PAYLOAD. `value` is the index of the first name that no
- *                           image has for BOOTIMG_MISSING, and otherwise 0.
+ *   BOOTIMG_NOT_FOUND       What the call looks for is not there. `reason` is one of
+ *                           BOOTIMG_WRONG_KIND to BOOTIMG_NO_PROPERTY. `value` is the index of the
+ *                           first name that no image has for BOOTIMG_MISSING, and otherwise 0.
  *
- * Numbers without meaning for the status or the call are 0. If the status is BOOTIMG_DONE, the
+ * Numbers without meaning for the status or the call are 0. If the status is BOOTIMG_OK, the
  * output is at the beginning of the buffer, and the bytes after it are unchanged. After any other
  * status the whole buffer is unchanged. No output is NUL-terminated. A buffer of length 0 is enough
  * to learn the size.
@@ -50,15 +50,51 @@ extern "C" {
 #endif
 
 /* The version of this header and of the library. */
-#define BOOTIMG_VERSION "0.2.0"
+#define BOOTIMG_VERSION "0.3.0"
 
 /* What a call returns. */
-#define BOOTIMG_DONE 0u
+#define BOOTIMG_OK 0u
 #define BOOTIMG_REFUSED 1u
 #define BOOTIMG_OUT_OF_MEMORY 2u
 #define BOOTIMG_NO_ROOM 3u
 #define BOOTIMG_WRONG_ARGUMENT 4u
 #define BOOTIMG_NOT_FOUND 5u
+
+/* Deprecated: the names that these had before version 0.3.0. The next minor version leaves them
+ * out. */
+#define BOOTIMG_DONE BOOTIMG_OK
+#define bootimg_answer bootimg_result
+
+/* The causes for which a file is refused: `cause` of bootimg_result, and `number` of
+ * bootimg_cause_name. */
+enum bootimg_cause {
+    BOOTIMG_CAUSE_TRUNCATED = 1,
+    BOOTIMG_CAUSE_BAD_MAGIC = 2,
+    BOOTIMG_CAUSE_BAD_HEADER_CRC = 3,
+    BOOTIMG_CAUSE_BAD_DATA_CRC = 4,
+    BOOTIMG_CAUSE_BAD_PART_TABLE = 5,
+    BOOTIMG_CAUSE_BAD_PART = 6,
+    BOOTIMG_CAUSE_BAD_TOTAL_SIZE = 7,
+    BOOTIMG_CAUSE_BAD_VERSION = 8,
+    BOOTIMG_CAUSE_BAD_OFFSET = 9,
+    BOOTIMG_CAUSE_BAD_TOKEN = 10,
+    BOOTIMG_CAUSE_BAD_NAME = 11,
+    BOOTIMG_CAUSE_BAD_NAME_OFFSET = 12,
+    BOOTIMG_CAUSE_PROPERTY_AFTER_CHILD = 13,
+    BOOTIMG_CAUSE_DUPLICATE_PROPERTY = 14,
+    BOOTIMG_CAUSE_DUPLICATE_NODE = 15,
+    BOOTIMG_CAUSE_TOO_DEEP = 16,
+    BOOTIMG_CAUSE_NO_IMAGES = 17,
+    BOOTIMG_CAUSE_BAD_CELL = 18,
+    BOOTIMG_CAUSE_NO_SIZE = 19,
+    BOOTIMG_CAUSE_OUTSIDE_FILE = 20,
+    BOOTIMG_CAUSE_TOO_LARGE = 21,
+    BOOTIMG_CAUSE_NO_CODE_NAME = 22,
+    BOOTIMG_CAUSE_TOO_MANY_PARTS = 23,
+    BOOTIMG_CAUSE_EMPTY_PART = 24,
+    BOOTIMG_CAUSE_BAD_FIELD = 25,
+    BOOTIMG_CAUSE_UNSUPPORTED = 26
+};
 
 /* The greatest `limit` and the greatest `depth`. */
 #define BOOTIMG_LIMIT 0x7fffffffu
@@ -84,7 +120,7 @@ extern "C" {
 #define BOOTIMG_LOADABLES 4u
 #define BOOTIMG_SCRIPT 5u
 
-/* `reason`: why nothing is extracted. */
+/* `reason`: what is not there. */
 #define BOOTIMG_WRONG_KIND 1u
 #define BOOTIMG_NO_PART 2u
 #define BOOTIMG_NO_IMAGE 3u
@@ -94,12 +130,26 @@ extern "C" {
 #define BOOTIMG_MISSING 7u
 #define BOOTIMG_NO_INDEX 8u
 #define BOOTIMG_NO_PAYLOAD 9u
+#define BOOTIMG_NO_NODE 10u
+#define BOOTIMG_NO_PROPERTY 11u
+
+/* `addresses` of an image to be built: it has a load address, and an entry point. */
+#define BOOTIMG_HAS_LOAD 1u
+#define BOOTIMG_HAS_ENTRY 2u
 
 /* `place` of an image: the property that places its payload. */
 #define BOOTIMG_PLACE_ABSENT 0u
 #define BOOTIMG_PLACE_DATA 1u
 #define BOOTIMG_PLACE_DATA_OFFSET 2u
 #define BOOTIMG_PLACE_DATA_POSITION 3u
+
+/* `verdict` of a hash node: its value is the digest of the payload, or it is not; its algorithm is
+ * not a known one; its image has no payload; or the node has no algorithm or no value. */
+#define BOOTIMG_VERDICT_GOOD 0u
+#define BOOTIMG_VERDICT_BAD 1u
+#define BOOTIMG_VERDICT_UNKNOWN_ALGORITHM 2u
+#define BOOTIMG_VERDICT_NO_PAYLOAD 3u
+#define BOOTIMG_VERDICT_MALFORMED 4u
 
 /* `kinds` of bootimg_check: the lines that are left out. */
 #define BOOTIMG_ALLOW_BAD_HASH 1u
@@ -111,14 +161,14 @@ extern "C" {
 #define BOOTIMG_ALLOW_TRAILING 64u
 
 /* What a call returns in addition to its status. */
-typedef struct bootimg_answer {
+typedef struct bootimg_result {
     size_t size;
     size_t value;
     uint32_t cause;
     uint32_t offset;
     uint32_t file;
     uint32_t reason;
-} bootimg_answer;
+} bootimg_result;
 
 /* Where bytes of a file are: the offset of the first one, and their number. */
 typedef struct bootimg_region {
@@ -139,6 +189,18 @@ typedef struct bootimg_legacy_fields {
     uint8_t compression;
 } bootimg_legacy_fields;
 
+/* The fields of the blob of a FIT: the number of the boot processor, and its size in bytes. */
+typedef struct bootimg_fit_fields {
+    uint32_t boot_cpu;
+    uint32_t total_size;
+} bootimg_fit_fields;
+
+/* A memory reservation of a FIT: an address, and a size in bytes. */
+typedef struct bootimg_reservation {
+    uint64_t address;
+    uint64_t size;
+} bootimg_reservation;
+
 /* An image of a FIT. `place` is one of BOOTIMG_PLACE_ABSENT to BOOTIMG_PLACE_DATA_POSITION. If the
  * image has no payload (an empty one counts as one), it is the first, and both numbers of `payload`
  * are 0. */
@@ -148,17 +210,48 @@ typedef struct bootimg_image {
     uint32_t place;
 } bootimg_image;
 
+/* A property of a node of a FIT. */
+typedef struct bootimg_property {
+    bootimg_region name;
+    bootimg_region value;
+} bootimg_property;
+
+/* A hash node of an image of a FIT: the name of the image, that of the node, that of the algorithm,
+ * and the value. The numbers of a region are 0 if it is not there. `verdict` is one of
+ * BOOTIMG_VERDICT_GOOD to BOOTIMG_VERDICT_MALFORMED. */
+typedef struct bootimg_hash {
+    bootimg_region image;
+    bootimg_region node;
+    bootimg_region algorithm;
+    bootimg_region value;
+    uint32_t verdict;
+} bootimg_hash;
+
+/* An image of a FIT to be built. The name and the payload are regions of the input. `addresses` is
+ * a sum of BOOTIMG_HAS_*, or 0. The codes are those of a legacy header. */
+typedef struct bootimg_build_image {
+    bootimg_region name;
+    bootimg_region payload;
+    uint32_t load;
+    uint32_t entry;
+    uint32_t addresses;
+    uint8_t os;
+    uint8_t arch;
+    uint8_t image_type;
+    uint8_t compression;
+} bootimg_build_image;
+
 /* Returns the kind of a file in `value`, by its first four bytes: BOOTIMG_LEGACY or BOOTIMG_FIT.
  * The other bytes are not examined. The call fails with Truncated at 0 for a file of fewer than
  * four bytes, and with BadMagic at 0 for one without a magic number. */
-uint32_t bootimg_kind(const uint8_t *file, size_t file_size, bootimg_answer *answer);
+uint32_t bootimg_kind(const uint8_t *file, size_t file_size, bootimg_result *answer);
 
 /* Writes the normal form of a file. `form` is BOOTIMG_EMBEDDED or BOOTIMG_EXTERNAL, and has no
  * effect on a legacy image. `value` is the number of signature nodes, which are kept and not
  * checked. The call fails with TooLarge if the normal form is longer than `limit`. */
 uint32_t bootimg_normalise(const uint8_t *file, size_t file_size, uint32_t form, uint32_t limit,
                            uint32_t depth, uint8_t *buffer, size_t buffer_size,
-                           bootimg_answer *answer);
+                           bootimg_result *answer);
 
 /* Writes the normal form of a file with changes. `changes` is a sum of BOOTIMG_CHANGE_*, or 0.
  * BOOTIMG_CHANGE_TIME sets the time of creation to `time`, in seconds since 1970.
@@ -169,7 +262,7 @@ uint32_t bootimg_normalise(const uint8_t *file, size_t file_size, uint32_t form,
  * together are longer. */
 uint32_t bootimg_update(const uint8_t *file, size_t file_size, uint32_t changes, uint32_t time,
                         uint32_t form, uint32_t limit, uint32_t depth, uint8_t *buffer,
-                        size_t buffer_size, bootimg_answer *answer);
+                        size_t buffer_size, bootimg_result *answer);
 
 /* The calls that extract copy nothing. `value` is the offset in the file of the first selected
  * byte, and `size` is the number of selected bytes. All of them are inside the file. No hash node
@@ -192,24 +285,24 @@ uint32_t bootimg_update(const uint8_t *file, size_t file_size, uint32_t changes,
 /* Selects the part with the given index, counted from 0, of a legacy image. An image of a type
  * other than multi and script has one part. */
 uint32_t bootimg_extract_part(const uint8_t *file, size_t file_size, uint32_t index, uint32_t limit,
-                              uint32_t depth, bootimg_answer *answer);
+                              uint32_t depth, bootimg_result *answer);
 
 /* Selects the payload of the image with the given name in a FIT. The name is not NUL-terminated. */
 uint32_t bootimg_extract_image(const uint8_t *file, size_t file_size, const uint8_t *name,
                                size_t name_size, uint32_t limit, uint32_t depth,
-                               bootimg_answer *answer);
+                               bootimg_result *answer);
 
 /* Selects a payload that the configuration with the given name lists under a key, one of
  * BOOTIMG_KERNEL to BOOTIMG_SCRIPT. `index` is its index in the list, counted from 0. The name is
  * not NUL-terminated. */
 uint32_t bootimg_extract_config(const uint8_t *file, size_t file_size, const uint8_t *name,
                                 size_t name_size, uint32_t key, uint32_t index, uint32_t limit,
-                                uint32_t depth, bootimg_answer *answer);
+                                uint32_t depth, bootimg_result *answer);
 
 /* Selects a payload that the default configuration lists, as bootimg_extract_config does. */
 uint32_t bootimg_extract_default(const uint8_t *file, size_t file_size, uint32_t key,
                                  uint32_t index, uint32_t limit, uint32_t depth,
-                                 bootimg_answer *answer);
+                                 bootimg_result *answer);
 
 /* The calls that take an image apart copy nothing: names and payloads are regions of the caller's
  * file, and inside it. Each call reads the whole file again. An array of the caller's is a buffer:
@@ -218,47 +311,107 @@ uint32_t bootimg_extract_default(const uint8_t *file, size_t file_size, uint32_t
  * status is BOOTIMG_NO_ROOM, and the array is unchanged. */
 
 /* Sets the fields of the header of a legacy image. They are unchanged unless the status is
- * BOOTIMG_DONE. The call fails with BadMagic at 0 for a file that is not a legacy image. */
+ * BOOTIMG_OK. The call fails with BadMagic at 0 for a file that is not a legacy image. */
 uint32_t bootimg_legacy(const uint8_t *file, size_t file_size, uint32_t limit, uint32_t depth,
-                        bootimg_legacy_fields *fields, bootimg_answer *answer);
+                        bootimg_legacy_fields *fields, bootimg_result *answer);
 
 /* Writes where the parts of a legacy image are, in their order. `value` is the number of bytes of
  * the file after the last part, or after the part table if there are no parts. The call fails as
  * bootimg_legacy does. */
 uint32_t bootimg_parts(const uint8_t *file, size_t file_size, uint32_t limit, uint32_t depth,
-                       bootimg_region *parts, size_t parts_count, bootimg_answer *answer);
+                       bootimg_region *parts, size_t parts_count, bootimg_result *answer);
 
-/* Writes the images of a FIT, in their order. The call fails with BadMagic at 0 for a file that is
- * not a FIT. */
+/* Sets the fields of the blob of a FIT. They are unchanged unless the status is BOOTIMG_OK. The
+ * call fails with BadMagic at 0 for a file that is not a FIT. So do the calls after it. */
+uint32_t bootimg_fit(const uint8_t *file, size_t file_size, uint32_t limit, uint32_t depth,
+                     bootimg_fit_fields *fields, bootimg_result *answer);
+
+/* Writes the memory reservations of a FIT, in their order. */
+uint32_t bootimg_reservations(const uint8_t *file, size_t file_size, uint32_t limit, uint32_t depth,
+                              bootimg_reservation *reservations, size_t reservations_count,
+                              bootimg_result *answer);
+
+/* Writes the images of a FIT, in their order. */
 uint32_t bootimg_images(const uint8_t *file, size_t file_size, uint32_t limit, uint32_t depth,
-                        bootimg_image *images, size_t images_count, bootimg_answer *answer);
+                        bootimg_image *images, size_t images_count, bootimg_result *answer);
+
+/* Writes where the names of the configurations of a FIT are, in their order. `value` is the index
+ * of the default configuration, or the number of configurations if there is none. */
+uint32_t bootimg_configurations(const uint8_t *file, size_t file_size, uint32_t limit,
+                                uint32_t depth, bootimg_region *names, size_t names_count,
+                                bootimg_result *answer);
+
+/* Writes the indices of the images that the configuration with the given name lists under a key,
+ * one of BOOTIMG_KERNEL to BOOTIMG_SCRIPT, in the order of the list. An index is that in the array
+ * of bootimg_images. The name is not NUL-terminated. If nothing is listed, the status is
+ * BOOTIMG_NOT_FOUND, and `reason` is one of BOOTIMG_NO_CONFIG to BOOTIMG_MISSING. */
+uint32_t bootimg_listed(const uint8_t *file, size_t file_size, const uint8_t *name,
+                        size_t name_size, uint32_t key, uint32_t limit, uint32_t depth,
+                        size_t *images, size_t images_count, bootimg_result *answer);
+
+/* Writes the hash nodes of a FIT with the verdicts on them, image by image, in their order. Each
+ * region of the file is read once for each algorithm that its hash nodes name. */
+uint32_t bootimg_verdicts(const uint8_t *file, size_t file_size, uint32_t limit, uint32_t depth,
+                          bootimg_hash *hashes, size_t hashes_count, bootimg_result *answer);
+
+/* The calls that look at a node of a FIT take its path: `/` for the root, and else a `/` before the
+ * name of each node from a child of the root down to it, for example `/images/kernel-1`. The names
+ * are bytes of the file, and the whole names: no alias is followed. The path is not NUL-terminated.
+ * If no node has the path, the status is BOOTIMG_NOT_FOUND and `reason` is BOOTIMG_NO_NODE. */
+
+/* Writes where the names of the children of a node are, in their order. */
+uint32_t bootimg_children(const uint8_t *file, size_t file_size, const uint8_t *path,
+                          size_t path_size, uint32_t limit, uint32_t depth, bootimg_region *names,
+                          size_t names_count, bootimg_result *answer);
+
+/* Writes the properties of a node, in their order. */
+uint32_t bootimg_properties(const uint8_t *file, size_t file_size, const uint8_t *path,
+                            size_t path_size, uint32_t limit, uint32_t depth,
+                            bootimg_property *properties, size_t properties_count,
+                            bootimg_result *answer);
+
+/* Selects the value of the property of a node with the given name, as the calls that extract do:
+ * `value` is its offset in the file, and `size` its size. The name is not NUL-terminated. If the
+ * node has no such property, the status is BOOTIMG_NOT_FOUND and `reason` is BOOTIMG_NO_PROPERTY.
+ */
+uint32_t bootimg_property_value(const uint8_t *file, size_t file_size, const uint8_t *path,
+                                size_t path_size, const uint8_t *name, size_t name_size,
+                                uint32_t limit, uint32_t depth, bootimg_result *answer);
 
 /* Returns in `value` whether two files mean the same thing: 1 if they do, otherwise 0. */
 uint32_t bootimg_same_meaning(const uint8_t *one, size_t one_size, const uint8_t *other,
                               size_t other_size, uint32_t limit, uint32_t depth,
-                              bootimg_answer *answer);
+                              bootimg_result *answer);
 
 /* Writes the listing of a file, as `bootimg list` prints it. */
 uint32_t bootimg_list(const uint8_t *file, size_t file_size, uint32_t limit, uint32_t depth,
-                      uint8_t *buffer, size_t buffer_size, bootimg_answer *answer);
+                      uint8_t *buffer, size_t buffer_size, bootimg_result *answer);
 
 /* Writes the description of what a file means. It does not depend on the layout of the file. The
  * call fails with TooLarge if the description, or the payloads together, are longer than `limit`.
  */
 uint32_t bootimg_describe(const uint8_t *file, size_t file_size, uint32_t limit, uint32_t depth,
-                          uint8_t *buffer, size_t buffer_size, bootimg_answer *answer);
+                          uint8_t *buffer, size_t buffer_size, bootimg_result *answer);
+
+/* Writes the page of a file, for a person: tables of what it is, of its images or parts with the
+ * verdict on each hash node, of its configurations and signature nodes, and the lines of
+ * bootimg_check. With `layout` 1 the page has the regions of the file by their offsets, and with 0
+ * it has not. Its form may change with the version. The call fails with TooLarge if the payloads
+ * together are longer than `limit`. */
+uint32_t bootimg_show(const uint8_t *file, size_t file_size, uint32_t layout, uint32_t limit,
+                      uint32_t depth, uint8_t *buffer, size_t buffer_size, bootimg_result *answer);
 
 /* Writes the report on the checksums and digests of a file. `value` is 1 if each verdict in it is
  * good, even if there is none, and otherwise 0. */
 uint32_t bootimg_verify(const uint8_t *file, size_t file_size, uint32_t limit, uint32_t depth,
-                        uint8_t *buffer, size_t buffer_size, bootimg_answer *answer);
+                        uint8_t *buffer, size_t buffer_size, bootimg_result *answer);
 
 /* Writes a line for each concern about a file: each thing in it that is not protected. `kinds` is
  * a sum of BOOTIMG_ALLOW_*, or 0: lines of these kinds are left out. `value` is 1 if there is no
  * line, otherwise 0. The call fails with TooLarge if the payloads together are longer than
  * `limit`. */
 uint32_t bootimg_check(const uint8_t *file, size_t file_size, uint32_t kinds, uint32_t limit,
-                       uint32_t depth, uint8_t *buffer, size_t buffer_size, bootimg_answer *answer);
+                       uint32_t depth, uint8_t *buffer, size_t buffer_size, bootimg_result *answer);
 
 /* Writes the differences between what two files mean. `value` is 1 if they mean the same thing,
  * and nothing is then written; otherwise 0. If they do not mean the same thing, the call fails
@@ -266,28 +419,28 @@ uint32_t bootimg_check(const uint8_t *file, size_t file_size, uint32_t kinds, ui
  * `limit`. */
 uint32_t bootimg_compare(const uint8_t *one, size_t one_size, const uint8_t *other,
                          size_t other_size, uint32_t limit, uint32_t depth, uint8_t *buffer,
-                         size_t buffer_size, bootimg_answer *answer);
+                         size_t buffer_size, bootimg_result *answer);
 
 /* The calls `.._json` write what the call without `_json` writes, as one JSON text (RFC 8259) in
  * ASCII and a newline. Their arguments, `value` and errors are those of that call. There is always
  * an output, even if there are no concerns. */
 uint32_t bootimg_list_json(const uint8_t *file, size_t file_size, uint32_t limit, uint32_t depth,
-                           uint8_t *buffer, size_t buffer_size, bootimg_answer *answer);
+                           uint8_t *buffer, size_t buffer_size, bootimg_result *answer);
 
 uint32_t bootimg_describe_json(const uint8_t *file, size_t file_size, uint32_t limit,
                                uint32_t depth, uint8_t *buffer, size_t buffer_size,
-                               bootimg_answer *answer);
+                               bootimg_result *answer);
 
 uint32_t bootimg_verify_json(const uint8_t *file, size_t file_size, uint32_t limit, uint32_t depth,
-                             uint8_t *buffer, size_t buffer_size, bootimg_answer *answer);
+                             uint8_t *buffer, size_t buffer_size, bootimg_result *answer);
 
 uint32_t bootimg_check_json(const uint8_t *file, size_t file_size, uint32_t kinds, uint32_t limit,
                             uint32_t depth, uint8_t *buffer, size_t buffer_size,
-                            bootimg_answer *answer);
+                            bootimg_result *answer);
 
 uint32_t bootimg_compare_json(const uint8_t *one, size_t one_size, const uint8_t *other,
                               size_t other_size, uint32_t limit, uint32_t depth, uint8_t *buffer,
-                              size_t buffer_size, bootimg_answer *answer);
+                              size_t buffer_size, bootimg_result *answer);
 
 /* Writes the FIT that a legacy image is converted to. The call fails with BadMagic at 0 for a file
  * that is not a legacy image, for example a FIT; with NoCodeName at the offset of the first code
@@ -295,15 +448,48 @@ uint32_t bootimg_compare_json(const uint8_t *one, size_t one_size, const uint8_t
  * multi-file image has more than three parts or a script more than one; and with TooLarge if the
  * output is longer than `limit`. */
 uint32_t bootimg_convert(const uint8_t *file, size_t file_size, uint32_t limit, uint32_t depth,
-                         uint8_t *buffer, size_t buffer_size, bootimg_answer *answer);
+                         uint8_t *buffer, size_t buffer_size, bootimg_result *answer);
+
+/* Writes the legacy image with these fields and parts. The name and the parts are regions of
+ * `input`, which may be anywhere in it. So what bootimg_legacy and bootimg_parts return of a file
+ * builds its normal form, with the file as the input. If a region is not inside the input, the
+ * status is BOOTIMG_WRONG_ARGUMENT. The call fails, with the offset in the image, with BadField at
+ * 32 if the name has more than 32 bytes or a zero byte; with BadField at 30 if there is not exactly
+ * one part and the type is neither multi nor script; with TooLarge if the image is longer than
+ * `limit`; and with EmptyPart at the size of the first empty part of a multi-file image or script.
+ */
+uint32_t bootimg_build_legacy(const uint8_t *input, size_t input_size,
+                              const bootimg_legacy_fields *fields, const bootimg_region *parts,
+                              size_t parts_count, uint32_t limit, uint32_t depth, uint8_t *buffer,
+                              size_t buffer_size, bootimg_result *answer);
+
+/* Writes a FIT with these images, each with the SHA-256 of its payload, and one configuration,
+ * `conf-1`, which lists the images by their types. The description is that of the tree, of each
+ * image and of the configuration. `time` is the time of creation, in seconds since 1970, and `form`
+ * BOOTIMG_EMBEDDED or BOOTIMG_EXTERNAL. If a region is not inside the input, or `addresses` is not
+ * such a sum, the status is BOOTIMG_WRONG_ARGUMENT. The call fails with TooLarge if there are more
+ * images than `limit`; with BadField at 0 if the description has a zero byte; for each image in
+ * order, at its index: with BadField if its name is empty or has a zero byte or a `/`, or its type
+ * is multi, with NoCodeName if one of its codes has no name, and with DuplicateNode if an earlier
+ * image has its name; and with TooLarge if the FIT is longer than `limit`. */
+uint32_t bootimg_build_fit(const uint8_t *input, size_t input_size, const uint8_t *description,
+                           size_t description_size, uint32_t time,
+                           const bootimg_build_image *images, size_t images_count, uint32_t form,
+                           uint32_t limit, uint32_t depth, uint8_t *buffer, size_t buffer_size,
+                           bootimg_result *answer);
 
 /* Writes the name of the cause with the given number, 1 to 26, for example `Truncated`. The status
  * is BOOTIMG_WRONG_ARGUMENT for any other number. */
 uint32_t bootimg_cause_name(uint32_t number, uint8_t *buffer, size_t buffer_size,
-                            bootimg_answer *answer);
+                            bootimg_result *answer);
+
+/* Writes what the cause with the given number means, and what a user can do, as `bootimg explain`
+ * does, but without a newline. The status is that of bootimg_cause_name. */
+uint32_t bootimg_explain(uint32_t number, uint8_t *buffer, size_t buffer_size,
+                         bootimg_result *answer);
 
 /* Writes the version of the library. */
-uint32_t bootimg_version(uint8_t *buffer, size_t buffer_size, bootimg_answer *answer);
+uint32_t bootimg_version(uint8_t *buffer, size_t buffer_size, bootimg_result *answer);
 
 #ifdef __cplusplus
 }

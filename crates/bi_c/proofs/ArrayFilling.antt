@@ -1,7 +1,10 @@
-use Rattle.std.proofs.Common.{◌≡◌, ◌+◌, ◌<◌, ◌≤◌, ◌++◌, ℕ, List, [], ◌∷◌, length, take, drop, refl, sym, ap, ap₂, subst, ◌∙◌, arith, append_assoc}
-use Rattle.std.proofs.Common.{append-nil}
+use Rattle.std.proofs.Common.{◌≡◌, ◌+◌, ◌<◌, ◌≤◌, ◌++◌, ℕ, List, [], ◌∷◌, length, take, drop, refl, sym, ap, ap₂, ◌∙◌}
+use Rattle.std.proofs.Common.{arith, append_assoc}
+use Rattle.std.proofs.Common.{append-nil, add-one, zero, suc, Some, None}
+use Rattle.std.specs.Prelude.{slice_get}
 use Rattle.std.proofs.Math.ListN.{set, length-set}
 use Rattle.std.proofs.lemmas.List.{take_more_set, drop-set-lt, take-append-drop}
+use Rattle.bi_fit.proofs.Meanings.{same_in_some}
 use Rattle.bi_c.specs.declared.answer.Answer.{Answer}
 use Rattle.bi_c.specs.declared.failure.Failure.{Failure}
 use Rattle.bi_c.specs.Answers.{Fills, Filled, HadNoRoom, IsJust, answer_of}
@@ -61,3 +64,21 @@ pub array_is_short : {T : Type 0} (HasFailed : Failure → Type 0) (all : List T
     answer ≡ answer_of (length all) value → length before < length all → Fills (IsJust all value) HasFailed before before answer 3
 array_is_short HasFailed all value before answer told short =
     HadNoRoom all value (record { is_text = refl; is_number = refl }) short refl told refl
+
+-- What is found at an index of a list is the first of what is left from the index on,
+pub found_at : {T : Type 0} (all : List T) (index : ℕ) (value : T) → slice_get all index ≡ Some value →
+    drop index all ≡ value ∷ drop (index + 1) all
+found_at all index value is = rw add-one (by all index is)
+  where
+    by : {T : Type 0} {value : T} (all : List T) (index : ℕ) → slice_get all index ≡ Some value →
+        drop index all ≡ value ∷ drop (suc index) all
+    by [] index is = absurd cc
+    by (first ∷ later) zero is = ap (λ it. it ∷ later) (same_in_some first _ is)
+    by (first ∷ later) (suc index) is = by later index is
+
+-- and if nothing is found there, nothing is left.
+pub none_at : {T : Type 0} (all : List T) (index : ℕ) → slice_get all index ≡ None → drop index all ≡ []
+none_at [] zero is = refl
+none_at [] (suc index) is = refl
+none_at (first ∷ later) zero is = absurd cc
+none_at (first ∷ later) (suc index) is = none_at later index is

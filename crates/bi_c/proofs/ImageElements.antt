@@ -1,4 +1,5 @@
-use Rattle.std.proofs.Common.{◌≡◌, ◌+◌, ◌<◌, ℕ, suc, List, [], ◌∷◌, Option, Some, length, map, drop, get_or, refl, sym, ap, subst, ◌∙◌, add-one, arith}
+use Rattle.std.proofs.Common.{◌≡◌, ◌+◌, ◌<◌, ℕ, suc, List, [], ◌∷◌, Option, Some, length, map, drop, get_or, refl, sym, ap, subst}
+use Rattle.std.proofs.Common.{add-one, arith}
 use Rattle.std.proofs.Common.{length-drop}
 use Rattle.std.specs.List.{AllZip}
 use Rattle.std.specs.Option.{option_map}

@@ -1,7 +1,6 @@
-use Rattle.std.proofs.Common.{◌≡◌, ℕ, List, [], ◌∷◌, Option, None, Some, map, refl, sym, ap, subst, ◌∙◌}
+use Rattle.std.proofs.Common.{◌≡◌, ℕ, List, [], ◌∷◌, Option, None, Some, refl, sym, ap, ◌∙◌}
 use Rattle.std.specs.List.{AllZip}
 use Rattle.bi_base.specs.Limits.{Limits, IsInRange}
-use Rattle.bi_blob.specs.Blob.{IsWithin}
 use Rattle.bi_blob.specs.Lookups.{siblings}
 use Rattle.bi_blob.specs.Tree.{Nodes, none, node, FileNode, Root}
 use Rattle.bi_fdt.specs.Content.{root_of}
@@ -14,21 +13,22 @@ use Rattle.bi_fit.proofs.FilePayloads.{payloads_are_at_places}
 use Rattle.bi_c.specs.declared.images.ImageElement.{ImageElement}
 use Rattle.bi_c.specs.Answers.{IsJust}
 use Rattle.bi_c.specs.Arguments.{bounds}
-use Rattle.bi_c.specs.ImageElements.{AreImageElements, HaveImageBytes, HasPayloadBytes, image_elements, payload_region}
-use Rattle.bi_c.proofs.TreeRegions.{HaveNames, blob_names, found_names}
+use Rattle.bi_c.specs.ImageElements.{AreImageElements, HaveImageBytes, HasPayloadBytes, image_elements, image_payload_region}
+use Rattle.bi_c.proofs.FitFiles.{means_within}
+use Rattle.bi_c.proofs.TreeRegions.{HaveBytes, root_bytes, found_bytes}
 
 -- The elements of the images that were read of a file are those of the images that the file means.
 
 -- A payload that is at its place is in its region.
 payload_bytes : (file : List ℕ) (place : Option ℕ) (payload : Option (List ℕ)) → IsAtPlace file place payload →
-    HasPayloadBytes file (payload_region place payload) payload
+    HasPayloadBytes file (image_payload_region place payload) payload
 payload_bytes file None None is = tt
 payload_bytes file (Some place) None is = tt
 payload_bytes file None (Some payload) is = absurd is
 payload_bytes file (Some place) (Some payload) is = record { is_size = refl; is_there = is }
 
 -- So are the names and the payloads of image nodes.
-image_bytes : (file : List ℕ) (nodes : Nodes FileNode) (payloads : List (Option (List ℕ))) → HaveNames file nodes →
+image_bytes : (file : List ℕ) (nodes : Nodes FileNode) (payloads : List (Option (List ℕ))) → HaveBytes file nodes →
     AllZip (λ own payload. IsAtPlace file (payload_place file (source_of own)) payload) (each_own nodes) payloads →
     HaveImageBytes file (siblings nodes) payloads
 image_bytes file none payloads have at = tt
@@ -36,7 +36,7 @@ image_bytes file (node name own children later) [] have at = tt
 image_bytes file (node name own children later) (payload ∷ payloads) have at = (
   have.0,
   payload_bytes file (payload_place file (source_of own)) payload at.0,
-  image_bytes file later payloads have.2 at.1,
+  image_bytes file later payloads have.3 at.1,
 )
 
 -- So the elements are those of what the file means.
@@ -53,14 +53,14 @@ are_image_elements limit depth file limits content elements value in_range same 
     record {
       limits = in_range;
       tree = tree;
-      means = record { is_file = is; within = subst (λ (l : Limits). IsWithin l file is.root) same read.means.within };
+      means = means_within limit depth file limits content same read;
       are_elements = just.is_text
           ∙ ap (λ (bytes : List ℕ). image_elements bytes (siblings (nodes_or_none (image_nodes (root_of content.blob)))) tree.payloads)
           read.is_file
           ∙ ap (λ (images : Nodes FileNode). image_elements file (siblings images) tree.payloads) nodes;
       have_bytes = image_bytes file is.images tree.payloads
-          (found_names file images_name is.root.children is.images is.has_images
-          (blob_names file tree.cpu tree.reservations is.root is.blob).1)
+          (found_bytes file images_name is.root.children is.images is.has_images
+          (root_bytes file tree.cpu tree.reservations is.root is.blob).1)
           (payloads_are_at_places file tree is);
       no_value = just.is_number;
     }

@@ -18,6 +18,7 @@ use Rattle.bi_base.specs.declared.fault.Error.TheVariants.{OutOfMemory}
 use Rattle.bi_commands.specs.declared.extract.ExtractError.{ExtractError}
 use Rattle.bi_commands.specs.declared.extract.ExtractError.TheVariants.{NoIndex, Failed}
 use Rattle.bi_c.specs.declared.region.Region.{Region}
+use Rattle.bi_c.proofs.ListedIndices.{same_listed}
 use Rattle.bi_commands.specs.Extracting.{Choice, IsReason, choice_of_payload, choice_of_image, choice_of_entry, choice_of_listed}
 use Rattle.bi_commands.specs.Extracting.{choice_by_name, choice_by_configuration}
 
@@ -32,17 +33,6 @@ all_at P (first ∷ later) (suc index) x all is = all_at P later index x all.1 i
 -- The name of an entry chooses its payload.
 abbrev IsNamed : List Image → ListedImage → Type 0
 IsNamed images entry = choice_of_image (image_named entry.name images) ≡ choice_of_payload entry.payload
-
--- Two lists of images that are listed are the same list.
-same_listed : (one other : List ListedImage) → ListedImages one ≡ ListedImages other → one ≡ other
-same_listed one other is = ap images_in is
-  where
-    images_in : ListResult → List ListedImage
-    images_in (ListedImages images) = images
-    images_in NoConfig = []
-    images_in NoKey = []
-    images_in BadList = []
-    images_in (Missing index) = []
 
 entries_named : (images : List Image) (at : ℕ) (names : List (List ℕ)) (listed : List ListedImage) →
     list_images images at names ≡ ListedImages listed → AllByRecursion (IsNamed images) listed

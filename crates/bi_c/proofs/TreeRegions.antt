@@ -1,92 +1,214 @@
-use Rattle.std.proofs.Common.{◌≡◌, ◌+◌, ◌<◌, ◌≤◌, ◌++◌, ◌^◌, ℕ, List, [], ◌∷◌, Bool, true, false, Option, Some, None, map, length, take, drop, bytes_eq, refl, sym, ap, subst, ◌∙◌, arith, length-append}
+use Rattle.std.proofs.Common.{◌≡◌, ◌+◌, ◌-◌, ◌<◌, ◌≤◌, ◌++◌, ℕ, List, [], ◌∷◌, Bool, true, false, Option, Some, None, map, length, take, drop}
+use Rattle.std.proofs.Common.{bytes_eq, refl, sym, ap, subst, ◌∙◌, arith, length-append, length-drop, take_all}
+use Rattle.std.proofs.lemmas.List.{length-take}
 use Rattle.std.specs.Prelude.{⊤}
 use Rattle.std.specs.List.{AllByRecursion}
+use Rattle.std.specs.Option.{option_map}
 use Rattle.bi_base.specs.Cells.{cell, slice, u32_at}
-use Rattle.bi_base.proofs.CellLaws.{length-cell}
-use Rattle.bi_base.proofs.ListMembers.{each-front, each-back, each-map_back}
-use Rattle.bi_blob.specs.Tokens.{Token, BeginNode, EndNode, Prop, Nop, End, token_bytes, width, IsTokenAt, IsNameAt}
-use Rattle.bi_blob.specs.Tree.{Nodes, none, node, Root, FileProperty, FileNode, as_nodes}
+use Rattle.bi_base.proofs.CellLaws.{length-cell, slice-first, slice-rest}
+use Rattle.bi_base.proofs.ListMembers.{each-front, each-back}
+use Rattle.bi_blob.specs.Tokens.{Token, BeginNode, EndNode, Prop, Nop, End, width, IsTokenAt, IsNameAt}
+use Rattle.bi_blob.specs.Lookups.{Sibling, siblings, node_named, root_node}
+use Rattle.bi_blob.specs.Tree.{Nodes, none, node, Root, FileNode, FileProperty, as_nodes}
 use Rattle.bi_blob.specs.Events.{FileEvent, FileNodeStart, FileNodeProperty, FileNodeEnd, file_events, file_events_of, EncodeEvents}
-use Rattle.bi_blob.specs.Blob.{Reservation, tree_blocks, off_dt_strings, size_dt_strings, IsBlob}
-use Rattle.bi_blob.proofs.Blobs.Cells.{BytesAt, BytesAt-from, BytesAt-left, BytesAt-right, BytesAt-within, u32_at-BytesAt}
+use Rattle.bi_blob.specs.Events.{EncodesProperty}
+use Rattle.bi_blob.specs.Blob.{Reservation, tree_blocks, IsBlob, off_dt_strings, size_dt_strings}
+use Rattle.bi_blob.proofs.Blobs.Cells.{BytesAt, BytesAt-left, BytesAt-right, BytesAt-within, u32_at-BytesAt}
 use Rattle.bi_blob.proofs.Blobs.TokenEncoding.{AllStand}
 use Rattle.bi_blob.proofs.Blobs.OneBlob.{HoldsTree-stand}
-use Rattle.bi_fit.specs.ImageTree.{children_of, image_nodes}
-use Rattle.bi_fit.specs.Names.{images_name}
+use Rattle.bi_fit.proofs.Meanings.{same_in_some}
+use Rattle.bi_fit.specs.ImageTree.{children_of}
 use Rattle.bi_fit.specs.Payloads.{IsAt}
-use Rattle.bi_c.specs.TreeRegions.{AreBytesAt, node_name_region}
+use Rattle.bi_c.specs.NodeElements.{node_below}
+use Rattle.bi_c.specs.TreeRegions.{AreBytesAt, HasNameBytes, HasPropertyBytes, children_of_found, node_name_region}
 
--- The names of a tree are in its file at their places.
+-- The names and the values of a tree are in its file at their places.
 
--- The name of a node that starts.
-abbrev pub HasEventName : List ℕ → FileEvent → Type 0
-HasEventName file (FileNodeStart place name) = IsAt file (place + 4) name
-HasEventName file event = ⊤
+-- What starts or has a property has its bytes.
+abbrev pub HasEventBytes : List ℕ → FileEvent → Type 0
+HasEventBytes file (FileNodeStart place name) = IsAt file (place + 4) name
+HasEventBytes file (FileNodeProperty property) = HasPropertyBytes file property
+HasEventBytes file FileNodeEnd = ⊤
+
+-- Bytes that stand somewhere before more bytes are there.
+stands_before : (file : List ℕ) (at : ℕ) (bytes more : List ℕ) → 0 < length more → BytesAt file at (bytes ++ more) → IsAt file at bytes
+stands_before file at bytes more some there = record {
+  in_file = omega (
+    arith,
+    length-append bytes more,
+    BytesAt-within file at (bytes ++ more) (omega (arith, length-append bytes more)) there,
+  );
+  is_slice = BytesAt-left file at bytes more there;
+}
+
+-- So do the last bytes.
+stands_last : (file : List ℕ) (at : ℕ) (before bytes : List ℕ) → 0 < length before → BytesAt file at (before ++ bytes) →
+    IsAt file (at + length before) bytes
+stands_last file at before bytes some there = record {
+  in_file = omega (
+    arith,
+    length-append before bytes,
+    BytesAt-within file at (before ++ bytes) (omega (arith, length-append before bytes)) there,
+  );
+  is_slice = BytesAt-right file at before bytes there;
+}
 
 -- The name of an FDT_BEGIN_NODE token.
 token_name : (file : List ℕ) (at : ℕ) (name : List ℕ) → IsTokenAt file at (BeginNode name) → IsAt file (at + 4) name
-token_name file at name is = record {
-  in_file = omega (arith, BytesAt-within file at (token_bytes (BeginNode name)) (omega (arith, long)) is.is_at, long);
-  is_slice = BytesAt-left file (at + 4) name (0 ∷ [])
-      (subst (λ n. BytesAt file n (name ++ 0 ∷ [])) (ap (λ n. at + n) (length-cell 1))
-      (BytesAt-right file at (cell 1) (name ++ 0 ∷ []) is.is_at));
-}
-  where
-    long : length (token_bytes (BeginNode name)) ≡ 5 + length name
-    long = omega (arith, length-append (cell 1) (name ++ 0 ∷ []), length-append name (0 ∷ []), length-cell 1)
+token_name file at name is =
+    stands_before file (at + 4) name (0 ∷ []) (omega arith)
+    (subst (λ n. BytesAt file n (name ++ 0 ∷ [])) (ap (λ n. at + n) (length-cell 1))
+    (BytesAt-right file at (cell 1) (name ++ 0 ∷ []) is.is_at))
 
--- The names of the events that tokens of a file encode.
-tokens_names : (file strings : List ℕ) (at : ℕ) (tokens : List Token) (events : List FileEvent) → AllStand file at (tokens ++ End ∷ []) →
-    EncodeEvents strings at tokens events → AllByRecursion (HasEventName file) events
-tokens_names file strings at [] [] are encodes = tt
-tokens_names file strings at (Nop ∷ tokens) events are encodes =
-    tokens_names file strings (at + width Nop) tokens events are.1 encodes
-tokens_names file strings at (BeginNode name_there ∷ tokens) (FileNodeStart place name ∷ events) are encodes = (
+-- The number and the value in an FDT_PROP token.
+token_rest : (file : List ℕ) (at offset : ℕ) (value : List ℕ) → IsTokenAt file at (Prop offset value) →
+    BytesAt file (at + 8) (cell offset ++ value)
+token_rest file at offset value is =
+    let sizes : at + length (cell 3) + length (cell (length value)) ≡ at + 8 =
+    omega (arith, length-cell 3, length-cell (length value)) in
+    subst (λ n. BytesAt file n (cell offset ++ value)) sizes
+    (BytesAt-right file (at + length (cell 3)) (cell (length value)) (cell offset ++ value)
+    (BytesAt-right file at (cell 3) (cell (length value) ++ (cell offset ++ value)) is.is_at))
+
+-- A name of the strings block is in the file.
+string_name : (file : List ℕ) (begin size offset : ℕ) (name : List ℕ) → IsNameAt (slice file begin size) offset name →
+    IsAt file (begin + offset) name
+string_name file begin size offset name is =
+    let rest : List ℕ = name ++ 0 ∷ is.trailing in
+    let long : length rest ≡ length name + 1 + length is.trailing = omega (arith, length-append name (0 ∷ is.trailing)) in
+    let left : length (drop offset (slice file begin size)) ≡ length (slice file begin size) - offset =
+    length-drop offset (slice file begin size) in
+    let most : length (slice file begin size) ≤ size = omega (arith, length-take size (drop begin file)) in
+    let within : offset ≤ size = omega (arith, ap length is.is_at, long, left, most) in
+    let there : slice file (begin + offset) (size - offset) ≡ rest =
+    sym (slice-rest file begin offset size (size - offset) (omega (arith, within))) ∙ is.is_at in
+    stands_before file (begin + offset) name (0 ∷ is.trailing) (omega arith)
+    (sym (slice-first file (begin + offset) (length rest) (size - offset) (omega (arith, ap length is.is_at, left, most)))
+    ∙ ap (take (length rest)) there
+    ∙ take_all (length rest) rest (omega arith))
+
+-- The name and the value of an FDT_PROP token.
+token_property : (file : List ℕ) (at offset : ℕ) (value : List ℕ) (property : FileProperty) → IsTokenAt file at (Prop offset value) →
+    EncodesProperty (tree_blocks file).strings at offset value property → HasPropertyBytes file property
+token_property file at offset value property is encodes =
+    let number : u32_at file (at + 8) ≡ offset =
+    u32_at-BytesAt file (at + 8) offset is.is_token.0 (BytesAt-left file (at + 8) (cell offset) value (token_rest file at offset value is))
+    in
+    let place : u32_at file (property.place + 8) ≡ offset = ap (λ (n : ℕ). u32_at file (n + 8)) (sym encodes.place) ∙ number in
+    let last : IsAt file (at + 8 + length (cell offset)) value =
+    stands_last file (at + 8) (cell offset) value (omega (arith, length-cell offset)) (token_rest file at offset value is) in
+    let after : at + 8 + length (cell offset) ≡ property.place + 12 = omega (arith, length-cell offset, encodes.place) in
+    record {
+      name = record {
+        is_size = refl;
+        is_there = subst (λ (n : ℕ). IsAt file (off_dt_strings file + n) property.name) (sym place)
+            (string_name file (off_dt_strings file) (size_dt_strings file) offset property.name encodes.name);
+      };
+      value = record {
+        is_size = refl;
+        is_there = subst (IsAt file (property.place + 12)) encodes.value (subst (λ (n : ℕ). IsAt file n value) after last);
+      };
+    }
+
+-- What the events have that tokens of a file encode.
+tokens_bytes : (file : List ℕ) (at : ℕ) (tokens : List Token) (events : List FileEvent) → AllStand file at (tokens ++ End ∷ []) →
+    EncodeEvents (tree_blocks file).strings at tokens events → AllByRecursion (HasEventBytes file) events
+tokens_bytes file at [] [] are encodes = tt
+tokens_bytes file at (Nop ∷ tokens) events are encodes = tokens_bytes file (at + width Nop) tokens events are.1 encodes
+tokens_bytes file at (BeginNode name_there ∷ tokens) (FileNodeStart place name ∷ events) are encodes = (
   subst (λ (n : ℕ). IsAt file (n + 4) name) encodes.0.same_place
       (subst (IsAt file (at + 4)) encodes.0.same_name (token_name file at name_there are.0)),
-  tokens_names file strings (at + width (BeginNode name_there)) tokens events are.1 encodes.1,
+  tokens_bytes file (at + width (BeginNode name_there)) tokens events are.1 encodes.1,
 )
-tokens_names file strings at (Prop offset value ∷ tokens) (FileNodeProperty property ∷ events) are encodes =
-    (tt, tokens_names file strings (at + width (Prop offset value)) tokens events are.1 encodes.1)
-tokens_names file strings at (EndNode ∷ tokens) (FileNodeEnd ∷ events) are encodes =
-    (tt, tokens_names file strings (at + width EndNode) tokens events are.1 encodes)
-tokens_names file strings at tokens events are encodes = absurd encodes
+tokens_bytes file at (Prop offset value ∷ tokens) (FileNodeProperty property ∷ events) are encodes = (
+  token_property file at offset value property are.0 encodes.0,
+  tokens_bytes file (at + width (Prop offset value)) tokens events are.1 encodes.1,
+)
+tokens_bytes file at (EndNode ∷ tokens) (FileNodeEnd ∷ events) are encodes =
+    (tt, tokens_bytes file (at + width EndNode) tokens events are.1 encodes)
+tokens_bytes file at tokens events are encodes = absurd encodes
 
--- The names of nodes.
-abbrev pub HaveNames : List ℕ → Nodes FileNode → Type 0
-HaveNames file none = ⊤
-HaveNames file (node name own children later) =
-    AreBytesAt file (node_name_region own name) name × HaveNames file children × HaveNames file later
+-- The names and the properties of nodes.
+abbrev pub HaveBytes : List ℕ → Nodes FileNode → Type 0
+HaveBytes file none = ⊤
+HaveBytes file (node name own children later) =
+    AreBytesAt file (node_name_region own name) name × AllByRecursion (HasPropertyBytes file) own.properties
+    × HaveBytes file children × HaveBytes file later
 
--- Nodes have the names of their events.
-nodes_names : (file : List ℕ) (nodes : Nodes FileNode) → AllByRecursion (HasEventName file) (file_events nodes) → HaveNames file nodes
-nodes_names file none each = tt
-nodes_names file (node name own children later) each =
-    let below = each-back (HasEventName file) (map FileNodeProperty own.properties)
-    (file_events children ++ (FileNodeEnd ∷ file_events later)) each.1 in (
+-- A node has the properties of its events.
+properties_bytes : (file : List ℕ) (properties : List FileProperty) →
+    AllByRecursion (HasEventBytes file) (map FileNodeProperty properties) → AllByRecursion (HasPropertyBytes file) properties
+properties_bytes file [] each = tt
+properties_bytes file (property ∷ properties) each = (each.0, properties_bytes file properties each.1)
+
+-- Nodes have the names and the properties of their events.
+nodes_bytes : (file : List ℕ) (nodes : Nodes FileNode) → AllByRecursion (HasEventBytes file) (file_events nodes) → HaveBytes file nodes
+nodes_bytes file none each = tt
+nodes_bytes file (node name own children later) each =
+    let rest = file_events children ++ (FileNodeEnd ∷ file_events later) in
+    let below = each-back (HasEventBytes file) (map FileNodeProperty own.properties) rest each.1 in (
       record { is_size = refl; is_there = each.0 },
-      nodes_names file children (each-front (HasEventName file) (file_events children) (FileNodeEnd ∷ file_events later) below),
-      nodes_names file later (each-back (HasEventName file) (file_events children) (FileNodeEnd ∷ file_events later) below).1,
+      properties_bytes file own.properties (each-front (HasEventBytes file) (map FileNodeProperty own.properties) rest each.1),
+      nodes_bytes file children (each-front (HasEventBytes file) (file_events children) (FileNodeEnd ∷ file_events later) below),
+      nodes_bytes file later (each-back (HasEventBytes file) (file_events children) (FileNodeEnd ∷ file_events later) below).1,
     )
 
--- So do all nodes of a blob.
-pub blob_names : (file : List ℕ) (cpu : ℕ) (reservations : List Reservation) (root : Root FileNode) →
-    IsBlob file cpu reservations root → HaveNames file (as_nodes root)
-blob_names file cpu reservations root blob =
-    nodes_names file (as_nodes root)
-    (tokens_names file (tree_blocks file).strings (tree_blocks file).begin blob.holds.tokens (file_events_of root)
-    (HoldsTree-stand (tree_blocks file) root blob.holds) blob.holds.encodes)
+-- What a node has itself and below it.
+abbrev pub HasBytesBelow : List ℕ → Sibling FileNode → Type 0
+HasBytesBelow file found = AllByRecursion (HasPropertyBytes file) found.own.properties × HaveBytes file found.children
 
--- And those that are found by the name of their parent.
-pub found_names : (file wanted : List ℕ) (nodes inner : Nodes FileNode) → children_of wanted nodes ≡ Some inner → HaveNames file nodes →
-    HaveNames file inner
-found_names file wanted none inner has have = absurd cc
-found_names file wanted (node name own children later) inner has have =
-    where_first (bytes_eq name wanted) refl has (λ has. found_names file wanted later inner has have.2)
+-- The root of a blob has its bytes.
+pub root_bytes : (file : List ℕ) (cpu : ℕ) (reservations : List Reservation) (root : Root FileNode) →
+    IsBlob file cpu reservations root → HasBytesBelow file (root_node root)
+root_bytes file cpu reservations root blob =
+    let all = nodes_bytes file (as_nodes root)
+    (tokens_bytes file (tree_blocks file).begin blob.holds.tokens (file_events_of root)
+    (HoldsTree-stand (tree_blocks file) root blob.holds) blob.holds.encodes) in
+    (all.1, all.2)
+
+-- A node that is found by its name has them.
+pub named_bytes : (file wanted : List ℕ) (nodes : Nodes FileNode) (found : Sibling FileNode) → node_named nodes wanted ≡ Some found →
+    HaveBytes file nodes → HasBytesBelow file found
+named_bytes file wanted none found has have = absurd cc
+named_bytes file wanted (node name own children later) found has have =
+    where_first (bytes_eq name wanted) refl has (λ has. named_bytes file wanted later found has have.3)
   where
-    where_first : (b : Bool) → bytes_eq name wanted ≡ b → children_of wanted (node name own children later) ≡ Some inner →
-        (children_of wanted later ≡ Some inner → HaveNames file inner) → HaveNames file inner
+    where_first : (b : Bool) → bytes_eq name wanted ≡ b → node_named (node name own children later) wanted ≡ Some found →
+        (node_named later wanted ≡ Some found → HasBytesBelow file found) → HasBytesBelow file found
     where_first true is has rest =
-        let found : children ≡ inner = cc (rw is at has) in
-        subst (HaveNames file) found have.1
+        let this : record { name = name; own = own; children = children; later = later } ≡ found = same_in_some _ found (rw is at has) in
+        subst (HasBytesBelow file) this (have.1, have.2)
     where_first false is has rest = rest (rw is at has)
+
+-- So do its children.
+pub found_bytes : (file wanted : List ℕ) (nodes inner : Nodes FileNode) → children_of wanted nodes ≡ Some inner → HaveBytes file nodes →
+    HaveBytes file inner
+found_bytes file wanted nodes inner has have = by (node_named nodes wanted) refl has
+  where
+    by : (found : Option (Sibling FileNode)) → node_named nodes wanted ≡ found →
+        option_map (λ (one : Sibling FileNode). one.children) found ≡ Some inner → HaveBytes file inner
+    by None is has = absurd cc
+    by (Some found) is has =
+        subst (HaveBytes file) (same_in_some found.children inner has) (named_bytes file wanted nodes found is have).1
+
+-- And a node that names lead to.
+pub below_bytes : (file : List ℕ) (start : Option (Sibling FileNode)) (names : List (List ℕ)) (found : Sibling FileNode) →
+    ((first : Sibling FileNode) → start ≡ Some first → HasBytesBelow file first) → node_below start names ≡ Some found →
+    HasBytesBelow file found
+below_bytes file None names found have is = absurd cc
+below_bytes file (Some first) [] found have is = have found is
+below_bytes file (Some first) (name ∷ names) found have is =
+    below_bytes file (node_named first.children name) names found
+    (λ child is. named_bytes file name first.children child is (have first refl).1) is
+
+-- The siblings among nodes have their names.
+pub each_name : (file : List ℕ) (nodes : Nodes FileNode) → HaveBytes file nodes → AllByRecursion (HasNameBytes file) (siblings nodes)
+each_name file none have = tt
+each_name file (node name own children later) have = (have.0, each_name file later have.3)
+
+-- So do the children of a node that is found.
+pub children_names : (file wanted : List ℕ) (nodes : Nodes FileNode) (found : Option (Sibling FileNode)) → node_named nodes wanted ≡ found →
+    HaveBytes file nodes → AllByRecursion (HasNameBytes file) (children_of_found found)
+children_names file wanted nodes None is have = tt
+children_names file wanted nodes (Some found) is have =
+    each_name file found.children (named_bytes file wanted nodes found is have).1

@@ -25,6 +25,15 @@ pub record HasForm (limit depth form : ℕ) : Type 0 where
   pub limits : IsInRange limit depth
   pub is_form : form < 2
 
+-- Whether a number is a yes: 0 for no, 1 for yes.
+abbrev pub is_yes : ℕ → Bool
+is_yes number = number == 1
+
+-- The limits are in their ranges, and the number is a yes or a no.
+pub record HasLayout (limit depth layout : ℕ) : Type 0 where
+  pub limits : IsInRange limit depth
+  pub is_layout : layout < 2
+
 -- Whether a number has the bit of a mask, which is a power of two.
 abbrev pub has_bit : (mask : ℕ) → ℕ → Bool
 has_bit mask number = (number / mask) % 2 == 1

@@ -4,6 +4,7 @@ use Rattle.bi_base.specs.declared.fault.Cause.{Cause}
 use Rattle.bi_base.specs.Causes.{number_of, name_of}
 use Rattle.bi_base.specs.declared.fault.Error.{Error}
 use Rattle.bi_base.specs.Limits.{Limits, IsInRange}
+use Rattle.bi_fit.specs.Reading.{IsFitReadError}
 use Rattle.bi_norm.specs.Comparing.{AreCompared}
 use Rattle.bi_norm.specs.declared.kind.Kind.{Kind}
 use Rattle.bi_norm.specs.declared.kind.Kind.TheVariants.{Legacy, Fit}
@@ -11,12 +12,15 @@ use Rattle.bi_norm.specs.Kinds.{BeginsAs, IsKindFault}
 use Rattle.bi_norm.specs.NormalForm.{IsNormaliseOutput, IsNormaliseError}
 use Rattle.bi_commands.specs.declared.check.Checker.{Checker}
 use Rattle.bi_commands.specs.declared.format.Format.{Format}
-use Rattle.bi_commands.specs.CheckedFiles.{IsCheckOutput}
+use Rattle.bi_commands.specs.CauseSentences.{sentence_of}
+use Rattle.bi_commands.specs.CheckedFiles.{IsCheckError, IsCheckOutput}
+use Rattle.bi_commands.specs.ShownFiles.{IsPage}
 use Rattle.bi_commands.specs.UpdatedFiles.{IsUpdateOutput, IsUpdateError}
 use Rattle.bi_commands.specs.declared.compare.CompareError.{CompareError}
 use Rattle.bi_commands.specs.declared.compare.CompareError.TheVariants as compare
 use Rattle.bi_c.specs.Answers.{IsFailure}
 use Rattle.bi_c.specs.Arguments.{bounds, form_of, changes_of, checker_of, HasForm, HasChanges}
+use Rattle.bi_c.specs.Arguments.{HasLayout, is_yes}
 use Rattle.bi_c.specs.declared.failure.Failure.{Failure}
 use Rattle.bi_c.specs.declared.failure.Failure.TheVariants.{WrongArgument, Refused, OutOfMemory}
 use Rattle.bi_c.specs.declared.failure.Failure.TheVariants.{NotFound}
@@ -49,6 +53,13 @@ pub record IsCauseName (number : ℕ) (text : List ℕ) (value : ℕ) : Type 0 w
   pub cause : Cause
   pub is_cause : number_of cause ≡ number
   pub is_name : text ≡ name_of cause
+  pub no_value : value ≡ 0
+
+-- What the cause with this number means.
+pub record IsCauseSentence (number : ℕ) (text : List ℕ) (value : ℕ) : Type 0 where
+  pub cause : Cause
+  pub is_cause : number_of cause ≡ number
+  pub is_sentence : text ≡ sentence_of cause
   pub no_value : value ≡ 0
 
 -- No cause has this number.
@@ -108,7 +119,7 @@ failure_of_compare_error compare.OutOfMemory = OutOfMemory
 
 -- The version of the library, which is that of the program.
 pub record IsVersion (text : List ℕ) (value : ℕ) : Type 0 where
-  pub is_version : text ≡ codes "0.2.0"
+  pub is_version : text ≡ codes "0.3.0"
   pub no_value : value ≡ 0
 
 -- The output of a call on files, which returns no number. Its limits must be in range.
@@ -135,6 +146,15 @@ abbrev pub IsFailureOfOne : (limit depth : ℕ) → (HasError : Limits → Error
 IsFailureOfOne limit depth HasError =
     IsFailure (IsInRange limit depth) (HasError (bounds limit depth))
 
+-- Why a call on a flattened image tree fails that looks something up. It names a reason and an index
+-- if what it looks up is not there.
+abbrev pub IsTreeFailure : (AreValid : Type 0) → Limits → (file : List ℕ)
+    → (IsReason : (reason index : ℕ) → Type 0) → Failure → Type 0
+IsTreeFailure AreValid limits file IsReason (NotFound reason index) =
+    AreValid × IsReason reason index
+IsTreeFailure AreValid limits file IsReason other =
+    IsFailure AreValid (IsFitReadError limits file) other
+
 -- The limits are in range, and the number is that of a choice of kinds of concerns.
 pub record HasKinds (limit depth kinds : ℕ) : Type 0 where
   pub limits : IsInRange limit depth
@@ -155,3 +175,14 @@ pub record IsCheckText (format : Format) (limit depth kinds : ℕ) (file text : 
   where
     pub arguments : HasKinds limit depth kinds
     pub is : IsConcernsText (checker_of format kinds) (bounds limit depth) file text value
+
+-- The page of the file, with its layout if the number is a yes.
+pub record IsPageText (limit depth layout : ℕ) (file text : List ℕ) (value : ℕ) : Type 0 where
+  pub arguments : HasLayout limit depth layout
+  pub is : IsPage (is_yes layout) (bounds limit depth) file text
+  pub no_value : value ≡ 0
+
+-- Why there is no page.
+abbrev pub IsPageFailure : (limit depth layout : ℕ) → List ℕ → Failure → Type 0
+IsPageFailure limit depth layout file =
+    IsFailure (HasLayout limit depth layout) (IsCheckError (bounds limit depth) file)

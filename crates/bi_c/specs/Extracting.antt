@@ -7,7 +7,6 @@ use Rattle.bi_fit.specs.Judgement.{ListedImage, ListedImages, default_of, listed
 use Rattle.bi_fit.specs.declared.key.Key.{Key}
 use Rattle.bi_legacy.specs.Reading.{LegacyModel, IsReadLegacy, part_places}
 use Rattle.bi_fit.specs.Payloads.{IsAt}
-use Rattle.bi_fit.specs.declared.configurations.ConfigError.TheVariants as list
 use Rattle.bi_norm.specs.Reading.{IsBootImageReadError}
 use Rattle.bi_commands.specs.declared.extract.ExtractError.{ExtractError}
 use Rattle.bi_commands.specs.declared.extract.ExtractError.TheVariants as extract
@@ -18,6 +17,7 @@ use Rattle.bi_commands.specs.Extracting.{NoSuchConfiguration, NoSuchKey, HasBadL
 use Rattle.bi_commands.specs.Extracting.{HasMissingImage, NoSuchEntry, HasNoPayload, Chosen}
 use Rattle.bi_commands.specs.Extracting.{MeansSuch, choice_of}
 use Rattle.bi_c.specs.Answers.{failure_of_error}
+use Rattle.bi_c.specs.FitElements.{failure_of_list_error}
 use Rattle.bi_c.specs.declared.failure.Failure.{Failure}
 use Rattle.bi_c.specs.declared.failure.Failure.TheVariants.{WrongArgument, Refused, OutOfMemory}
 use Rattle.bi_c.specs.declared.failure.Failure.TheVariants.{NotFound}
@@ -124,10 +124,6 @@ failure_of_extract_error (extract.Failed cause) = failure_of_error cause
 failure_of_extract_error extract.WrongKind = NotFound 1 0
 failure_of_extract_error extract.NoPart = NotFound 2 0
 failure_of_extract_error extract.NoImage = NotFound 3 0
-failure_of_extract_error (extract.Config list.NoConfig) = NotFound 4 0
-failure_of_extract_error (extract.Config list.NoKey) = NotFound 5 0
-failure_of_extract_error (extract.Config list.BadList) = NotFound 6 0
-failure_of_extract_error (extract.Config (list.Missing index)) = NotFound 7 index
-failure_of_extract_error (extract.Config list.OutOfMemory) = OutOfMemory
+failure_of_extract_error (extract.Config cause) = failure_of_list_error cause
 failure_of_extract_error extract.NoIndex = NotFound 8 0
 failure_of_extract_error extract.NoPayload = NotFound 9 0

@@ -30,8 +30,8 @@ place_number (place.DataOffset offset) = 2
 place_number (place.DataPosition offset) = 3
 
 -- Where a payload is. If there is none, both numbers are 0.
-abbrev pub payload_region : (place : Option ℕ) → (payload : Option (List ℕ)) → Region
-payload_region place payload = record {
+abbrev pub image_payload_region : (place : Option ℕ) → (payload : Option (List ℕ)) → Region
+image_payload_region place payload = record {
   offset = unwrap_or place 0;
   size = length (unwrap_or payload []);
 }
@@ -40,7 +40,7 @@ payload_region place payload = record {
 abbrev pub element_of_image : (file : List ℕ) → Sibling FileNode → Option (List ℕ) → ImageElement
 element_of_image file image payload = record {
   name = node_name_region image.own image.name;
-  payload = payload_region (payload_place file (source_of image.own)) payload;
+  payload = image_payload_region (payload_place file (source_of image.own)) payload;
   place = source_number (source_of image.own);
 }
 

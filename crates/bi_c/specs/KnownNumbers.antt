@@ -2,6 +2,7 @@ use Rattle.std.specs.Prelude.{◌≡◌, ℕ, true, false, List, [], ◌∷◌, 
 use Rattle.bi_base.specs.declared.fault.Cause.TheVariants.{BadCell}
 use Rattle.bi_base.specs.declared.fault.Error.TheVariants as error
 use Rattle.bi_base.specs.declared.fault.Fault.{Fault}
+use Rattle.bi_base.specs.Limits.{Limits}
 use Rattle.bi_commands.specs.declared.compare.CompareError.TheVariants as compare
 use Rattle.bi_commands.specs.declared.extract.ExtractError.TheVariants as extract
 use Rattle.bi_commands.specs.Extracting.{Choice, OfOtherKind, NoSuchPart, NoSuchImage}
@@ -11,12 +12,17 @@ use Rattle.bi_commands.specs.KnownConcerns.{allowed_words}
 use Rattle.bi_fit.specs.Names.{key_name}
 use Rattle.bi_fit.specs.declared.configurations.ConfigError.TheVariants as list
 use Rattle.bi_fit.specs.declared.form.Form.TheVariants.{Embedded, External}
+use Rattle.bi_hash.specs.declared.verdicts.Verdict.TheVariants.{Good, Bad, UnknownAlgo, NoPayload}
+use Rattle.bi_hash.specs.declared.verdicts.Verdict.TheVariants.{Malformed}
 use Rattle.bi_norm.specs.declared.kind.Kind.TheVariants.{Legacy, Fit}
 use Rattle.bi_c.specs.Answers.{answer_of, answer_of_failure, done, failure_of_error, no_room}
 use Rattle.bi_c.specs.Answers.{status_of_failure}
-use Rattle.bi_c.specs.Arguments.{allowed_of, bounds, changes_of, form_of, key_of}
+use Rattle.bi_c.specs.Arguments.{allowed_of, bounds, changes_of, form_of, has_bit, is_yes, key_of}
 use Rattle.bi_c.specs.Calls.{failure_of_compare_error, flag, kind_number}
 use Rattle.bi_c.specs.Extracting.{IsReasonNumber, failure_of_extract_error}
+use Rattle.bi_c.specs.NodeElements.{IsNodeReason, IsPropertyReason, LacksNode, LacksProperty}
+use Rattle.bi_c.specs.TreeBuilding.{address_if}
+use Rattle.bi_c.specs.VerdictElements.{verdict_number}
 use Rattle.bi_c.specs.declared.answer.Answer.{Answer}
 use Rattle.bi_c.specs.declared.failure.Failure.TheVariants.{WrongArgument, Refused, OutOfMemory}
 use Rattle.bi_c.specs.declared.failure.Failure.TheVariants.{NotFound}
@@ -80,6 +86,13 @@ pub record ReasonsAreKnown : Type 0 where
   pub no_entry : HasReason NoSuchEntry 8 0
   pub no_payload : HasReason HasNoPayload 9 0
 
+-- The reasons why nothing is found by a path or a name.
+pub record NodeReasonsAreKnown : Type 0 where
+  pub no_node : (limits : Limits) (file path : List ℕ) → LacksNode limits file path
+      → IsNodeReason limits file path 10 0
+  pub no_property : (limits : Limits) (file path name : List ℕ)
+      → LacksProperty limits file path name → IsPropertyReason limits file path name 11 0
+
 -- The failure for each error of extracting.
 pub record ExtractFailuresAreKnown : Type 0 where
   pub refused : failure_of_extract_error (extract.Failed (error.Refused cell_fault))
@@ -103,6 +116,8 @@ pub record ValuesAreKnown : Type 0 where
   pub fit : kind_number Fit ≡ 2
   pub no : flag false ≡ 0
   pub yes : flag true ≡ 1
+  pub verdicts : map verdict_number (Good ∷ Bad ∷ UnknownAlgo ∷ NoPayload ∷ Malformed ∷ [])
+      ≡ 0 ∷ 1 ∷ 2 ∷ 3 ∷ 4 ∷ []
 
 -- ---- arguments
 
@@ -118,6 +133,10 @@ pub record ArgumentsAreKnown : Type 0 where
   pub hashes : changes_of 2 5 ≡ record { time = None; hashes = true }
   pub time_and_hashes : changes_of 3 5 ≡ record { time = Some 5; hashes = true }
   pub limits : bounds 128 7 ≡ record { file = 128; depth = 7 }
+  pub no_layout : is_yes 0 ≡ false
+  pub layout : is_yes 1 ≡ true
+  pub no_address : address_if (has_bit 2 1) 5 ≡ None
+  pub address : address_if (has_bit 2 2) 5 ≡ Some 5
 
 -- The kinds of lines that each bit of a number allows, and that all of them do.
 pub record AllowedBitsAreKnown : Type 0 where

@@ -2,7 +2,13 @@ pub mod Answers
 pub mod Arguments
 pub mod Calls
 pub mod Extracting
-pub mod KnownNumbers
+pub mod FitElements
 pub mod ImageElements
+pub mod KnownNumbers
+pub mod KnownPaths
 pub mod LegacyElements
+pub mod NodeElements
+pub mod PieceBuilding
+pub mod TreeBuilding
 pub mod TreeRegions
+pub mod VerdictElements

@@ -1,6 +1,7 @@
-use Rattle.std.specs.Prelude.{ℕ, ◌+◌, ◌≡◌, List, length}
+use Rattle.std.specs.Prelude.{ℕ, ◌+◌, ◌≡◌, List, [], length, Option, None, Some}
 use Rattle.bi_base.specs.Cells.{u32_at}
 use Rattle.bi_blob.specs.Blob.{off_dt_strings}
+use Rattle.bi_blob.specs.Lookups.{Sibling, siblings}
 use Rattle.bi_blob.specs.Tree.{FileNode, FileProperty}
 use Rattle.bi_fit.specs.Payloads.{IsAt}
 use Rattle.bi_c.specs.declared.region.Region.{Region}
@@ -26,3 +27,21 @@ value_region property = record { offset = property.place + 12; size = length pro
 pub record AreBytesAt (file : List ℕ) (region : Region) (bytes : List ℕ) : Type 0 where
   pub is_size : region.size ≡ length bytes
   pub is_there : IsAt file region.offset bytes
+
+-- The name and the value of a property are in its file there.
+pub record HasPropertyBytes (file : List ℕ) (property : FileProperty) : Type 0 where
+  pub name : AreBytesAt file (property_name_region file property) property.name
+  pub value : AreBytesAt file (value_region property) property.value
+
+-- Where the name of a node is.
+abbrev pub name_region_of : Sibling FileNode → Region
+name_region_of entry = node_name_region entry.own entry.name
+
+-- The name of a node is in its file there.
+abbrev pub HasNameBytes : (file : List ℕ) → Sibling FileNode → Type 0
+HasNameBytes file entry = AreBytesAt file (name_region_of entry) entry.name
+
+-- The children of a node that is found. There may be no such node.
+abbrev pub children_of_found : Option (Sibling FileNode) → List (Sibling FileNode)
+children_of_found None = []
+children_of_found (Some found) = siblings found.children

@@ -21,7 +21,7 @@ pub(crate) const NO_ROOM: u32 = 3;
 /// A number is not one that the argument may be.
 const WRONG_ARGUMENT: u32 = 4;
 
-/// There is nothing to extract.
+/// What the call looks for is not there.
 const NOT_FOUND: u32 = 5;
 
 /// What a call leaves in the caller's struct. Each number that the call does not set is 0.
@@ -39,7 +39,7 @@ pub struct Answer {
     pub offset: u32,
     /// The index of the file that is refused, counted from 1.
     pub file: u32,
-    /// The number of the reason for which nothing is extracted.
+    /// The number of the reason why nothing is found.
     pub reason: u32,
 }
 
@@ -91,7 +91,7 @@ pub(crate) fn fail(failure: Failure, answer: &mut Answer) -> u32
 
 /// Writes the output of a call to the beginning of a buffer, and the answer. Returns the status. If
 /// the buffer does not have room for the output, it is unchanged.
-pub(crate) fn fill(text: &[u8], value: usize, buffer: &mut [u8], answer: &mut Answer) -> u32
+pub(crate) fn fill<T: Copy>(text: &[T], value: usize, buffer: &mut [T], answer: &mut Answer) -> u32
     ensures answer { answer.new ≡ answer_of (length text.now) value }
     ensures filled { ((length text.now ≤ length buffer.old) × (result ≡ done)
         × (buffer.new ≡ text.now ++ drop (length text.now) buffer.old))

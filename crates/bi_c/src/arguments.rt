@@ -3,7 +3,7 @@
 ghost use Rattle.std.specs.Prelude.{◌≡◌, ◌↔◌, ◌<◌, IsSome, IfSome};
 ghost use Rattle.bi_base.specs.Limits.{IsInRange};
 ghost use Rattle.bi_c.specs.Arguments.{bounds, form_of as form_of_number};
-ghost use Rattle.bi_c.specs.Arguments.{has_bit as is_set, key_of as key_of_number};
+ghost use Rattle.bi_c.specs.Arguments.{has_bit as is_set, is_yes, key_of as key_of_number};
 
 use bi_base::Limits;
 use bi_fit::Key;
@@ -28,6 +28,18 @@ pub(crate) fn form_of(number: u32) -> Option<Form>
     match number {
         0 => Some(Form::Embedded),
         1 => Some(Form::External),
+        _ => None,
+    }
+}
+
+/// Returns whether a number is a yes, if it is a yes or a no.
+pub(crate) fn yes_of(number: u32) -> Option<bool>
+    ensures in_range { IsSome result ↔ number < 2 }
+    ensures value { IfSome result (λ yes. yes ≡ is_yes number) }
+{
+    match number {
+        0 => Some(false),
+        1 => Some(true),
         _ => None,
     }
 }

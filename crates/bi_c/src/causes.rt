@@ -1,17 +1,18 @@
-//! The names of causes, and the version of the library.
+//! The names of causes and what they mean, and the version of the library.
 
 ghost use Rattle.std.specs.Prelude.{◌≡◌, MatchOption};
 ghost use Rattle.bi_base.specs.declared.fault.Cause.{Cause};
 ghost use Rattle.bi_base.specs.Causes.{number_of};
 ghost use Rattle.bi_c.specs.Answers.{Fills};
-ghost use Rattle.bi_c.specs.Calls.{IsCauseName, IsNoCause, IsVersion};
+ghost use Rattle.bi_c.specs.Calls.{IsCauseName, IsCauseSentence, IsNoCause, IsVersion};
 
 use crate::answer::{Answer, fail, fill};
 use crate::failure::Failure;
 use bi_base::Cause;
+use bi_commands::causes::sentence;
 
 /// The version of the library: that of the program.
-const VERSION: &str = "0.2.0";
+const VERSION: &str = "0.3.0";
 
 /// Writes the name of the cause with the given number, 1 to 26, to a buffer. Returns the status.
 #[unsafe(no_mangle)]
@@ -21,6 +22,19 @@ pub extern "C" fn bootimg_cause_name(number: u32, buffer: &mut [u8], answer: &mu
 {
     match cause_of(number) {
         Some(cause) => fill(cause.name().as_bytes(), 0, buffer, answer),
+        None => fail(Failure::WrongArgument, answer),
+    }
+}
+
+/// Writes what the cause with the given number, 1 to 26, means, and what a user can do, to a buffer.
+/// Returns the status.
+#[unsafe(no_mangle)]
+pub extern "C" fn bootimg_explain(number: u32, buffer: &mut [u8], answer: &mut Answer) -> u32
+    ensures { Fills (IsCauseSentence number) (IsNoCause number) buffer.old buffer.new answer.new
+        result }
+{
+    match cause_of(number) {
+        Some(cause) => fill(sentence(cause).as_bytes(), 0, buffer, answer),
         None => fail(Failure::WrongArgument, answer),
     }
 }

@@ -12,11 +12,10 @@ ghost use Rattle.bi_c.specs.Extracting.{failure_of_extract_error};
 
 use crate::answer::{Answer, fail, succeed};
 use crate::arguments::{key_of, limits_of};
-use crate::failure::{Failure, failure_of};
+use crate::failure::{Failure, failure_of, failure_of_list};
 use crate::regions::find;
 use bi_base::Limits;
 use bi_commands::extract::{ExtractError, Select};
-use bi_fit::ConfigError;
 use std::alloc::Global;
 
 /// Finds the part with the given index, counted from 0, of a legacy image. Sets `answer.value` to
@@ -148,11 +147,7 @@ fn failure_of_extraction(error: ExtractError) -> Failure
         ExtractError::WrongKind => Failure::NotFound(1, 0),
         ExtractError::NoPart => Failure::NotFound(2, 0),
         ExtractError::NoImage => Failure::NotFound(3, 0),
-        ExtractError::Config(ConfigError::NoConfig) => Failure::NotFound(4, 0),
-        ExtractError::Config(ConfigError::NoKey) => Failure::NotFound(5, 0),
-        ExtractError::Config(ConfigError::BadList) => Failure::NotFound(6, 0),
-        ExtractError::Config(ConfigError::Missing(index)) => Failure::NotFound(7, index),
-        ExtractError::Config(ConfigError::OutOfMemory) => Failure::OutOfMemory,
+        ExtractError::Config(error) => failure_of_list(error),
         ExtractError::NoIndex => Failure::NotFound(8, 0),
         ExtractError::NoPayload => Failure::NotFound(9, 0),
     }

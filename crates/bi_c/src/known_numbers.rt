@@ -3,7 +3,7 @@
 
 ghost use Rattle.bi_c.specs.KnownNumbers.{StatusNumbersAreKnown, AnswersAreKnown};
 ghost use Rattle.bi_c.specs.KnownNumbers.{ReasonsAreKnown, ExtractFailuresAreKnown};
-ghost use Rattle.bi_c.specs.KnownNumbers.{ValuesAreKnown, ArgumentsAreKnown};
+ghost use Rattle.bi_c.specs.KnownNumbers.{NodeReasonsAreKnown, ValuesAreKnown, ArgumentsAreKnown};
 ghost use Rattle.bi_c.specs.KnownNumbers.{AllowedBitsAreKnown};
 
 /// The statuses are the numbers of the header.
@@ -21,17 +21,22 @@ pub fn reasons_are_known()
     ensures { ReasonsAreKnown }
 {}
 
+/// The reasons why nothing is found by a path or a name are the numbers of the header.
+pub fn node_reasons_are_known()
+    ensures { NodeReasonsAreKnown }
+{}
+
 /// Each error of extracting has a known failure.
 pub fn extract_failures_are_known()
     ensures { ExtractFailuresAreKnown }
 {}
 
-/// The kinds of images, a yes and a no are known numbers.
+/// The kinds of images, a yes and a no, and the verdicts are known numbers.
 pub fn values_are_known()
     ensures { ValuesAreKnown }
 {}
 
-/// The numbers of forms, keys and changes mean what the header says.
+/// The numbers of forms, keys, changes, a layout and addresses mean what the header says.
 pub fn arguments_are_known()
     ensures { ArgumentsAreKnown }
 {}

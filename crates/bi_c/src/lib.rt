@@ -4,23 +4,37 @@
 
 mod answer;
 mod arguments;
+mod building;
 mod causes;
 mod check;
 mod compare;
+mod configurations;
 mod extract;
 mod failure;
+mod fit;
+mod fit_building;
 mod images;
 mod kind;
 mod known_numbers;
+mod known_paths;
 mod legacy;
+mod nodes;
 mod normalise;
+mod paths;
+mod properties;
 mod region;
 mod regions;
+mod show;
 mod texts;
 mod update;
+mod verdicts;
 mod writing;
 
 pub use answer::Answer;
+pub use fit::{FitFields, ReservationElement};
+pub use fit_building::BuildElement;
 pub use images::ImageElement;
 pub use legacy::LegacyFields;
+pub use properties::PropertyElement;
 pub use region::Region;
+pub use verdicts::HashElement;

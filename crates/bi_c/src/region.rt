@@ -9,3 +9,6 @@ pub struct Region {
     /// The number of bytes.
     pub size: usize,
 }
+
+/// The region of what is not in the file.
+pub(crate) const NOWHERE: Region = Region { offset: 0, size: 0 };

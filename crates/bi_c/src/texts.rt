@@ -104,7 +104,7 @@ pub extern "C" fn bootimg_describe_json(
 }
 
 /// Writes the text that a call on a file made to a buffer, and the answer. Returns the status.
-fn fill_text(made: Result<String, Error>, buffer: &mut [u8], answer: &mut Answer) -> u32
+pub(crate) fn fill_text(made: Result<String, Error>, buffer: &mut [u8], answer: &mut Answer) -> u32
     ensures { Fills (IsTextOf string_bytes (λ _. 0) made) (IsFailureOf failure_of_error made)
         buffer.old buffer.new answer.new result }
 {

@@ -6,7 +6,10 @@ use Rattle.bi_c.proofs.compare.fill_comparison.Goals as goal
 pub returns-in-Ok : goal.returns-in-Ok
 returns-in-Ok c =
     buffer_is_filled _ _ c.as_bytes.result.now _ _ c.from.result _ _
-    (rw c.in-Ok.is (record { is_text = c.as_bytes.ensures.value; is_number = c.from.ensures ∙ byte_is_flag c.in-Ok.compared.same })) c.fill.ensures.answer c.fill.ensures.filled
+    (rw c.in-Ok.is (record {
+      is_text = c.as_bytes.ensures.value;
+      is_number = c.from.ensures ∙ byte_is_flag c.in-Ok.compared.same;
+    })) c.fill.ensures.answer c.fill.ensures.filled
 
 pub returns-in-Err : goal.returns-in-Err
 returns-in-Err c =

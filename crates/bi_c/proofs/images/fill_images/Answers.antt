@@ -1,4 +1,4 @@
-use Rattle.std.proofs.Common.{◌≡◌, ◌+◌, ◌<◌, ℕ, suc, List, Option, length, map, get_or, refl, sym, ap, subst, ◌∙◌, arith}
+use Rattle.std.proofs.Common.{◌≡◌, ℕ, suc, List, length, sym, ap, subst, ◌∙◌, arith}
 use Rattle.std.proofs.lemmas.List.{length-map}
 use Rattle.std.specs.List.{AllZip}
 use Rattle.std.specs.Option.{option_map}
@@ -38,7 +38,8 @@ loop-next-init c =
     let is_first : siblings_from (option_map node_of c.first_child-next.result) ≡ nodes =
     ap siblings_from c.first_child-next.ensures.child ∙ siblings_from-first (node_of c.images_node.result).children
     ∙ ap siblings (sym (images_children (root_of content.blob) (node_of c.images_node.result) c.images_node.ensures.node)) in
-    subst (λ (left : List (Sibling FileNode)). AreElementsLeft file all c.images-images.result.now c.args.elements.now left 0 c.args.elements.now)
+    subst (λ (left : List (Sibling FileNode)).
+    AreElementsLeft file all c.images-images.result.now c.args.elements.now left 0 c.args.elements.now)
     (sym is_first) (record {
       read = subst (λ (images : List ImageModel). AllZip (IsReadImage file) nodes images) (sym c.images-images.ensures) c.requires.images;
       filling = subst (λ (images : List ImageModel). IsFilling all (image_elements file nodes (payloads_of_models images)) 0
@@ -79,7 +80,8 @@ returns c =
     let count = elements_count file nodes content.images c.requires.images in
     let same : length c.images-images.result.now ≡ length content.images =
     sym (length-map c.images-images.result.now image_model) ∙ ap length c.images-images.ensures in
-    let are = subst (λ next. AreElementsLeft file all c.images-images.result.now c.args.elements.now (siblings_from (option_map node_of next))
+    let are = subst (λ next.
+    AreElementsLeft file all c.images-images.result.now c.args.elements.now (siblings_from (option_map node_of next))
     c.loop-next.index c.loop-next.elements) c.in_default.is c.loop-next.invariant in
     array_is_filled _ all 0 c.loop-next.index c.args.elements.now c.loop-next.elements _
     (c.answer_with.ensures ∙ ap (λ (n : ℕ). answer_of n 0) (same ∙ sym count)) are.filling

@@ -1,4 +1,4 @@
-use Rattle.std.proofs.Common.{length, map}
+use Rattle.std.proofs.Common.{length}
 use Rattle.std.specs.Option.{option_map}
 use Rattle.bi_blob.specs.Lookups.{siblings, siblings_from}
 use Rattle.bi_fdt.specs.Content.{root_of}
@@ -13,7 +13,8 @@ use Rattle.bi_c.proofs.images.fill_images.Given as goal
 abbrev pub invariant-loop-next : goal.invariant-loop-next
 invariant-loop-next l =
     let file = l.fit.blob.file in
-    AreElementsLeft file (image_elements file (siblings (nodes_or_none (image_nodes (root_of l.fit.blob)))) (payloads_of_models l.fit.images))
+    let nodes = siblings (nodes_or_none (image_nodes (root_of l.fit.blob))) in
+    AreElementsLeft file (image_elements file nodes (payloads_of_models l.fit.images))
     l.images l.initial.elements (siblings_from (option_map node_of l.next)) l.index l.elements
 
 abbrev pub decreases-loop-next : goal.decreases-loop-next

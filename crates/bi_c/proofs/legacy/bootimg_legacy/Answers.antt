@@ -1,4 +1,4 @@
-use Rattle.std.proofs.Common.{◌≡◌, List, ℕ, refl, sym, ap, subst}
+use Rattle.std.proofs.Common.{ℕ, refl, sym, ap, subst}
 use Rattle.bi_base.specs.Limits.{Limits}
 use Rattle.bi_fit.specs.Payloads.{IsAt}
 use Rattle.bi_legacy.specs.Faults.{IsOnlyLegacyFault}

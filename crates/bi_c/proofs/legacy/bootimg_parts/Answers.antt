@@ -1,4 +1,4 @@
-use Rattle.std.proofs.Common.{◌≡◌, ℕ, refl, subst}
+use Rattle.std.proofs.Common.{refl, subst}
 use Rattle.bi_base.specs.Limits.{Limits}
 use Rattle.bi_legacy.specs.Faults.{IsOnlyLegacyFault}
 use Rattle.bi_legacy.specs.Reading.{IsReadLegacy}

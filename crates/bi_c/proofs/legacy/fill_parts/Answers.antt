@@ -1,8 +1,6 @@
-use Rattle.std.proofs.Common.{◌≡◌, length, map, ap, ap₂, ◌∙◌, sym, arith, subst, List}
-use Rattle.std.specs.Iterator.Adapters.{enumerate_source, enumerate_count}
+use Rattle.std.proofs.Common.{map, ap₂, ◌∙◌, sym, arith, subst, List}
+use Rattle.std.specs.Iterator.Adapters.{enumerate_count}
 use Rattle.bi_legacy.specs.PlacedParts.{PartModel, placed_parts}
-use Rattle.bi_c.specs.declared.answer.Answer.{Answer}
-use Rattle.bi_c.specs.declared.region.Region.{Region}
 use Rattle.bi_c.specs.Answers.{answer_of}
 use Rattle.bi_c.specs.LegacyElements.{region_of_part}
 use Rattle.bi_c.proofs.ArrayFilling.{IsFilling, array_is_short, array_is_filled}

@@ -1,0 +1,43 @@
+use Rattle.std.proofs.Common.{◌≡◌, ◌+◌, ◌<◌, ◌++◌, ℕ, List, [], ◌∷◌, Option, Some, None, length, take, drop, get_or, refl, sym, ap, ◌∙◌}
+use Rattle.std.proofs.Common.{add-one, suc, take-append-drop}
+use Rattle.std.proofs.Math.Seq.{drop-cons}
+use Rattle.bi_blob.specs.Lookups.{Sibling, node_named}
+use Rattle.bi_blob.specs.Tree.{FileNode}
+use Rattle.bi_c.specs.NodeElements.{node_below}
+
+-- Names lead to a node one after the other.
+
+-- No more names lead nowhere else.
+below_nothing : (found : Option (Sibling FileNode)) → node_below found [] ≡ found
+below_nothing None = refl
+below_nothing (Some found) = refl
+
+-- Some names lead to a node, and the names after them from there on.
+below_append : (start : Option (Sibling FileNode)) (names later : List (List ℕ)) →
+    node_below start (names ++ later) ≡ node_below (node_below start names) later
+below_append None names later = refl
+below_append (Some first) [] later = refl
+below_append (Some first) (name ∷ names) later = below_append (node_named first.children name) names later
+
+-- So one more name leads to a child.
+pub one_more_name : (start : Option (Sibling FileNode)) (names : List (List ℕ)) (name : List ℕ) (at : Sibling FileNode)
+    (child : Option (Sibling FileNode)) → node_below start names ≡ Some at → node_named at.children name ≡ child →
+    node_below start (names ++ name ∷ []) ≡ child
+one_more_name start names name at child is has =
+    below_append start names (name ∷ [])
+    ∙ ap (λ found. node_below found (name ∷ [])) is
+    ∙ below_nothing (node_named at.children name)
+    ∙ has
+
+-- If there is no such child, all of the names lead nowhere.
+pub no_such_child : (start : Option (Sibling FileNode)) (all : List (List ℕ)) (index : ℕ) (name : List ℕ) (at : Sibling FileNode) →
+    index < length all → name ≡ get_or all index name → node_below start (take index all) ≡ Some at →
+    node_named at.children name ≡ None → node_below start all ≡ None
+no_such_child start all index name at within is leads none =
+    let first : drop index all ≡ name ∷ drop (index + 1) all =
+    rw add-one (drop-cons all index name within ∙ ap (λ it. it ∷ drop (suc index) all) (sym is)) in
+    ap (node_below start) (sym (take-append-drop index all))
+    ∙ below_append start (take index all) (drop index all)
+    ∙ ap (λ found. node_below found (drop index all)) leads
+    ∙ ap (node_below (Some at)) first
+    ∙ ap (λ found. node_below found (drop (index + 1) all)) none

@@ -1,0 +1,32 @@
+use Rattle.std.proofs.Common.{refl, ◌∙◌, ap, map}
+use Rattle.bi_fit.specs.Reading.{IsFitReadError}
+use Rattle.bi_c.specs.declared.failure.Failure.TheVariants.{WrongArgument}
+use Rattle.bi_c.specs.Answers.{FilledNothing}
+use Rattle.bi_c.specs.FitElements.{element_of_reservation}
+use Rattle.bi_c.proofs.CallAnswers.{not_so, is_so, fills_as, failed_of_one}
+use Rattle.bi_c.proofs.FitFiles.{means_within}
+use Rattle.bi_c.proofs.fit.bootimg_reservations.Goals as goal
+
+pub returns-in_default : goal.returns-in_default
+returns-in_default c = FilledNothing WrongArgument (not_so _ c.in_default.ensures.in_range) refl c.fail.ensures.answer c.fail.ensures.status
+
+pub returns-in-Ok : goal.returns-in-Ok
+returns-in-Ok c =
+    fills_as _ _ _ _ _ _ _ _
+    (λ elements value just. record {
+      limits = is_so _ c.in-Some.ensures.in_range;
+      tree = _;
+      means = means_within c.args.limit c.args.depth c.args.file.now c.in-Some.limits c.in-Ok.fit c.in-Some.ensures.value
+          c.in-Ok.ensures.read;
+      are_elements = just.is_text ∙ ap (λ blob. map element_of_reservation blob.reservations) c.blob.ensures;
+      no_value = just.is_number;
+    })
+    (λ failure none. absurd none) c.fill_reservations.ensures
+
+pub returns-in-Err : goal.returns-in-Err
+returns-in-Err c =
+    FilledNothing c.failure_of.result
+    (failed_of_one c.args.limit c.args.depth (λ limits. IsFitReadError limits c.args.file.now) c.in-Some.limits c.in-Err.error
+    c.failure_of.result (is_so _ c.in-Some.ensures.in_range) c.in-Some.ensures.value c.failure_of.ensures (λ l is. is) (λ l is. is)
+    c.in-Err.ensures.failed)
+    refl c.fail-in-Err.ensures.answer c.fail-in-Err.ensures.status

@@ -1,0 +1,45 @@
+use Rattle.std.proofs.Common.{◌≡◌, ◌+◌, ◌∷◌, [], ◌++◌, take, drop, get_or, add-one, drop-cons, sym, subst}
+use Rattle.std.proofs.lemmas.List.{take_more}
+use Rattle.std.specs.List.{AllByRecursion, AllZip}
+use Rattle.bi_c.specs.declared.fit_building.BuildElement.{BuildElement}
+use Rattle.bi_c.specs.TreeBuilding.{IsSpecInside, IsSpecOf}
+use Rattle.bi_c.proofs.TreeBuilding.{one_spec_added}
+use Rattle.bi_c.proofs.fit_building.specs_of.Goals as goal
+
+-- What a list of elements gives past its end.
+abbrev no_element : BuildElement
+no_element = record {
+  name = record { offset = 0; size = 0 };
+  payload = record { offset = 0; size = 0 };
+  load = 0;
+  entry = 0;
+  addresses = 0;
+  os = 0;
+  arch = 0;
+  image_type = 0;
+  compression = 0;
+}
+
+pub loop-image-init : goal.loop-image-init
+loop-image-init c = record {
+  so_far = subst (AllZip (IsSpecOf c.args.input.now) []) (sym c.new-specs.ensures.items) tt;
+  each = λ all. all;
+}
+
+pub loop-image-preserved : goal.loop-image-preserved
+loop-image-preserved c =
+    let input = c.args.input.now in
+    let images = c.args.images.now in
+    let index = c.loop-image.image-index in
+    let image = get_or images index no_element in
+    let within = c.loop-image-test.true in
+    let first : drop index images ≡ image ∷ drop (index + 1) images = rw add-one (drop-cons images index no_element within) in
+    let items = c.loop-image.specs.items in
+    let pushed : c.push.new.self.items ≡ items ++ c.in-Some.spec ∷ [] = rw c.in-Ok.is at c.push.ensures.items in
+    record {
+      so_far = subst (λ front. AllZip (IsSpecOf input) front c.push.new.self.items) (sym (take_more images index no_element within))
+          (subst (AllZip (IsSpecOf input) (take index images ++ image ∷ [])) (sym pushed)
+          (one_spec_added input (take index images) items image c.in-Some.spec c.loop-image.invariant.so_far
+          c.in-Some.ensures.spec));
+      each = λ all. (subst (AllByRecursion (IsSpecInside input)) first (c.loop-image.invariant.each all)).1;
+    }

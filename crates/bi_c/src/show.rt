@@ -1,0 +1,35 @@
+//! The page of a file, for a person.
+
+ghost use Rattle.bi_c.specs.Answers.{Fills};
+ghost use Rattle.bi_c.specs.Calls.{IsPageFailure, IsPageText};
+
+use crate::answer::{Answer, fail};
+use crate::arguments::{limits_of, yes_of};
+use crate::failure::Failure;
+use crate::texts::fill_text;
+use bi_commands::show::show;
+use std::alloc::Global;
+
+/// Writes the page of a file to a buffer. If `layout` is 1, the page has the regions of the file;
+/// if it is 0, it has not. Returns the status.
+#[unsafe(no_mangle)]
+pub extern "C" fn bootimg_show(
+    alloc: Global,
+    file: &[u8],
+    layout: u32,
+    limit: u32,
+    depth: u32,
+    buffer: &mut [u8],
+    answer: &mut Answer,
+) -> u32
+    ensures { Fills (IsPageText limit depth layout file.now)
+        (IsPageFailure limit depth layout file.now) buffer.old buffer.new answer.new result }
+{
+    let Some(limits) = limits_of(limit, depth) else {
+        return fail(Failure::WrongArgument, answer);
+    };
+    let Some(has_layout) = yes_of(layout) else {
+        return fail(Failure::WrongArgument, answer);
+    };
+    fill_text(show(alloc, file, has_layout, limits), buffer, answer)
+}
