@@ -16,7 +16,7 @@ _bootimg() {
     elif [[ ${COMP_WORDS[1]} == build-* && $before == *@ ]]; then
         before=@FILE
     fi
-    local commands="normalise list describe compare verify check update extract convert build-legacy build-fit explain help"
+    local commands="normalise show list describe compare verify check scan update extract convert build-legacy build-fit explain help"
     if ((COMP_CWORD == 1)); then
         words="$commands --help --version -h -V"
     else
@@ -32,17 +32,19 @@ _bootimg() {
             [[ $word != *,* || $word == *[^a-z,-]* ]] || words="${word%,*},${words// / "${word%,*}",}"
             ;;
         -o | --output | @FILE) files=yes ;;
-        --limit | --part | --image | --config | --index | --name | --time | --load | --entry | --description) ;;
+        --limit | --offset | --part | --image | --config | --index | --name | --time | --load | --entry | --description) ;;
         *)
             files=yes
             case ${COMP_WORDS[1]} in
-            normalise | normalize) words="--external --limit -o --output" ;;
-            list | describe | verify) words="--json --limit -o --output" ;;
-            convert) words="--limit -o --output" ;;
+            normalise | normalize) words="--external --offset --limit -o --output" ;;
+            show) words="--layout --limit -o --output" ;;
+            list | describe | verify) words="--json --offset --limit -o --output" ;;
+            scan) words="--limit -o --output" ;;
+            convert) words="--offset --limit -o --output" ;;
             compare | diff) words="--quiet --json --limit -o --output" ;;
-            check) words="--allow --json --limit -o --output" ;;
-            update) words="--time --hashes --external --limit -o --output" ;;
-            extract) words="--part --image --config --default --key --index --escaped --limit -o --output" ;;
+            check) words="--allow --json --offset --limit -o --output" ;;
+            update) words="--time --hashes --external --offset --limit -o --output" ;;
+            extract) words="--part --image --config --default --key --index --escaped --offset --limit -o --output" ;;
             build-legacy) files= words="--os --arch --type --compression --name --time --load --entry --limit -o --output" ;;
             build-fit) files= words="--external --description --time --limit -o --output" ;;
             explain)

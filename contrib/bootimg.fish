@@ -22,11 +22,13 @@ complete -c bootimg -n 'not __bootimg_is help' -s h -l help -d 'Print help'
 set -l first -c bootimg -n 'test (count (commandline -opc)) -eq 1'
 complete $first -s V -l version -d 'Print the version'
 complete $first -a normalise -d 'Write the normal form'
+complete $first -a show -d 'Show an image to a person'
 complete $first -a list -d 'Write what an image holds'
 complete $first -a describe -d 'Write what an image means'
 complete $first -a compare -d 'Write what differs between what two images mean'
 complete $first -a verify -d 'Write the verdict on each checksum and each hash node'
 complete $first -a check -d 'Write a line for each thing that is not protected'
+complete $first -a scan -d 'Write a line for each image inside a file'
 complete $first -a update -d 'Write the normal form with another time or with new digests'
 complete $first -a extract -d 'Write a part or a payload'
 complete $first -a convert -d 'Write the flattened image tree of a legacy image'
@@ -36,16 +38,19 @@ complete $first -a explain -d 'Explain the causes of refusals'
 complete $first -a help -d 'Print help'
 
 # What several commands have.
-set -l reading normalise normalize list describe compare diff verify check update extract convert
+set -l reading normalise normalize show list describe compare diff verify check scan update extract convert
 complete -c bootimg -n "__bootimg_is $reading" -F
 complete -c bootimg -n "__bootimg_is $reading build-legacy build-fit" -l limit -x -d 'Refuse an image of more than N bytes'
 complete -c bootimg -n "__bootimg_is $reading build-legacy build-fit explain" -s o -l output -r -F -d 'Write the output to a file'
+complete -c bootimg -n '__bootimg_is normalise normalize list describe verify check update extract convert' -l offset -x \
+    -d 'Where the image begins in the input'
 complete -c bootimg -n '__bootimg_is list describe compare diff verify check' -l json -d 'Write JSON instead of lines'
 complete -c bootimg -n '__bootimg_is normalise normalize update build-fit' -l external -d 'Write the payloads after the tree'
 complete -c bootimg -n '__bootimg_is update build-legacy build-fit' -l time -x -d 'The time of creation, in seconds since 1970'
 complete -c bootimg -n '__bootimg_is build-legacy build-fit' -a '(__bootimg_part)'
 
 # What one command has.
+complete -c bootimg -n '__bootimg_is show' -l layout -d 'Show the regions of the file'
 complete -c bootimg -n '__bootimg_is compare diff' -l quiet -d 'Write nothing'
 complete -c bootimg -n '__bootimg_is check' -l allow -x -d 'Leave out the lines of these kinds' \
     -a '(__fish_complete_list , "printf %s\n bad-hash unhashed weak-hash bad-list missing bad-default trailing")'
@@ -71,5 +76,5 @@ complete -c bootimg -n '__bootimg_is build-fit' -l description -x -d 'The descri
 complete -c bootimg -n '__bootimg_is explain' -a 'Truncated BadMagic BadHeaderCrc BadDataCrc BadPartTable BadPart BadTotalSize
     BadVersion BadOffset BadToken BadName BadNameOffset PropertyAfterChild DuplicateProperty DuplicateNode TooDeep NoImages BadCell
     NoSize OutsideFile TooLarge NoCodeName TooManyParts EmptyPart BadField Unsupported'
-complete -c bootimg -n '__bootimg_is help' -a 'normalise list describe compare verify check update extract convert build-legacy
-    build-fit explain help'
+complete -c bootimg -n '__bootimg_is help' -a 'normalise show list describe compare verify check scan update extract
+    convert build-legacy build-fit explain help'

@@ -11,7 +11,6 @@ import os
 import re
 import sys
 import time
-import tomllib
 import zipfile
 from pathlib import Path
 
@@ -29,9 +28,10 @@ def platform_of(library: bytes) -> str:
 
 
 def metadata() -> dict[str, str]:
-    """Returns the table of the project, without the list of its dependencies, which is empty."""
-    with open(HERE / "pyproject.toml", "rb") as file:
-        return dict(tomllib.load(file)["project"])
+    """Returns the strings of the table of the project. Python has no parser of TOML before 3.11."""
+    text = (HERE / "pyproject.toml").read_text(encoding="utf-8")
+    table = text.partition("[project]\n")[2].partition("\n[")[0]
+    return dict(re.findall(r'^([\w-]+) = "(.*)"$', table, re.M))
 
 
 def contents(library: bytes | None) -> tuple[str, dict[str, bytes]]:

@@ -72,7 +72,7 @@ class Library {
     return new Uint8Array(this.exports.memory.buffer, Number(place), size);
   }
 
-  /** The struct `bootimg_answer` that the last call left. */
+  /** The struct `bootimg_result` that the last call left. */
   readAnswer(status) {
     const view = new DataView(this.exports.memory.buffer, Number(this.answer), ANSWER_SIZE);
     return {

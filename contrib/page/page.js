@@ -4,7 +4,7 @@
 
 // The reports, in the order in which they are shown. A library without a call has no such report.
 const REPORTS = [
-  { call: 'show', shows: 'what the image is', numbers: [] },
+  { call: 'show', shows: 'what the image is', numbers: [0] },
   { call: 'verify', shows: 'the verdict on each checksum and each digest', numbers: [] },
   { call: 'check', shows: 'what in the image is not protected', numbers: [0] },
   { call: 'list', shows: 'what the image holds, and where', numbers: [] },

@@ -18,8 +18,9 @@ out of its range or a key or kind is unknown, NotFound if there is nothing to ex
 OutOfMemory if an allocation fails.
 
 `python3 -m bootimg COMMAND ..` writes what `bootimg COMMAND ..` writes, and ends with the same
-status, for the commands that read images. It has no `-o` and no `--escaped`, and its message about
-wrong arguments is different. It also takes names that are not UTF-8.
+status, for the commands that read images, except `scan`. It has no `-o`, no `--escaped` and no
+`--offset`, and its message about wrong arguments is different. It also takes names that are not
+UTF-8.
 
 The module loads the library that the environment variable BOOTIMG_LIBRARY names, if it is set, or
 else libbootimg.so next to this file, if it is there, or else libbootimg.so.0 of the system.
@@ -33,11 +34,12 @@ import mmap
 import os
 import re
 import sys
-from typing import Any, Iterable, Iterator, NamedTuple
+from typing import Any, Iterable, Iterator, NamedTuple, TypeVar
 
-__version__ = "0.2.0"
+__version__ = "0.3.0"
 __all__ = [
     "Buffer",
+    "BuildImage",
     "BootimgError",
     "CONCERNS",
     "Comparison",
@@ -62,6 +64,8 @@ __all__ = [
     "VERDICTS",
     "Verification",
     "WrongArgument",
+    "build_fit",
+    "build_legacy",
     "cause_name",
     "check",
     "check_json",
@@ -70,6 +74,7 @@ __all__ = [
     "convert",
     "describe",
     "describe_json",
+    "explain",
     "extract_config",
     "extract_image",
     "extract_part",
@@ -80,6 +85,7 @@ __all__ = [
     "normalise_and_count",
     "open",
     "same_meaning",
+    "show",
     "update",
     "update_and_count",
     "verify",
@@ -105,9 +111,11 @@ REASONS = (
     "missing image",
     "no such entry",
     "no payload",
+    "no such node",
+    "no such property",
 )
 
-_DONE, _REFUSED, _OUT_OF_MEMORY, _NO_ROOM, _WRONG_ARGUMENT, _NOT_FOUND = range(6)
+_OK, _REFUSED, _OUT_OF_MEMORY, _NO_ROOM, _WRONG_ARGUMENT, _NOT_FOUND = range(6)
 _MISSING = 7
 
 
@@ -176,6 +184,53 @@ class _Answer(ctypes.Structure):
     ]
 
 
+class _Region(ctypes.Structure):
+    _fields_ = [("offset", ctypes.c_size_t), ("size", ctypes.c_size_t)]
+
+
+class _LegacyFields(ctypes.Structure):
+    _fields_ = [
+        ("name", _Region),
+        ("time", ctypes.c_uint32),
+        ("load", ctypes.c_uint32),
+        ("entry", ctypes.c_uint32),
+        ("os", ctypes.c_uint8),
+        ("arch", ctypes.c_uint8),
+        ("image_type", ctypes.c_uint8),
+        ("compression", ctypes.c_uint8),
+    ]
+
+
+class _BuildElement(ctypes.Structure):
+    _fields_ = [
+        ("name", _Region),
+        ("payload", _Region),
+        ("load", ctypes.c_uint32),
+        ("entry", ctypes.c_uint32),
+        ("addresses", ctypes.c_uint32),
+        ("os", ctypes.c_uint8),
+        ("arch", ctypes.c_uint8),
+        ("image_type", ctypes.c_uint8),
+        ("compression", ctypes.c_uint8),
+    ]
+
+
+class _HashElement(ctypes.Structure):
+    _fields_ = [
+        ("image", _Region),
+        ("node", _Region),
+        ("algorithm", _Region),
+        ("value", _Region),
+        ("verdict", ctypes.c_uint32),
+    ]
+
+
+class _PropertyElement(ctypes.Structure):
+    _fields_ = [("name", _Region), ("value", _Region)]
+
+
+_Element = TypeVar("_Element", bound=ctypes.Structure)
+
 _FILE = [ctypes.c_void_p, ctypes.c_size_t]
 _NUMBER = [ctypes.c_uint32]
 _BUFFER = [ctypes.c_void_p, ctypes.c_size_t]
@@ -191,6 +246,11 @@ _CALLS = {
     "list_json": _FILE + _NUMBER * 2 + _BUFFER,
     "describe": _FILE + _NUMBER * 2 + _BUFFER,
     "describe_json": _FILE + _NUMBER * 2 + _BUFFER,
+    "show": _FILE + _NUMBER * 3 + _BUFFER,
+    "verdicts": _FILE + _NUMBER * 2 + _BUFFER,
+    "children": _FILE * 2 + _NUMBER * 2 + _BUFFER,
+    "properties": _FILE * 2 + _NUMBER * 2 + _BUFFER,
+    "property_value": _FILE * 3 + _NUMBER * 2,
     "verify": _FILE + _NUMBER * 2 + _BUFFER,
     "verify_json": _FILE + _NUMBER * 2 + _BUFFER,
     "check": _FILE + _NUMBER * 3 + _BUFFER,
@@ -199,7 +259,10 @@ _CALLS = {
     "same_meaning": _FILE * 2 + _NUMBER * 2,
     "compare": _FILE * 2 + _NUMBER * 2 + _BUFFER,
     "compare_json": _FILE * 2 + _NUMBER * 2 + _BUFFER,
+    "build_fit": _FILE * 2 + _NUMBER + _FILE + _NUMBER * 3 + _BUFFER,
+    "build_legacy": _FILE + [ctypes.c_void_p] + _FILE + _NUMBER * 2 + _BUFFER,
     "cause_name": _NUMBER + _BUFFER,
+    "explain": _NUMBER + _BUFFER,
     "version": _BUFFER,
 }
 
@@ -285,8 +348,7 @@ def _arguments_for(files: tuple[Buffer, ...]) -> Iterator[list[Any]]:
             view = _PyBuffer()
             _get_buffer(file, view, 0)
             views.append(view)
-            # The address of no bytes may be null, which the library does not take.
-            arguments += [view.buf or b"", view.len]
+            arguments += [view.buf, view.len]
         yield arguments
     finally:
         for view in views:
@@ -308,7 +370,7 @@ def _call(name: str, files: tuple[Buffer, ...], *numbers: int) -> _Answer:
     return answer
 
 
-def _fill(name: str, room: int, files: tuple[Buffer, ...], *numbers: int) -> tuple[bytes, int]:
+def _fill(name: str, room: int, files: tuple[Buffer, ...], *numbers: Any) -> tuple[bytes, int]:
     """Calls a function with a buffer of `room` bytes, or of the size of the output if that is
     larger. Returns the output and `value`."""
     answer = _Answer()
@@ -324,6 +386,23 @@ def _fill(name: str, room: int, files: tuple[Buffer, ...], *numbers: int) -> tup
     return ctypes.string_at(buffer, answer.size), answer.value
 
 
+def _elements(
+    name: str, element: type[_Element], files: tuple[Buffer, ...], *numbers: int
+) -> list[_Element]:
+    """Calls a function with an array of elements. Returns the elements."""
+    answer, room = _Answer(), 64
+    function = getattr(_library, "bootimg_" + name)
+    with _arguments_for(files) as arguments:
+        while True:
+            array = (element * room)()
+            status = function(*arguments, *numbers, array, room, ctypes.byref(answer))
+            if status != _NO_ROOM:
+                break
+            room = answer.size
+    _raise(status, answer)
+    return list(array[: answer.size])
+
+
 def version() -> str:
     """Returns the version of the library."""
     return _fill("version", 64, ())[0].decode("ascii")
@@ -332,6 +411,16 @@ def version() -> str:
 def cause_name(number: int) -> str:
     """Returns the name of the cause with the given number, 1 to 26."""
     return _fill("cause_name", 64, (), _number(number))[0].decode("ascii")
+
+
+def explain(number: int) -> str:
+    """Returns what the cause with the given number, 1 to 26, means, and what a user can do.
+
+    >>> import bootimg
+    >>> bootimg.explain(4)
+    'The data checksum of a legacy image is wrong: fetch the image again.'
+    """
+    return _fill("explain", 512, (), _number(number))[0].decode("ascii")
 
 
 def kind(file: Buffer) -> str:
@@ -458,6 +547,17 @@ def describe_json(file: Buffer, limit: int = LIMIT, depth: int = DEPTH) -> str:
     return _text("describe_json", (file,), _number(limit), _number(depth))[0]
 
 
+def show(
+    file: Buffer, layout: bool = False, limit: int = LIMIT, depth: int = DEPTH
+) -> str:
+    """Returns the page of a file, for a person: tables of what it is, of its images or parts, with
+    the verdict on each hash node, of its configurations and signature nodes, and the lines of
+    `check`. With `layout`, it has the regions of the file by their offsets. Its form may change
+    with the version. Raises Refused with TooLarge if the payloads together are longer than
+    `limit`."""
+    return _text("show", (file,), int(layout), _number(limit), _number(depth))[0]
+
+
 def verify(file: Buffer, limit: int = LIMIT, depth: int = DEPTH) -> Report:
     """Returns the report on the checksums and digests of a file."""
     text, value = _text("verify", (file,), _number(limit), _number(depth))
@@ -497,6 +597,98 @@ def convert(file: Buffer, limit: int = LIMIT, depth: int = DEPTH) -> bytes:
     that is not a legacy image, with NoCodeName, EmptyPart or TooManyParts for an image that cannot
     be converted, and with TooLarge if the output is longer than `limit`."""
     return _fill("convert", _size_of(file) + 4096, (file,), _number(limit), _number(depth))[0]
+
+
+def build_legacy(
+    parts: Iterable[Buffer],
+    name: bytes | str = b"",
+    *,
+    os: int,
+    arch: int,
+    type: int,
+    compression: int = 0,
+    time: int = 0,
+    load: int = 0,
+    entry: int = 0,
+    limit: int = LIMIT,
+    depth: int = DEPTH,
+) -> bytes:
+    """Returns the legacy image with these fields and parts. `os`, `arch`, `type` and `compression`
+    are codes of U-Boot. Raises Refused, with the offset in the image, with BadField for a name of
+    more than 32 bytes or with a zero byte, and if there is not exactly one part and the type is
+    neither multi (4) nor script (6), with EmptyPart for an empty part of those, and with TooLarge
+    if the image is longer than `limit`. The parts are copied.
+
+    >>> import bootimg
+    >>> kernel = bootimg.build_legacy([b"a kernel"], "Linux", os=5, arch=22, type=2)
+    >>> bootimg.open(kernel).header.name, bytes(bootimg.extract_part(kernel))
+    ('Linux', b'a kernel')
+    """
+    pieces = [_name_of(name), *map(bytes, parts)]
+    regions, offset = [], 0
+    for piece in pieces:
+        regions.append(_Region(offset, len(piece)))
+        offset += len(piece)
+    codes = (os, arch, type, compression)
+    if not all(0 <= code <= 255 for code in codes):
+        raise WrongArgument("wrong argument")
+    numbers = (_number(time), _number(load), _number(entry))
+    fields = _LegacyFields(regions[0], *numbers, *codes)
+    array = (_Region * len(regions[1:]))(*regions[1:])
+    rest = (ctypes.byref(fields), array, len(array), _number(limit), _number(depth))
+    return _fill("build_legacy", offset + 4096, (b"".join(pieces),), *rest)[0]
+
+
+class BuildImage(NamedTuple):
+    """An image of a FIT to be built. `os`, `arch`, `type` and `compression` are codes of U-Boot."""
+
+    name: bytes | str
+    payload: Buffer
+    os: int
+    arch: int
+    type: int
+    compression: int = 0
+    load: int | None = None
+    entry: int | None = None
+
+
+def build_fit(
+    images: Iterable[BuildImage],
+    description: bytes | str = b"",
+    time: int = 0,
+    external: bool = False,
+    limit: int = LIMIT,
+    depth: int = DEPTH,
+) -> bytes:
+    """Returns a FIT with these images, each with the SHA-256 of its payload, and one configuration,
+    `conf-1`, which lists the images by their types. Raises Refused, with the index of the image or
+    0, with BadField, NoCodeName or DuplicateNode for what cannot be written, and with TooLarge if
+    the FIT is longer than `limit`. The payloads are copied.
+
+    >>> import bootimg
+    >>> kernel = bootimg.BuildImage("kernel-1", b"a kernel", os=5, arch=22, type=2, load=0x80000)
+    >>> fit = bootimg.open(bootimg.build_fit([kernel], "board", time=1700000000))
+    >>> [(one.name, bytes(one.payload), one.hashes[0].verdict) for one in fit.images]
+    [('kernel-1', b'a kernel', 'good')]
+    >>> fit.configuration().images("kernel") == fit.images
+    True
+    """
+    memory, elements = bytearray(), []
+    for image in images:
+        regions = []
+        for piece in (_name_of(image.name), bytes(image.payload)):
+            regions.append(_Region(len(memory), len(piece)))
+            memory += piece
+        codes = (image.os, image.arch, image.type, image.compression)
+        if not all(0 <= code <= 255 for code in codes):
+            raise WrongArgument("wrong argument")
+        addresses = int(image.load is not None) + 2 * int(image.entry is not None)
+        load, entry = _number(image.load or 0), _number(image.entry or 0)
+        elements.append(_BuildElement(*regions, load, entry, addresses, *codes))
+    array = (_BuildElement * len(elements))(*elements)
+    numbers = (_number(time), array, len(array), int(external), _number(limit), _number(depth))
+    room = len(memory) + 4096
+    return _fill("build_fit", room, (bytes(memory), _name_of(description)), *numbers)[0]
 
 
 def same_meaning(one: Buffer, other: Buffer, limit: int = LIMIT, depth: int = DEPTH) -> bool:
@@ -573,6 +765,7 @@ def _parser() -> argparse.ArgumentParser:
         ("extract", "write a part or a payload"),
         ("list", "write the listing"),
         ("describe", "write what the image means"),
+        ("show", "write the page of the image, for a person"),
         ("compare", "write what differs between two images"),
         ("verify", "write the verdict on each checksum and digest"),
         ("check", "write a line for each thing that is not protected"),
@@ -593,6 +786,8 @@ def _parser() -> argparse.ArgumentParser:
             selection.add_argument("--default", action="store_true")
             command.add_argument("--key", choices=KEYS, default=KEYS[0])
             command.add_argument("--index", type=_whole_number, default=0, metavar="N")
+        if name == "show":
+            command.add_argument("--layout", action="store_true")
         if name in ("list", "describe", "verify", "check", "compare"):
             command.add_argument("--json", action="store_true")
         if name == "check":
@@ -669,6 +864,8 @@ def _printed(options: argparse.Namespace, file: bytes) -> tuple[str, int]:
         call, none = (check_json, '{"concerns":[]}\n') if options.json else (check, "")
         concerns = call(file, options.allow, limit)
         return concerns, int(concerns != none)
+    if options.command == "show":
+        return show(file, options.layout, limit), 0
     if options.command == "list":
         return (listing_json if options.json else listing)(file, limit), 0
     return (describe_json if options.json else describe)(file, limit), 0

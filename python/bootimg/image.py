@@ -18,6 +18,9 @@ from typing import Any, Iterable
 
 import bootimg
 
+# The properties that place the payload of an image.
+_PLACING = ("data", "data-size", "data-offset", "data-position")
+
 
 @dataclass(frozen=True, slots=True)
 class LegacyHeader:
@@ -114,7 +117,13 @@ class FitImage:
     @property
     def properties(self) -> dict[str, bytes]:
         """The values of the properties of the image by their names, but for those that place the
-        payload. The first use computes a digest of each payload of the file."""
+        payload. They are read at each use."""
+        path = "/images/" + self.name
+        found = self._file.properties(path) if "/" not in self.name else self._in_tree()
+        return {name: value for name, value in found.items() if name not in _PLACING}
+
+    def _in_tree(self) -> dict[str, bytes]:
+        """The properties of an image whose name no path has."""
         return self._file.root.child("images").child(self.name).properties
 
     @property
@@ -248,9 +257,40 @@ class Image:
         """The root of the tree of a FIT. It is read, and a digest of each payload computed, at the
         first use. Raises NotFound for a legacy image, and Refused with TooLarge if the payloads
         together, or the description in JSON, are longer than the limit."""
+        self._require_fit()
+        return _node_of(json.loads(bootimg.describe_json(self.file, *self._bounds))["root"])
+
+    def properties(self, path: bytes | str) -> dict[str, bytes]:
+        """Returns the values of all properties of the node of a FIT at a path, such as
+        "/images/kernel-1", by their names. The path of the root is "/". Raises NotFound with "no
+        such node" if there is none, and with the first of REASONS for a legacy image."""
+        elements = self._elements_at("properties", bootimg._PropertyElement, path)
+        return {_decoded(self._bytes(one.name)): self._bytes(one.value) for one in elements}
+
+    def property_value(self, path: bytes | str, name: bytes | str) -> memoryview:
+        """Returns the value of one property of the node of a FIT at a path, as a view of the file.
+        Raises NotFound as `properties` does, or with "no such property"."""
+        self._require_fit()
+        names = (bootimg._name_of(path), bootimg._name_of(name))
+        return bootimg._region("property_value", (self.file, *names), *self._bounds)
+
+    def children(self, path: bytes | str) -> tuple[str, ...]:
+        """Returns the names of the children of the node of a FIT at a path, in their order. Raises
+        NotFound as `properties` does."""
+        names = self._elements_at("children", bootimg._Region, path)
+        return tuple(_decoded(self._bytes(name)) for name in names)
+
+    def _elements_at(
+        self, call: str, element: type[bootimg._Element], path: bytes | str
+    ) -> list[bootimg._Element]:
+        """Makes a call on the node of a FIT at a path, and returns its elements."""
+        self._require_fit()
+        files = (self.file, bootimg._name_of(path))
+        return bootimg._elements(call, element, files, *self._bounds)
+
+    def _require_fit(self) -> None:
         if self.kind != "fit":
             raise bootimg.NotFound(bootimg.REASONS[0], None)
-        return _node_of(json.loads(bootimg.describe_json(self.file, *self._bounds))["root"])
 
     def verify(self) -> Verification:
         """Returns the verdict on each hash node. The digests are computed once."""
@@ -258,9 +298,27 @@ class Image:
 
     @functools.cached_property
     def _verification(self) -> Verification:
-        report = bootimg.verify_json(self.file, *self._bounds)
-        hashes = json.loads(report.text).get("hashes", ())
-        return Verification(tuple(map(_hash_of, hashes)), report.all_good)
+        if self.kind != "fit":
+            return Verification((), True)
+        elements = bootimg._elements("verdicts", bootimg._HashElement, (self.file,), *self._bounds)
+        hashes = tuple(map(self._hash, elements))
+        return Verification(hashes, all(one.verdict == "good" for one in hashes))
+
+    def _hash(self, element: bootimg._HashElement) -> Hash:
+        algorithm = self._optional_bytes(element.algorithm)
+        return Hash(
+            _decoded(self._bytes(element.image)),
+            _decoded(self._bytes(element.node)),
+            None if algorithm is None else _decoded(algorithm),
+            bootimg.VERDICTS[element.verdict],
+            self._optional_bytes(element.value),
+        )
+
+    def _bytes(self, region: bootimg._Region) -> bytes:
+        return bytes(self.file[region.offset : region.offset + region.size])
+
+    def _optional_bytes(self, region: bootimg._Region) -> bytes | None:
+        return self._bytes(region) if region.offset else None
 
     def check(self, allow: Iterable[str] = ()) -> tuple[Concern, ...]:
         """Returns the concerns about the file, except those of the kinds in `allow`, of
@@ -291,6 +349,10 @@ class Image:
         """Returns the description of what the file means, as `bootimg.describe` does."""
         return bootimg.describe(self.file, *self._bounds)
 
+    def show(self, layout: bool = False) -> str:
+        """Returns the page of the file, for a person, as `bootimg.show` does."""
+        return bootimg.show(self.file, layout, *self._bounds)
+
     def compare(self, other: Image | bootimg.Buffer) -> bootimg.Comparison:
         """Returns what differs between what two files mean, as `bootimg.compare` does. The limits
         are those of this image."""
@@ -320,6 +382,14 @@ def open(
     b'a text in place of a ramdisk\\n'
     >>> board.image("fdt-1").properties["type"]
     b'flat_dt\\x00'
+    >>> bytes(board.property_value("/configurations", "default"))
+    b'conf-1\\x00'
+    >>> board.children("/images")
+    ('kernel-1', 'ramdisk-1', 'fdt-1')
+    >>> [(one.node, one.algorithm, one.verdict) for one in board.image("fdt-1").hashes]
+    [('hash-1', 'sha256', 'good')]
+    >>> print(board.show().splitlines()[-1])
+    weak-hash ramdisk-1 crc32
     >>> [image.name for image in board.configuration("conf-2").images("fdt")]
     ['fdt-1']
     >>> board.check()
@@ -332,10 +402,13 @@ def open(
     return Image(source, limit, depth)
 
 
+def _decoded(name: bytes) -> str:
+    return name.decode("utf-8", "surrogateescape")
+
+
 def _name_of(shown: str) -> str:
     """Returns the name that is shown so."""
-    name = b"" if shown == "-" else urllib.parse.unquote_to_bytes(shown)
-    return name.decode("utf-8", "surrogateescape")
+    return _decoded(b"" if shown == "-" else urllib.parse.unquote_to_bytes(shown))
 
 
 def _optional_name(shown: str | None) -> str | None:
@@ -364,16 +437,6 @@ def _value_of(value: dict[str, Any]) -> bytes:
     if "hex" in value:
         return bytes.fromhex(value["hex"])
     return b"".join(text.encode("ascii") + b"\0" for text in value["strings"])
-
-
-def _hash_of(node: dict[str, Any]) -> Hash:
-    return Hash(
-        _name_of(node["image"]),
-        _name_of(node["node"]),
-        _optional_name(node["algorithm"]),
-        node["verdict"],
-        None if node["value"] is None else bytes.fromhex(node["value"]),
-    )
 
 
 def _concern_of(concern: dict[str, Any]) -> Concern:

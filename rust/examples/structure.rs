@@ -1,0 +1,159 @@
+//! Takes images apart, and prints what they have: a line for each element, with names as hexadecimal
+//! digits. `tests/tools/c_library/structure.py` compares the lines.
+
+use bootimg::{Error, Fit, FitImage, Key, Legacy, Limits, Place, Verdict};
+
+/// The calls that refuse a file that is not a FIT.
+const FIT_CALLS: [&str; 7] = [
+    "fit",
+    "reservations",
+    "images",
+    "configurations",
+    "verdicts",
+    "properties",
+    "children",
+];
+
+fn main() -> Result<(), Box<dyn std::error::Error>> {
+    for path in std::env::args().skip(1) {
+        let file = std::fs::read(&path)?;
+        println!("file {path}");
+        match Legacy::read(&file, Limits::default()) {
+            Ok(legacy) => print_legacy(&legacy),
+            Err(error) => print_error(&["legacy", "parts"], error),
+        }
+        match Fit::read(&file, Limits::default()) {
+            Ok(fit) => {
+                print_fit(&fit);
+                print_verdicts(&fit)?;
+                print_node(&fit, b"/")?;
+            }
+            Err(error) => print_error(&FIT_CALLS, error),
+        }
+    }
+    Ok(())
+}
+
+fn print_error(calls: &[&str], error: Error) {
+    for call in calls {
+        println!("{call}: {error}");
+    }
+}
+
+fn digits(name: &[u8]) -> String {
+    if name.is_empty() {
+        return "-".to_owned();
+    }
+    name.iter().map(|byte| format!("{byte:02x}")).collect()
+}
+
+fn print_legacy(legacy: &Legacy) {
+    println!("name {}", digits(legacy.name));
+    println!(
+        "time {}\nload {}\nentry {}",
+        legacy.time, legacy.load, legacy.entry
+    );
+    let codes = [
+        legacy.os,
+        legacy.arch,
+        legacy.image_type,
+        legacy.compression,
+    ];
+    println!("codes {} {} {} {}", codes[0], codes[1], codes[2], codes[3]);
+    for (part, offset) in legacy.parts.iter().zip(&legacy.offsets) {
+        println!("part {offset} {}", part.len());
+    }
+    println!("unused {}", legacy.unused);
+}
+
+fn print_fit(fit: &Fit) {
+    println!("boot-cpu {}\ntotal-size {}", fit.boot_cpu, fit.total_size);
+    for one in &fit.reservations {
+        println!("reservation {} {}", one.address, one.size);
+    }
+    for image in &fit.images {
+        let place = match image.place {
+            None => 0,
+            Some(Place::Data) => 1,
+            Some(Place::DataOffset) => 2,
+            Some(Place::DataPosition) => 3,
+        };
+        let size = image.payload.map_or(0, <[u8]>::len);
+        println!(
+            "image {} {place} {} {size}",
+            digits(image.name),
+            image.offset
+        );
+    }
+    for configuration in &fit.configurations {
+        println!("configuration {}", digits(configuration.name));
+        for (number, key) in Key::ALL.into_iter().enumerate() {
+            print_list(fit, number, configuration.listed(key));
+        }
+    }
+    println!(
+        "default {}",
+        fit.default.unwrap_or(fit.configurations.len())
+    );
+}
+
+fn print_verdicts(fit: &Fit) -> Result<(), Error> {
+    for hash in fit.verdicts()? {
+        let or_none = |field: Option<&[u8]>| field.map_or("none".to_owned(), digits);
+        let verdict = match hash.verdict {
+            Verdict::Good => 0,
+            Verdict::Bad => 1,
+            Verdict::UnknownAlgorithm => 2,
+            Verdict::NoPayload => 3,
+            Verdict::Malformed => 4,
+            other => panic!("{other:?}"),
+        };
+        println!(
+            "hash {} {} {} {} {verdict}",
+            digits(hash.image),
+            digits(hash.node),
+            or_none(hash.algorithm),
+            or_none(hash.value)
+        );
+    }
+    Ok(())
+}
+
+/// Prints the node at a path, and the nodes below it.
+fn print_node(fit: &Fit, path: &[u8]) -> Result<(), Error> {
+    println!("node {}", digits(path));
+    for property in fit.properties(path)? {
+        println!(
+            "property {} {}",
+            digits(property.name),
+            digits(property.value)
+        );
+        assert_eq!(fit.property(path, property.name)?, property.value);
+    }
+    assert_eq!(fit.property(path, b"\0"), Err(Error::NoProperty));
+    for name in fit.children(path)? {
+        let above = path.strip_suffix(b"/").unwrap_or(path);
+        print_node(fit, &[above, b"/", name].concat())?;
+    }
+    assert_eq!(fit.children(&[path, b"/"].concat()), Err(Error::NoNode));
+    Ok(())
+}
+
+/// Prints the indices of the images under a key, or the number of the reason why there are none.
+fn print_list(fit: &Fit, number: usize, listed: Result<&[FitImage], Error>) {
+    let (reason, index) = match listed {
+        Ok(images) => {
+            print!("key {number}");
+            for image in images {
+                let index = fit.images.iter().position(|one| one.name == image.name);
+                print!(" {}", index.expect("a listed image is one of the images"));
+            }
+            return println!();
+        }
+        Err(Error::NoKey) => (5, 0),
+        Err(Error::BadList) => (6, 0),
+        Err(Error::MissingImage(index)) => (7, index),
+        Err(error) => panic!("{error}"),
+    };
+    println!("listed: reason {reason} {index}");
+}

@@ -1,0 +1,80 @@
+//! The hash nodes of a FIT.
+
+use crate::{bytes_of, elements, sys, Error, Fit};
+
+/// The verdict on a hash node.
+#[derive(Clone, Copy, Debug, PartialEq, Eq)]
+#[non_exhaustive]
+pub enum Verdict {
+    /// The value is the digest of the payload.
+    Good,
+    /// The value is not the digest of the payload.
+    Bad,
+    /// The algorithm is not a known one.
+    UnknownAlgorithm,
+    /// The image has no payload.
+    NoPayload,
+    /// The node has no algorithm or no value, or the algorithm is not NUL-terminated.
+    Malformed,
+    /// A verdict of a later version of the library.
+    Unknown,
+}
+
+impl Verdict {
+    /// Returns the verdict with a number of the library.
+    fn from_number(number: u32) -> Verdict {
+        match number {
+            0 => Verdict::Good,
+            1 => Verdict::Bad,
+            2 => Verdict::UnknownAlgorithm,
+            3 => Verdict::NoPayload,
+            4 => Verdict::Malformed,
+            _ => Verdict::Unknown,
+        }
+    }
+}
+
+/// A hash node of an image of a FIT, and the verdict on it.
+#[derive(Clone, Copy, Debug, PartialEq, Eq)]
+#[non_exhaustive]
+pub struct Hash<'a> {
+    /// The name of the image.
+    pub image: &'a [u8],
+    /// The name of the hash node.
+    pub node: &'a [u8],
+    /// The name of the algorithm, if there is one.
+    pub algorithm: Option<&'a [u8]>,
+    /// The value, if there is one.
+    pub value: Option<&'a [u8]>,
+    /// The verdict.
+    pub verdict: Verdict,
+}
+
+impl<'a> Fit<'a> {
+    /// Returns the hash nodes with the verdicts on them, image by image, in their order. The call
+    /// reads the file again.
+    ///
+    /// # Errors
+    ///
+    /// `OutOfMemory`.
+    pub fn verdicts(&self) -> Result<Vec<Hash<'a>>, Error> {
+        let (hashes, _) = elements(sys::bootimg_verdicts, self.file, self.limits)?;
+        Ok(hashes.iter().map(|hash| self.hash_of(hash)).collect())
+    }
+
+    /// Returns a hash node of the file.
+    fn hash_of(&self, hash: &sys::Hash) -> Hash<'a> {
+        Hash {
+            image: bytes_of(self.file, hash.image),
+            node: bytes_of(self.file, hash.node),
+            algorithm: self.found(hash.algorithm),
+            value: self.found(hash.value),
+            verdict: Verdict::from_number(hash.verdict),
+        }
+    }
+
+    /// Returns the bytes of a region, if there is one.
+    fn found(&self, region: sys::Region) -> Option<&'a [u8]> {
+        (region.offset != 0).then(|| bytes_of(self.file, region))
+    }
+}

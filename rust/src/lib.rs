@@ -1,0 +1,195 @@
+//! Boot images of U-Boot: legacy images and FITs (flattened image trees).
+//!
+//! Each call takes the bytes of a file. It calls the library for C of bootimg, which is proved; this
+//! crate, which is not, only passes slices to it and makes values of what it returns. Nothing of a
+//! file is copied: names and payloads are slices of it.
+//!
+//! ```
+//! let file = std::fs::read(concat!(env!("CARGO_MANIFEST_DIR"), "/../examples/board.itb"))?;
+//! let board = bootimg::Fit::read(&file, bootimg::Limits::default())?;
+//! for image in &board.images {
+//!     println!("{} {:?}", image.name.escape_ascii(), image.payload.map(<[u8]>::len));
+//! }
+//! let kernel = &board.default_configuration().unwrap().listed(bootimg::Key::Kernel)?[0];
+//! assert_eq!(kernel.name, b"kernel-1");
+//! # Ok::<(), Box<dyn std::error::Error>>(())
+//! ```
+
+#![warn(missing_docs)]
+
+mod error;
+mod fit;
+mod hashes;
+mod legacy;
+mod nodes;
+mod sys;
+mod texts;
+
+pub use error::{Cause, Error, Refusal};
+pub use fit::{Configuration, Fit, FitImage, Place, Reservation};
+pub use hashes::{Hash, Verdict};
+pub use legacy::{build_legacy, Header, Legacy};
+pub use nodes::Property;
+pub use texts::{
+    check, check_json, compare, compare_json, convert, describe, describe_json, listing,
+    listing_json, normalise, same_meaning, show, update, verify, verify_json, Changes, Comparison,
+    Concerns, Form, NormalForm, Report,
+};
+
+use error::failure;
+
+/// The limits of a call.
+#[derive(Clone, Copy, Debug, PartialEq, Eq)]
+pub struct Limits {
+    /// The greatest number of bytes of a file, and of an image, payload or description that is
+    /// made: 64 to 0x7fffffff.
+    pub limit: u32,
+    /// The greatest depth of a FIT, including the root: 1 to 64.
+    pub depth: u32,
+}
+
+impl Default for Limits {
+    /// The greatest limits.
+    fn default() -> Limits {
+        Limits {
+            limit: 0x7fff_ffff,
+            depth: 64,
+        }
+    }
+}
+
+/// The kind of a boot image.
+#[derive(Clone, Copy, Debug, PartialEq, Eq)]
+pub enum Kind {
+    /// A legacy image.
+    Legacy,
+    /// A FIT.
+    Fit,
+}
+
+/// A key of a configuration: a property that lists images.
+#[derive(Clone, Copy, Debug, PartialEq, Eq)]
+#[allow(missing_docs)]
+pub enum Key {
+    Kernel,
+    Fdt,
+    Ramdisk,
+    Firmware,
+    Loadables,
+    Script,
+}
+
+impl Key {
+    /// All keys, in the order of listings.
+    pub const ALL: [Key; 6] = [
+        Key::Kernel,
+        Key::Fdt,
+        Key::Ramdisk,
+        Key::Firmware,
+        Key::Loadables,
+        Key::Script,
+    ];
+}
+
+/// Returns the kind of a file by its first four bytes.
+///
+/// # Errors
+///
+/// Truncated at 0 for a file of fewer than four bytes, and BadMagic at 0 for one without a magic
+/// number.
+pub fn kind(file: &[u8]) -> Result<Kind, Error> {
+    let mut answer = sys::Answer::default();
+    // Safety: the file is as long as its length, and the answer is a struct of the library's.
+    let status = unsafe { sys::bootimg_kind(file.as_ptr(), file.len(), &mut answer) };
+    match (status, answer.value) {
+        (sys::DONE, 1) => Ok(Kind::Legacy),
+        (sys::DONE, _) => Ok(Kind::Fit),
+        _ => Err(failure(status, &answer)),
+    }
+}
+
+/// Returns the version of the library.
+pub fn version() -> String {
+    let call = |buffer: *mut u8, room, answer: *mut _| {
+        // Safety: `fill` passes a buffer and its length.
+        unsafe { sys::bootimg_version(buffer, room, answer) }
+    };
+    fill(16, call)
+        .map(|(text, _)| text_of(text))
+        .unwrap_or_default()
+}
+
+/// Makes a call with an array of `room` elements, or of as many as there are if that is more, and
+/// returns the elements and the number that it returns.
+fn fill<T: Clone + Default>(
+    room: usize,
+    call: impl Fn(*mut T, usize, *mut sys::Answer) -> u32,
+) -> Result<(Vec<T>, usize), Error> {
+    let mut elements = vec![T::default(); room];
+    loop {
+        let mut answer = sys::Answer::default();
+        let status = call(elements.as_mut_ptr(), elements.len(), &mut answer);
+        match status {
+            sys::DONE => {
+                elements.truncate(answer.size);
+                return Ok((elements, answer.value));
+            }
+            sys::NO_ROOM => elements.resize(answer.size, T::default()),
+            _ => return Err(failure(status, &answer)),
+        }
+    }
+}
+
+/// Returns the elements of a file, and the number that the call returns.
+fn elements<T: Clone + Default>(
+    call: sys::Listing<T>,
+    file: &[u8],
+    limits: Limits,
+) -> Result<(Vec<T>, usize), Error> {
+    fill(16, |array, count, answer| {
+        // Safety: the file is as long as its length, and `fill` passes an array and its length.
+        unsafe {
+            call(
+                file.as_ptr(),
+                file.len(),
+                limits.limit,
+                limits.depth,
+                array,
+                count,
+                answer,
+            )
+        }
+    })
+}
+
+/// Returns a struct that a call sets.
+fn fields<T: Default>(call: sys::Setting<T>, file: &[u8], limits: Limits) -> Result<T, Error> {
+    let mut fields = T::default();
+    let mut answer = sys::Answer::default();
+    // Safety: the file is as long as its length, and the structs are those of the library.
+    let status = unsafe {
+        call(
+            file.as_ptr(),
+            file.len(),
+            limits.limit,
+            limits.depth,
+            &mut fields,
+            &mut answer,
+        )
+    };
+    if status == sys::DONE {
+        Ok(fields)
+    } else {
+        Err(failure(status, &answer))
+    }
+}
+
+/// Returns the bytes of a file in a region that the library returned for it.
+fn bytes_of(file: &[u8], region: sys::Region) -> &[u8] {
+    &file[region.offset..][..region.size]
+}
+
+/// Returns a text of the library, which is ASCII.
+fn text_of(bytes: Vec<u8>) -> String {
+    String::from_utf8(bytes).expect("the texts of the library are ASCII")
+}

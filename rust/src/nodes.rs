@@ -1,0 +1,100 @@
+//! The nodes of a FIT.
+
+use crate::{bytes_of, failure, fill, sys, Error, Fit};
+
+/// A property of a node of a FIT.
+#[derive(Clone, Copy, Debug, PartialEq, Eq)]
+#[non_exhaustive]
+pub struct Property<'a> {
+    /// The name.
+    pub name: &'a [u8],
+    /// The value.
+    pub value: &'a [u8],
+}
+
+/// The path of a node is `/` for the root, and else a `/` before the name of each node from a child
+/// of the root down to it, for example `/images/kernel-1`. Each call reads the file again.
+impl<'a> Fit<'a> {
+    /// Returns the names of the children of the node at a path, in their order.
+    ///
+    /// # Errors
+    ///
+    /// `NoNode` if no node has the path. `OutOfMemory`.
+    pub fn children(&self, path: &[u8]) -> Result<Vec<&'a [u8]>, Error> {
+        let names = self.elements_at(sys::bootimg_children, path)?;
+        Ok(names
+            .iter()
+            .map(|&name| bytes_of(self.file, name))
+            .collect())
+    }
+
+    /// Returns the properties of the node at a path, in their order.
+    ///
+    /// # Errors
+    ///
+    /// `NoNode` if no node has the path. `OutOfMemory`.
+    pub fn properties(&self, path: &[u8]) -> Result<Vec<Property<'a>>, Error> {
+        let properties = self.elements_at(sys::bootimg_properties, path)?;
+        let property = |one: &sys::Property| Property {
+            name: bytes_of(self.file, one.name),
+            value: bytes_of(self.file, one.value),
+        };
+        Ok(properties.iter().map(property).collect())
+    }
+
+    /// Returns the value of the property of the node at a path that has the given name.
+    ///
+    /// # Errors
+    ///
+    /// `NoNode` if no node has the path, or `NoProperty` if the node has no such property.
+    /// `OutOfMemory`.
+    pub fn property(&self, path: &[u8], name: &[u8]) -> Result<&'a [u8], Error> {
+        let mut answer = sys::Answer::default();
+        // Safety: the file, the path and the name are as long as their lengths, and the answer is a
+        // struct of the library's.
+        let status = unsafe {
+            sys::bootimg_property_value(
+                self.file.as_ptr(),
+                self.file.len(),
+                path.as_ptr(),
+                path.len(),
+                name.as_ptr(),
+                name.len(),
+                self.limits.limit,
+                self.limits.depth,
+                &mut answer,
+            )
+        };
+        if status != sys::DONE {
+            return Err(failure(status, &answer));
+        }
+        let (offset, size) = (answer.value, answer.size);
+        Ok(bytes_of(self.file, sys::Region { offset, size }))
+    }
+
+    /// Returns the elements of the node at a path.
+    fn elements_at<T: Clone + Default>(
+        &self,
+        call: sys::NodeListing<T>,
+        path: &[u8],
+    ) -> Result<Vec<T>, Error> {
+        let call = |array: *mut T, count, answer: *mut _| {
+            // Safety: the file and the path are as long as their lengths, and `fill` passes an
+            // array and its length.
+            unsafe {
+                call(
+                    self.file.as_ptr(),
+                    self.file.len(),
+                    path.as_ptr(),
+                    path.len(),
+                    self.limits.limit,
+                    self.limits.depth,
+                    array,
+                    count,
+                    answer,
+                )
+            }
+        };
+        Ok(fill(16, call)?.0)
+    }
+}

@@ -1,0 +1,372 @@
+//! Texts about files, and files that are made of files.
+
+use crate::{fill, sys, text_of, Error, Limits};
+
+/// Whether the payloads in the normal form of a FIT are inside the blob or after it.
+#[derive(Clone, Copy, Debug, Default, PartialEq, Eq)]
+pub enum Form {
+    /// Inside the blob.
+    #[default]
+    Embedded,
+    /// After the blob.
+    External,
+}
+
+/// What an update changes.
+#[derive(Clone, Copy, Debug, Default, PartialEq, Eq)]
+pub struct Changes {
+    /// The new time of creation, in seconds since 1970.
+    pub time: Option<u32>,
+    /// Whether the digests in the hash nodes of a FIT are computed again.
+    pub hashes: bool,
+}
+
+/// A normal form.
+#[derive(Clone, Debug, PartialEq, Eq)]
+pub struct NormalForm {
+    /// The bytes of the image.
+    pub image: Vec<u8>,
+    /// The number of its signature nodes, which are kept and not checked.
+    pub signatures: usize,
+}
+
+/// A report on the checksums and digests of a file.
+#[derive(Clone, Debug, PartialEq, Eq)]
+pub struct Report {
+    /// The report.
+    pub text: String,
+    /// Whether each verdict in it is good, even if there is none.
+    pub all_good: bool,
+}
+
+/// The differences between what two files mean.
+#[derive(Clone, Debug, PartialEq, Eq)]
+pub struct Comparison {
+    /// The differences.
+    pub differences: String,
+    /// Whether both mean the same thing.
+    pub same: bool,
+}
+
+/// The kinds of concerns that are left out.
+#[derive(Clone, Copy, Debug, Default, PartialEq, Eq)]
+#[allow(missing_docs)]
+pub struct Concerns {
+    pub bad_hash: bool,
+    pub unhashed: bool,
+    pub weak_hash: bool,
+    pub bad_list: bool,
+    pub missing: bool,
+    pub bad_default: bool,
+    pub trailing: bool,
+}
+
+impl Concerns {
+    /// Returns a bit for each kind that is left out.
+    fn bits(self) -> u32 {
+        [
+            self.bad_hash,
+            self.unhashed,
+            self.weak_hash,
+            self.bad_list,
+            self.missing,
+            self.bad_default,
+            self.trailing,
+        ]
+        .iter()
+        .enumerate()
+        .map(|(bit, &is_allowed)| u32::from(is_allowed) << bit)
+        .sum()
+    }
+}
+
+/// Makes a call on one file, with a buffer of `room` bytes at first.
+fn of_one(
+    call: sys::Filling,
+    room: usize,
+    file: &[u8],
+    limits: Limits,
+) -> Result<(Vec<u8>, usize), Error> {
+    fill(room, |buffer, size, answer| {
+        // Safety: the file is as long as its length, and `fill` passes a buffer and its length.
+        unsafe {
+            call(
+                file.as_ptr(),
+                file.len(),
+                limits.limit,
+                limits.depth,
+                buffer,
+                size,
+                answer,
+            )
+        }
+    })
+}
+
+/// Makes a call on one file that returns a text.
+fn text_about(call: sys::Filling, file: &[u8], limits: Limits) -> Result<(String, bool), Error> {
+    let (text, value) = of_one(call, 16384, file, limits)?;
+    Ok((text_of(text), value == 1))
+}
+
+/// Returns the normal form of a file.
+///
+/// # Errors
+///
+/// Those of reading the file, and TooLarge if the normal form is longer than the limit.
+pub fn normalise(file: &[u8], form: Form, limits: Limits) -> Result<NormalForm, Error> {
+    let call = |buffer: *mut u8, room, answer: *mut _| {
+        // Safety: the file is as long as its length, and `fill` passes a buffer and its length.
+        unsafe {
+            sys::bootimg_normalise(
+                file.as_ptr(),
+                file.len(),
+                form as u32,
+                limits.limit,
+                limits.depth,
+                buffer,
+                room,
+                answer,
+            )
+        }
+    };
+    let (image, signatures) = fill(file.len() + 4096, call)?;
+    Ok(NormalForm { image, signatures })
+}
+
+/// Returns the normal form of a file with changes.
+///
+/// # Errors
+///
+/// Those of reading the file, and TooLarge if the output is longer than the limit, or, with
+/// `hashes`, if the payloads together are longer.
+pub fn update(
+    file: &[u8],
+    changes: Changes,
+    form: Form,
+    limits: Limits,
+) -> Result<NormalForm, Error> {
+    let bits = u32::from(changes.time.is_some()) + 2 * u32::from(changes.hashes);
+    let call = |buffer: *mut u8, room, answer: *mut _| {
+        // Safety: the file is as long as its length, and `fill` passes a buffer and its length.
+        unsafe {
+            sys::bootimg_update(
+                file.as_ptr(),
+                file.len(),
+                bits,
+                changes.time.unwrap_or(0),
+                form as u32,
+                limits.limit,
+                limits.depth,
+                buffer,
+                room,
+                answer,
+            )
+        }
+    };
+    let (image, signatures) = fill(file.len() + 4096, call)?;
+    Ok(NormalForm { image, signatures })
+}
+
+/// Returns the FIT that a legacy image is converted to.
+///
+/// # Errors
+///
+/// BadMagic for a file that is not a legacy image, NoCodeName, EmptyPart or TooManyParts for one
+/// that cannot be converted, and TooLarge if the output is longer than the limit.
+pub fn convert(file: &[u8], limits: Limits) -> Result<Vec<u8>, Error> {
+    Ok(of_one(sys::bootimg_convert, file.len() + 4096, file, limits)?.0)
+}
+
+/// Returns the listing of a file.
+///
+/// # Errors
+///
+/// Those of reading the file.
+pub fn listing(file: &[u8], limits: Limits) -> Result<String, Error> {
+    Ok(text_about(sys::bootimg_list, file, limits)?.0)
+}
+
+/// Returns what `listing` says as one JSON text and a newline.
+///
+/// # Errors
+///
+/// Those of reading the file.
+pub fn listing_json(file: &[u8], limits: Limits) -> Result<String, Error> {
+    Ok(text_about(sys::bootimg_list_json, file, limits)?.0)
+}
+
+/// Returns the description of what a file means. It does not depend on the layout of the file.
+///
+/// # Errors
+///
+/// Those of reading the file, and TooLarge if the description, or the payloads together, are longer
+/// than the limit.
+pub fn describe(file: &[u8], limits: Limits) -> Result<String, Error> {
+    Ok(text_about(sys::bootimg_describe, file, limits)?.0)
+}
+
+/// Returns what `describe` says as one JSON text and a newline.
+///
+/// # Errors
+///
+/// Those of `describe`. The limit is on this text.
+pub fn describe_json(file: &[u8], limits: Limits) -> Result<String, Error> {
+    Ok(text_about(sys::bootimg_describe_json, file, limits)?.0)
+}
+
+/// Returns the report on the checksums and digests of a file.
+///
+/// # Errors
+///
+/// Those of reading the file.
+pub fn verify(file: &[u8], limits: Limits) -> Result<Report, Error> {
+    let (text, all_good) = text_about(sys::bootimg_verify, file, limits)?;
+    Ok(Report { text, all_good })
+}
+
+/// Returns what `verify` says, with the report as one JSON text and a newline.
+///
+/// # Errors
+///
+/// Those of reading the file.
+pub fn verify_json(file: &[u8], limits: Limits) -> Result<Report, Error> {
+    let (text, all_good) = text_about(sys::bootimg_verify_json, file, limits)?;
+    Ok(Report { text, all_good })
+}
+
+/// A call with one more number before the limits.
+type WithNumber =
+    unsafe extern "C" fn(*const u8, usize, u32, u32, u32, *mut u8, usize, *mut sys::Answer) -> u32;
+
+/// Makes a call with one more number before the limits, that returns a text.
+fn text_with_number(
+    call: WithNumber,
+    file: &[u8],
+    number: u32,
+    limits: Limits,
+) -> Result<String, Error> {
+    let (text, _) = fill(16384, |buffer, room, answer| {
+        // Safety: the file is as long as its length, and `fill` passes a buffer and its length.
+        unsafe {
+            call(
+                file.as_ptr(),
+                file.len(),
+                number,
+                limits.limit,
+                limits.depth,
+                buffer,
+                room,
+                answer,
+            )
+        }
+    })?;
+    Ok(text_of(text))
+}
+
+/// Returns a line for each concern about a file: each thing in it that is not protected. Lines of
+/// allowed kinds are left out.
+///
+/// # Errors
+///
+/// Those of reading the file, and TooLarge if the payloads together are longer than the limit.
+pub fn check(file: &[u8], allowed: Concerns, limits: Limits) -> Result<String, Error> {
+    text_with_number(sys::bootimg_check, file, allowed.bits(), limits)
+}
+
+/// Returns what `check` says as one JSON text and a newline, even if there is no concern.
+///
+/// # Errors
+///
+/// Those of `check`.
+pub fn check_json(file: &[u8], allowed: Concerns, limits: Limits) -> Result<String, Error> {
+    text_with_number(sys::bootimg_check_json, file, allowed.bits(), limits)
+}
+
+/// Returns the page of a file, for a person: tables of what it is, of its images or parts with the
+/// verdict on each hash node, of its configurations and signature nodes, and the lines of `check`;
+/// with `layout`, also of the regions of the file by their offsets. Its form may change with the
+/// version.
+///
+/// # Errors
+///
+/// Those of `check`.
+pub fn show(file: &[u8], layout: bool, limits: Limits) -> Result<String, Error> {
+    text_with_number(sys::bootimg_show, file, u32::from(layout), limits)
+}
+
+/// Makes a call that compares two files.
+fn compared(
+    call: sys::Comparing,
+    one: &[u8],
+    other: &[u8],
+    limits: Limits,
+) -> Result<Comparison, Error> {
+    let (text, value) = fill(16384, |buffer, room, answer| {
+        // Safety: the files are as long as their lengths, and `fill` passes a buffer and its
+        // length.
+        unsafe {
+            call(
+                one.as_ptr(),
+                one.len(),
+                other.as_ptr(),
+                other.len(),
+                limits.limit,
+                limits.depth,
+                buffer,
+                room,
+                answer,
+            )
+        }
+    })?;
+    Ok(Comparison {
+        differences: text_of(text),
+        same: value == 1,
+    })
+}
+
+/// Returns the differences between what two files mean, one line each. There are none if they mean
+/// the same thing.
+///
+/// # Errors
+///
+/// Those of reading the files; and, if they do not mean the same thing, TooLarge for the first file
+/// whose description, or payloads together, are longer than the limit.
+pub fn compare(one: &[u8], other: &[u8], limits: Limits) -> Result<Comparison, Error> {
+    compared(sys::bootimg_compare, one, other, limits)
+}
+
+/// Returns what `compare` says, with the differences as one JSON text and a newline.
+///
+/// # Errors
+///
+/// Those of `compare`.
+pub fn compare_json(one: &[u8], other: &[u8], limits: Limits) -> Result<Comparison, Error> {
+    compared(sys::bootimg_compare_json, one, other, limits)
+}
+
+/// Returns whether two files mean the same thing.
+///
+/// # Errors
+///
+/// Those of reading the files.
+pub fn same_meaning(one: &[u8], other: &[u8], limits: Limits) -> Result<bool, Error> {
+    let mut answer = sys::Answer::default();
+    // Safety: the files are as long as their lengths, and the answer is a struct of the library's.
+    let status = unsafe {
+        sys::bootimg_same_meaning(
+            one.as_ptr(),
+            one.len(),
+            other.as_ptr(),
+            other.len(),
+            limits.limit,
+            limits.depth,
+            &mut answer,
+        )
+    };
+    if status == sys::DONE {
+        Ok(answer.value == 1)
+    } else {
+        Err(crate::error::failure(status, &answer))
+    }
+}

@@ -1,0 +1,196 @@
+//! Calls on the images in `examples/`.
+
+use bootimg::{
+    build_legacy, check, check_json, compare, compare_json, convert, describe, describe_json, kind,
+    listing, listing_json, normalise, same_meaning, show, update, verify, verify_json, version,
+    Cause, Changes, Concerns, Error, Fit, Form, Header, Key, Kind, Legacy, Limits, Place, Refusal,
+    Verdict,
+};
+
+const ALL: Limits = Limits {
+    limit: 0x7fff_ffff,
+    depth: 64,
+};
+
+fn example(name: &str) -> Vec<u8> {
+    std::fs::read(format!("{}/../examples/{name}", env!("CARGO_MANIFEST_DIR"))).unwrap()
+}
+
+fn refusal(cause: Cause, offset: u32, file: u32) -> Error {
+    Error::Refused(Refusal {
+        cause,
+        offset,
+        file,
+    })
+}
+
+#[test]
+fn kinds() {
+    assert_eq!(kind(&example("kernel.uimage")), Ok(Kind::Legacy));
+    assert_eq!(kind(&example("board.itb")), Ok(Kind::Fit));
+    assert_eq!(kind(b""), Err(refusal(Cause::Truncated, 0, 1)));
+    assert_eq!(version(), env!("CARGO_PKG_VERSION"));
+}
+
+#[test]
+fn legacy_images() {
+    let file = example("two-parts.uimage");
+    let image = Legacy::read(&file, ALL).unwrap();
+    assert_eq!(image.name, b"two parts");
+    assert_eq!(
+        (image.os, image.arch, image.image_type, image.compression),
+        (5, 2, 4, 0)
+    );
+    assert_eq!(
+        (image.time, image.load, image.entry),
+        (1_700_000_000, 0x8000, 0x8000)
+    );
+    assert_eq!(image.parts.len(), 2);
+    assert_eq!(image.parts[1].as_ptr(), file[image.offsets[1]..].as_ptr());
+    assert_eq!(image.unused, 0);
+    let header = Header {
+        name: image.name,
+        time: image.time,
+        load: image.load,
+        entry: image.entry,
+        os: image.os,
+        arch: image.arch,
+        image_type: image.image_type,
+        compression: image.compression,
+    };
+    assert_eq!(build_legacy(&header, &image.parts, ALL), Ok(file.clone()));
+    assert_eq!(
+        build_legacy(&header, &[b"part", b""], ALL),
+        Err(refusal(Cause::EmptyPart, 68, 1))
+    );
+    let short = Limits {
+        limit: 64,
+        depth: 64,
+    };
+    assert_eq!(
+        Legacy::read(&file, short),
+        Err(refusal(Cause::TooLarge, 64, 1))
+    );
+    let board = example("board.itb");
+    assert_eq!(
+        Legacy::read(&board, ALL),
+        Err(refusal(Cause::BadMagic, 0, 1))
+    );
+}
+
+#[test]
+fn fits() {
+    for (name, place) in [
+        ("board.itb", Place::Data),
+        ("board-external.itb", Place::DataOffset),
+    ] {
+        let file = example(name);
+        let fit = Fit::read(&file, ALL).unwrap();
+        let ramdisk = fit.image(b"ramdisk-1").unwrap();
+        assert_eq!(
+            ramdisk.payload,
+            Some(&b"a text in place of a ramdisk\n"[..])
+        );
+        assert_eq!(ramdisk.place, Some(place));
+        assert_eq!(
+            ramdisk.payload.unwrap().as_ptr(),
+            file[ramdisk.offset..].as_ptr()
+        );
+        assert_eq!(fit.default_configuration().unwrap().name, b"conf-1");
+        assert_eq!(
+            fit.default_configuration().unwrap().listed(Key::Ramdisk),
+            Ok(&[*ramdisk][..])
+        );
+        let other = fit.configuration(b"conf-2").unwrap();
+        assert_eq!(other.listed(Key::Fdt).unwrap()[0].name, b"fdt-1");
+        assert_eq!(other.listed(Key::Ramdisk), Err(Error::NoKey));
+        assert!(fit.configuration(b"conf-3").is_none() && fit.image(b"kernel-2").is_none());
+        assert!(fit.reservations.is_empty());
+        let hashes = fit.verdicts().unwrap();
+        assert_eq!(hashes.len(), 3);
+        assert!(hashes.iter().all(|hash| hash.verdict == Verdict::Good));
+        assert_eq!(
+            (hashes[1].image, hashes[1].node),
+            (&b"ramdisk-1"[..], &b"hash-1"[..])
+        );
+        assert_eq!(hashes[1].algorithm, Some(&b"crc32"[..]));
+        assert_eq!(hashes[1].value, Some(&b"\xce\x1f\xb3\xcf"[..]));
+    }
+    let wrong = Fit::read(
+        b"",
+        Limits {
+            limit: 63,
+            depth: 64,
+        },
+    );
+    assert_eq!(wrong.unwrap_err(), Error::WrongArgument);
+}
+
+#[test]
+fn texts() {
+    let (board, kernel) = (example("board.itb"), example("kernel.uimage"));
+    assert!(listing(&board, ALL)
+        .unwrap()
+        .starts_with("kind fit\nboot-cpu 0\ntotal-size 2628\n"));
+    assert!(listing_json(&board, ALL)
+        .unwrap()
+        .starts_with("{\"kind\":\"fit\",\"boot_cpu\":0,"));
+    assert!(describe(&kernel, ALL).unwrap().contains("\nos linux\n"));
+    assert!(describe_json(&kernel, ALL)
+        .unwrap()
+        .contains("\"os\":\"linux\""));
+    let (page, with_layout) = (
+        show(&board, false, ALL).unwrap(),
+        show(&board, true, ALL).unwrap(),
+    );
+    assert!(page.ends_with("weak-hash ramdisk-1 crc32\n") && with_layout.len() > page.len());
+    assert!(verify(&board, ALL).unwrap().all_good && verify_json(&board, ALL).unwrap().all_good);
+    assert_eq!(
+        verify(&kernel, ALL).unwrap().text,
+        "header crc32 good\ndata crc32 good\n"
+    );
+    assert_eq!(
+        check(&board, Concerns::default(), ALL).unwrap(),
+        "weak-hash ramdisk-1 crc32\n"
+    );
+    let allowed = Concerns {
+        weak_hash: true,
+        ..Concerns::default()
+    };
+    assert_eq!(check(&board, allowed, ALL).unwrap(), "");
+    assert_eq!(
+        check_json(&board, allowed, ALL).unwrap(),
+        "{\"concerns\":[]}\n"
+    );
+}
+
+#[test]
+fn other_files() {
+    let (board, kernel) = (example("board.itb"), example("kernel.uimage"));
+    let external = normalise(&board, Form::External, ALL).unwrap();
+    assert_eq!(external.signatures, 0);
+    assert_eq!(same_meaning(&board, &external.image, ALL), Ok(true));
+    assert!(compare(&board, &external.image, ALL).unwrap().same);
+    let differs = compare(&board, &kernel, ALL).unwrap();
+    assert_eq!(
+        (differs.differences.as_str(), differs.same),
+        ("-kind fit\n+kind legacy\n", false)
+    );
+    assert!(compare_json(&board, &kernel, ALL)
+        .unwrap()
+        .differences
+        .starts_with("{\"same\":false"));
+    let later = Changes {
+        time: Some(5),
+        hashes: true,
+    };
+    let updated = update(&kernel, later, Form::Embedded, ALL).unwrap();
+    assert_eq!(Legacy::read(&updated.image, ALL).unwrap().time, 5);
+    let converted = convert(&kernel, ALL).unwrap();
+    let payload = Fit::read(&converted, ALL).unwrap().images[0].payload;
+    assert_eq!(payload, Some(Legacy::read(&kernel, ALL).unwrap().parts[0]));
+    assert_eq!(
+        same_meaning(&board, b"", ALL),
+        Err(refusal(Cause::Truncated, 0, 2))
+    );
+}
