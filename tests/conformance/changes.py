@@ -13,7 +13,9 @@ COMMANDS = (
     "extract --part 0", "extract --image a", "extract --config conf-1", "extract --default", "describe", "describe --limit 400",
     "check", "check --limit 200", "check --allow unhashed,trailing", "update --time 5", "update --time 5 --limit 200",
     "update --hashes", "update --hashes --external --limit 400", "update --hashes --time 0x10 --external",
+    "scan", "scan --limit 200", "list --offset 1", "check --offset 64 --limit 500", "normalise --offset 0x40", "list --json --offset 73",
     "list --json", "verify --json", "describe --json", "describe --json --limit 400", "check --json", "check --json --allow unhashed",
+    "show", "show --layout", "show --layout --limit 200",
 )
 # Commands that compare a changed file with the file that it was.
 COMPARING = (

@@ -20,7 +20,7 @@ static double now(void)
     return (double)time.tv_sec + (double)time.tv_nsec / 1e9;
 }
 
-static uint32_t normalise(const uint8_t *file, size_t size, uint8_t *buffer, size_t room, bootimg_answer *answer)
+static uint32_t normalise(const uint8_t *file, size_t size, uint8_t *buffer, size_t room, bootimg_result *answer)
 {
     return bootimg_normalise(file, size, BOOTIMG_EMBEDDED, BOOTIMG_LIMIT, BOOTIMG_DEPTH, buffer, room, answer);
 }
@@ -28,7 +28,7 @@ static uint32_t normalise(const uint8_t *file, size_t size, uint8_t *buffer, siz
 int main(int count, char **words)
 {
     struct stat status;
-    bootimg_answer answer, again;
+    bootimg_result answer, again;
     uint8_t *file, *buffer;
     size_t size, room, done = 0;
     int input = open(words[count - 2], O_RDONLY), rounds = atoi(words[count - 1]);
@@ -49,7 +49,7 @@ int main(int count, char **words)
     memset(buffer, 0, room);
     while (rounds-- > 0) {
         double begin = now(), filled, counted, copied;
-        if (normalise(file, size, buffer, room, &answer) != BOOTIMG_DONE)
+        if (normalise(file, size, buffer, room, &answer) != BOOTIMG_OK)
             return 2;
         filled = now();
         if (normalise(file, size, buffer, 0, &again) != BOOTIMG_NO_ROOM || again.size != answer.size)

@@ -55,11 +55,9 @@ is_last() {
 
 printf '%s\n' $scripts | sort > all
 { echo "rt ci" && grep -v '^tests/boots/' all; } | sort > everything
-grep -v '/layers\.sh$' everything > gate
-check "the gate" starts gate
+check "the gate" starts everything
 check "the scripts of costs are the last" is_last
 
-check "the gate with layers.sh" starts everything --layers
 for group in fast tools calls prover costs boots; do
     grep "^tests/$group/" all > wanted
     check "the group $group" starts wanted "$group"
@@ -89,7 +87,6 @@ is_wrong() {
 check "an unknown group is refused" is_wrong none
 check "an unknown script is refused" is_wrong fast tests/fast/none.sh
 check "an unknown option is refused" is_wrong --help
-check "--layers with a group is refused" is_wrong --layers fast
 check "an unknown crate is refused" is_wrong crate bi_none
 check "two crates are refused" is_wrong crate bi_base bi_c
 check "an empty argument is refused" is_wrong ""

@@ -95,11 +95,12 @@ def module_of(file):
 def block_name(line, module, type_modules):
     """Returns the path of a type, or of the trait of a type, by the first line of an `impl` block in a module. Returns None of another
     line."""
-    found = re.match(r"(?:unsafe )?impl(?:<.*?>)? (?:(\w+)(?:<([\w:]+)(?:<.*>)?>)? for )?(\w+)(?:<.*>)? \{$", line)
+    found = re.match(r"(?:unsafe )?impl(?:<.*?>)? (?:(\w+)(?:<([\w:]+)(?:<.*>)?>)? for )?(&(?:'\w+ )?)?(\w+)(?:<.*>)? \{$", line)
     if not found:
         return None
     parameter = "".join(part[0].upper() + part[1:] for part in (found[2] or "").split("::") if part)
-    return f"{module if found[1] else type_modules.get(found[3], module)}::{found[3]}{found[1] or ''}{parameter}"
+    type_name = ("Ref" if found[3] else "") + found[4]
+    return f"{module if found[1] else type_modules.get(type_name, module)}::{type_name}{found[1] or ''}{parameter}"
 
 
 def functions_of(texts):
@@ -246,6 +247,8 @@ def verdict(output, crate, name, function):
     joined = re.sub(r"\n  (?=\S)", " ", output)
     wrong = [it for it in re.findall(answers, joined) if not re.search(names, it)]
     wrong += open_goals(output, function)
+    # An answer that takes a part of a record says less: the last choice.
+    wrong.sort(key=lambda it: "projects from a record" in it)
     if found[1].startswith("not proved") and wrong:
         return True, wrong[0]
     return False, found[1]

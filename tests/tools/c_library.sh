@@ -4,7 +4,8 @@
 # numbers. tests/tools/c_library/calls.c makes each call, as gcc and clang compile it with their sanitizers: on the examples and the
 # vectors of tests/conformance, it and the module do what the program does. The module takes files in any buffer, without a copy
 # (tests/tools/c_library/buffers.py), what `bootimg.open` returns is what the vectors say (tests/tools/c_library/objects.py), and what the
-# calls for C that take images apart return is the same (tests/tools/c_library/structure.c). mypy finds nothing wrong in its types. The programs in docs/LIBRARY.md print what the document shows. The script needs gcc, g++, clang, nm,
+# calls for C that take images apart return is the same (tests/tools/c_library/structure.c). mypy finds nothing wrong in its types. The
+# programs in docs/LIBRARY.md print what the document shows; that in Rust is left out without cargo. The script needs gcc, g++, clang, nm,
 # pkg-config and python3, and installs Debian's if one is missing and it runs as root, and so it does mypy, without which it leaves out the
 # types.
 set -u
@@ -34,8 +35,11 @@ header=$root/include/bootimg.h
 
 # The header.
 printf '#include <bootimg.h>\n#include <bootimg.h>\nint main(void) { return 0; }\n' > header.c
+# The names of the version before.
+printf '#include <bootimg.h>\nbootimg_answer answer;\nint main(void) { return bootimg_version(0, 0, &answer) == BOOTIMG_DONE; }\n' > old.c
 for compiler in "gcc -std=c99" "clang -std=c99" "g++ -x c++ -std=c++98 -Wno-long-long" "clang++ -x c++"; do
     check "the header compiles: $compiler" $compiler -Wall -Wextra -pedantic -Werror -I"$root/include" -fsyntax-only header.c
+    check "so do the old names: $compiler" $compiler -Wall -Wextra -pedantic -Werror -I"$root/include" -fsyntax-only old.c
 done
 # The header against the sources: names, parameters and their types, the layout of the struct, and the numbers of the statuses.
 check "the functions of the header are those of the sources" \
@@ -64,6 +68,9 @@ check "exchanged parameters are found" is_found "uint32_t key, uint32_t index" "
 check "another number of a status is found" is_found "BOOTIMG_NO_ROOM 3u" "BOOTIMG_NO_ROOM 4u"
 check "another number of a kind is found" is_found "BOOTIMG_FIT 2u" "BOOTIMG_FIT 1u"
 check "another number of a form is found" is_found "BOOTIMG_EXTERNAL 1u" "BOOTIMG_EXTERNAL 2u"
+check "another number of a cause is found" is_found "CAUSE_BAD_PART = 6" "CAUSE_BAD_PART = 7"
+check "another number of a verdict is found" is_found "VERDICT_BAD 1u" "VERDICT_BAD 3u"
+check "exchanged verdicts of the module are found" is_found '"good", "bad"' '"bad", "good"'
 check "another number of a place is found" is_found "PLACE_DATA_OFFSET 2u" "PLACE_DATA_OFFSET 3u"
 check "another number of a key is found" is_found "BOOTIMG_FDT 1u" "BOOTIMG_FDT 2u"
 check "another number of a change is found" is_found "BOOTIMG_CHANGE_HASHES 2u" "BOOTIMG_CHANGE_HASHES 4u"
@@ -74,7 +81,7 @@ check "a constant that the library has not is found" is_found "#define BOOTIMG_F
 check "another version is found" is_found 'BOOTIMG_VERSION "0' 'BOOTIMG_VERSION "9'
 check "exchanged keys of the module are found" is_found '"kernel", "fdt"' '"fdt", "kernel"'
 check "exchanged concerns of the module are found" is_found '"unhashed", "weak-hash"' '"weak-hash", "unhashed"'
-check "exchanged statuses of the module are found" is_found "_DONE, _REFUSED" "_REFUSED, _DONE"
+check "exchanged statuses of the module are found" is_found "_OK, _REFUSED" "_REFUSED, _OK"
 check "another depth of the module is found" is_found "DEPTH = 64" "DEPTH = 63"
 check "a missing function is found" is_found "^uint32_t bootimg_kind" "int32_t bootimg_kind"
 nm -g --defined-only "$library" 2> /dev/null | sed -n 's/.* T //p' | sort > exported
@@ -150,7 +157,7 @@ for compiler in gcc clang; do
     passes python3 "$root/tests/tools/c_library/structure.py" libbootimg.so structure $(cat images)
     for image in "$examples"/*.itb "$examples"/*.uimage "$examples"/boot.scr "$examples"/board.its; do
         for command in normalise "normalise --external" list describe verify check convert "list --limit 100" \
-            "list --json" "describe --json" "verify --json" "check --json" "describe --json --limit 1000" \
+            show "show --layout" "show --layout --limit 1000" "list --json" "describe --json" "verify --json" "check --json" "describe --json --limit 1000" \
             "update --time 5" "update --time 0x65000000 --hashes" "update --hashes --external" "extract --part 0" "extract --part 1" \
             "extract --image kernel-1" "extract --image none" "extract --config conf-1" "extract --config conf-1 --key fdt" \
             "extract --config none" "extract --default" "extract --default --key ramdisk" "extract --default --index 1"; do
@@ -165,6 +172,9 @@ for compiler in gcc clang; do
         check "$compiler: numbers out of their ranges, $(basename "$image")" ./calls arguments "$image"
         check "$compiler: four threads, $(basename "$image")" ./calls threads "$image"
     done
+    check "$compiler: what the causes mean is what explain prints" sh -c 'for number in $(seq 26); do
+        ./calls cause --number "$number" && printf ": " && ./calls sentence --number "$number" && echo || exit
+    done > output && "$1" explain | diff output -' sh "$program"
     ./calls version > output
     echo >> output
     check "$compiler: the version is that of the header" cmp output wanted

@@ -153,7 +153,7 @@ has_stack() {
     [ $? = "$status" ]
 }
 for image in deep.itb "$examples/board.itb" "$kernel"; do
-    for command in list describe verify normalise "normalise --external" "update --hashes --time 1"; do
+    for command in list describe verify scan normalise "normalise --external" "update --hashes --time 1"; do
         check "128 KiB of stack for $command of $(basename "$image")" has_stack 0 $command "$image"
     done
     check "128 KiB of stack for compare of $(basename "$image")" has_stack 1 compare "$image" "$examples/two-parts.uimage"
@@ -183,7 +183,7 @@ for library in libc os; do
 done
 
 # Help.
-for command in normalise list describe compare verify check update extract convert build-legacy build-fit; do
+for command in normalise show list describe compare verify check scan update extract convert build-legacy build-fit; do
     check "help of $command names the default" prints "[default: 2147483647]" 0 "$command" --help
     check "help of $command names the number format" prints "in hexadecimal with 0x" 0 "$command" --help
     check "help of $command has an example" prints "Example: bootimg $command" 0 "$command" --help

@@ -153,8 +153,8 @@ int main(int count, char **words)
 {
     FILE *input = fopen(words[count - 1], "rb");
     size_t size = input ? fread(file, 1, sizeof file, input) : 0;
-    bootimg_answer answer;
-    if (bootimg_list(file, size, BOOTIMG_LIMIT, BOOTIMG_DEPTH, text, sizeof text, &answer) != BOOTIMG_DONE)
+    bootimg_result answer;
+    if (bootimg_list(file, size, BOOTIMG_LIMIT, BOOTIMG_DEPTH, text, sizeof text, &answer) != BOOTIMG_OK)
         return 2;
     return fwrite(text, 1, answer.size, stdout) != answer.size;
 }

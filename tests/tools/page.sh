@@ -84,7 +84,7 @@ try_in_chromium() {
     python3 "$assemble" module page.html module.wasm
     for image in board.itb kernel-padded.uimage; do
         check "Chromium opens the page: $image" opens "$image" "$examples/$image"
-        for command in list verify check describe; do
+        for command in show list verify check describe; do
             check "it shows the output of $command: $image" shows "$image" "$command" "$program" "$command" "$examples/$image"
         done
     done

@@ -49,7 +49,7 @@ def mapped(data, access):
 
 def is_same(kind, buffer, data):
     """Each call does with the buffer what it does with its bytes."""
-    calls = [bootimg.kind, bootimg.normalise, bootimg.listing, bootimg.describe, bootimg.verify, bootimg.check, bootimg.convert]
+    calls = [bootimg.kind, bootimg.normalise, bootimg.listing, bootimg.describe, bootimg.show, bootimg.verify, bootimg.check, bootimg.convert]
     for call in calls:
         check(f"{kind}: {call.__name__}", outcome(call, buffer) == outcome(call, data))
     check(f"{kind}: update", outcome(bootimg.update, buffer, 5, True) == outcome(bootimg.update, data, 5, True))

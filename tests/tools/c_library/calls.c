@@ -23,6 +23,7 @@ struct call {
     uint32_t time;
     int is_quiet;
     int is_json;
+    uint32_t layout;
     /* What is extracted: a part, or by the name of an image, of a configuration or of none. */
     int selection;
     struct memory name;
@@ -32,7 +33,7 @@ struct call {
 
 enum { PART = 1, IMAGE, CONFIG, DEFAULT };
 
-static uint32_t make(const struct call *call, uint8_t *buffer, size_t size, bootimg_answer *answer)
+static uint32_t make(const struct call *call, uint8_t *buffer, size_t size, bootimg_result *answer)
 {
     const uint8_t *one = call->files[0].bytes, *other = call->files[1].bytes;
     size_t one_size = call->files[0].size, other_size = call->files[1].size;
@@ -45,6 +46,8 @@ static uint32_t make(const struct call *call, uint8_t *buffer, size_t size, boot
         return (call->is_json ? bootimg_list_json : bootimg_list)(one, one_size, limit, depth, buffer, size, answer);
     if (strcmp(call->command, "describe") == 0)
         return (call->is_json ? bootimg_describe_json : bootimg_describe)(one, one_size, limit, depth, buffer, size, answer);
+    if (strcmp(call->command, "show") == 0)
+        return bootimg_show(one, one_size, call->layout, limit, depth, buffer, size, answer);
     if (strcmp(call->command, "verify") == 0)
         return (call->is_json ? bootimg_verify_json : bootimg_verify)(one, one_size, limit, depth, buffer, size, answer);
     if (strcmp(call->command, "check") == 0)
@@ -56,15 +59,17 @@ static uint32_t make(const struct call *call, uint8_t *buffer, size_t size, boot
                                                                         answer);
     if (strcmp(call->command, "cause") == 0)
         return bootimg_cause_name(call->number, buffer, size, answer);
+    if (strcmp(call->command, "sentence") == 0)
+        return bootimg_explain(call->number, buffer, size, answer);
     CHECK(strcmp(call->command, "version") == 0);
     return bootimg_version(buffer, size, answer);
 }
 
 /* Calls with a buffer of this size whose bytes are 0xa5. The struct has no zeros, and nothing after it is written. */
-static uint32_t make_with(const struct call *call, struct memory *buffer, size_t size, bootimg_answer *answer)
+static uint32_t make_with(const struct call *call, struct memory *buffer, size_t size, bootimg_result *answer)
 {
     struct {
-        bootimg_answer answer;
+        bootimg_result answer;
         uint64_t after;
     } room;
     uint32_t status;
@@ -86,11 +91,11 @@ static int is_unchanged(const uint8_t *bytes, size_t size)
 }
 
 /* The refused file as the program names it, and why it is refused. */
-static void tell(const struct call *call, const bootimg_answer *answer)
+static void tell(const struct call *call, const bootimg_result *answer)
 {
     uint8_t name[64];
-    bootimg_answer named;
-    CHECK(bootimg_cause_name(answer->cause, name, sizeof name, &named) == BOOTIMG_DONE);
+    bootimg_result named;
+    CHECK(bootimg_cause_name(answer->cause, name, sizeof name, &named) == BOOTIMG_OK);
     CHECK(answer->file == 1 || answer->file == 2);
     if (!call->is_quiet)
         fprintf(stderr, "bootimg: %s: %.*s at %u\n", call->paths[answer->file - 1], (int)named.size, name, (unsigned)answer->offset);
@@ -100,11 +105,12 @@ static void tell(const struct call *call, const bootimg_answer *answer)
 static int run(const struct call *call, FILE *output)
 {
     struct memory buffer, exact;
-    bootimg_answer answer, again;
+    bootimg_result answer, again;
     uint32_t status = make_with(call, &buffer, 0, &answer);
     give_back(buffer);
     CHECK(answer.reason == 0);
-    if (status != BOOTIMG_DONE && status != BOOTIMG_NO_ROOM) {
+    CHECK(make(call, NULL, 0, &again) == status && memcmp(&answer, &again, sizeof answer) == 0);
+    if (status != BOOTIMG_OK && status != BOOTIMG_NO_ROOM) {
         CHECK(answer.size == 0 && answer.value == 0);
         CHECK(make_with(call, &buffer, 100, &again) == status);
         CHECK(memcmp(&answer, &again, sizeof answer) == 0);
@@ -116,11 +122,11 @@ static int run(const struct call *call, FILE *output)
             CHECK(answer.cause == 0 && answer.offset == 0 && answer.file == 0);
         return status == BOOTIMG_REFUSED ? 2 : 10 + (int)status;
     }
-    CHECK(status == (answer.size == 0 ? BOOTIMG_DONE : BOOTIMG_NO_ROOM));
+    CHECK(status == (answer.size == 0 ? BOOTIMG_OK : BOOTIMG_NO_ROOM));
     CHECK(answer.cause == 0 && answer.offset == 0 && answer.file == 0);
-    CHECK(make_with(call, &exact, answer.size, &again) == BOOTIMG_DONE);
+    CHECK(make_with(call, &exact, answer.size, &again) == BOOTIMG_OK);
     CHECK(memcmp(&answer, &again, sizeof answer) == 0);
-    CHECK(make_with(call, &buffer, answer.size + 9, &again) == BOOTIMG_DONE);
+    CHECK(make_with(call, &buffer, answer.size + 9, &again) == BOOTIMG_OK);
     CHECK(memcmp(&answer, &again, sizeof answer) == 0);
     CHECK(memcmp(buffer.bytes, exact.bytes, answer.size) == 0 && is_unchanged(buffer.bytes + answer.size, 9));
     give_back(buffer);
@@ -136,7 +142,7 @@ static int run(const struct call *call, FILE *output)
         fprintf(stderr, "bootimg: note: %zu signature nodes carried, not checked\n", answer.value);
     if (strcmp(call->command, "compare") == 0) {
         CHECK(bootimg_same_meaning(call->files[0].bytes, call->files[0].size, call->files[1].bytes, call->files[1].size,
-                                   call->limit, BOOTIMG_DEPTH, &again) == BOOTIMG_DONE);
+                                   call->limit, BOOTIMG_DEPTH, &again) == BOOTIMG_OK);
         CHECK(again.value == answer.value && again.size == 0);
     }
     if (strcmp(call->command, "verify") == 0 || strcmp(call->command, "check") == 0 || strcmp(call->command, "compare") == 0)
@@ -144,7 +150,7 @@ static int run(const struct call *call, FILE *output)
     return 0;
 }
 
-static uint32_t make_extract(const struct call *call, bootimg_answer *answer)
+static uint32_t make_extract(const struct call *call, bootimg_result *answer)
 {
     const uint8_t *file = call->files[0].bytes, *name = call->name.bytes;
     size_t size = call->files[0].size, name_size = call->name.size;
@@ -170,10 +176,10 @@ static int extract(const struct call *call, FILE *output)
         "no such key", "bad list", "missing image", "no such entry", "no payload",
     };
     struct {
-        bootimg_answer answer;
+        bootimg_result answer;
         uint64_t after;
     } room;
-    const bootimg_answer *answer = &room.answer;
+    const bootimg_result *answer = &room.answer;
     uint32_t status;
     memset(&room, 0xc3, sizeof room);
     status = make_extract(call, &room.answer);
@@ -196,7 +202,7 @@ static int extract(const struct call *call, FILE *output)
         return 2;
     }
     CHECK(answer->reason == 0);
-    if (status != BOOTIMG_DONE)
+    if (status != BOOTIMG_OK)
         return 10 + (int)status;
     CHECK(answer->value <= call->files[0].size && answer->size <= call->files[0].size - answer->value);
     CHECK(fwrite(call->files[0].bytes + answer->value, 1, answer->size, output) == answer->size);
@@ -209,7 +215,7 @@ static const struct {
     int is_json;
 } of_one[] = {
     {"normalise", 0}, {"update", 0}, {"convert", 0}, {"list", 0}, {"list", 1}, {"describe", 0}, {"describe", 1}, {"verify", 0},
-    {"verify", 1}, {"check", 0}, {"check", 1},
+    {"verify", 1}, {"check", 0}, {"check", 1}, {"show", 0},
 };
 
 enum { CALLS_OF_ONE = sizeof of_one / sizeof of_one[0] };
@@ -218,7 +224,7 @@ enum { CALLS_OF_ONE = sizeof of_one / sizeof of_one[0] };
 static int try_arguments(struct call *call)
 {
     static const uint32_t limits[] = {0, 63, 0x80000000u, 0xffffffffu}, depths[] = {0, 65, 257, 0xffffffffu};
-    bootimg_answer answer;
+    bootimg_result answer;
     uint8_t byte = 0xa5;
     for (int i = 0; i < 4; i++) {
         struct call wrong = *call;
@@ -244,6 +250,8 @@ static int try_arguments(struct call *call)
           BOOTIMG_WRONG_ARGUMENT);
     CHECK(bootimg_update(call->files[0].bytes, call->files[0].size, 0, 0, 2, call->limit, 64, &byte, 1, &answer) ==
           BOOTIMG_WRONG_ARGUMENT);
+    CHECK(bootimg_show(call->files[0].bytes, call->files[0].size, 2, call->limit, 64, &byte, 1, &answer) ==
+          BOOTIMG_WRONG_ARGUMENT);
     for (int selection = PART; selection <= DEFAULT; selection++) {
         struct call wrong = *call;
         wrong.selection = selection;
@@ -258,8 +266,48 @@ static int try_arguments(struct call *call)
     }
     CHECK(bootimg_cause_name(0, &byte, 1, &answer) == BOOTIMG_WRONG_ARGUMENT);
     CHECK(bootimg_cause_name(27, &byte, 1, &answer) == BOOTIMG_WRONG_ARGUMENT);
+    CHECK(bootimg_explain(0, &byte, 1, &answer) == BOOTIMG_WRONG_ARGUMENT);
+    CHECK(bootimg_explain(27, &byte, 1, &answer) == BOOTIMG_WRONG_ARGUMENT);
     CHECK(byte == 0xa5);
     return 0;
+}
+
+/* A file or a name of no bytes may be at a null pointer. */
+static void try_null(const struct call *call)
+{
+    const struct memory null = {.bytes = NULL, .size = 0};
+    struct memory none = take(0);
+    bootimg_result answer, again;
+    for (int i = 0; i < CALLS_OF_ONE; i++) {
+        struct call one = *call, other = *call;
+        one.command = other.command = of_one[i].command;
+        one.is_json = other.is_json = of_one[i].is_json;
+        one.files[0] = none;
+        other.files[0] = null;
+        CHECK(make(&one, NULL, 0, &answer) == BOOTIMG_REFUSED && make(&other, NULL, 0, &again) == BOOTIMG_REFUSED);
+        CHECK(memcmp(&answer, &again, sizeof answer) == 0 && answer.cause == BOOTIMG_CAUSE_TRUNCATED && answer.file == 1);
+    }
+    for (int i = 0; i < 2; i++) {
+        struct call one = *call, other = *call;
+        one.command = other.command = "compare";
+        one.files[0] = one.files[1] = other.files[0] = other.files[1] = call->files[0];
+        one.files[i] = none;
+        other.files[i] = null;
+        CHECK(make(&one, NULL, 0, &answer) == make(&other, NULL, 0, &again) && memcmp(&answer, &again, sizeof answer) == 0);
+    }
+    for (int selection = PART; selection <= DEFAULT; selection++) {
+        struct call one = *call, other = *call;
+        one.selection = other.selection = selection;
+        one.name = none;
+        other.name = null;
+        CHECK(make_extract(&one, &answer) == make_extract(&other, &again) && memcmp(&answer, &again, sizeof answer) == 0);
+        other.files[0] = null;
+        CHECK(make_extract(&other, &again) == BOOTIMG_REFUSED);
+    }
+    CHECK(bootimg_kind(NULL, 0, &answer) == BOOTIMG_REFUSED && answer.cause == BOOTIMG_CAUSE_TRUNCATED);
+    CHECK(bootimg_version(NULL, 0, &answer) == BOOTIMG_NO_ROOM && answer.size != 0);
+    CHECK(bootimg_cause_name(BOOTIMG_CAUSE_UNSUPPORTED, NULL, 0, &answer) == BOOTIMG_NO_ROOM && answer.size == 11);
+    give_back(none);
 }
 
 /* Writes what all calls on one file write. */
@@ -344,6 +392,8 @@ int main(int count, char **words)
             call.form = BOOTIMG_EXTERNAL;
         } else if (strcmp(words[i], "--json") == 0) {
             call.is_json = 1;
+        } else if (strcmp(words[i], "--layout") == 0) {
+            call.layout = 1;
         } else if (strcmp(words[i], "--limit") == 0) {
             call.limit = (uint32_t)strtoul(words[++i], NULL, 10);
         } else if (strcmp(words[i], "--kinds") == 0) {
@@ -376,7 +426,7 @@ int main(int count, char **words)
         }
     }
     if (strcmp(call.command, "kind") == 0) {
-        bootimg_answer answer;
+        bootimg_result answer;
         uint32_t kind = bootimg_kind(call.files[0].bytes, call.files[0].size, &answer);
         status = kind == BOOTIMG_REFUSED ? 2 : 0;
         if (kind == BOOTIMG_REFUSED)
@@ -384,13 +434,14 @@ int main(int count, char **words)
         else
             printf("kind %s\n", answer.value == BOOTIMG_LEGACY ? "legacy" : "fit");
     } else if (strcmp(call.command, "arguments") == 0) {
+        try_null(&call);
         status = try_arguments(&call);
     } else if (strcmp(call.command, "threads") == 0) {
         status = try_threads(&call);
     } else if (strcmp(call.command, "sizes") == 0) {
-        printf("%zu %zu %zu %zu %zu %zu %zu\n", sizeof(bootimg_answer), offsetof(bootimg_answer, size),
-               offsetof(bootimg_answer, value), offsetof(bootimg_answer, cause), offsetof(bootimg_answer, offset),
-               offsetof(bootimg_answer, file), offsetof(bootimg_answer, reason));
+        printf("%zu %zu %zu %zu %zu %zu %zu\n", sizeof(bootimg_result), offsetof(bootimg_result, size),
+               offsetof(bootimg_result, value), offsetof(bootimg_result, cause), offsetof(bootimg_result, offset),
+               offsetof(bootimg_result, file), offsetof(bootimg_result, reason));
         status = 0;
     } else if (strcmp(call.command, "extract") == 0) {
         status = extract(&call, stdout);

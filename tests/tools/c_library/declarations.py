@@ -12,17 +12,23 @@ import sys
 from pathlib import Path
 
 # The numbers and the structs of the source in C.
-NUMBERS = {"u8": "uint8_t", "u32": "uint32_t", "usize": "size_t"}
+NUMBERS = {"u8": "uint8_t", "u32": "uint32_t", "u64": "uint64_t", "usize": "size_t"}
 STRUCTS = {
-    "Answer": "bootimg_answer",
+    "Answer": "bootimg_result",
     "Region": "bootimg_region",
+    "FitFields": "bootimg_fit_fields",
     "LegacyFields": "bootimg_legacy_fields",
+    "ReservationElement": "bootimg_reservation",
     "ImageElement": "bootimg_image",
+    "PropertyElement": "bootimg_property",
+    "HashElement": "bootimg_hash",
+    "BuildElement": "bootimg_build_image",
 }
 # What a parameter of the source is in C.
 TYPES = {"Global": [], "&[u8]": ["const uint8_t *", "size_t"]}
 for name, in_c in (NUMBERS | STRUCTS).items():
     TYPES |= {name: [in_c], f"&mut {name}": [f"{in_c} *"], f"&mut [{name}]": [f"{in_c} *", "size_t"]}
+    TYPES |= {f"&{name}": [f"const {in_c} *"], f"&[{name}]": [f"const {in_c} *", "size_t"]}
 
 sources = {path.name: path.read_text(encoding="utf-8") for path in sorted(Path(sys.argv[1]).glob("*.rt"))}
 lines = ["#include <bootimg.h>", "#include <stddef.h>"]
@@ -57,7 +63,7 @@ for source in sources.values():
         ]
 
 # The structs have the layout of C: each field is at the next multiple of its size, or of that of a size_t if it is a struct. Each struct
-# has a size_t.
+# is as long as some size_t.
 found = {}
 for source in sources.values():
     found |= dict(re.findall(r"#\[repr\(C\)\]\n[^{]*?pub struct (\w+) \{(.*?)\n\}", source, re.S))
@@ -79,17 +85,24 @@ FOUND = [
     ("", "answer.rt", r"const (?P<name>[A-Z_]+): u32 = (?P<number>\d+);"),
     ("", "kind.rt", r"Ok\(Kind::(?P<name>\w+)\) => succeed\(0, (?P<number>\d+), answer\)"),
     ("", "arguments.rt", r"(?P<number>\d+) => Some\((?:Form|Key)::(?P<name>\w+)\)"),
-    ("", "extract.rt", r"Error::(?:Config\(ConfigError::)?(?P<name>\w+)[()a-z]* => Failure::NotFound\((?P<number>\d+), "),
+    ("", "extract.rt", r"ExtractError::(?P<name>\w+) => Failure::NotFound\((?P<number>\d+), "),
+    ("", "failure.rt", r"const (?P<name>[A-Z_]+): u32 = (?P<number>\d+);"),
+    ("", "failure.rt", r"ConfigError::(?P<name>\w+)[()a-z]* => Failure::NotFound\((?P<number>\d+), "),
     ("PLACE_", "images.rt", r"Place::(?P<name>\w+)(?:\(offset\))? => \((?:0|offset as usize), (?P<number>\d+)\)"),
+    ("CAUSE_", "causes.rt", r"(?P<number>\d+) => Some\(Cause::(?P<name>\w+)\)"),
+    ("VERDICT_", "verdicts.rt", r"Verdict::(?P<name>\w+) => (?P<number>\d+),"),
+    ("HAS_", "fit_building.rt", r"(?P<name>load|entry): address_if\(has_bit\((?P<number>\d+), image.addresses\)"),
     ("CHANGE_", "update.rt", r"let new_(?P<name>time) = if has_bit\((?P<number>\d+), changes\)"),
     ("CHANGE_", "update.rt", r"(?P<name>hashes): has_bit\((?P<number>\d+), changes\)"),
     ("ALLOW_", "check.rt", r"(?P<name>\w+): has_bit\((?P<number>\d+), kinds\)"),
 ]
+# What has another name in the header.
+RENAMED = {"DONE": "OK", "UNKNOWN_ALGO": "UNKNOWN_ALGORITHM"}
 numbers = {}
 for prefix, file, pattern in FOUND:
     for found in re.finditer(pattern, sources[file]):
         in_header = re.sub(r"(?<=[a-z])(?=[A-Z])", "_", found["name"]).upper()
-        numbers[f"BOOTIMG_{prefix}{in_header}"] = int(found["number"])
+        numbers[f"BOOTIMG_{prefix}{RENAMED.get(in_header, in_header)}"] = int(found["number"])
 most = re.search(r"\(64\.\.=(\w+)\).*\(1\.\.=(\d+)\)", (Path(sys.argv[1]) / "../../bi_base/src/limits.rt").read_text(encoding="utf-8"))
 numbers |= {"BOOTIMG_LIMIT": int(most[1].replace("_", ""), 0), "BOOTIMG_DEPTH": int(most[2])}
 for name, number in numbers.items():
@@ -99,7 +112,7 @@ print("\n".join(lines))
 for name in sorted({*declared, *exported}):
     if declared.get(name) != exported.get(name):
         sys.exit(f"{name}: the header has {declared.get(name)}, and the source {exported.get(name)}")
-constants = {*re.findall(r"^#define (BOOTIMG_\w+) ", header, re.M)} - {"BOOTIMG_VERSION"}
+constants = {*re.findall(r"^(?:#define|   ) (BOOTIMG_\w+) (?:= )?\w+,?$", header, re.M)} - {"BOOTIMG_DONE"}
 if constants != {*numbers}:
     sys.exit(f"the header and the source differ in {constants ^ {*numbers}}")
 version = re.search(r'VERSION: &str = "(.*)"', sources["causes.rt"])[1]
@@ -123,6 +136,7 @@ def placed(words, prefix, number_of_place):
 
 in_module = placed(module["CONCERNS"], "ALLOW_", lambda place: 1 << place)
 in_module |= placed(module["KEYS"], "", lambda place: place) | placed(module["statuses"], "", lambda place: place)
+in_module |= placed(module["VERDICTS"], "VERDICT_", lambda place: place)
 in_module |= {"BOOTIMG_LIMIT": module["LIMIT"], "BOOTIMG_DEPTH": module["DEPTH"], "BOOTIMG_MISSING": module["_MISSING"]}
 for name, number in in_module.items():
     if numbers.get(name) != number:

@@ -45,7 +45,7 @@ static void give_back(struct memory memory)
 }
 
 /* The bytes of a file, which may not be changed. */
-static struct memory read_file(const char *path)
+static __attribute__((unused)) struct memory read_file(const char *path)
 {
     struct stat status;
     struct memory memory;

@@ -30,7 +30,7 @@ static uint8_t file[1 << 20];
 static uint8_t text[1 << 21] __attribute__((aligned(16))), wanted[1 << 21] __attribute__((aligned(16)));
 static size_t size;
 
-static uint32_t make(int call, uint8_t *buffer, bootimg_answer *answer)
+static uint32_t make(int call, uint8_t *buffer, bootimg_result *answer)
 {
     const uint8_t *name = (const uint8_t *)"conf-1";
     switch (call) {
@@ -54,15 +54,31 @@ static uint32_t make(int call, uint8_t *buffer, bootimg_answer *answer)
     case 17: return bootimg_describe_json(file, size, BOOTIMG_LIMIT, 64, buffer, sizeof text, answer);
     case 18: return bootimg_compare_json(file, size, file, size - 1, BOOTIMG_LIMIT, 64, buffer, sizeof text, answer);
     case 19: return bootimg_parts(file, size, BOOTIMG_LIMIT, 64, (void *)buffer, 100, answer);
-    default: return bootimg_images(file, size, BOOTIMG_LIMIT, 64, (void *)buffer, 100, answer);
+    case 20: return bootimg_images(file, size, BOOTIMG_LIMIT, 64, (void *)buffer, 100, answer);
+    case 21: return bootimg_fit(file, size, BOOTIMG_LIMIT, 64, (void *)buffer, answer);
+    case 22: return bootimg_reservations(file, size, BOOTIMG_LIMIT, 64, (void *)buffer, 100, answer);
+    case 23: return bootimg_configurations(file, size, BOOTIMG_LIMIT, 64, (void *)buffer, 100, answer);
+    case 24: return bootimg_children(file, size, (const uint8_t *)"/images", 7, BOOTIMG_LIMIT, 64, (void *)buffer, 100, answer);
+    case 25: return bootimg_properties(file, size, (const uint8_t *)"/images", 7, BOOTIMG_LIMIT, 64, (void *)buffer, 100, answer);
+    case 26: return bootimg_property_value(file, size, (const uint8_t *)"/", 1, name, 6, BOOTIMG_LIMIT, 64, answer);
+    case 27: return bootimg_show(file, size, 1, BOOTIMG_LIMIT, 64, buffer, sizeof text, answer);
+    case 28: return bootimg_verdicts(file, size, BOOTIMG_LIMIT, 64, (void *)buffer, 100, answer);
+    case 29:
+        return bootimg_build_legacy(file, size, &(bootimg_legacy_fields){.name = {0, 4}, .image_type = 2},
+                                    &(bootimg_region){0, size}, 1, BOOTIMG_LIMIT, 64, buffer, sizeof text, answer);
+    case 30:
+        return bootimg_build_fit(file, size, name, 6, 7,
+                                 &(bootimg_build_image){.name = {0, 1}, .payload = {0, size}, .os = 5, .arch = 22, .image_type = 2}, 1,
+                                 BOOTIMG_EMBEDDED, BOOTIMG_LIMIT, 64, buffer, sizeof text, answer);
+    default: return bootimg_listed(file, size, name, 6, BOOTIMG_KERNEL, BOOTIMG_LIMIT, 64, (void *)buffer, 100, answer);
     }
 }
 
 /* Makes a call with the allocation of this number failing, and returns whether it got that far. */
-static int fails(int call, long number, uint32_t status, const bootimg_answer *expected)
+static int fails(int call, long number, uint32_t status, const bootimg_result *expected)
 {
-    static const bootimg_answer none;
-    bootimg_answer answer;
+    static const bootimg_result none;
+    bootimg_result answer;
     uint32_t got;
     memset(text, 0xa5, sizeof text);
     memset(&answer, 0xc3, sizeof answer);
@@ -89,8 +105,8 @@ int main(int count, char **words)
     size = input == NULL ? 0 : fread(file, 1, sizeof file, input);
     if (size == 0)
         return 2;
-    for (int call = 0; call <= 20; call++) {
-        bootimg_answer expected;
+    for (int call = 0; call <= 31; call++) {
+        bootimg_result expected;
         uint32_t status;
         memset(wanted, 0xa5, sizeof wanted);
         status = make(call, wanted, &expected);

@@ -11,30 +11,57 @@
 #include <pthread.h>
 
 /* The calls with an array. */
-enum { PARTS, IMAGES, ARRAYS };
+enum { PARTS, IMAGES, RESERVATIONS, CONFIGURATIONS, VERDICTS, LISTED, CHILDREN, PROPERTIES, ARRAYS };
 
-static const size_t element_sizes[ARRAYS] = {sizeof(bootimg_region), sizeof(bootimg_image)};
+static const size_t element_sizes[ARRAYS] = {
+    sizeof(bootimg_region), sizeof(bootimg_image), sizeof(bootimg_reservation), sizeof(bootimg_region),
+    sizeof(bootimg_hash),   sizeof(size_t),        sizeof(bootimg_region),      sizeof(bootimg_property),
+};
 
-static uint32_t make(int call, struct memory file, void *array, size_t count, bootimg_answer *answer)
+/* What is called on a file: which call, of LISTED the name and the key, and of CHILDREN and PROPERTIES the path. */
+struct call {
+    int call;
+    struct memory file;
+    struct memory name;
+    uint32_t key;
+};
+
+static uint32_t make(const struct call *call, uint32_t limit, uint32_t depth, void *array, size_t count, bootimg_result *answer)
 {
-    const uint32_t limit = BOOTIMG_LIMIT, depth = BOOTIMG_DEPTH;
-    if (call == PARTS)
-        return bootimg_parts(file.bytes, file.size, limit, depth, array, count, answer);
-    return bootimg_images(file.bytes, file.size, limit, depth, array, count, answer);
+    const uint8_t *file = call->file.bytes;
+    const size_t size = call->file.size;
+    switch (call->call) {
+    case PARTS:
+        return bootimg_parts(file, size, limit, depth, array, count, answer);
+    case IMAGES:
+        return bootimg_images(file, size, limit, depth, array, count, answer);
+    case RESERVATIONS:
+        return bootimg_reservations(file, size, limit, depth, array, count, answer);
+    case CONFIGURATIONS:
+        return bootimg_configurations(file, size, limit, depth, array, count, answer);
+    case VERDICTS:
+        return bootimg_verdicts(file, size, limit, depth, array, count, answer);
+    case LISTED:
+        return bootimg_listed(file, size, call->name.bytes, call->name.size, call->key, limit, depth, array, count, answer);
+    case CHILDREN:
+        return bootimg_children(file, size, call->name.bytes, call->name.size, limit, depth, array, count, answer);
+    default:
+        return bootimg_properties(file, size, call->name.bytes, call->name.size, limit, depth, array, count, answer);
+    }
 }
 
 /* Calls with an array of this many elements, whose bytes are 0xa5. */
-static uint32_t make_with(int call, struct memory file, struct memory *array, size_t count, bootimg_answer *answer)
+static uint32_t make_with(const struct call *call, struct memory *array, size_t count, bootimg_result *answer)
 {
     struct {
-        bootimg_answer answer;
+        bootimg_result answer;
         uint64_t after;
     } room;
     uint32_t status;
-    *array = take(count * element_sizes[call]);
+    *array = take(count * element_sizes[call->call]);
     memset(array->bytes, 0xa5, array->size);
     memset(&room, 0xc3, sizeof room);
-    status = make(call, file, array->bytes, count, &room.answer);
+    status = make(call, BOOTIMG_LIMIT, BOOTIMG_DEPTH, array->bytes, count, &room.answer);
     CHECK(room.after == 0xc3c3c3c3c3c3c3c3u);
     *answer = room.answer;
     return status;
@@ -48,39 +75,47 @@ static int is_unchanged(const uint8_t *bytes, size_t size)
     return 1;
 }
 
-/* Prints why a file is refused. */
-static void print_refusal(FILE *output, const char *what, const bootimg_answer *answer)
+/* Prints why a call failed. */
+static void print_failure(FILE *output, const char *what, uint32_t status, const bootimg_result *answer)
 {
     uint8_t name[64];
-    bootimg_answer named;
-    CHECK(answer->size == 0 && answer->value == 0 && answer->reason == 0 && answer->file == 1);
-    CHECK(bootimg_cause_name(answer->cause, name, sizeof name, &named) == BOOTIMG_DONE);
+    bootimg_result named;
+    CHECK(answer->size == 0);
+    if (status == BOOTIMG_NOT_FOUND) {
+        CHECK(answer->cause == 0 && answer->offset == 0 && answer->file == 0);
+        fprintf(output, "%s: reason %u %zu\n", what, (unsigned)answer->reason, answer->value);
+        return;
+    }
+    CHECK(status == BOOTIMG_REFUSED && answer->value == 0 && answer->reason == 0 && answer->file == 1);
+    CHECK(bootimg_cause_name(answer->cause, name, sizeof name, &named) == BOOTIMG_OK);
     fprintf(output, "%s: %.*s at %u\n", what, (int)named.size, name, (unsigned)answer->offset);
 }
 
-/* Calls with arrays of several sizes, and returns the elements. Their number is in the answer. */
-static struct memory elements_of(int call, struct memory file, const char *what, bootimg_answer *answer, FILE *output)
+/* Calls with arrays of several sizes, and returns the elements, or prints why there are none. */
+static struct memory elements_of(const struct call *call, const char *what, uint32_t *status, bootimg_result *answer, FILE *output)
 {
-    const size_t size = element_sizes[call];
+    const size_t size = element_sizes[call->call];
     struct memory array, exact;
-    bootimg_answer again;
-    uint32_t status = make_with(call, file, &array, 0, answer);
+    bootimg_result again;
+    *status = make_with(call, &array, 0, answer);
     give_back(array);
-    if (status != BOOTIMG_DONE && status != BOOTIMG_NO_ROOM) {
-        CHECK(status == BOOTIMG_REFUSED);
-        CHECK(make_with(call, file, &array, 3, &again) == status && memcmp(answer, &again, sizeof again) == 0);
+    CHECK(make(call, BOOTIMG_LIMIT, BOOTIMG_DEPTH, NULL, 0, &again) == *status && memcmp(answer, &again, sizeof again) == 0);
+    if (*status != BOOTIMG_OK && *status != BOOTIMG_NO_ROOM) {
+        CHECK(make_with(call, &array, 3, &again) == *status && memcmp(answer, &again, sizeof again) == 0);
         CHECK(is_unchanged(array.bytes, array.size));
-        print_refusal(output, what, answer);
+        print_failure(output, what, *status, answer);
         return array;
     }
-    CHECK(status == (answer->size == 0 ? BOOTIMG_DONE : BOOTIMG_NO_ROOM));
+    CHECK(*status == (answer->size == 0 ? BOOTIMG_OK : BOOTIMG_NO_ROOM));
     CHECK(answer->cause == 0 && answer->offset == 0 && answer->file == 0 && answer->reason == 0);
-    CHECK(make_with(call, file, &exact, answer->size, &again) == BOOTIMG_DONE && memcmp(answer, &again, sizeof again) == 0);
-    CHECK(make_with(call, file, &array, answer->size + 2, &again) == BOOTIMG_DONE && memcmp(answer, &again, sizeof again) == 0);
+    *status = make_with(call, &exact, answer->size, &again);
+    CHECK(*status == BOOTIMG_OK && memcmp(answer, &again, sizeof again) == 0);
+    CHECK(make_with(call, &array, answer->size + 2, &again) == BOOTIMG_OK && memcmp(answer, &again, sizeof again) == 0);
+    CHECK(memcmp(array.bytes, exact.bytes, exact.size) == 0 || call->call == IMAGES || call->call == VERDICTS);
     CHECK(is_unchanged(array.bytes + exact.size, 2 * size));
     give_back(array);
     if (answer->size != 0) {
-        CHECK(make_with(call, file, &array, answer->size - 1, &again) == BOOTIMG_NO_ROOM);
+        CHECK(make_with(call, &array, answer->size - 1, &again) == BOOTIMG_NO_ROOM);
         CHECK(memcmp(answer, &again, sizeof again) == 0 && is_unchanged(array.bytes, array.size));
         give_back(array);
     }
@@ -104,17 +139,17 @@ static void print_legacy(FILE *output, struct memory file)
         uint64_t after;
     } room;
     const bootimg_legacy_fields *fields = &room.fields;
-    bootimg_answer answer;
+    bootimg_result answer;
     uint32_t status;
     memset(&room, 0xa5, sizeof room);
     status = bootimg_legacy(file.bytes, file.size, BOOTIMG_LIMIT, BOOTIMG_DEPTH, &room.fields, &answer);
     CHECK(room.after == 0xa5a5a5a5a5a5a5a5u);
-    if (status == BOOTIMG_REFUSED) {
+    if (status != BOOTIMG_OK) {
         CHECK(is_unchanged((const uint8_t *)fields, sizeof *fields));
-        print_refusal(output, "legacy", &answer);
+        print_failure(output, "legacy", status, &answer);
         return;
     }
-    CHECK(status == BOOTIMG_DONE && answer.size == 0 && answer.value == 0 && answer.cause == 0);
+    CHECK(answer.size == 0 && answer.value == 0 && answer.cause == 0);
     fputs("name ", output);
     print_bytes(output, file, fields->name);
     fprintf(output, "\ntime %u\nload %u\nentry %u\n", (unsigned)fields->time, (unsigned)fields->load, (unsigned)fields->entry);
@@ -124,20 +159,153 @@ static void print_legacy(FILE *output, struct memory file)
 
 static void print_parts(FILE *output, struct memory file)
 {
-    bootimg_answer answer;
-    struct memory array = elements_of(PARTS, file, "parts", &answer, output);
+    const struct call call = {.call = PARTS, .file = file};
+    bootimg_result answer;
+    uint32_t status;
+    struct memory array = elements_of(&call, "parts", &status, &answer, output);
     const bootimg_region *parts = (const bootimg_region *)(const void *)array.bytes;
     for (size_t i = 0; i < answer.size; i++)
         fprintf(output, "part %zu %zu\n", parts[i].offset, parts[i].size);
-    if (answer.cause == 0)
+    if (status == BOOTIMG_OK)
         fprintf(output, "unused %zu\n", answer.value);
+    give_back(array);
+}
+
+/* What is read of a legacy image builds its normal form, with buffers of several sizes. A region outside the input is no piece of it. */
+static void build_again(struct memory file)
+{
+    const struct call call = {.call = PARTS, .file = file};
+    bootimg_legacy_fields fields;
+    bootimg_result answer, built;
+    struct memory array, text, normal;
+    bootimg_region *parts;
+    size_t count;
+    if (bootimg_legacy(file.bytes, file.size, BOOTIMG_LIMIT, BOOTIMG_DEPTH, &fields, &answer) != BOOTIMG_OK)
+        return;
+    bootimg_parts(file.bytes, file.size, BOOTIMG_LIMIT, BOOTIMG_DEPTH, NULL, 0, &answer);
+    count = answer.size;
+    CHECK(make_with(&call, &array, count, &answer) == BOOTIMG_OK);
+    parts = (bootimg_region *)(void *)array.bytes;
+    bootimg_normalise(file.bytes, file.size, BOOTIMG_EMBEDDED, BOOTIMG_LIMIT, BOOTIMG_DEPTH, NULL, 0, &answer);
+    text = take(answer.size);
+    normal = take(answer.size);
+    CHECK(bootimg_normalise(file.bytes, file.size, BOOTIMG_EMBEDDED, BOOTIMG_LIMIT, BOOTIMG_DEPTH, normal.bytes, normal.size, &answer) ==
+          BOOTIMG_OK);
+    memset(text.bytes, 0xa5, text.size);
+    CHECK(bootimg_build_legacy(file.bytes, file.size, &fields, parts, count, BOOTIMG_LIMIT, BOOTIMG_DEPTH, text.bytes, text.size - 1,
+                               &built) == BOOTIMG_NO_ROOM);
+    CHECK(memcmp(&built, &answer, sizeof built) == 0 && is_unchanged(text.bytes, text.size));
+    CHECK(bootimg_build_legacy(file.bytes, file.size, &fields, parts, count, BOOTIMG_LIMIT, BOOTIMG_DEPTH, text.bytes, text.size,
+                               &built) == BOOTIMG_OK);
+    CHECK(memcmp(&built, &answer, sizeof built) == 0 && memcmp(text.bytes, normal.bytes, text.size) == 0);
+    fields.name.offset = file.size - fields.name.size + 1;
+    CHECK(bootimg_build_legacy(file.bytes, file.size, &fields, parts, count, BOOTIMG_LIMIT, BOOTIMG_DEPTH, text.bytes, text.size,
+                               &built) == BOOTIMG_WRONG_ARGUMENT);
+    fields.name.offset = fields.name.size = 0;
+    CHECK(bootimg_build_legacy(file.bytes, file.size, &fields, NULL, 0, BOOTIMG_LIMIT, BOOTIMG_DEPTH, NULL, 0, &built) ==
+          (fields.image_type == 4 || fields.image_type == 6 ? BOOTIMG_NO_ROOM : BOOTIMG_REFUSED));
+    if (count != 0) {
+        parts[count - 1].size = SIZE_MAX;
+        CHECK(bootimg_build_legacy(file.bytes, file.size, &fields, parts, count, BOOTIMG_LIMIT, BOOTIMG_DEPTH, text.bytes, text.size,
+                                   &built) == BOOTIMG_WRONG_ARGUMENT);
+        CHECK(built.size == 0 && memcmp(text.bytes, normal.bytes, text.size) == 0);
+    }
+    give_back(array);
+    give_back(text);
+    give_back(normal);
+}
+
+/* A FIT is built of two images, whose payloads are the file and a part of it, with buffers of several sizes. What is read of it is that. */
+static void build_tree(struct memory file, uint32_t form)
+{
+    static const uint8_t names[] = "kernelfdt", description[] = "two";
+    struct memory input = take(file.size + 9), text;
+    bootimg_build_image images[] = {
+        {.name = {file.size, 6}, .payload = {0, file.size}, .load = 1, .entry = 2, .addresses = BOOTIMG_HAS_ENTRY, .os = 5, .arch = 22,
+         .image_type = 2},
+        {.name = {file.size + 6, 3}, .payload = {file.size / 2, file.size - file.size / 2}, .os = 5, .arch = 22, .image_type = 8},
+    };
+    bootimg_image read[2];
+    bootimg_result answer, again;
+    memcpy(input.bytes, file.bytes, file.size);
+    memcpy(input.bytes + file.size, names, 9);
+    CHECK(bootimg_build_fit(input.bytes, input.size, description, 3, 7, images, 2, form, BOOTIMG_LIMIT, BOOTIMG_DEPTH, NULL, 0,
+                            &answer) == BOOTIMG_NO_ROOM);
+    text = take(answer.size);
+    memset(text.bytes, 0xa5, text.size);
+    CHECK(bootimg_build_fit(input.bytes, input.size, description, 3, 7, images, 2, form, BOOTIMG_LIMIT, BOOTIMG_DEPTH, text.bytes,
+                            text.size - 1, &again) == BOOTIMG_NO_ROOM && is_unchanged(text.bytes, text.size));
+    CHECK(bootimg_build_fit(input.bytes, input.size, description, 3, 7, images, 2, form, BOOTIMG_LIMIT, BOOTIMG_DEPTH, text.bytes,
+                            text.size, &again) == BOOTIMG_OK && memcmp(&answer, &again, sizeof again) == 0);
+    CHECK(bootimg_images(text.bytes, text.size, BOOTIMG_LIMIT, BOOTIMG_DEPTH, read, 2, &again) == BOOTIMG_OK && again.size == 2);
+    for (int i = 0; i < 2; i++) {
+        CHECK(read[i].place == (form == BOOTIMG_EXTERNAL ? BOOTIMG_PLACE_DATA_OFFSET : BOOTIMG_PLACE_DATA));
+        CHECK(read[i].name.size == images[i].name.size && read[i].payload.size == images[i].payload.size);
+        CHECK(memcmp(text.bytes + read[i].name.offset, input.bytes + images[i].name.offset, read[i].name.size) == 0);
+        CHECK(memcmp(text.bytes + read[i].payload.offset, input.bytes + images[i].payload.offset, read[i].payload.size) == 0);
+    }
+    CHECK(bootimg_verify(text.bytes, text.size, BOOTIMG_LIMIT, BOOTIMG_DEPTH, NULL, 0, &again) == BOOTIMG_NO_ROOM && again.value == 1);
+    CHECK(bootimg_verdicts(text.bytes, text.size, BOOTIMG_LIMIT, BOOTIMG_DEPTH, NULL, 0, &again) == BOOTIMG_NO_ROOM && again.size == 2);
+    CHECK(bootimg_property_value(text.bytes, text.size, (const uint8_t *)"/images/kernel", 14, (const uint8_t *)"load", 4, BOOTIMG_LIMIT,
+                                 BOOTIMG_DEPTH, &again) == BOOTIMG_NOT_FOUND && again.reason == BOOTIMG_NO_PROPERTY);
+    CHECK(bootimg_property_value(text.bytes, text.size, (const uint8_t *)"/images/kernel", 14, (const uint8_t *)"entry", 5, BOOTIMG_LIMIT,
+                                 BOOTIMG_DEPTH, &again) == BOOTIMG_OK && again.size == 4 && text.bytes[again.value + 3] == 2);
+    CHECK(bootimg_extract_default(text.bytes, text.size, BOOTIMG_FDT, 0, BOOTIMG_LIMIT, BOOTIMG_DEPTH, &again) == BOOTIMG_OK);
+    CHECK(again.value == read[1].payload.offset && again.size == read[1].payload.size);
+    images[1].name = images[0].name;
+    CHECK(bootimg_build_fit(input.bytes, input.size, NULL, 0, 7, images, 2, form, BOOTIMG_LIMIT, BOOTIMG_DEPTH, NULL, 0,
+                            &again) == BOOTIMG_REFUSED && again.cause == BOOTIMG_CAUSE_DUPLICATE_NODE && again.offset == 1);
+    images[1].addresses = 4;
+    CHECK(bootimg_build_fit(input.bytes, input.size, NULL, 0, 7, images, 2, form, BOOTIMG_LIMIT, BOOTIMG_DEPTH, NULL, 0,
+                            &again) == BOOTIMG_WRONG_ARGUMENT);
+    images[0].payload.size++;
+    images[0].payload.offset = 9;
+    CHECK(bootimg_build_fit(input.bytes, input.size, NULL, 0, 7, images, 1, form, BOOTIMG_LIMIT, BOOTIMG_DEPTH, NULL, 0,
+                            &again) == BOOTIMG_WRONG_ARGUMENT);
+    CHECK(bootimg_build_fit(NULL, 0, NULL, 0, 7, NULL, 0, 2, BOOTIMG_LIMIT, BOOTIMG_DEPTH, NULL, 0, &again) == BOOTIMG_WRONG_ARGUMENT);
+    CHECK(bootimg_build_fit(NULL, 0, NULL, 0, 7, NULL, 0, form, BOOTIMG_LIMIT, BOOTIMG_DEPTH, NULL, 0, &again) == BOOTIMG_NO_ROOM);
+    give_back(input);
+    give_back(text);
+}
+
+static void print_fit(FILE *output, struct memory file)
+{
+    struct {
+        bootimg_fit_fields fields;
+        uint64_t after;
+    } room;
+    bootimg_result answer;
+    uint32_t status;
+    memset(&room, 0xa5, sizeof room);
+    status = bootimg_fit(file.bytes, file.size, BOOTIMG_LIMIT, BOOTIMG_DEPTH, &room.fields, &answer);
+    CHECK(room.after == 0xa5a5a5a5a5a5a5a5u);
+    if (status != BOOTIMG_OK) {
+        CHECK(is_unchanged((const uint8_t *)&room.fields, sizeof room.fields));
+        print_failure(output, "fit", status, &answer);
+        return;
+    }
+    CHECK(answer.size == 0 && answer.value == 0 && answer.cause == 0);
+    fprintf(output, "boot-cpu %u\ntotal-size %u\n", (unsigned)room.fields.boot_cpu, (unsigned)room.fields.total_size);
+}
+
+static void print_reservations(FILE *output, struct memory file)
+{
+    const struct call call = {.call = RESERVATIONS, .file = file};
+    bootimg_result answer;
+    uint32_t status;
+    struct memory array = elements_of(&call, "reservations", &status, &answer, output);
+    const bootimg_reservation *reservations = (const bootimg_reservation *)(const void *)array.bytes;
+    for (size_t i = 0; i < answer.size; i++)
+        fprintf(output, "reservation %llu %llu\n", (unsigned long long)reservations[i].address, (unsigned long long)reservations[i].size);
     give_back(array);
 }
 
 static void print_images(FILE *output, struct memory file)
 {
-    bootimg_answer answer;
-    struct memory array = elements_of(IMAGES, file, "images", &answer, output);
+    const struct call call = {.call = IMAGES, .file = file};
+    bootimg_result answer;
+    uint32_t status;
+    struct memory array = elements_of(&call, "images", &status, &answer, output);
     const bootimg_image *images = (const bootimg_image *)(const void *)array.bytes;
     CHECK(answer.value == 0);
     for (size_t i = 0; i < answer.size; i++) {
@@ -150,23 +318,213 @@ static void print_images(FILE *output, struct memory file)
     give_back(array);
 }
 
+/* Prints the images that a configuration lists under each key that it has. */
+static void print_keys(FILE *output, struct memory file, bootimg_region name)
+{
+    struct call call = {.call = LISTED, .file = file, .name = take(name.size)};
+    memcpy(call.name.bytes, file.bytes + name.offset, name.size);
+    for (call.key = BOOTIMG_KERNEL; call.key <= BOOTIMG_SCRIPT; call.key++) {
+        bootimg_result answer, images;
+        uint32_t status;
+        struct memory array = elements_of(&call, "listed", &status, &answer, output);
+        const size_t *indices = (const size_t *)(const void *)array.bytes;
+        bootimg_images(file.bytes, file.size, BOOTIMG_LIMIT, BOOTIMG_DEPTH, (void *)&status, 0, &images);
+        if (array.size == answer.size * sizeof *indices) {
+            fprintf(output, "key %u", (unsigned)call.key);
+            for (size_t i = 0; i < answer.size; i++) {
+                CHECK(indices[i] < images.size);
+                fprintf(output, " %zu", indices[i]);
+            }
+            fputc('\n', output);
+        }
+        give_back(array);
+    }
+    give_back(call.name);
+}
+
+static void print_configurations(FILE *output, struct memory file)
+{
+    const struct call call = {.call = CONFIGURATIONS, .file = file};
+    bootimg_result answer;
+    uint32_t status;
+    struct memory array = elements_of(&call, "configurations", &status, &answer, output);
+    const bootimg_region *names = (const bootimg_region *)(const void *)array.bytes;
+    for (size_t i = 0; i < answer.size; i++) {
+        fputs("configuration ", output);
+        print_bytes(output, file, names[i]);
+        fputc('\n', output);
+        print_keys(output, file, names[i]);
+    }
+    if (status == BOOTIMG_OK)
+        fprintf(output, "default %zu\n", answer.value);
+    give_back(array);
+}
+
+static void print_verdicts(FILE *output, struct memory file)
+{
+    const struct call call = {.call = VERDICTS, .file = file};
+    bootimg_result answer;
+    uint32_t status;
+    struct memory array = elements_of(&call, "verdicts", &status, &answer, output);
+    const bootimg_hash *hashes = (const bootimg_hash *)(const void *)array.bytes;
+    CHECK(answer.value == 0);
+    for (size_t i = 0; i < answer.size; i++) {
+        const bootimg_region regions[] = {hashes[i].image, hashes[i].node, hashes[i].algorithm, hashes[i].value};
+        fputs("hash", output);
+        for (int j = 0; j < 4; j++) {
+            fputc(' ', output);
+            if (regions[j].offset == 0 && regions[j].size == 0)
+                fputs("none", output);
+            else
+                print_bytes(output, file, regions[j]);
+        }
+        fprintf(output, " %u\n", (unsigned)hashes[i].verdict);
+    }
+    give_back(array);
+}
+
+/* Looks up a property by its path and its name, and one whose name has a byte more. */
+static void look_up(struct memory file, struct memory path, const bootimg_property *property)
+{
+    struct memory name = take(property->name.size), longer = take(property->name.size + 1);
+    bootimg_result answer;
+    memcpy(name.bytes, file.bytes + property->name.offset, name.size);
+    memcpy(longer.bytes, file.bytes + property->name.offset, name.size);
+    longer.bytes[name.size] = 0;
+    CHECK(bootimg_property_value(file.bytes, file.size, path.bytes, path.size, name.bytes, name.size, BOOTIMG_LIMIT, BOOTIMG_DEPTH,
+                                 &answer) == BOOTIMG_OK);
+    CHECK(answer.value == property->value.offset && answer.size == property->value.size);
+    CHECK(answer.cause == 0 && answer.offset == 0 && answer.file == 0 && answer.reason == 0);
+    CHECK(bootimg_property_value(file.bytes, file.size, path.bytes, path.size, longer.bytes, longer.size, BOOTIMG_LIMIT, BOOTIMG_DEPTH,
+                                 &answer) == BOOTIMG_NOT_FOUND);
+    CHECK(answer.reason == BOOTIMG_NO_PROPERTY && answer.value == 0 && answer.size == 0);
+    give_back(name);
+    give_back(longer);
+}
+
+/* No node has a path that is the given one with this text before it and this byte after it. */
+static void has_no_node(struct memory file, const char *before, struct memory path, char after)
+{
+    const size_t more = strlen(before);
+    struct call call = {.file = file, .name = take(more + path.size + 1)};
+    uint8_t element[sizeof(bootimg_property)];
+    bootimg_result answer;
+    memcpy(call.name.bytes, before, more);
+    memcpy(call.name.bytes + more, path.bytes, path.size);
+    call.name.bytes[more + path.size] = (uint8_t)after;
+    memset(element, 0xa5, sizeof element);
+    for (call.call = CHILDREN; call.call <= PROPERTIES; call.call++) {
+        CHECK(make(&call, BOOTIMG_LIMIT, BOOTIMG_DEPTH, element, 1, &answer) == BOOTIMG_NOT_FOUND);
+        CHECK(answer.reason == BOOTIMG_NO_NODE && answer.value == 0 && answer.size == 0 && answer.cause == 0);
+    }
+    CHECK(bootimg_property_value(file.bytes, file.size, call.name.bytes, call.name.size, element, 1, BOOTIMG_LIMIT, BOOTIMG_DEPTH,
+                                 &answer) == BOOTIMG_NOT_FOUND);
+    CHECK(answer.reason == BOOTIMG_NO_NODE && is_unchanged(element, sizeof element));
+    give_back(call.name);
+}
+
+/* Prints the node at a path, and the nodes below it. */
+static void print_node(FILE *output, struct memory file, struct memory path)
+{
+    struct call call = {.call = PROPERTIES, .file = file, .name = path};
+    bootimg_result answer;
+    uint32_t status;
+    struct memory array = elements_of(&call, "properties", &status, &answer, output);
+    const bootimg_property *properties = (const bootimg_property *)(const void *)array.bytes;
+    if (status == BOOTIMG_OK) {
+        fputs("node ", output);
+        print_bytes(output, path, (bootimg_region){0, path.size});
+        fputc('\n', output);
+        has_no_node(file, "", path, '/');
+        has_no_node(file, "/", path, '/');
+    }
+    CHECK(answer.value == 0);
+    for (size_t i = 0; i < answer.size; i++) {
+        fputs("property ", output);
+        print_bytes(output, file, properties[i].name);
+        fputc(' ', output);
+        print_bytes(output, file, properties[i].value);
+        fputc('\n', output);
+        look_up(file, path, &properties[i]);
+    }
+    give_back(array);
+    call.call = CHILDREN;
+    array = elements_of(&call, "children", &status, &answer, output);
+    const bootimg_region *names = (const bootimg_region *)(const void *)array.bytes;
+    for (size_t i = 0; i < answer.size; i++) {
+        const size_t above = path.size == 1 ? 0 : path.size;
+        struct memory child = take(above + 1 + names[i].size);
+        memcpy(child.bytes, path.bytes, above);
+        child.bytes[above] = '/';
+        memcpy(child.bytes + above + 1, file.bytes + names[i].offset, names[i].size);
+        print_node(output, file, child);
+        give_back(child);
+    }
+    give_back(array);
+}
+
+static void print_tree(FILE *output, struct memory file)
+{
+    struct memory root = take(1), none = take(0);
+    bootimg_fit_fields fields;
+    bootimg_result answer;
+    root.bytes[0] = '/';
+    print_node(output, file, root);
+    if (bootimg_fit(file.bytes, file.size, BOOTIMG_LIMIT, BOOTIMG_DEPTH, &fields, &answer) == BOOTIMG_OK)
+        has_no_node(file, "images", none, '/');
+    give_back(root);
+    give_back(none);
+}
+
+/* A file, a name and a path of no bytes may be at a null pointer. */
+static void try_null(struct memory file)
+{
+    const struct memory null = {.bytes = NULL, .size = 0};
+    struct memory none = take(0);
+    bootimg_result answer, again;
+    bootimg_legacy_fields fields;
+    bootimg_fit_fields fit;
+    for (int i = 0; i < ARRAYS; i++) {
+        struct call one = {.call = i, .file = file, .name = none}, other = one;
+        other.name = null;
+        CHECK(make(&one, BOOTIMG_LIMIT, BOOTIMG_DEPTH, NULL, 0, &answer) == make(&other, BOOTIMG_LIMIT, BOOTIMG_DEPTH, NULL, 0, &again));
+        CHECK(memcmp(&answer, &again, sizeof again) == 0);
+        other.file = null;
+        CHECK(make(&other, BOOTIMG_LIMIT, BOOTIMG_DEPTH, NULL, 0, &again) == BOOTIMG_REFUSED);
+        CHECK(again.cause == BOOTIMG_CAUSE_TRUNCATED && again.offset == 0 && again.file == 1);
+    }
+    CHECK(bootimg_legacy(NULL, 0, BOOTIMG_LIMIT, BOOTIMG_DEPTH, &fields, &answer) == BOOTIMG_REFUSED);
+    CHECK(bootimg_fit(NULL, 0, BOOTIMG_LIMIT, BOOTIMG_DEPTH, &fit, &answer) == BOOTIMG_REFUSED);
+    CHECK(bootimg_property_value(NULL, 0, NULL, 0, NULL, 0, BOOTIMG_LIMIT, BOOTIMG_DEPTH, &answer) == BOOTIMG_REFUSED);
+    give_back(none);
+}
+
 /* Numbers out of their ranges leave all as it is. */
 static void try_numbers(struct memory file)
 {
     static const uint32_t limits[] = {0, 63, 0x80000000u}, depths[] = {0, 65, 257};
-    bootimg_answer answer;
+    struct call call = {.file = file, .name = file};
+    bootimg_result answer;
     bootimg_legacy_fields fields;
-    uint8_t element[sizeof(bootimg_image)];
+    bootimg_fit_fields fit;
+    uint8_t element[sizeof(bootimg_hash)];
     memset(element, 0xa5, sizeof element);
     memset(&fields, 0xa5, sizeof fields);
+    memset(&fit, 0xa5, sizeof fit);
     for (int i = 0; i < 6; i++) {
         const uint32_t limit = i < 3 ? limits[i] : BOOTIMG_LIMIT, depth = i < 3 ? BOOTIMG_DEPTH : depths[i - 3];
         CHECK(bootimg_legacy(file.bytes, file.size, limit, depth, &fields, &answer) == BOOTIMG_WRONG_ARGUMENT);
-        CHECK(bootimg_parts(file.bytes, file.size, limit, depth, (void *)element, 1, &answer) == BOOTIMG_WRONG_ARGUMENT);
-        CHECK(bootimg_images(file.bytes, file.size, limit, depth, (void *)element, 1, &answer) == BOOTIMG_WRONG_ARGUMENT);
-        CHECK(answer.size == 0 && answer.value == 0 && answer.cause == 0);
+        CHECK(bootimg_fit(file.bytes, file.size, limit, depth, &fit, &answer) == BOOTIMG_WRONG_ARGUMENT);
+        for (call.call = 0; call.call < ARRAYS; call.call++) {
+            CHECK(make(&call, limit, depth, element, 1, &answer) == BOOTIMG_WRONG_ARGUMENT);
+            CHECK(answer.size == 0 && answer.value == 0 && answer.cause == 0);
+        }
     }
+    call.call = LISTED;
+    call.key = BOOTIMG_SCRIPT + 1;
+    CHECK(make(&call, BOOTIMG_LIMIT, BOOTIMG_DEPTH, element, 1, &answer) == BOOTIMG_WRONG_ARGUMENT);
     CHECK(is_unchanged(element, sizeof element) && is_unchanged((const uint8_t *)&fields, sizeof fields));
+    CHECK(is_unchanged((const uint8_t *)&fit, sizeof fit));
 }
 
 struct work {
@@ -185,7 +543,16 @@ static void *take_apart(void *argument)
         fprintf(output, "file %s\n", work->paths[i]);
         print_legacy(output, file);
         print_parts(output, file);
+        build_again(file);
+        build_tree(file, BOOTIMG_EMBEDDED);
+        build_tree(file, BOOTIMG_EXTERNAL);
+        print_fit(output, file);
+        print_reservations(output, file);
         print_images(output, file);
+        print_configurations(output, file);
+        print_verdicts(output, file);
+        print_tree(output, file);
+        try_null(file);
         try_numbers(file);
         give_back(file);
     }

@@ -4,9 +4,11 @@ structure.py LIBRARY STRUCTURE FILE..: STRUCTURE, the program of structure.c, ha
 over the shared LIBRARY. The last line is `N passed, M failed`.
 """
 
+import json
 import os
 import subprocess
 import sys
+import urllib.parse
 from pathlib import Path
 
 sys.dont_write_bytecode = True
@@ -17,6 +19,7 @@ sys.path.insert(0, str(root / "tests/conformance"))
 import bootimg
 import reference
 
+LEGACY_MAGIC, FIT_MAGIC = bytes.fromhex("27051956"), bytes.fromhex("d00dfeed")
 PLACES = (None, "data", "data-offset", "data-position")
 
 
@@ -27,32 +30,69 @@ def digits(name):
 def lines_of(path):
     """The lines that are printed of a file."""
     yield f"file {path}"
-    kind = refusal = None
+    image = refusal = None
+    magic = path.read_bytes()[:4]
     try:
         image = bootimg.open(path)
-        kind = image.kind
     except bootimg.Refused as refused:
         refusal = str(refused)
-        if path.read_bytes()[:4] == (0x27051956).to_bytes(4, "big"):
-            kind = "legacy"
-        elif path.read_bytes()[:4] == (0xD00DFEED).to_bytes(4, "big"):
-            kind = "fit"
-    legacy = "BadMagic at 0" if kind == "fit" else refusal
-    fit = "BadMagic at 0" if kind == "legacy" else refusal
-    if legacy:
-        yield from (f"legacy: {legacy}", f"parts: {legacy}")
-    else:
-        header = image.header
-        yield f"name {digits(header.name)}"
-        yield from (f"time {header.time}", f"load {header.load}", f"entry {header.entry}")
-        yield "codes " + " ".join(str(code_of(header, field)) for field in reference.FIELDS)
-        yield from (f"part {part.offset} {part.size}" for part in image.parts)
-        yield f"unused {image.unused}"
-    if fit:
-        yield f"images: {fit}"
-    else:
-        for one in image.images:
-            yield f"image {digits(one.name)} {PLACES.index(one.source)} {one.offset or 0} {one.size or 0}"
+    yield from legacy_lines(image) if image and image.kind == "legacy" else refusals(
+        ("legacy", "parts"), "BadMagic at 0" if image or magic == FIT_MAGIC else refusal)
+    yield from fit_lines(image, path) if image and image.kind == "fit" else refusals(
+        ("fit", "reservations", "images", "configurations", "verdicts", "properties", "children"), "BadMagic at 0" if image or magic == LEGACY_MAGIC else refusal)
+
+
+def refusals(calls, refusal):
+    return [f"{call}: {refusal}" for call in calls]
+
+
+def legacy_lines(image):
+    header = image.header
+    yield f"name {digits(header.name)}"
+    yield from (f"time {header.time}", f"load {header.load}", f"entry {header.entry}")
+    yield "codes " + " ".join(str(code_of(header, field)) for field in reference.FIELDS)
+    yield from (f"part {part.offset} {part.size}" for part in image.parts)
+    yield f"unused {image.unused}"
+
+
+def fit_lines(image, path):
+    yield f"boot-cpu {image.header.boot_cpu}"
+    yield f"total-size {image.header.total_size}"
+    yield from (f"reservation {one.address} {one.size}" for one in image.header.reservations)
+    yield from (f"image {digits(one.name)} {PLACES.index(one.source)} {one.offset or 0} {one.size or 0}" for one in image.images)
+    for configuration in image.configurations:
+        yield f"configuration {digits(configuration.name)}"
+        yield from (key_line(image, configuration, number, key) for number, key in enumerate(bootimg.KEYS))
+    names = [configuration.name for configuration in image.configurations]
+    yield f"default {names.index(image.default) if image.default in names else len(names)}"
+    report = bootimg.verify_json(path.read_bytes()).text
+    yield from map(hash_line, json.loads(report)["hashes"])
+    yield from node_lines(b"/", reference.Blob(path.read_bytes()).root)
+
+
+def hash_line(one):
+    """The line of a hash node, of the report in JSON."""
+    names = [b"" if name == "-" else urllib.parse.unquote_to_bytes(name) for name in (one["image"], one["node"])]
+    algorithm = None if one["algorithm"] is None else b"" if one["algorithm"] == "-" else urllib.parse.unquote_to_bytes(one["algorithm"])
+    value = None if one["value"] is None else bytes.fromhex(one["value"])
+    fields = ["none" if field is None else field.hex() or "-" for field in (*names, algorithm, value)]
+    return f"hash {' '.join(fields)} {bootimg.VERDICTS.index(one['verdict'])}"
+
+
+def node_lines(path, node):
+    """The lines of a node of the vectors' reference, and of the nodes below it."""
+    yield f"node {path.hex()}"
+    yield from (f"property {name.hex()} {value.hex() or '-'}" for name, value in node.properties.items())
+    for child in node.children:
+        yield from node_lines(path.rstrip(b"/") + b"/" + child.name, child)
+
+
+def key_line(image, configuration, number, key):
+    """The line of a key: the indices of the images, or the number of the reason why there are none."""
+    try:
+        return f"key {number}" + "".join(f" {image.images.index(one)}" for one in configuration.images(key))
+    except bootimg.NotFound as reason:
+        return f"listed: reason {bootimg.REASONS.index(reason.reason) + 1} {reason.index or 0}"
 
 
 def code_of(header, field):

@@ -1,0 +1,350 @@
+/*
+ * A target of libFuzzer over each call of the library. The first bytes of an input choose numbers and a name, and the others are a file.
+ * The file and the name end before a page that may not be touched, and so do the buffers. A call is made with no room, with the room that
+ * it needs, and with less, and what it leaves is checked, and so is what calls say of the same file. A failed check ends the program.
+ * The checksums of a legacy image are made right in every second input, so that mutations pass them.
+ */
+#define _GNU_SOURCE
+#include "guarded.h"
+
+#include <bootimg.h>
+
+enum { HEAD = 8, MOST = 1 << 16, ROOM = 1 << 22 };
+
+/* What an input chooses. */
+struct choice {
+    const uint8_t *file;
+    size_t size;
+    const uint8_t *name;
+    size_t name_size;
+    uint32_t limit, depth, number, time;
+};
+
+int LLVMFuzzerTestOneInput(const uint8_t *data, size_t size);
+
+static struct memory file_room, name_room, output_room;
+
+/* The last bytes of some memory. */
+static uint8_t *end_of(struct memory memory, size_t size)
+{
+    CHECK(size <= memory.size);
+    return memory.bytes + memory.size - size;
+}
+
+static uint32_t crc32_of(const uint8_t *bytes, size_t size)
+{
+    uint32_t crc = 0xffffffffu;
+    for (size_t i = 0; i < size; i++) {
+        crc ^= bytes[i];
+        for (int bit = 0; bit < 8; bit++)
+            crc = crc & 1 ? crc >> 1 ^ 0xedb88320u : crc >> 1;
+    }
+    return ~crc;
+}
+
+static uint32_t number_at(const uint8_t *bytes)
+{
+    return (uint32_t)bytes[0] << 24 | (uint32_t)bytes[1] << 16 | (uint32_t)bytes[2] << 8 | bytes[3];
+}
+
+static void put_number(uint8_t *bytes, uint32_t number)
+{
+    for (int i = 0; i < 4; i++)
+        bytes[i] = (uint8_t)(number >> (24 - 8 * i));
+}
+
+/* Makes the checksums of a legacy image right. */
+static void repair(uint8_t *file, size_t size)
+{
+    uint32_t length;
+    if (size < 64 || number_at(file) != 0x27051956u)
+        return;
+    length = number_at(file + 12);
+    if (length > size - 64)
+        put_number(file + 12, length = (uint32_t)(size - 64));
+    put_number(file + 24, crc32_of(file + 64, length));
+    put_number(file + 4, 0);
+    put_number(file + 4, crc32_of(file, 64));
+}
+
+/* The calls with a buffer or an array, and the sizes of their elements. */
+enum {
+    NORMALISE, UPDATE, CONVERT, LIST, LIST_JSON, DESCRIBE, DESCRIBE_JSON, SHOW, VERIFY, VERIFY_JSON, CHECK_LINES, CHECK_JSON, COMPARE,
+    COMPARE_JSON, CAUSE_NAME, EXPLAIN, VERSION, PARTS, RESERVATIONS, IMAGES, CONFIGURATIONS, LISTED, VERDICTS, CHILDREN, PROPERTIES, CALLS
+};
+
+static size_t element_size(int call)
+{
+    static const size_t sizes[CALLS - PARTS] = {
+        sizeof(bootimg_region), sizeof(bootimg_reservation), sizeof(bootimg_image),  sizeof(bootimg_region),
+        sizeof(size_t),         sizeof(bootimg_hash),        sizeof(bootimg_region), sizeof(bootimg_property),
+    };
+    return call < PARTS ? 1 : sizes[call - PARTS];
+}
+
+static uint32_t make_text(const struct choice *c, int call, uint8_t *to, size_t room, bootimg_result *answer)
+{
+    switch (call) {
+    case NORMALISE:
+        return bootimg_normalise(c->file, c->size, c->number % 3, c->limit, c->depth, to, room, answer);
+    case UPDATE:
+        return bootimg_update(c->file, c->size, c->number % 5, c->time, c->number & 1, c->limit, c->depth, to, room, answer);
+    case CONVERT:
+        return bootimg_convert(c->file, c->size, c->limit, c->depth, to, room, answer);
+    case LIST:
+        return bootimg_list(c->file, c->size, c->limit, c->depth, to, room, answer);
+    case LIST_JSON:
+        return bootimg_list_json(c->file, c->size, c->limit, c->depth, to, room, answer);
+    case DESCRIBE:
+        return bootimg_describe(c->file, c->size, c->limit, c->depth, to, room, answer);
+    case DESCRIBE_JSON:
+        return bootimg_describe_json(c->file, c->size, c->limit, c->depth, to, room, answer);
+    case SHOW:
+        return bootimg_show(c->file, c->size, c->number % 3, c->limit, c->depth, to, room, answer);
+    case VERIFY:
+        return bootimg_verify(c->file, c->size, c->limit, c->depth, to, room, answer);
+    case VERIFY_JSON:
+        return bootimg_verify_json(c->file, c->size, c->limit, c->depth, to, room, answer);
+    case CHECK_LINES:
+        return bootimg_check(c->file, c->size, c->number, c->limit, c->depth, to, room, answer);
+    case CHECK_JSON:
+        return bootimg_check_json(c->file, c->size, c->number, c->limit, c->depth, to, room, answer);
+    case COMPARE:
+        return bootimg_compare(c->file, c->size, c->name, c->name_size, c->limit, c->depth, to, room, answer);
+    case COMPARE_JSON:
+        return bootimg_compare_json(c->file, c->size, c->file, c->size, c->limit, c->depth, to, room, answer);
+    case CAUSE_NAME:
+        return bootimg_cause_name(c->number % 29, to, room, answer);
+    case EXPLAIN:
+        return bootimg_explain(c->number % 29, to, room, answer);
+    default:
+        return bootimg_version(to, room, answer);
+    }
+}
+
+static uint32_t make(const struct choice *c, int call, void *to, size_t room, bootimg_result *answer)
+{
+    switch (call) {
+    case PARTS:
+        return bootimg_parts(c->file, c->size, c->limit, c->depth, to, room, answer);
+    case RESERVATIONS:
+        return bootimg_reservations(c->file, c->size, c->limit, c->depth, to, room, answer);
+    case IMAGES:
+        return bootimg_images(c->file, c->size, c->limit, c->depth, to, room, answer);
+    case CONFIGURATIONS:
+        return bootimg_configurations(c->file, c->size, c->limit, c->depth, to, room, answer);
+    case LISTED:
+        return bootimg_listed(c->file, c->size, c->name, c->name_size, c->number % 7, c->limit, c->depth, to, room, answer);
+    case VERDICTS:
+        return bootimg_verdicts(c->file, c->size, c->limit, c->depth, to, room, answer);
+    case CHILDREN:
+        return bootimg_children(c->file, c->size, c->name, c->name_size, c->limit, c->depth, to, room, answer);
+    case PROPERTIES:
+        return bootimg_properties(c->file, c->size, c->name, c->name_size, c->limit, c->depth, to, room, answer);
+    default:
+        return make_text(c, call, to, room, answer);
+    }
+}
+
+/* The numbers of the struct are those that the status has. */
+static void check_answer(uint32_t status, const bootimg_result *answer)
+{
+    CHECK(status <= BOOTIMG_NOT_FOUND);
+    CHECK((answer->cause != 0) == (status == BOOTIMG_REFUSED) && answer->cause <= BOOTIMG_CAUSE_UNSUPPORTED);
+    CHECK((answer->file != 0) == (status == BOOTIMG_REFUSED) && answer->file <= 2);
+    CHECK(answer->offset == 0 || status == BOOTIMG_REFUSED);
+    CHECK((answer->reason != 0) == (status == BOOTIMG_NOT_FOUND) && answer->reason <= BOOTIMG_NO_PROPERTY);
+    CHECK(answer->size == 0 || status == BOOTIMG_OK || status == BOOTIMG_NO_ROOM);
+}
+
+static int is_unchanged(const uint8_t *bytes, size_t size)
+{
+    for (size_t i = 0; i < size; i++)
+        if (bytes[i] != 0xa5)
+            return 0;
+    return 1;
+}
+
+/* A region that an element has is inside the file. */
+static void check_region(const struct choice *c, bootimg_region region)
+{
+    CHECK(region.offset <= c->size && region.size <= c->size - region.offset);
+}
+
+/* The regions of elements are inside the file, and their numbers in their ranges. */
+static void check_elements(const struct choice *c, int call, const void *elements, size_t count)
+{
+    for (size_t i = 0; i < count; i++) {
+        if (call == IMAGES) {
+            const bootimg_image *image = (const bootimg_image *)elements + i;
+            check_region(c, image->name);
+            check_region(c, image->payload);
+            CHECK(image->place <= BOOTIMG_PLACE_DATA_POSITION);
+        } else if (call == VERDICTS) {
+            const bootimg_hash *hash = (const bootimg_hash *)elements + i;
+            check_region(c, hash->image);
+            check_region(c, hash->node);
+            check_region(c, hash->algorithm);
+            check_region(c, hash->value);
+            CHECK(hash->verdict <= BOOTIMG_VERDICT_MALFORMED);
+        } else if (call == PROPERTIES) {
+            const bootimg_property *property = (const bootimg_property *)elements + i;
+            check_region(c, property->name);
+            check_region(c, property->value);
+        } else if (call == PARTS || call == CONFIGURATIONS || call == CHILDREN) {
+            check_region(c, ((const bootimg_region *)elements)[i]);
+        }
+    }
+}
+
+/* Makes a call with no room, with one element less than it needs, and with the room that it needs. */
+static uint32_t try_call(const struct choice *c, int call, bootimg_result *answer)
+{
+    const size_t size = element_size(call);
+    bootimg_result again;
+    uint32_t status = make(c, call, NULL, 0, answer);
+    uint8_t *to;
+    check_answer(status, answer);
+    if (status != BOOTIMG_NO_ROOM) {
+        CHECK(status != BOOTIMG_OK || answer->size == 0);
+        return status;
+    }
+    CHECK(answer->size != 0);
+    if (answer->size > output_room.size / size)
+        return status;
+    to = end_of(output_room, (answer->size - 1) * size);
+    memset(to, 0xa5, (answer->size - 1) * size);
+    CHECK(make(c, call, to, answer->size - 1, &again) == BOOTIMG_NO_ROOM && memcmp(answer, &again, sizeof again) == 0);
+    CHECK(is_unchanged(to, (answer->size - 1) * size));
+    to = end_of(output_room, answer->size * size);
+    CHECK(make(c, call, to, answer->size, &again) == BOOTIMG_OK && memcmp(answer, &again, sizeof again) == 0);
+    check_elements(c, call, to, answer->size);
+    return BOOTIMG_OK;
+}
+
+/* A normal form is the normal form of itself, and means what its file means. */
+static void try_normal_form(const struct choice *c, const bootimg_result *answer)
+{
+    struct memory copy = take(answer->size);
+    struct choice other = *c;
+    bootimg_result again;
+    memcpy(copy.bytes, end_of(output_room, answer->size), answer->size);
+    other.file = copy.bytes;
+    other.size = copy.size;
+    CHECK(try_call(&other, NORMALISE, &again) == BOOTIMG_OK && again.size == copy.size && again.value == answer->value);
+    CHECK(memcmp(copy.bytes, end_of(output_room, copy.size), copy.size) == 0);
+    CHECK(bootimg_same_meaning(c->file, c->size, copy.bytes, copy.size, c->limit, c->depth, &again) == BOOTIMG_OK && again.value == 1);
+    give_back(copy);
+}
+
+/* What is read of a legacy image builds its normal form. Other regions build an image, or are outside the input. */
+static void try_build(const struct choice *c)
+{
+    bootimg_legacy_fields fields;
+    bootimg_result answer, built;
+    bootimg_region any[2] = {{c->time >> 16, c->time & 0xffff}, {c->number, c->size}};
+    struct memory parts;
+    memset(&fields, 0, sizeof fields);
+    fields.image_type = (uint8_t)(c->number % 9);
+    fields.name = any[0];
+    bootimg_build_image images[2];
+    memset(images, 0, sizeof images);
+    images[0].name = images[1].payload = any[0];
+    images[1].name = images[0].payload = any[1];
+    images[0].image_type = images[1].image_type = (uint8_t)(c->number % 9);
+    images[0].os = images[0].arch = images[1].os = images[1].arch = (uint8_t)(c->time % 23);
+    images[0].addresses = c->time % 5;
+    check_answer(bootimg_build_fit(c->file, c->size, c->name, c->name_size, c->time, images, c->number % 3, c->number % 3, c->limit, c->depth,
+                                   NULL, 0, &answer), &answer);
+    check_answer(bootimg_build_legacy(c->file, c->size, &fields, any, c->number % 3, c->limit, c->depth, NULL, 0, &answer), &answer);
+    if (bootimg_legacy(c->file, c->size, c->limit, c->depth, &fields, &answer) != BOOTIMG_OK || try_call(c, PARTS, &answer) != BOOTIMG_OK)
+        return;
+    parts = take(answer.size * sizeof(bootimg_region));
+    memcpy(parts.bytes, end_of(output_room, parts.size), parts.size);
+    check_answer(bootimg_build_legacy(c->file, c->size, &fields, (const bootimg_region *)(const void *)parts.bytes, answer.size, c->limit,
+                                      c->depth, NULL, 0, &built), &built);
+    CHECK(bootimg_normalise(c->file, c->size, BOOTIMG_EMBEDDED, c->limit, c->depth, NULL, 0, &answer) == BOOTIMG_NO_ROOM);
+    CHECK(answer.size == built.size);
+    give_back(parts);
+}
+
+/* What is extracted is inside the file. */
+static void check_extracted(const struct choice *c, uint32_t status, const bootimg_result *answer)
+{
+    const bootimg_region region = {answer->value, answer->size};
+    CHECK(status <= BOOTIMG_NOT_FOUND && status != BOOTIMG_NO_ROOM);
+    if (status == BOOTIMG_OK)
+        check_region(c, region);
+}
+
+/* Makes the calls without a buffer. */
+static void try_others(const struct choice *c)
+{
+    bootimg_result answer;
+    bootimg_legacy_fields legacy;
+    bootimg_fit_fields fit;
+    const uint32_t key = c->number % 7;
+    check_answer(bootimg_kind(c->file, c->size, &answer), &answer);
+    check_answer(bootimg_same_meaning(c->file, c->size, c->name, c->name_size, c->limit, c->depth, &answer), &answer);
+    check_extracted(c, bootimg_extract_part(c->file, c->size, c->number % 4, c->limit, c->depth, &answer), &answer);
+    check_extracted(c, bootimg_extract_image(c->file, c->size, c->name, c->name_size, c->limit, c->depth, &answer), &answer);
+    check_extracted(c, bootimg_extract_config(c->file, c->size, c->name, c->name_size, key, c->number % 3, c->limit, c->depth, &answer),
+                    &answer);
+    check_extracted(c, bootimg_extract_default(c->file, c->size, key, c->number % 3, c->limit, c->depth, &answer), &answer);
+    check_extracted(c, bootimg_property_value(c->file, c->size, c->name, c->name_size, (const uint8_t *)"data", 4, c->limit, c->depth, &answer),
+                    &answer);
+    if (bootimg_legacy(c->file, c->size, c->limit, c->depth, &legacy, &answer) == BOOTIMG_OK)
+        check_region(c, legacy.name);
+    check_answer(bootimg_fit(c->file, c->size, c->limit, c->depth, &fit, &answer), &answer);
+}
+
+/* The verdicts are those of the report. */
+static void try_verdicts(const struct choice *c)
+{
+    bootimg_result report, answer;
+    const bootimg_hash *hashes;
+    size_t bad = 0;
+    if (try_call(c, VERIFY, &report) != BOOTIMG_OK || try_call(c, VERDICTS, &answer) != BOOTIMG_OK)
+        return;
+    hashes = (const bootimg_hash *)(const void *)end_of(output_room, answer.size * sizeof *hashes);
+    for (size_t i = 0; i < answer.size; i++)
+        bad += hashes[i].verdict != BOOTIMG_VERDICT_GOOD;
+    CHECK((bad == 0) == (report.value == 1));
+}
+
+int LLVMFuzzerTestOneInput(const uint8_t *data, size_t size)
+{
+    static const uint32_t limits[] = {BOOTIMG_LIMIT, BOOTIMG_LIMIT, BOOTIMG_LIMIT, 1 << 20, 4096, 256, 64, 63};
+    static const uint32_t depths[] = {BOOTIMG_DEPTH, BOOTIMG_DEPTH, BOOTIMG_DEPTH, 5, 4, 3, 1, 0};
+    struct choice c;
+    uint8_t *file;
+    if (file_room.map == NULL) {
+        file_room = take(MOST);
+        name_room = take(MOST);
+        output_room = take(ROOM);
+    }
+    if (size < HEAD || size > MOST)
+        return 0;
+    c.limit = limits[data[0] % 8];
+    c.depth = depths[data[1] % 8];
+    c.number = data[2];
+    c.time = number_at(data + 2);
+    c.name_size = data[3] % (size - HEAD + 1);
+    c.size = size - HEAD - c.name_size;
+    c.name = memcpy(end_of(name_room, c.name_size), data + HEAD, c.name_size);
+    c.file = file = memcpy(end_of(file_room, c.size), data + HEAD + c.name_size, c.size);
+    if (data[0] & 8)
+        repair(file, c.size);
+    for (int call = 0; call < CALLS; call++) {
+        bootimg_result answer;
+        const uint32_t status = try_call(&c, call, &answer);
+        if (call == NORMALISE && status == BOOTIMG_OK && answer.size <= c.limit)
+            try_normal_form(&c, &answer);
+        if (call == COMPARE_JSON && status == BOOTIMG_OK)
+            CHECK(answer.value == 1);
+    }
+    try_verdicts(&c);
+    try_build(&c);
+    try_others(&c);
+    return 0;
+}
