@@ -7,14 +7,15 @@
  * between calls, and returns nothing allocated, so there is nothing to free. Several threads may
  * make calls at the same time, if no call writes to memory that another call uses.
  *
- * A pointer and the length after it are the first byte of some memory and its size in bytes. The
- * pointer may be null if the length is 0. The buffer and the struct that a call writes to must not
- * overlap each other or the files of the call.
+ * A pointer and the number after it are the first element of some memory and the number of its
+ * elements, which are bytes if they are of the type uint8_t. The pointer may be null if the number
+ * is 0; a pointer to a struct without a number after it must not be null. What a call writes must
+ * overlap neither what else it writes nor what it reads. Structs are aligned as in any C program.
  *
  * `limit` is the greatest number of bytes of a file, and of an image, payload or description that
- * is made: 64 to BOOTIMG_LIMIT. Each call with `limit` refuses a longer file with TooLarge, and
- * then a file that fails a check of its format with the cause of the first check that fails
- * (docs/FORMATS.md). The comment of a call says what else it refuses.
+ * is made: 64 to BOOTIMG_LIMIT. Each call with `limit` that reads an image refuses a longer file
+ * with TooLarge, and then a file that fails a check of its format with the cause of the first check
+ * that fails (docs/FORMATS.md). The comment of a call says what else it refuses.
  * `depth` is the greatest depth of a FIT, including the root: 1 to BOOTIMG_DEPTH. The program
  * `bootimg` uses BOOTIMG_DEPTH, and BOOTIMG_LIMIT by default.
  *
@@ -395,8 +396,8 @@ uint32_t bootimg_describe(const uint8_t *file, size_t file_size, uint32_t limit,
 
 /* Writes the page of a file, for a person: tables of what it is, of its images or parts with the
  * verdict on each hash node, of its configurations and signature nodes, and the lines of
- * bootimg_check. With `layout` 1 the page has the regions of the file by their offsets, and with 0
- * it has not. Its form may change with the version. The call fails with TooLarge if the payloads
+ * bootimg_check. With `layout` 1 the page also has the regions of the file by their offsets, with 0
+ * it does not. Its form may change with the version. The call fails with TooLarge if the payloads
  * together are longer than `limit`. */
 uint32_t bootimg_show(const uint8_t *file, size_t file_size, uint32_t layout, uint32_t limit,
                       uint32_t depth, uint8_t *buffer, size_t buffer_size, bootimg_result *answer);
