@@ -1,5 +1,5 @@
-use Rattle.std.proofs.Common.{◌≡◌, ◌+◌, ℕ, Bool, true, false, List, [], ◌∷◌, ◌++◌, Option, None, Some, length, option_and_then, refl, sym, ap}
-use Rattle.std.proofs.Common.{subst, ◌∙◌, arith, length-append, bytes_eq, cond, map}
+use Rattle.std.proofs.Common.{◌≡◌, ◌+◌, ℕ, Bool, true, false, List, [], ◌∷◌, ◌++◌, Option, None, Some, length, option_and_then, refl, sym}
+use Rattle.std.proofs.Common.{ap, subst, ◌∙◌, arith, length-append, bytes_eq, cond, map}
 use Rattle.std.specs.List.{AllByRecursion, AllZip}
 use Rattle.bi_base.specs.Limits.{Limits, IsInRange}
 use Rattle.bi_base.specs.Strings.{text_before_nul}

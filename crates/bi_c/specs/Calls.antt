@@ -146,8 +146,8 @@ abbrev pub IsFailureOfOne : (limit depth : ℕ) → (HasError : Limits → Error
 IsFailureOfOne limit depth HasError =
     IsFailure (IsInRange limit depth) (HasError (bounds limit depth))
 
--- Why a call on a flattened image tree fails that looks something up. It names a reason and an index
--- if what it looks up is not there.
+-- Why a call that looks something up in a FIT fails. If what it looks up is not there, it names a
+-- reason and an index.
 abbrev pub IsTreeFailure : (AreValid : Type 0) → Limits → (file : List ℕ)
     → (IsReason : (reason index : ℕ) → Type 0) → Failure → Type 0
 IsTreeFailure AreValid limits file IsReason (NotFound reason index) =
