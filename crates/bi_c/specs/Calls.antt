@@ -176,7 +176,7 @@ pub record IsCheckText (format : Format) (limit depth kinds : ℕ) (file text : 
     pub arguments : HasKinds limit depth kinds
     pub is : IsConcernsText (checker_of format kinds) (bounds limit depth) file text value
 
--- The page of the file, with its layout if the number is a yes.
+-- The page of the file. It has the layout if the number is 1.
 pub record IsPageText (limit depth layout : ℕ) (file text : List ℕ) (value : ℕ) : Type 0 where
   pub arguments : HasLayout limit depth layout
   pub is : IsPage (is_yes layout) (bounds limit depth) file text
