@@ -2,7 +2,7 @@ use Rattle.std.proofs.Common.{◌≡◌, ◌+◌, ◌≤◌, ℕ}
 use Rattle.bi_commands.specs.Dates.{days_of_years}
 use Rattle.bi_commands.proofs.show.dates.date_of.Given as goal
 
--- The days of the years before this one were taken.
+-- The days of the years before this one were subtracted.
 abbrev pub invariant-loop-left : goal.invariant-loop-left
 invariant-loop-left l =
     (years : ℕ) × (l.year ≡ 1970 + years) × (days_of_years years + l.left ≡ l.days) × (years + l.left ≤ l.days)
