@@ -193,7 +193,7 @@ multi_rise (suc (suc (suc k))) d within = omega (arith, within)
 
 module _ (one_legacy : OneLegacyMeaning) where
   kernel_concerns : AreConcernLines widest kernel_file_with_rest (codes "trailing 7\n")
-  unfolding header cell
+  unfolding header cell digits
   kernel_concerns = record {
     meaning = OfLegacy kernel_image;
     means = only_image one_legacy kernel_file_with_rest kernel_image kernel_with_rest_means;
