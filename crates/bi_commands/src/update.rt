@@ -38,9 +38,9 @@ use std::io::{Read, Write};
 /// use bi_fit::Form;
 ///
 /// let limits = Limits::new(0x7fff_ffff, 64).unwrap();
-/// let time = Changes { time: Some(1_700_000_001), hashes: false };
+/// let time = Changes { time: Some(1), hashes: false };
 /// let text = update(rt.alloc(), kernel, time, Form::Embedded, limits)?;
-/// assert!(rt; text[8..12] == 1_700_000_001_u32.to_be_bytes());
+/// assert_eq!(rt; &text[8..12], b"\0\0\0\x01".as_slice());
 /// ```
 pub fn update(
     alloc: Global,
