@@ -40,8 +40,9 @@ use std::io::{Read, Write};
 ///
 /// let limits = Limits::new(0x7fff_ffff, 64).unwrap();
 /// let text = normalise(rt.alloc(), board, Form::Embedded, limits)?;
-/// assert!(rt; normalise(rt.alloc(), &text, Form::External, limits)?.len() == 2640);
-/// assert!(rt; normalise(rt.alloc(), &text, Form::Embedded, limits)? == text);
+/// let external = normalise(rt.alloc(), board, Form::External, limits)?;
+/// assert!(rt; external != text);
+/// assert!(rt; normalise(rt.alloc(), &external, Form::Embedded, limits)? == text);
 /// ```
 pub fn normalise(alloc: Global, file: &[u8], form: Form, limits: Limits) -> Result<Vec<u8>, Error>
     ensures normal_form { IfOk result (λ text. IsNormalForm limits form file.now text.items) }
