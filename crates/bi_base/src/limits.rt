@@ -27,6 +27,15 @@ impl Model for Limits {
 impl Limits {
     /// Returns the limits with these bounds. Returns None unless `file` is 64 to 0x7fffffff and
     /// `depth` is 1 to 64.
+    ///
+    /// # Example
+    ///
+    /// ```
+    /// use bi_base::Limits;
+    ///
+    /// assert!(rt; Limits::new(0x7fff_ffff, 64).is_some());
+    /// assert!(rt; Limits::new(63, 64).is_none());
+    /// ```
     pub fn new(file: u32, depth: u8) -> Option<Limits>
         ensures in_range { IsSome result ↔ IsInRange file depth }
         ensures value { IfSome result (λ limits. limits ≡ record { file = file; depth = depth }) }

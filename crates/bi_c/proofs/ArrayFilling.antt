@@ -65,7 +65,7 @@ pub array_is_short : {T : Type 0} (HasFailed : Failure → Type 0) (all : List T
 array_is_short HasFailed all value before answer told short =
     HadNoRoom all value (record { is_text = refl; is_number = refl }) short refl told refl
 
--- What is found at an index of a list is the first of what is left from the index on,
+-- The element at an index of a list is the first of the elements from that index on.
 pub found_at : {T : Type 0} (all : List T) (index : ℕ) (value : T) → slice_get all index ≡ Some value →
     drop index all ≡ value ∷ drop (index + 1) all
 found_at all index value is = rw add-one (by all index is)
@@ -76,7 +76,7 @@ found_at all index value is = rw add-one (by all index is)
     by (first ∷ later) zero is = ap (λ it. it ∷ later) (same_in_some first _ is)
     by (first ∷ later) (suc index) is = by later index is
 
--- and if nothing is found there, nothing is left.
+-- If the list has no element at an index, it has none from that index on.
 pub none_at : {T : Type 0} (all : List T) (index : ℕ) → slice_get all index ≡ None → drop index all ≡ []
 none_at [] zero is = refl
 none_at [] (suc index) is = refl

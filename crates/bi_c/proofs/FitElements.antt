@@ -12,13 +12,13 @@ use Rattle.bi_fit.specs.declared.configurations.Named.{Named}
 use Rattle.bi_fit.proofs.Meanings.{same_in_some}
 use Rattle.bi_c.specs.FitElements.{default_index_of, element_of_reservation, index_among, index_of_default, index_of_first}
 
--- The elements of a flattened image tree that are left are those after an index.
+-- Some elements of a FIT are left: those from an index on.
 
--- The pair of a reservation.
+-- The address and the size of a memory reservation are a pair.
 abbrev pub pair_of_reservation : Reservation → ℕ × ℕ
 pair_of_reservation reservation = (reservation.address, reservation.size)
 
--- The reservation at an index is the first of those that are left,
+-- The reservation at an index is the first of those that are left.
 pub reservation_left : (all : List Reservation) (index address size : ℕ) →
     slice_get (map pair_of_reservation all) index ≡ Some (address, size) →
     map element_of_reservation (drop index all)
@@ -34,7 +34,7 @@ reservation_left all index address size is = rw add-one (by all index is)
         ap (λ (it : ℕ × ℕ). record { address = it.0; size = it.1 } ∷ map element_of_reservation later) same
     by (first ∷ later) (suc index) is = by later index is
 
--- and if there is none, none is left.
+-- If there is no reservation at an index, none is left.
 pub no_reservation_left : (all : List Reservation) (index : ℕ) → slice_get (map pair_of_reservation all) index ≡ None →
     map element_of_reservation (drop index all) ≡ []
 no_reservation_left [] zero is = refl
@@ -42,7 +42,7 @@ no_reservation_left [] (suc index) is = refl
 no_reservation_left (first ∷ later) zero is = absurd cc
 no_reservation_left (first ∷ later) (suc index) is = no_reservation_left later index is
 
--- The names of the configurations of what was read.
+-- The names of the configurations are those that were read.
 names_back : (content : FitModel) (all : List (List ℕ)) →
     map (λ (it : ConfigurationModel). it.name) (map (λ (name : List ℕ). record { content = content; name = name }) all) ≡ all
 names_back content [] = refl
@@ -52,7 +52,7 @@ pub configuration_names : (content : FitModel) →
     map (λ (it : ConfigurationModel). it.name) (configurations_of content) ≡ names (configuration_nodes (tree_of content))
 configuration_names content = names_back content (names (configuration_nodes (tree_of content)))
 
--- The index of the first name that is the given one.
+-- If the first name is the given one, the index is 0. If not, the index is one more than among the later names.
 pub first_is : (name first : List ℕ) (later : List (List ℕ)) → bytes_eq first name ≡ true → index_of_first name (first ∷ later) ≡ 0
 first_is name first later is = rw is refl
 
@@ -60,7 +60,7 @@ pub first_is_not : (name first : List ℕ) (later : List (List ℕ)) → bytes_e
     index_of_first name (first ∷ later) ≡ index_of_first name later + 1
 first_is_not name first later is = rw is refl
 
--- The index of the default.
+-- The index of the default configuration is that of its name among the names of configurations.
 pub default_found : (content : FitModel) (found : Option (Bor (List ℕ))) (default : Bor (List ℕ)) →
     option_map (λ (name : Bor (List ℕ)). name.now) found ≡ default_of (tree_of content) → found ≡ Some default →
     default_index_of (tree_of content) ≡ index_of_first default.now (names (configuration_nodes (tree_of content)))
@@ -75,7 +75,7 @@ no_default content found is is_found =
     ap (λ (it : Option (List ℕ)). index_of_default it (names (configuration_nodes (tree_of content))))
     (sym is ∙ ap (option_map (λ (name : Bor (List ℕ)). name.now)) is_found)
 
--- The image at an index of a list is the first of those that are left.
+-- The image at an index of a list is the first of the images that are left.
 pub listed_left : (content : FitModel) (listed : List Named) (index : ℕ) (default : Named) → index < length listed →
     map (index_among content) (map listed_image (drop index listed))
     ≡ index_among content (listed_image (get_or listed index default))

@@ -19,7 +19,7 @@ use Rattle.bi_c.specs.FitElements.{configuration_siblings}
 use Rattle.bi_c.specs.TreeRegions.{HasNameBytes}
 use Rattle.bi_c.proofs.TreeRegions.{root_bytes, children_names}
 
--- What was read of a file under the limits of a call is what the file means.
+-- If a file was read under the limits of a call, it means what was read.
 
 abbrev pub means_within : (limit depth : ℕ) (file : List ℕ) (limits : Limits) (content : FitModel) → limits ≡ bounds limit depth →
     IsReadFit limits file content → FitMeans (bounds limit depth) file (tree_of content)
@@ -28,7 +28,7 @@ means_within limit depth file limits content same read = record {
   within = subst (λ (l : Limits). IsWithin l file read.means.is_file.root) same read.means.within;
 }
 
--- Memory may run out for it.
+-- A call may fail because memory runs out.
 pub read_needs_memory : (limits : Limits) (file : List ℕ) (content : FitModel) → IsReadFit limits file content →
     IsFitReadError limits file error.OutOfMemory
 read_needs_memory limits file content read =
@@ -40,7 +40,7 @@ read_needs_memory limits file content read =
       within = read.means.within;
     }))
 
--- The configurations of what was read are those of the file, with their names.
+-- The configurations that were read are those of the file, and so are their names.
 pub configuration_bytes : (limits : Limits) (file : List ℕ) (content : FitModel) (read : IsReadFit limits file content) →
     AllByRecursion (HasNameBytes file) (configuration_siblings read.means.is_file.root)
 configuration_bytes limits file content read =
@@ -48,7 +48,7 @@ configuration_bytes limits file content read =
     children_names file configurations_name is.root.children (node_named is.root.children configurations_name) refl
     (root_bytes file content.blob.cpu content.blob.reservations is.root is.blob).1
 
--- A call on a flattened image tree that cannot read the file fails as reading does.
+-- If a call on a FIT cannot read the file, it fails as reading fails.
 pub tree_failed : (AreValid : Type 0) (limits : Limits) (file : List ℕ) (IsReason : ℕ → ℕ → Type 0) (cause : Error) (failure : Failure) →
     AreValid → failure ≡ failure_of_error cause → IsFitReadError limits file cause → IsTreeFailure AreValid limits file IsReason failure
 tree_failed AreValid limits file IsReason cause failure valid same is =

@@ -28,9 +28,9 @@ use Rattle.bi_c.specs.Arguments.{bounds, key_of, HasKey}
 use Rattle.bi_c.specs.FitElements.{AreReadIndices, AreImageIndices, IsListFailure, IsListReason}
 use Rattle.bi_c.specs.FitElements.{IsListRefusal, failure_of_list_error, index_among, index_of_first, index_of_listed, tree_image_names}
 
--- The indices of listed images are those of the images that a tree has under their names.
+-- The indices of listed images are those of the images with their names in the tree.
 
--- The index of the first image with a name, counted from a number.
+-- The index of the first image with a name is found by counting from a number on.
 same_index : (file : List ℕ) (entries : List (Sibling FileNode)) (images : List ImageModel) (from : ℕ) (name : List ℕ) →
     AllZip (IsReadImage file) entries images →
     unwrap_or (index_from from name images) (from + length images)
@@ -58,7 +58,7 @@ same_index file (entry ∷ entries) (image ∷ images) from name read =
         rw (is, same ∙ is) (ap (unwrap_or (index_from (from + 1) name images)) (sym most)
         ∙ more ∙ counted)
 
--- So an image of what was read has the index of that of the tree.
+-- An image that was read has the same index as its image of the tree.
 pub index_in_tree : (content : FitModel) → IsHeld content → (listed : ListedImage) →
     index_among content listed ≡ index_of_listed (tree_of content) listed
 index_in_tree content held listed =
@@ -79,7 +79,7 @@ indices_in_tree content held [] = refl
 indices_in_tree content held (first ∷ later) = ap₂ (λ one them. one ∷ them) (index_in_tree content held first)
     (indices_in_tree content held later)
 
--- An image that has a name has an index.
+-- An image with a name has an index.
 found_within : (images : List Image) (name : List ℕ) (image : Image) → image_named name images ≡ Some image →
     index_of_first name (tree_image_names images) < length images
 found_within [] name image is = absurd cc
@@ -91,11 +91,11 @@ found_within (first ∷ later) name image is = by (bytes_eq first.entry.name nam
     by true found is more = rw found (omega arith)
     by false found is more = rw found (let within = more (rw found at is) in omega (arith, within))
 
--- Two lists of images that are listed are the same list.
+-- If one configuration lists images in two ways, both lists are equal.
 pub same_listed : (one other : List ListedImage) → ListedImages one ≡ ListedImages other → one ≡ other
 same_listed one other is = cc
 
--- So each listed image has one.
+-- Each listed image has an index.
 abbrev pub HaveImages : List Image → List ListedImage → Type 0
 HaveImages images listed =
     AllByRecursion (λ (one : ListedImage). index_of_first one.name (tree_image_names images) < length images) listed
@@ -136,7 +136,7 @@ listed_within tree name key listed is = by_node (node_named (configuration_nodes
     by_node None is = absurd cc
     by_node (Some node) is = by_value (get node.own (key_name key)) is
 
--- The failure for an error of listing images.
+-- An error of listing images becomes the failure of the call.
 pub list_refusal : (content : FitModel) (name : List ℕ) (key : Key) (cause : ConfigError) (failure : Failure) →
     failure ≡ failure_of_list_error cause → IsListError (listed_of (tree_of content) name key) cause →
     IsListRefusal content name key failure
@@ -150,13 +150,13 @@ list_refusal content name key cause failure same is = subst (IsListRefusal conte
     by (list.Missing index) is = rw is (refl, refl)
     by list.OutOfMemory is = tt
 
--- The same of the indices.
+-- The same holds of the indices.
 each_index : (tree : ImageTree) (listed : List ListedImage) → HaveImages (images_of tree) listed →
     AllByRecursion (λ (index : ℕ). index < length (images_of tree)) (map (index_of_listed tree) listed)
 each_index tree [] within = tt
 each_index tree (first ∷ later) within = (within.0, each_index tree later within.1)
 
--- What a call with valid numbers lists is what the file lists,
+-- If the numbers of a call are valid, the call lists what the file lists,
 pub listed_as : (limit depth number : ℕ) (file name : List ℕ) (limits : Limits) (key : Key) (content : FitModel)
     → HasKey limit depth number → limits ≡ bounds limit depth → key ≡ key_of number → IsReadFit limits file content
     → (indices : List ℕ) (value : ℕ) → AreReadIndices content name key indices value
@@ -176,7 +176,7 @@ listed_as limit depth number file name limits key content valid same_limits same
       no_value = is.no_value;
     }
 
--- or it fails as listing does.
+-- or it fails as listing fails.
 pub not_listed : (limit depth number : ℕ) (file name : List ℕ) (limits : Limits) (key : Key) (content : FitModel)
     → HasKey limit depth number → limits ≡ bounds limit depth → key ≡ key_of number → IsReadFit limits file content
     → (failure : Failure) → IsListRefusal content name key failure → IsListFailure limit depth number file name failure

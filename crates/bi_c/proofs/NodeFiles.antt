@@ -18,7 +18,7 @@ use Rattle.bi_c.specs.TreeRegions.{HasPropertyBytes}
 use Rattle.bi_c.proofs.FitFiles.{means_within, tree_failed}
 use Rattle.bi_c.proofs.TreeRegions.{HasBytesBelow, below_bytes, root_bytes}
 
--- The node at a path of what was read of a file under the limits of a call is that of the file.
+-- If a file was read under the limits of a call, the node at a path is that of the file.
 
 pub has_node : (limit depth : ℕ) (file path : List ℕ) (limits : Limits) (content : FitModel) (found : Sibling FileNode) →
     limits ≡ bounds limit depth → IsReadFit limits file content → node_at_path (root_node (root_of content.blob)) path ≡ Some found →
@@ -29,7 +29,7 @@ has_node limit depth file path limits content found same read is = record {
   is_found = subst (λ (root : Root FileNode). node_at_path (root_node root) path ≡ Some found) (sym read.same_root) is;
 }
 
--- If there is none, the file has none, and the call fails.
+-- If what was read has no node at a path, the file has none, and the call fails.
 pub no_node : (limit depth : ℕ) (file path : List ℕ) (limits : Limits) (content : FitModel) → IsInRange limit depth →
     limits ≡ bounds limit depth → IsReadFit limits file content → node_at_path (root_node (root_of content.blob)) path ≡ None →
     IsNodeFailure limit depth file path (NotFound 10 0)
@@ -46,7 +46,7 @@ no_node limit depth file path limits content in_range same read is = (
   ),
 )
 
--- The names and the values of the node are in the file, and so are the names below it.
+-- The file has the names and the values of the node at their places, and the names of the nodes below it.
 pub node_bytes : (file path : List ℕ) (limits : Limits) (content : FitModel) (found : Sibling FileNode) → IsReadFit limits file content →
     node_at_path (root_node (root_of content.blob)) path ≡ Some found → HasBytesBelow file found
 node_bytes file [] limits content found read is = absurd cc
@@ -62,7 +62,7 @@ node_bytes file (first ∷ rest) limits content found read is = by (first == 47)
         (λ start is. let same : root_node (root_of content.blob) ≡ start = cc in subst (HasBytesBelow file) same below) (rw slash at is)
     by false slash = absurd (let e : None ≡ Some found = rw slash at is in cc)
 
--- A property that is found by its name is one of those that have their bytes.
+-- A property that is found by its name has its name and its value in the file.
 pub named_property : (file name : List ℕ) (properties : List FileProperty) (property : FileProperty) →
     property_named properties name ≡ Some property → AllByRecursion (HasPropertyBytes file) properties → HasPropertyBytes file property
 named_property file name [] property is have = absurd cc
@@ -74,7 +74,7 @@ named_property file name (first ∷ later) property is have =
     by true is_name rest = subst (HasPropertyBytes file) (same_in_some first property (rw is_name at is)) have.0
     by false is_name rest = rest (rw is_name at is)
 
--- A call with limits that cannot read the file fails as reading does.
+-- If a call with valid limits cannot read the file, it fails as reading fails.
 pub node_read_failed : (limit depth : ℕ) (file : List ℕ) (IsReason : ℕ → ℕ → Type 0) (limits : Limits) (cause : Error)
     (failure : Failure) → IsInRange limit depth → limits ≡ bounds limit depth → failure ≡ failure_of_error cause →
     IsFitReadError limits file cause → IsTreeFailure (IsInRange limit depth) (bounds limit depth) file IsReason failure

@@ -5,21 +5,21 @@ use Rattle.bi_blob.specs.Lookups.{Sibling, node_named}
 use Rattle.bi_blob.specs.Tree.{FileNode}
 use Rattle.bi_c.specs.NodeElements.{node_below}
 
--- Names lead to a node one after the other.
+-- A list of names selects a node: each name selects a child of the node that the names before it select.
 
--- No more names lead nowhere else.
+-- If no name is left, the node itself is selected.
 below_nothing : (found : Option (Sibling FileNode)) → node_below found [] ≡ found
 below_nothing None = refl
 below_nothing (Some found) = refl
 
--- Some names lead to a node, and the names after them from there on.
+-- Two lists of names, one after the other, select what the second list selects from the node that the first one selects.
 below_append : (start : Option (Sibling FileNode)) (names later : List (List ℕ)) →
     node_below start (names ++ later) ≡ node_below (node_below start names) later
 below_append None names later = refl
 below_append (Some first) [] later = refl
 below_append (Some first) (name ∷ names) later = below_append (node_named first.children name) names later
 
--- So one more name leads to a child.
+-- One more name selects a child of the node that the names before it select.
 pub one_more_name : (start : Option (Sibling FileNode)) (names : List (List ℕ)) (name : List ℕ) (at : Sibling FileNode)
     (child : Option (Sibling FileNode)) → node_below start names ≡ Some at → node_named at.children name ≡ child →
     node_below start (names ++ name ∷ []) ≡ child
@@ -29,7 +29,7 @@ one_more_name start names name at child is has =
     ∙ below_nothing (node_named at.children name)
     ∙ has
 
--- If there is no such child, all of the names lead nowhere.
+-- If that node has no such child, the whole list of names selects no node.
 pub no_such_child : (start : Option (Sibling FileNode)) (all : List (List ℕ)) (index : ℕ) (name : List ℕ) (at : Sibling FileNode) →
     index < length all → name ≡ get_or all index name → node_below start (take index all) ≡ Some at →
     node_named at.children name ≡ None → node_below start all ≡ None

@@ -12,10 +12,10 @@ use Rattle.bi_c.specs.Answers.{failure_of_error}
 use Rattle.bi_c.specs.Arguments.{bounds}
 use Rattle.bi_c.specs.PieceBuilding.{HasPieces, IsBuiltOfPieces, IsPieceBuildFailure, IsPieceInside, IsPiecesFailure, legacy_in}
 
--- A call from C builds the image of its pieces, or fails as building it does.
+-- A call from C builds the image of its pieces, or fails as building that image fails.
 
 module _ (limit depth : ℕ) (input : List ℕ) (fields : LegacyFields) (parts : List Region) where
-  -- Without the pieces it fails.
+  -- If a region is outside the input, the call fails.
   pub no_pieces : (failure : Failure) → IsInRange limit depth → IsPieceInside input fields.name → IsPiecesFailure input parts failure →
       IsPieceBuildFailure limit depth input fields parts failure
   no_pieces WrongArgument in_range inside none = λ has. none has.parts_inside

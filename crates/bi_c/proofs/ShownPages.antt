@@ -8,7 +8,7 @@ use Rattle.bi_c.specs.Arguments.{bounds, HasLayout, is_yes}
 use Rattle.bi_c.specs.Calls.{IsPageFailure, IsPageText}
 use Rattle.bi_c.proofs.CallAnswers.{failed_by}
 
--- A call from C with valid numbers returns the page of a file under the limits of these numbers, or fails as showing it does.
+-- A call from C with valid numbers returns the page of a file under the limits of these numbers, or fails as showing the file fails.
 
 pub shown_as : (limit depth number : ℕ) (limits : Limits) (layout : Bool) (file text : List ℕ) → HasLayout limit depth number →
     limits ≡ bounds limit depth → layout ≡ is_yes number → IsPage layout limits file text → IsPageText limit depth number file text 0

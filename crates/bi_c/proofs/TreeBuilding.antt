@@ -14,9 +14,9 @@ use Rattle.bi_c.specs.Answers.{failure_of_error}
 use Rattle.bi_c.specs.Arguments.{bounds, form_of, HasForm}
 use Rattle.bi_c.specs.TreeBuilding.{AreSpecsFailure, IsSpecOf, IsToBeBuilt, IsTreeBuildFailure, IsTreeOfPieces}
 
--- A call from C builds the tree of its pieces, or fails as building it does.
+-- A call from C builds the tree of its images, or fails as building that tree fails.
 
--- One more image is that of one more element.
+-- An element that is added to a list of elements adds one image.
 pub one_spec_added : (input : List ℕ) (images : List BuildElement) (specs : List ImageSpec) (image : BuildElement) (spec : ImageSpec) →
     AllZip (IsSpecOf input) images specs → IsSpecOf input image spec →
     AllZip (IsSpecOf input) (images ++ image ∷ []) (specs ++ spec ∷ [])
@@ -26,7 +26,7 @@ one_spec_added input (first ∷ images) [] image spec are is = absurd are
 one_spec_added input (first ∷ images) (other ∷ specs) image spec are is = (are.0, one_spec_added input images specs image spec are.1 is)
 
 module _ (limit depth number time : ℕ) (input description : List ℕ) (images : List BuildElement) (valid : HasForm limit depth number) where
-  -- Without the images to be built it fails.
+  -- If an element has no image, the call fails.
   pub no_specs : (failure : Failure) → AreSpecsFailure input images failure →
       IsTreeBuildFailure limit depth number time input description images failure
   no_specs WrongArgument none = λ has. none has.specs_inside

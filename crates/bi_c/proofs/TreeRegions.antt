@@ -1,5 +1,5 @@
-use Rattle.std.proofs.Common.{◌≡◌, ◌+◌, ◌-◌, ◌<◌, ◌≤◌, ◌++◌, ℕ, List, [], ◌∷◌, Bool, true, false, Option, Some, None, map, length, take, drop}
-use Rattle.std.proofs.Common.{bytes_eq, refl, sym, ap, subst, ◌∙◌, arith, length-append, length-drop, take_all}
+use Rattle.std.proofs.Common.{◌≡◌, ◌+◌, ◌-◌, ◌<◌, ◌≤◌, ◌++◌, ℕ, List, [], ◌∷◌, Bool, true, false, Option, Some, None, map, length, take}
+use Rattle.std.proofs.Common.{drop, bytes_eq, refl, sym, ap, subst, ◌∙◌, arith, length-append, length-drop, take_all}
 use Rattle.std.proofs.lemmas.List.{length-take}
 use Rattle.std.specs.Prelude.{⊤}
 use Rattle.std.specs.List.{AllByRecursion}
@@ -22,15 +22,15 @@ use Rattle.bi_fit.specs.Payloads.{IsAt}
 use Rattle.bi_c.specs.NodeElements.{node_below}
 use Rattle.bi_c.specs.TreeRegions.{AreBytesAt, HasNameBytes, HasPropertyBytes, children_of_found, node_name_region}
 
--- The names and the values of a tree are in its file at their places.
+-- The file has the names and the values of its tree at their places.
 
--- What starts or has a property has its bytes.
+-- An event that starts a node or has a property has its bytes in the file.
 abbrev pub HasEventBytes : List ℕ → FileEvent → Type 0
 HasEventBytes file (FileNodeStart place name) = IsAt file (place + 4) name
 HasEventBytes file (FileNodeProperty property) = HasPropertyBytes file property
 HasEventBytes file FileNodeEnd = ⊤
 
--- Bytes that stand somewhere before more bytes are there.
+-- If bytes are at an offset before more bytes, they are at that offset of the whole.
 stands_before : (file : List ℕ) (at : ℕ) (bytes more : List ℕ) → 0 < length more → BytesAt file at (bytes ++ more) → IsAt file at bytes
 stands_before file at bytes more some there = record {
   in_file = omega (
@@ -41,7 +41,7 @@ stands_before file at bytes more some there = record {
   is_slice = BytesAt-left file at bytes more there;
 }
 
--- So do the last bytes.
+-- The last bytes are at the offset where they begin.
 stands_last : (file : List ℕ) (at : ℕ) (before bytes : List ℕ) → 0 < length before → BytesAt file at (before ++ bytes) →
     IsAt file (at + length before) bytes
 stands_last file at before bytes some there = record {
@@ -60,7 +60,7 @@ token_name file at name is =
     (subst (λ n. BytesAt file n (name ++ 0 ∷ [])) (ap (λ n. at + n) (length-cell 1))
     (BytesAt-right file at (cell 1) (name ++ 0 ∷ []) is.is_at))
 
--- The number and the value in an FDT_PROP token.
+-- After its first 8 bytes an FDT_PROP token has the offset of its name, and then its value.
 token_rest : (file : List ℕ) (at offset : ℕ) (value : List ℕ) → IsTokenAt file at (Prop offset value) →
     BytesAt file (at + 8) (cell offset ++ value)
 token_rest file at offset value is =
@@ -70,7 +70,7 @@ token_rest file at offset value is =
     (BytesAt-right file (at + length (cell 3)) (cell (length value)) (cell offset ++ value)
     (BytesAt-right file at (cell 3) (cell (length value) ++ (cell offset ++ value)) is.is_at))
 
--- A name of the strings block is in the file.
+-- The file has each name of the strings block.
 string_name : (file : List ℕ) (begin size offset : ℕ) (name : List ℕ) → IsNameAt (slice file begin size) offset name →
     IsAt file (begin + offset) name
 string_name file begin size offset name is =
@@ -87,7 +87,7 @@ string_name file begin size offset name is =
     ∙ ap (take (length rest)) there
     ∙ take_all (length rest) rest (omega arith))
 
--- The name and the value of an FDT_PROP token.
+-- The file has the name and the value of an FDT_PROP token.
 token_property : (file : List ℕ) (at offset : ℕ) (value : List ℕ) (property : FileProperty) → IsTokenAt file at (Prop offset value) →
     EncodesProperty (tree_blocks file).strings at offset value property → HasPropertyBytes file property
 token_property file at offset value property is encodes =
@@ -110,7 +110,7 @@ token_property file at offset value property is encodes =
       };
     }
 
--- What the events have that tokens of a file encode.
+-- Each event of tokens that a file encodes has its bytes in the file.
 tokens_bytes : (file : List ℕ) (at : ℕ) (tokens : List Token) (events : List FileEvent) → AllStand file at (tokens ++ End ∷ []) →
     EncodeEvents (tree_blocks file).strings at tokens events → AllByRecursion (HasEventBytes file) events
 tokens_bytes file at [] [] are encodes = tt
@@ -128,7 +128,7 @@ tokens_bytes file at (EndNode ∷ tokens) (FileNodeEnd ∷ events) are encodes =
     (tt, tokens_bytes file (at + width EndNode) tokens events are.1 encodes)
 tokens_bytes file at tokens events are encodes = absurd encodes
 
--- The names and the properties of nodes.
+-- Nodes have their names and properties in the file.
 abbrev pub HaveBytes : List ℕ → Nodes FileNode → Type 0
 HaveBytes file none = ⊤
 HaveBytes file (node name own children later) =
@@ -153,7 +153,7 @@ nodes_bytes file (node name own children later) each =
       nodes_bytes file later (each-back (HasEventBytes file) (file_events children) (FileNodeEnd ∷ file_events later) below).1,
     )
 
--- What a node has itself and below it.
+-- A node has its own bytes and those of the nodes below it.
 abbrev pub HasBytesBelow : List ℕ → Sibling FileNode → Type 0
 HasBytesBelow file found = AllByRecursion (HasPropertyBytes file) found.own.properties × HaveBytes file found.children
 
@@ -166,7 +166,7 @@ root_bytes file cpu reservations root blob =
     (HoldsTree-stand (tree_blocks file) root blob.holds) blob.holds.encodes) in
     (all.1, all.2)
 
--- A node that is found by its name has them.
+-- A node that is found by its name has its bytes.
 pub named_bytes : (file wanted : List ℕ) (nodes : Nodes FileNode) (found : Sibling FileNode) → node_named nodes wanted ≡ Some found →
     HaveBytes file nodes → HasBytesBelow file found
 named_bytes file wanted none found has have = absurd cc
@@ -180,7 +180,7 @@ named_bytes file wanted (node name own children later) found has have =
         subst (HasBytesBelow file) this (have.1, have.2)
     where_first false is has rest = rest (rw is at has)
 
--- So do its children.
+-- The children of such a node have their bytes.
 pub found_bytes : (file wanted : List ℕ) (nodes inner : Nodes FileNode) → children_of wanted nodes ≡ Some inner → HaveBytes file nodes →
     HaveBytes file inner
 found_bytes file wanted nodes inner has have = by (node_named nodes wanted) refl has
@@ -191,7 +191,7 @@ found_bytes file wanted nodes inner has have = by (node_named nodes wanted) refl
     by (Some found) is has =
         subst (HaveBytes file) (same_in_some found.children inner has) (named_bytes file wanted nodes found is have).1
 
--- And a node that names lead to.
+-- The node at a path has its bytes.
 pub below_bytes : (file : List ℕ) (start : Option (Sibling FileNode)) (names : List (List ℕ)) (found : Sibling FileNode) →
     ((first : Sibling FileNode) → start ≡ Some first → HasBytesBelow file first) → node_below start names ≡ Some found →
     HasBytesBelow file found
@@ -201,12 +201,12 @@ below_bytes file (Some first) (name ∷ names) found have is =
     below_bytes file (node_named first.children name) names found
     (λ child is. named_bytes file name first.children child is (have first refl).1) is
 
--- The siblings among nodes have their names.
+-- Each of some siblings has its name in the file.
 pub each_name : (file : List ℕ) (nodes : Nodes FileNode) → HaveBytes file nodes → AllByRecursion (HasNameBytes file) (siblings nodes)
 each_name file none have = tt
 each_name file (node name own children later) have = (have.0, each_name file later have.3)
 
--- So do the children of a node that is found.
+-- The children of a node that is found have their names in the file.
 pub children_names : (file wanted : List ℕ) (nodes : Nodes FileNode) (found : Option (Sibling FileNode)) → node_named nodes wanted ≡ found →
     HaveBytes file nodes → AllByRecursion (HasNameBytes file) (children_of_found found)
 children_names file wanted nodes None is have = tt

@@ -9,19 +9,19 @@ use Rattle.bi_c.specs.declared.verdicts.HashElement.{HashElement}
 
 -- The elements of hash nodes are added one after the other.
 
--- A child that is a hash node has an element,
+-- A child that is a hash node adds an element.
 pub hash_has_element : (image : Sibling FileNode) (payload : Option (List ℕ)) (child : Sibling FileNode) (verdict : Verdict) →
     is_hash_name child.name ≡ true → verdict ≡ verdict_on payload child →
     hash_elements_among image payload (child ∷ []) ≡ element_with_verdict image child verdict ∷ []
 hash_has_element image payload child verdict is judged =
     rw is (ap (λ (v : Verdict). element_with_verdict image child v ∷ []) (sym judged))
 
--- and any other has none.
+-- A child that is not a hash node adds none.
 pub other_has_none : (image : Sibling FileNode) (payload : Option (List ℕ)) (child : Sibling FileNode) →
     is_hash_name child.name ≡ false → hash_elements_among image payload (child ∷ []) ≡ []
 other_has_none image payload child is = rw is refl
 
--- The elements of the first child are before those of the later ones.
+-- The elements of the first child come before those of the later children.
 first_child_first : (image : Sibling FileNode) (payload : Option (List ℕ)) (child : Sibling FileNode) (later : List (Sibling FileNode)) →
     hash_elements_among image payload (child ∷ later)
     ≡ hash_elements_among image payload (child ∷ []) ++ hash_elements_among image payload later
@@ -32,7 +32,7 @@ first_child_first image payload child later = by (is_hash_name child.name) refl
     by true is = rw is refl
     by false is = rw is refl
 
--- What is added so far and what is left are all, so they are after one more child,
+-- The elements that were added and those that are left are all elements. This holds after one more child,
 pub one_child_added : (image : Sibling FileNode) (payload : Option (List ℕ)) (child : Sibling FileNode)
     (left later : List (Sibling FileNode)) (before now all : List HashElement) → left ≡ child ∷ later →
     now ≡ before ++ hash_elements_among image payload (child ∷ []) → before ++ hash_elements_among image payload left ≡ all →
@@ -57,17 +57,17 @@ one_image_added node left later image images rest payload before now all is are 
     ∙ ap (λ l. before ++ l) (sym (ap₂ (λ nodes models. hash_elements nodes (payloads_of_models models)) is are))
     ∙ so_far
 
--- Nothing is left without nodes,
+-- If no node is left, no element is left.
 pub no_node_left_to_judge : (payloads : List (Option (List ℕ))) → hash_elements [] payloads ≡ []
 no_node_left_to_judge [] = refl
 no_node_left_to_judge (payload ∷ payloads) = refl
 
--- or without images.
+-- If no image is left, no element is left.
 pub no_image_left_to_judge : (nodes : List (Sibling FileNode)) → hash_elements nodes [] ≡ []
 no_image_left_to_judge [] = refl
 no_image_left_to_judge (node ∷ nodes) = refl
 
--- So all are added.
+-- At the end all elements were added.
 pub all_are_added : (nodes : List (Sibling FileNode)) (payloads : List (Option (List ℕ))) (now all : List HashElement) →
     hash_elements nodes payloads ≡ [] → now ++ hash_elements nodes payloads ≡ all → now ≡ all
 all_are_added nodes payloads now all none so_far = sym (append-nil now) ∙ ap (λ l. now ++ l) (sym none) ∙ so_far

@@ -1,5 +1,5 @@
-use Rattle.std.proofs.Common.{◌≡◌, ◌+◌, ℕ, Bool, true, false, List, [], ◌∷◌, ◌++◌, Option, None, Some, length, option_and_then, refl, sym, ap}
-use Rattle.std.proofs.Common.{subst, ◌∙◌, arith, length-append, bytes_eq, cond, map}
+use Rattle.std.proofs.Common.{◌≡◌, ◌+◌, ℕ, Bool, true, false, List, [], ◌∷◌, ◌++◌, Option, None, Some, length, option_and_then, refl, sym}
+use Rattle.std.proofs.Common.{ap, subst, ◌∙◌, arith, length-append, bytes_eq, cond, map}
 use Rattle.std.specs.List.{AllByRecursion, AllZip}
 use Rattle.bi_base.specs.Limits.{Limits, IsInRange}
 use Rattle.bi_base.specs.Strings.{text_before_nul}
@@ -23,9 +23,9 @@ use Rattle.bi_c.specs.VerdictElements.{hash_elements, hash_elements_among, text_
 use Rattle.bi_c.proofs.FitFiles.{means_within}
 use Rattle.bi_c.proofs.TreeRegions.{HaveBytes, found_bytes, root_bytes}
 
--- The elements of the hash nodes that were read of a file are those of what the file means.
+-- The elements of the hash nodes that were read are those of what the file means.
 
--- The text at the beginning of a value is in its region.
+-- The text at the beginning of a value is in the region of that text.
 text_there : (file : List ℕ) (property : FileProperty) → HasPropertyBytes file property →
     HasPayloadBytes file (text_region property (text_before_nul property.value)) (text_before_nul property.value)
 text_there file property has = by (text_before_nul property.value) refl
@@ -44,7 +44,7 @@ text_there file property has = by (text_before_nul property.value) refl
           };
         }
 
--- What holds of each property of a node that has its bytes, and without a property, holds of the one with a name and of its value.
+-- A property that is found by its name, and its value, have what each property of the node has. Without a property there is no value.
 of_named : (file : List ℕ) (Holds : Option FileProperty → Option (List ℕ) → Type 0) → Holds None None →
     ((property : FileProperty) → HasPropertyBytes file property → Holds (Some property) (Some property.value)) →
     (properties : List FileProperty) (name : List ℕ) → AllByRecursion (HasPropertyBytes file) properties →
@@ -58,7 +58,7 @@ of_named file Holds nothing each (first ∷ later) name have =
     by true rest = each first have.0
     by false rest = rest
 
--- The element of a hash node is that of its verdict.
+-- The element of a hash node has the verdict on that node.
 is_element : (file : List ℕ) (image : Sibling FileNode) (payload : Option (List ℕ)) (hash : Sibling FileNode) → HasNameBytes file image →
     HasNameBytes file hash → AllByRecursion (HasPropertyBytes file) hash.own.properties →
     IsHashElement file (element_with_verdict image hash (verdict_on payload hash)) (file_hash image.name payload hash)
@@ -73,7 +73,7 @@ is_element file image payload hash image_there hash_there have = record {
   verdict = refl;
 }
 
--- So are those of the hash nodes among the children of an image,
+-- The same holds of the hash nodes among the children of an image,
 among_children : (file : List ℕ) (image : Sibling FileNode) (payload : Option (List ℕ)) (children : Nodes FileNode) →
     HasNameBytes file image → HaveBytes file children →
     AllZip (IsHashElement file) (hash_elements_among image payload (siblings children))
@@ -93,7 +93,7 @@ among_children file image payload (node name own inner later) there have =
     by true is rest = rw is (is_element file image payload this there have.0 have.1, rest)
     by false is rest = rw is rest
 
--- and those of all images.
+-- and of those of all images.
 both : (file : List ℕ) (elements others : List HashElement) (hashes more : List CheckedHash) →
     AllZip (IsHashElement file) elements hashes → AllZip (IsHashElement file) others more →
     AllZip (IsHashElement file) (elements ++ others) (hashes ++ more)
@@ -112,7 +112,7 @@ of_images file (node name own inner later) (image ∷ images) have =
     (among_children file (record { name = name; own = own; children = inner; later = later }) image.payload inner have.0 have.2)
     (of_images file later images have.3)
 
--- So the elements are those of what the file means.
+-- The elements are those of what the file means.
 pub are_hash_elements : (limit depth : ℕ) (file : List ℕ) (limits : Limits) (content : FitModel) (elements : List HashElement) →
     IsInRange limit depth → limits ≡ bounds limit depth → IsReadFit limits file content →
     elements ≡ hash_elements (siblings (file_images content.blob)) (payloads_of_models content.images) →

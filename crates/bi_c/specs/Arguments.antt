@@ -25,11 +25,11 @@ pub record HasForm (limit depth form : ℕ) : Type 0 where
   pub limits : IsInRange limit depth
   pub is_form : form < 2
 
--- Whether a number is a yes: 0 for no, 1 for yes.
+-- Whether a number means yes: 0 means no, and 1 means yes.
 abbrev pub is_yes : ℕ → Bool
 is_yes number = number == 1
 
--- The limits are in their ranges, and the number is a yes or a no.
+-- The limits are in their ranges, and the number is 0 or 1.
 pub record HasLayout (limit depth layout : ℕ) : Type 0 where
   pub limits : IsInRange limit depth
   pub is_layout : layout < 2

@@ -146,8 +146,8 @@ abbrev pub IsFailureOfOne : (limit depth : ℕ) → (HasError : Limits → Error
 IsFailureOfOne limit depth HasError =
     IsFailure (IsInRange limit depth) (HasError (bounds limit depth))
 
--- Why a call on a flattened image tree fails that looks something up. It names a reason and an index
--- if what it looks up is not there.
+-- Why a call that looks something up in a FIT fails. If what it looks up is not there, it names a
+-- reason and an index.
 abbrev pub IsTreeFailure : (AreValid : Type 0) → Limits → (file : List ℕ)
     → (IsReason : (reason index : ℕ) → Type 0) → Failure → Type 0
 IsTreeFailure AreValid limits file IsReason (NotFound reason index) =
@@ -176,7 +176,7 @@ pub record IsCheckText (format : Format) (limit depth kinds : ℕ) (file text : 
     pub arguments : HasKinds limit depth kinds
     pub is : IsConcernsText (checker_of format kinds) (bounds limit depth) file text value
 
--- The page of the file, with its layout if the number is a yes.
+-- The page of the file. It has the layout if the number is 1.
 pub record IsPageText (limit depth layout : ℕ) (file text : List ℕ) (value : ℕ) : Type 0 where
   pub arguments : HasLayout limit depth layout
   pub is : IsPage (is_yes layout) (bounds limit depth) file text

@@ -25,10 +25,10 @@ use Rattle.bi_c.specs.declared.fit.FitFields.{FitFields}
 use Rattle.bi_c.specs.declared.fit.ReservationElement.{ReservationElement}
 use Rattle.bi_c.specs.declared.region.Region.{Region}
 
--- What calls from C return of a flattened image tree besides its images: the fields of its blob,
--- its memory reservations and its configurations (profile of this project).
+-- What calls from C return of a FIT besides its images: the fields of its blob, its memory
+-- reservations and its configurations (profile of this project).
 
--- The fields are those of the blob of the flattened image tree that the file is.
+-- The fields are those of the blob of the FIT that the file is.
 pub record AreFitFields (limit depth : ℕ) (file : List ℕ) (fields : FitFields) : Type 0 where
   pub limits : IsInRange limit depth
   pub tree : ImageTree
@@ -51,14 +51,15 @@ pub record AreReservationElements (limit depth : ℕ) (file : List ℕ)
     pub are_elements : elements ≡ map element_of_reservation tree.reservations
     pub no_value : value ≡ 0
 
--- The index of the first of these names that is the given one, or their number if none is.
+-- The index of the first name that is equal to the given one, or the number of names if there is
+-- none.
 abbrev pub index_of_first : (name : List ℕ) → List (List ℕ) → ℕ
 index_of_first name [] = 0
 index_of_first name (first ∷ later) =
     if bytes_eq first name then 0 else index_of_first name later + 1
 
--- The index of the first of these names that is the default, or their number if there is no such
--- name.
+-- The index of the first name that is that of the default configuration, or the number of names if
+-- there is no such name.
 abbrev pub index_of_default : Option (List ℕ) → List (List ℕ) → ℕ
 index_of_default None names = length names
 index_of_default (Some default) names = index_of_first default names
@@ -94,7 +95,7 @@ index_of_listed tree listed =
     index_of_first listed.name (tree_image_names (images_of tree))
 
 -- The indices are those of the images that the configuration with the given name lists under a key,
--- in the order of the list. Each is that of an image.
+-- in the order of its list. Each is the index of an image.
 pub record AreImageIndices (limit depth key : ℕ) (file name : List ℕ) (indices : List ℕ)
     (value : ℕ) : Type 0
   where
@@ -107,8 +108,8 @@ pub record AreImageIndices (limit depth key : ℕ) (file name : List ℕ) (indic
     pub within : AllByRecursion (λ index. index < length (images_of tree)) indices
     pub no_value : value ≡ 0
 
--- The numbers of the reason why nothing is listed: the reason, and the index of the first name that
--- no image has, if the reason names one.
+-- The numbers of the reason why nothing is listed: the number of the reason, and the index of the
+-- first name without an image, if the reason names one.
 abbrev pub IsListReason : (reason index : ℕ) → ListResult → Type 0
 IsListReason reason index NoConfig = (reason ≡ 4) × (index ≡ 0)
 IsListReason reason index NoKey = (reason ≡ 5) × (index ≡ 0)
@@ -117,7 +118,7 @@ IsListReason reason index (Missing missing) = (reason ≡ 7) × (index ≡ missi
 IsListReason reason index (ListedImages listed) = ⊥
 
 -- The file means a tree in which the configuration with the given name lists nothing under a key,
--- for this reason.
+-- for the given reason.
 pub record ListsNothing (limits : Limits) (key : ℕ) (file name : List ℕ) (reason index : ℕ) : Type 0
   where
     pub tree : ImageTree
@@ -130,7 +131,7 @@ IsListFailure limit depth key file name =
     let limits = bounds limit depth in
     IsTreeFailure (HasKey limit depth key) limits file (ListsNothing limits key file name)
 
--- The failure for an error of listing images.
+-- The failure that an error of listing images becomes.
 abbrev pub failure_of_list_error : ConfigError → Failure
 failure_of_list_error list.NoConfig = NotFound 4 0
 failure_of_list_error list.NoKey = NotFound 5 0
@@ -138,13 +139,13 @@ failure_of_list_error list.BadList = NotFound 6 0
 failure_of_list_error (list.Missing index) = NotFound 7 index
 failure_of_list_error list.OutOfMemory = OutOfMemory
 
--- The index of a listed image among the images of a flattened image tree that was read, or their
--- number if there is no such image.
+-- The index of a listed image among the images that were read, or the number of images if there is
+-- no such image.
 abbrev pub index_among : FitModel → ListedImage → ℕ
 index_among content listed =
     unwrap_or (index_of listed.name content.images) (length content.images)
 
--- The indices are those of what a flattened image tree that was read lists.
+-- The indices are those of the images that a configuration of the tree that was read lists.
 pub record AreReadIndices (content : FitModel) (name : List ℕ) (key : Key) (indices : List ℕ)
     (value : ℕ) : Type 0
   where
@@ -153,7 +154,7 @@ pub record AreReadIndices (content : FitModel) (name : List ℕ) (key : Key) (in
     pub are_indices : indices ≡ map (index_among content) listed
     pub no_value : value ≡ 0
 
--- Why a flattened image tree that was read lists nothing. Memory may run out.
+-- Why a configuration of the tree that was read lists nothing. Memory may run out.
 abbrev pub IsListRefusal : FitModel → (name : List ℕ) → Key → Failure → Type 0
 IsListRefusal content name key (NotFound reason index) =
     IsListReason reason index (listed_of (tree_of content) name key)

@@ -86,7 +86,7 @@ pub record ReasonsAreKnown : Type 0 where
   pub no_entry : HasReason NoSuchEntry 8 0
   pub no_payload : HasReason HasNoPayload 9 0
 
--- The reasons why nothing is found by a path or a name.
+-- The numbers of the reasons why nothing is found by a path or a name.
 pub record NodeReasonsAreKnown : Type 0 where
   pub no_node : (limits : Limits) (file path : List ℕ) → LacksNode limits file path
       → IsNodeReason limits file path 10 0

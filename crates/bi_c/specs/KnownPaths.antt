@@ -4,7 +4,7 @@ use Rattle.bi_blob.specs.Lookups.{Sibling, root_node}
 use Rattle.bi_blob.specs.Tree.{FileNode, Nodes, none, node}
 use Rattle.bi_c.specs.NodeElements.{node_at_path}
 
--- What is at some paths of a small tree, by which a reader can judge the definition of a path.
+-- The nodes at some paths of a small tree. A reader can judge the definition of a path by them.
 
 -- A node without properties.
 abbrev pub bare_node : FileNode
@@ -16,13 +16,13 @@ three_nodes =
     node (codes "a") bare_node
     (node (codes "b") bare_node none (node (codes "c") bare_node none none)) none
 
--- The name of the node at a path of a tree with these nodes below its root.
+-- The name of the node at a path, of a tree with these nodes below its root.
 abbrev pub name_at_path : (path : List ℕ) → Option (List ℕ)
 name_at_path path =
     option_map (λ (found : Sibling FileNode). found.name)
     (node_at_path (root_node (record { own = bare_node; children = three_nodes })) path)
 
--- The names of the nodes at some paths, and paths of no node.
+-- The names of the nodes at some paths, and paths without a node.
 pub record PathsAreKnown : Type 0 where
   pub root : name_at_path (codes "/") ≡ Some []
   pub child : name_at_path (codes "/a") ≡ Some (codes "a")

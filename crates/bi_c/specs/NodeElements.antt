@@ -1,5 +1,5 @@
-use Rattle.std.specs.Prelude.{ℕ, ◌≡◌, ◌+◌, ◌==◌, ◌⊎◌, List, [], ◌∷◌, length, map, Option, None, Some}
-use Rattle.std.specs.Prelude.{if◌then◌else◌}
+use Rattle.std.specs.Prelude.{ℕ, ◌≡◌, ◌+◌, ◌==◌, ◌⊎◌, List, [], ◌∷◌, length, map}
+use Rattle.std.specs.Prelude.{Option, None, Some, if◌then◌else◌}
 use Rattle.std.specs.List.{AllByRecursion, slice_split}
 use Rattle.bi_base.specs.Limits.{Limits, IsInRange}
 use Rattle.bi_blob.specs.Lookups.{Sibling, node_named, property_named, root_node, siblings}
@@ -15,30 +15,30 @@ use Rattle.bi_c.specs.declared.failure.Failure.{Failure}
 use Rattle.bi_c.specs.declared.properties.PropertyElement.{PropertyElement}
 use Rattle.bi_c.specs.declared.region.Region.{Region}
 
--- What calls from C return of a node of a flattened image tree: its properties and its children
--- (Devicetree Specification, 2.2; the rest is profile of this project).
+-- What calls from C return of a node of a FIT: its properties and its children (Devicetree
+-- Specification, 2.2; the rest is profile of this project).
 
--- The names in what follows the first slash of a path: what is between the slashes there, or no
--- name if nothing follows.
+-- The names in the bytes after the first slash of a path. A slash separates each two names. No
+-- bytes have no name.
 abbrev pub names_after_slash : List ℕ → List (List ℕ)
 names_after_slash [] = []
 names_after_slash (first ∷ rest) = slice_split (λ byte. byte == 47) (first ∷ rest)
 
--- The node that these names lead to: from a node to its child with the first name, from there to
--- its child with the second, and so on.
+-- The node that a list of names selects, from a node on: the first name selects a child of the
+-- node, the second name a child of that child, and so on.
 abbrev pub node_below : Option (Sibling FileNode) → List (List ℕ) → Option (Sibling FileNode)
 node_below None names = None
 node_below (Some found) [] = Some found
 node_below (Some found) (name ∷ names) = node_below (node_named found.children name) names
 
--- The node at a path: a slash, and the names of the nodes from a child of the root down to it, with
--- a slash between each two. The path of the root is a slash alone.
+-- The node at a path. A path is a slash, and then the names of the nodes from a child of the root
+-- down to the node, with a slash between each two. The path of the root is one slash.
 abbrev pub node_at_path : (root : Sibling FileNode) → (path : List ℕ) → Option (Sibling FileNode)
 node_at_path root [] = None
 node_at_path root (first ∷ rest) =
     if first == 47 then node_below (Some root) (names_after_slash rest) else None
 
--- The file means a tree within the limits, which has this node at the path.
+-- The file means a tree within the limits. The tree has this node at the path.
 pub record HasNodeAtPath (limits : Limits) (file path : List ℕ) (found : Sibling FileNode) : Type 0
   where
     pub tree : ImageTree
@@ -50,8 +50,8 @@ abbrev pub element_of_property : (file : List ℕ) → FileProperty → Property
 element_of_property file property =
     record { name = property_name_region file property; value = value_region property }
 
--- The elements are those of the properties of the node at the path, in their order, and their
--- regions have the names and the values.
+-- The elements are those of the properties of the node at the path, in their order. Their regions
+-- have the names and the values.
 pub record ArePropertyElements (limit depth : ℕ) (file path : List ℕ)
     (elements : List PropertyElement) (value : ℕ) : Type 0
   where
@@ -73,8 +73,8 @@ pub record AreChildRegions (limit depth : ℕ) (file path : List ℕ) (regions :
     pub have_bytes : AllByRecursion (HasNameBytes file) (siblings found.children)
     pub no_value : value ≡ 0
 
--- The value of the property with the given name of the node at the path is this many bytes of the
--- file, from this offset on.
+-- The value of the property with the given name, of the node at the path, has this size and is at
+-- this offset in the file.
 pub record IsValueAt (limit depth : ℕ) (file path name : List ℕ) (size offset : ℕ) : Type 0 where
   pub limits : IsInRange limit depth
   pub found : Sibling FileNode
@@ -85,7 +85,7 @@ pub record IsValueAt (limit depth : ℕ) (file path name : List ℕ) (size offse
   pub is_offset : offset ≡ property.place + 12
   pub is_there : IsAt file offset property.value
 
--- The file means a tree within the limits, which has no node at the path.
+-- The file means a tree within the limits. The tree has no node at the path.
 pub record LacksNode (limits : Limits) (file path : List ℕ) : Type 0 where
   pub tree : ImageTree
   pub means : FitMeans limits file tree
@@ -108,13 +108,13 @@ IsPropertyReason limits file path name reason index =
     IsNodeReason limits file path reason index
     ⊎ ((reason ≡ 11) × (index ≡ 0) × LacksProperty limits file path name)
 
--- Why a call that looks at a node fails.
+-- Why a call that returns something of a node fails.
 abbrev pub IsNodeFailure : (limit depth : ℕ) → (file path : List ℕ) → Failure → Type 0
 IsNodeFailure limit depth file path =
     let limits = bounds limit depth in
     IsTreeFailure (IsInRange limit depth) limits file (IsNodeReason limits file path)
 
--- Why a call that looks up a property fails.
+-- Why a call that returns the value of a property fails.
 abbrev pub IsPropertyFailure : (limit depth : ℕ) → (file path name : List ℕ) → Failure → Type 0
 IsPropertyFailure limit depth file path name =
     let limits = bounds limit depth in

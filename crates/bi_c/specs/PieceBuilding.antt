@@ -12,7 +12,7 @@ use Rattle.bi_c.specs.declared.failure.Failure.TheVariants.{NotFound}
 use Rattle.bi_c.specs.declared.legacy.LegacyFields.{LegacyFields}
 use Rattle.bi_c.specs.declared.region.Region.{Region}
 
--- The legacy images that a call from C builds of pieces of the caller's memory (profile of this
+-- The legacy images that a call from C builds from pieces of the caller's memory (profile of this
 -- project).
 
 -- The bytes of a region of an input.
@@ -23,7 +23,7 @@ bytes_of_piece input region = slice input region.offset region.size
 abbrev pub IsPieceInside : (input : List ℕ) → Region → Type 0
 IsPieceInside input region = region.offset + region.size ≤ length input
 
--- The image with this name, the other fields of this struct, and these parts.
+-- The image with this name and these parts. All other fields are those of this struct.
 abbrev pub legacy_of_pieces : (name : List ℕ) → LegacyFields → (parts : List (List ℕ))
     → LegacyImage
 legacy_of_pieces name fields parts = record {
@@ -59,7 +59,7 @@ pub record IsBuiltOfPieces (limit depth : ℕ) (input : List ℕ) (fields : Lega
     pub is : IsBuiltLegacy (bounds limit depth) (legacy_in input fields parts) text
     pub no_value : value ≡ 0
 
--- Why no image is built. Memory may run out before the parts are examined.
+-- Why no image is built. Memory may run out before the parts are looked at.
 abbrev pub IsPieceBuildFailure : (limit depth : ℕ) → (input : List ℕ) → LegacyFields → List Region
     → Failure → Type 0
 IsPieceBuildFailure limit depth input fields parts WrongArgument =
@@ -71,7 +71,7 @@ IsPieceBuildFailure limit depth input fields parts OutOfMemory =
     IsInRange limit depth × IsPieceInside input fields.name
 IsPieceBuildFailure limit depth input fields parts (NotFound reason index) = ⊥
 
--- Why there are no pieces of these regions.
+-- Why these regions have no pieces.
 abbrev pub IsPiecesFailure : (input : List ℕ) → List Region → Failure → Type 0
 IsPiecesFailure input regions WrongArgument = ¬ (AllByRecursion (IsPieceInside input) regions)
 IsPiecesFailure input regions OutOfMemory = ⊤

@@ -12,15 +12,14 @@ use Rattle.bi_c.specs.declared.failure.Failure.TheVariants.{WrongArgument, Refus
 use Rattle.bi_c.specs.declared.failure.Failure.TheVariants.{NotFound}
 use Rattle.bi_c.specs.declared.fit_building.BuildElement.{BuildElement}
 
--- The flattened image trees that a call from C builds of pieces of the caller's memory (profile of
--- this project).
+-- The FITs that a call from C builds from pieces of the caller's memory (profile of this project).
 
 -- An address that may not be there.
 abbrev pub address_if : (is_there : Bool) → (address : ℕ) → Option ℕ
 address_if is_there address = if is_there then Some address else None
 
--- The name and the payload of an image to be built are inside the input, and the number says which
--- addresses there are.
+-- The name and the payload of an image to be built are inside the input. The number says which of
+-- the two addresses the image has.
 pub record IsSpecInside (input : List ℕ) (image : BuildElement) : Type 0 where
   pub name : IsPieceInside input image.name
   pub payload : IsPieceInside input image.payload
@@ -57,7 +56,7 @@ pub record IsTreeOfPieces (limit depth form time : ℕ) (input description : Lis
     pub is : IsBuilt (bounds limit depth) (form_of form) head specs text
     pub no_value : value ≡ 0
 
--- The fault of what is to be built.
+-- The fault that building a FIT from these values has.
 pub record IsTreeRefusal (limit depth form time : ℕ) (input description : List ℕ)
     (images : List BuildElement) (fault : Fault) : Type 0
   where
@@ -67,13 +66,13 @@ pub record IsTreeRefusal (limit depth form time : ℕ) (input description : List
     pub is_to_be_built : IsToBeBuilt time input description images head specs
     pub is : IsBuildError (bounds limit depth) (form_of form) head specs (error.Refused fault)
 
--- The numbers are in their ranges, and the images inside the input.
+-- The numbers are in their ranges, and the images are inside the input.
 pub record HasSpecs (limit depth form : ℕ) (input : List ℕ) (images : List BuildElement) : Type 0
   where
     pub arguments : HasForm limit depth form
     pub specs_inside : AllByRecursion (IsSpecInside input) images
 
--- Why no tree is built. Memory may run out before the images are examined.
+-- Why no tree is built. Memory may run out before the images are looked at.
 abbrev pub IsTreeBuildFailure : (limit depth form time : ℕ) → (input description : List ℕ)
     → List BuildElement → Failure → Type 0
 IsTreeBuildFailure limit depth form time input description images WrongArgument =
@@ -84,7 +83,7 @@ IsTreeBuildFailure limit depth form time input description images OutOfMemory =
     HasForm limit depth form
 IsTreeBuildFailure limit depth form time input description images (NotFound reason index) = ⊥
 
--- Why there are no images to be built of these elements.
+-- Why these elements have no images to be built.
 abbrev pub AreSpecsFailure : (input : List ℕ) → List BuildElement → Failure → Type 0
 AreSpecsFailure input images WrongArgument = ¬ (AllByRecursion (IsSpecInside input) images)
 AreSpecsFailure input images OutOfMemory = ⊤

@@ -28,7 +28,7 @@ pub record AreBytesAt (file : List ℕ) (region : Region) (bytes : List ℕ) : T
   pub is_size : region.size ≡ length bytes
   pub is_there : IsAt file region.offset bytes
 
--- The name and the value of a property are in its file there.
+-- The name and the value of a property are at these places in its file.
 pub record HasPropertyBytes (file : List ℕ) (property : FileProperty) : Type 0 where
   pub name : AreBytesAt file (property_name_region file property) property.name
   pub value : AreBytesAt file (value_region property) property.value
@@ -37,11 +37,11 @@ pub record HasPropertyBytes (file : List ℕ) (property : FileProperty) : Type 0
 abbrev pub name_region_of : Sibling FileNode → Region
 name_region_of entry = node_name_region entry.own entry.name
 
--- The name of a node is in its file there.
+-- The name of a node is at this place in its file.
 abbrev pub HasNameBytes : (file : List ℕ) → Sibling FileNode → Type 0
 HasNameBytes file entry = AreBytesAt file (name_region_of entry) entry.name
 
--- The children of a node that is found. There may be no such node.
+-- The children of a node that may not be there.
 abbrev pub children_of_found : Option (Sibling FileNode) → List (Sibling FileNode)
 children_of_found None = []
 children_of_found (Some found) = siblings found.children

@@ -19,8 +19,7 @@ use Rattle.bi_c.specs.TreeRegions.{AreBytesAt, name_region_of, value_region}
 use Rattle.bi_c.specs.declared.region.Region.{Region}
 use Rattle.bi_c.specs.declared.verdicts.HashElement.{HashElement}
 
--- The verdicts on the hash nodes of a flattened image tree, as a call from C returns them (profile
--- of this project).
+-- The verdicts on the hash nodes of a FIT, as a call from C returns them (profile of this project).
 
 -- The number of a verdict.
 abbrev pub verdict_number : Verdict → ℕ
@@ -30,7 +29,7 @@ verdict_number UnknownAlgo = 2
 verdict_number NoPayload = 3
 verdict_number Malformed = 4
 
--- The region of what is not there.
+-- The region of a text that is not there.
 abbrev pub nowhere : Region
 nowhere = record { offset = 0; size = 0 }
 
@@ -82,8 +81,7 @@ hash_elements (image ∷ later) (payload ∷ payloads) =
     hash_elements_among image payload (siblings image.children) ++ hash_elements later payloads
 hash_elements images payloads = []
 
--- The element is that of a hash node with its verdict: its regions have the names and the value,
--- as far as there are any.
+-- The element is that of a hash node with its verdict. Each text that is there is in its region.
 pub record IsHashElement (file : List ℕ) (element : HashElement) (hash : CheckedHash) : Type 0 where
   pub image : AreBytesAt file element.image hash.image
   pub node : AreBytesAt file element.node hash.node_name
@@ -91,8 +89,8 @@ pub record IsHashElement (file : List ℕ) (element : HashElement) (hash : Check
   pub value : HasPayloadBytes file element.value hash.value
   pub verdict : element.verdict ≡ verdict_number hash.verdict
 
--- The elements are those of the hash nodes of the flattened image tree that the file means, in
--- their order, and the verdicts are those of the tree.
+-- The elements are those of the hash nodes of the FIT that the file means, in their order. The
+-- verdicts are those of the tree.
 pub record AreHashElements (limit depth : ℕ) (file : List ℕ) (elements : List HashElement)
     (value : ℕ) : Type 0
   where

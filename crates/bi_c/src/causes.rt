@@ -26,8 +26,8 @@ pub extern "C" fn bootimg_cause_name(number: u32, buffer: &mut [u8], answer: &mu
     }
 }
 
-/// Writes what the cause with the given number, 1 to 26, means, and what a user can do, to a buffer.
-/// Returns the status.
+/// Writes what the cause with the given number, 1 to 26, means, and what a user can do, to a
+/// buffer. Returns the status.
 #[unsafe(no_mangle)]
 pub extern "C" fn bootimg_explain(number: u32, buffer: &mut [u8], answer: &mut Answer) -> u32
     ensures { Fills (IsCauseSentence number) (IsNoCause number) buffer.old buffer.new answer.new

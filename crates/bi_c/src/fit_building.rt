@@ -87,7 +87,8 @@ fn specs_of<'a>(
     input: &'a [u8],
     images: &[BuildElement],
 ) -> Result<Vec<ImageSpec<'a>>, Failure>
-    ensures specs { IfOk result (λ specs. AllZip (IsSpecOf input.entry.now) images.now specs.items) }
+    ensures specs { IfOk result
+        (λ specs. AllZip (IsSpecOf input.entry.now) images.now specs.items) }
     ensures failed { IfErr result (AreSpecsFailure input.entry.now images.now) }
 {
     let mut specs = Vec::new(alloc);

@@ -29,7 +29,7 @@ texts_ascii lines are =
     each-map HasAscii (λ words. join_with_byte 32 words) lines
     (each-weaker AreAsciiWords (λ words. HasAscii (join_with_byte 32 words)) (words_ascii 32 (omega arith)) lines are)
 
--- Known lines are tested.
+-- Some known lines are ASCII.
 known : (text : List ℕ) → list_all is_line_byte text ≡ true → HasAscii text
 known [] is = tt
 known (byte ∷ later) is =

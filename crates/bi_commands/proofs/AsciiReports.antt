@@ -495,7 +495,7 @@ text_shown Json allowed concerns bytes =
       tt,
     ))
 
--- What the concerns about a file have is bytes.
+-- Each element of the lines of concerns is a byte.
 pub concern_bytes : (limits : Limits) (file : List ℕ) (concerns : List Concern) → AreConcerns limits file concerns →
     AllByRecursion IsByteConcern concerns
 concern_bytes limits file concerns (OfLegacyImage parsed is are) =

@@ -6,7 +6,7 @@ use Rattle.std.proofs.lemmas.List.{length-append}
 use Rattle.bi_commands.specs.declared.show.dates.Date.{Date}
 use Rattle.bi_commands.specs.Dates.{IsDate, days_of_years, is_leap_year, month_lengths, year_length}
 
--- How long years and months are, and so how large the numbers of a date are.
+-- These lemmas bound the lengths of years and months, and the numbers of a date.
 
 -- A year has at least 365 days.
 pub year_has_days : (year : ℕ) → 365 ≤ year_length year
@@ -85,12 +85,12 @@ months_are_short year = by (is_leap_year year) where
     ),
   )
 
--- What is true of each number of a list is true of one of them.
+-- If each number of a list has a property, a number in the list has it.
 of_one : (P : ℕ → Type 0) (earlier : List ℕ) (one : ℕ) (later : List ℕ) → AllByRecursion P (earlier ++ one ∷ later) → P one
 of_one P [] one later each = each.0
 of_one P (first ∷ earlier) one later each = of_one P earlier one later each.1
 
--- The numbers of a date that 32 bits of seconds reach.
+-- A time of 32 bits has a date with four digits for the year, and two for the month and for the day.
 pub date_is_short : (days : ℕ) (date : Date) → IsDate days date → days < 49711 →
     (date.year < 10000) × (date.month < 100) × (date.day < 100)
 date_is_short days date is few =

@@ -11,9 +11,9 @@ use Rattle.bi_commands.specs.Differences.{added_line, counterpart, differences, 
 use Rattle.bi_commands.specs.Differences.{lines_for_second, signed_line}
 use Rattle.bi_commands.specs.ValueTexts.{is_printable}
 
--- What is true of the bytes of two descriptions, of signs and of newlines is true of those of the differences.
+-- If each byte of two descriptions, each sign and the newline have a property, each byte of the differences has it.
 
--- A byte that may be in a line, or its newline.
+-- A byte may be in a line, or is its newline.
 abbrev pub is_line_byte : ℕ → Bool
 is_line_byte byte = byte == 10 || is_printable byte
 
@@ -21,13 +21,13 @@ module _ (P : ℕ → Type 0) (known : (text : List ℕ) → list_all is_line_by
   abbrev Are : List (List ℕ) → Type 0
   Are lines = AllByRecursion (AllByRecursion P) lines
 
-  -- The texts of elements of which this is true.
+  -- The bytes of the texts of elements have the property.
   each : {X : Type 0} (Q : X → Type 0) (f : X → List ℕ) → ((x : X) → Q x → AllByRecursion P (f x)) → (xs : List X) → AllByRecursion Q xs →
       AllByRecursion P (flat_map f xs)
   each Q f holds [] are = tt
   each Q f holds (x ∷ xs) are = each-append P (f x) (flat_map f xs) (holds x are.0) (each Q f holds xs are.1)
 
-  -- A line with a sign.
+  -- The bytes of a line with a sign have it.
   signed : (sign : ℕ) → P sign → (line : List ℕ) → AllByRecursion P line → AllByRecursion P (signed_line sign line)
   signed sign is line are = (is, each-append P line (10 ∷ []) are (known (10 ∷ []) refl))
 
@@ -35,7 +35,7 @@ module _ (P : ℕ → Type 0) (known : (text : List ℕ) → list_all is_line_by
   added None are = tt
   added (Some line) are = signed 43 (known (43 ∷ []) refl).0 line are
 
-  -- A line that is found.
+  -- The bytes of a line that is found have it.
   found_line : (test : List ℕ → Bool) (lines : List (List ℕ)) → Are lines → IfSome (find test lines) (AllByRecursion P)
   found_line test [] are = tt
   found_line test (line ∷ later) are = by (test line) (found_line test later are.1)
@@ -54,7 +54,7 @@ module _ (P : ℕ → Type 0) (known : (text : List ℕ) → list_all is_line_by
       by true found rest = tt
       by false found rest = rest
 
-  -- What is written for a line of either list.
+  -- The bytes that are written for a line of either list have it.
   first_lines : (one other : List (List ℕ)) → Are other → (line : List ℕ) → AllByRecursion P line →
       AllByRecursion P (lines_for_first one other line)
   first_lines one other others line are = by (has_line other line)
@@ -72,7 +72,7 @@ module _ (P : ℕ → Type 0) (known : (text : List ℕ) → list_all is_line_by
       by true = tt
       by false = signed 43 (known (43 ∷ []) refl).0 line are
 
-  -- The differences of two lists.
+  -- The bytes of the differences of two lists have it.
   of_lines : (one other : List (List ℕ)) → Are one → Are other → AllByRecursion P (differences one other)
   of_lines one other are others =
       each-append P (flat_map (lines_for_first one other) one) (flat_map (lines_for_second one other) other)
@@ -93,7 +93,7 @@ module _ (P : ℕ → Type 0) (known : (text : List ℕ) → list_all is_line_by
       by true = reason (bytes_eq (description one) (description other))
       by false = of_lines (description_texts one) (description_texts other) are others
 
-  -- What differs between two meanings.
+  -- The bytes of the differences of two meanings have it.
   pub difference_bytes : (one other : Meaning) → AllByRecursion (AllByRecursion P) (description_texts one) →
       AllByRecursion (AllByRecursion P) (description_texts other) → AllByRecursion P (comparison one other)
   difference_bytes (OfLegacy one) (OfFit other) are others = known (codes "-kind legacy\n+kind fit\n") refl

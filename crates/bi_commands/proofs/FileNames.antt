@@ -18,9 +18,9 @@ use Rattle.bi_commands.proofs.ReadableDescriptions.ShownNames.{plain_no_percent,
 use Rattle.bi_commands.proofs.ReadableDescriptions.ShownNames.{same_shown, shown_no_slash, some_shown}
 use Rattle.bi_commands.proofs.UnshownNames.{glyph_is_digit}
 
--- The names of files for payloads are safe, and payloads with one name of a file are one payload.
+-- Each payload has a safe name of a file. No two payloads have the same name.
 
--- A byte that a name of a file can have.
+-- Each byte of a name of a file is graphic and is not a slash.
 abbrev IsGraphic : ℕ → Type 0
 IsGraphic byte = (0x21 ≤ byte) × (byte ≤ 0x7e)
 
@@ -34,7 +34,7 @@ digits_graphic (byte ∷ later) above below =
     let low = below.0 in
     ((omega (arith, high), omega (arith, low)), digits_graphic later above.1 below.1)
 
--- None is a slash.
+-- No digit is a slash.
 digits_no_slash : (word : List ℕ) → IsAbove word → AllByRecursion (λ byte. byte ≢ 47) word
 digits_no_slash [] above = tt
 digits_no_slash (byte ∷ later) above = (λ is. let high = above.0 in omega (arith, high, is), digits_no_slash later above.1)
@@ -74,16 +74,16 @@ safe_part_name index = record {
       ),
     )
 
--- Parts with one name of a file have one index.
+-- If two parts have the same name of a file, they have the same index.
 same_part : (one other : ℕ) → one < 2 ^ 64 → other < 2 ^ 64 → part_file_name one ≡ part_file_name other → one ≡ other
 same_part one other fits also same =
     decimal_injective one other fits also (append_cancel_left (codes "part-") (decimal one) (decimal other) same)
 
--- The names of files.
+-- These are the names of files.
 abbrev pub names_of_files : List PayloadFile → List (List ℕ)
 names_of_files files = map (λ (file : PayloadFile). file.name) files
 
--- The parts after a part have other names.
+-- The names of the later parts are not the name of this part.
 new_part : (index start : ℕ) (parts : List (List ℕ)) → index < start → start + length parts ≤ 2 ^ 64 →
     IsNew (part_file_name index) (names_of_files (part_files start parts))
 new_part index start [] below fits = tt
@@ -92,7 +92,7 @@ new_part index start (part ∷ later) below fits = (
   new_part index (start + 1) later (omega arith) (omega arith),
 )
 
--- The files of parts have safe names, and no two the same.
+-- The files of parts have safe names, and no two of them have the same name.
 pub safe_part_names : (start : ℕ) (parts : List (List ℕ)) → start + length parts ≤ 2 ^ 64 →
     AreSafeFileNames (names_of_files (part_files start parts))
 safe_part_names start [] fits = record { each = tt; distinct = tt }
@@ -105,14 +105,14 @@ safe_part_names start (part ∷ later) fits =
 
 -- ---- images
 
--- The byte of a digit of a number below 16.
+-- The digit of a number below 16 is an ASCII byte.
 glyph_graphic : (number : ℕ) → number < 16 → IsGraphic (digit_glyph true number)
 glyph_graphic number small = elim (glyph_is_digit number small) as (λ _. IsGraphic (digit_glyph true number)) [
   | inl digit ↦ (omega (arith, digit), omega (arith, digit))
   | inr letter ↦ (omega (arith, letter), omega (arith, letter))
 ]
 
--- A byte as it is printed is graphic.
+-- A byte is printed as graphic bytes.
 shown_byte_graphic : (byte : ℕ) → byte < 256 → AllByRecursion IsGraphic (shown_byte byte)
 shown_byte_graphic byte small = where_test (is_plain byte) refl
   where
@@ -124,13 +124,13 @@ shown_byte_graphic byte small = where_test (is_plain byte) refl
     where_test false plain =
         ((omega arith, omega arith), (glyph_graphic (byte / 16) (omega arith), (glyph_graphic (byte % 16) (omega arith), tt)))
 
--- So are bytes.
+-- Bytes are printed as graphic bytes.
 shown_bytes_graphic : (bytes : List ℕ) → AllByRecursion (λ byte. byte < 256) bytes → AllByRecursion IsGraphic (flat_map shown_byte bytes)
 shown_bytes_graphic [] are = tt
 shown_bytes_graphic (byte ∷ later) are =
     each-append IsGraphic (shown_byte byte) (flat_map shown_byte later) (shown_byte_graphic byte are.0) (shown_bytes_graphic later are.1)
 
--- Bytes, one by one.
+-- A list of bytes is printed byte by byte.
 each_byte : (bytes : List ℕ) → AreBytes bytes → AllByRecursion (λ byte. byte < 256) bytes
 each_byte [] are = tt
 each_byte (byte ∷ later) are = (are.each 0, each_byte later (record { each = λ i. are.each (suc i) }))
@@ -145,7 +145,7 @@ shown_graphic name are = where_way (ways name)
         ((omega arith, omega arith), ((omega arith, omega arith), ((omega arith, omega arith), tt)))
     where_way (Others some other text) = subst (AllByRecursion IsGraphic) (sym text) (shown_bytes_graphic name (each_byte name are))
 
--- What holds of each byte, and of `%2E`, holds without a first dot.
+-- If each byte of a text and of `%2E` has a property, each byte of the text without a first dot has it.
 kept_without_dot : (P : ℕ → Type 0) → AllByRecursion P (codes "%2E") → (text : List ℕ) → AllByRecursion P text →
     AllByRecursion P (without_first_dot text)
 kept_without_dot P escape [] each = tt
@@ -155,7 +155,7 @@ kept_without_dot P escape (byte ∷ later) each = where_dot (byte == 46)
     where_dot true = each-append P (codes "%2E") later escape each.1
     where_dot false = each
 
--- A text is not nothing without a first dot.
+-- A text without a first dot is not empty if the text is not.
 some_without_dot : (text : List ℕ) → text ≢ [] → without_first_dot text ≢ []
 some_without_dot [] some is = some refl
 some_without_dot (byte ∷ later) some is = where_dot (byte == 46) is
@@ -164,7 +164,7 @@ some_without_dot (byte ∷ later) some is = where_dot (byte == 46) is
     where_dot true is = absurd cc
     where_dot false is = absurd cc
 
--- It does not begin with one.
+-- A text without a first dot does not begin with a dot.
 no_first_dot : (text rest : List ℕ) → without_first_dot text ≢ 46 ∷ rest
 no_first_dot [] rest is = absurd cc
 no_first_dot (byte ∷ later) rest is = where_dot (byte == 46) refl is
@@ -173,7 +173,7 @@ no_first_dot (byte ∷ later) rest is = where_dot (byte == 46) refl is
     where_dot true dot is = let first : 37 ≡ 46 = first_same is in omega (arith, first)
     where_dot false other is = eqb-false byte 46 other (first_same is)
 
--- The bytes of a name without a slash, as it is printed, are no slash.
+-- If a name has no slash, its printed form has none.
 no_slash_shown : (text : List ℕ) → HasNoEnd is_slash text → AllByRecursion (λ byte. byte ≢ 47) text
 no_slash_shown [] none = tt
 no_slash_shown (byte ∷ later) none = (eqb-false byte 47 none.0, no_slash_shown later none.1)
@@ -189,7 +189,7 @@ safe_image_name name are others = record {
   no_first_dot = no_first_dot (shown_text name);
 }
 
--- No name is printed as a text that begins with the escape of a dot.
+-- No name is printed as a text that begins with `%2E`.
 no_escaped_dot : (name rest : List ℕ) → shown_text name ≡ codes "%2E" ++ rest → ⊥
 no_escaped_dot name rest same = where_way (ways name)
   where
@@ -218,11 +218,11 @@ no_escaped_dot name rest same = where_way (ways name)
         omega (arith, third)
     where_way (Others some other text) = of_bytes name (sym text ∙ same)
 
--- A text that begins with no such escape.
+-- This text does not begin with `%2E`.
 abbrev HasNoEscapedDot : List ℕ → Type 0
 HasNoEscapedDot text = (rest : List ℕ) → text ≡ codes "%2E" ++ rest → ⊥
 
--- Such texts are equal if they are equal without a first dot.
+-- If two such texts are equal without a first dot, they are equal.
 same_without_dot : (one other : List ℕ) → HasNoEscapedDot one → HasNoEscapedDot other →
     without_first_dot one ≡ without_first_dot other → one ≡ other
 same_without_dot [] [] free also same = refl
@@ -241,7 +241,7 @@ same_without_dot (a ∷ one) (b ∷ other) free also same = where_dots (a == 46)
     where_dots false true first second same = absurd (free other same)
     where_dots false false first second same = same
 
--- Images with one name of a file have one name.
+-- If two images have the same name of a file, they have the same name.
 pub same_image_file : (one other : List ℕ) → image_file_name one ≡ image_file_name other → one ≡ other
 same_image_file one other same =
     same_shown one other (same_without_dot (shown_text one) (shown_text other) (no_escaped_dot one) (no_escaped_dot other) same)

@@ -13,9 +13,9 @@ use Rattle.bi_fit.specs.Names.{images_name, is_hash_name}
 use Rattle.bi_hash.specs.declared.verdicts.Verdict.{Verdict}
 use Rattle.bi_commands.specs.Reports.{count_of, is_verdict}
 
--- A file has more bytes than its image nodes have hash nodes.
+-- The image nodes of a file have fewer hash nodes than the file has bytes.
 
--- A list that is filtered is no longer.
+-- A filtered list is not longer than the list.
 no_longer : {X : Type 0} (test : X → Bool) (xs : List X) → length (filter test xs) ≤ length xs
 no_longer test [] = omega arith
 no_longer test (x ∷ xs) = by (test x) refl (no_longer test xs)
@@ -24,7 +24,7 @@ no_longer test (x ∷ xs) = by (test x) refl (no_longer test xs)
     by true is rest = rw is (omega (arith, rest))
     by false is rest = rw is (omega (arith, rest))
 
--- The hash nodes of images.
+-- These are the hash nodes of images.
 abbrev hashes_in : List Image → List CheckedHash
 hashes_in images = flat_map (λ image. map (checked_hash image) (hash_nodes image)) images
 
@@ -56,7 +56,7 @@ found_hashes_few (node name own children later) payloads =
     by true is first rest = rw is (omega (arith, first))
     by false is first rest = rw is (omega (arith, rest))
 
--- What changes a node's own makes no difference to the number of nodes.
+-- A change of what nodes have themselves does not change the number of nodes.
 count-with_each : {A B : Type 0} (change : A → B) (nodes : Nodes A) → node_count (with_each change nodes) ≡ node_count nodes
 count-with_each change none = refl
 count-with_each change (node name own children later) =
@@ -87,6 +87,6 @@ hashes_few file tree is =
     let all = fewer_nodes_than_bytes file tree.cpu tree.reservations is.root is.blob in
     omega (arith, few, same, all)
 
--- So are those with a verdict.
+-- Not more hash nodes have a verdict than there are hash nodes.
 pub counts_few : (wanted : Verdict) (hashes : List CheckedHash) → count_of wanted hashes ≤ length hashes
 counts_few wanted hashes = no_longer (λ hash. is_verdict wanted hash.verdict) hashes

@@ -20,9 +20,9 @@ use Rattle.bi_commands.proofs.JsonLines.{IsStringText, IsValueText, array_value,
 use Rattle.bi_commands.proofs.JsonLines.{string_value}
 use Rattle.bi_commands.proofs.PrintableLines.{NoneBelow, texts_shown}
 
--- Proves that comparisons in JSON are JSON.
+-- Each comparison in JSON is JSON.
 
--- A byte of lines: ASCII, and a newline or no byte below a space.
+-- A byte of lines is ASCII, and it is a newline or not below a space.
 abbrev IsByteOfLines : ℕ → Type 0
 IsByteOfLines byte = (byte < 128) × ((byte ≡ 10) ⊎ (32 ≤ byte))
 
@@ -38,7 +38,7 @@ known [] is = tt
 known (byte ∷ later) is =
     let both = and_parts (is_line_byte byte) (list_all is_line_byte later) is in (one_byte byte both.0, known later both.1)
 
--- The bytes of lines that are ASCII and have none below a space.
+-- The bytes of these lines are ASCII. Those that are not newlines are not below a space.
 line_bytes : (line : List ℕ) → HasAscii line → NoneBelow line → AllByRecursion IsByteOfLines line
 line_bytes [] ascii low = tt
 line_bytes (byte ∷ later) ascii low = ((ascii.0, inr low.0), line_bytes later ascii.1 low.1)
@@ -48,7 +48,7 @@ bytes_of_lines : (lines : List (List ℕ)) → AllByRecursion HasAscii lines →
 bytes_of_lines [] ascii low = tt
 bytes_of_lines (line ∷ later) ascii low = (line_bytes line ascii.0 low.0, bytes_of_lines later ascii.1 low.1)
 
--- The pieces between newlines can be in strings.
+-- The bytes between two newlines may be in a string.
 one_more : (byte : ℕ) (text : List ℕ) → IsByteOfLines byte → byte == 10 ≡ false → IsStringText text → IsStringText (byte ∷ text)
 one_more byte text is not text_is = record {
   ascii = (is.0, text_is.ascii);
@@ -77,7 +77,7 @@ first_lines zero lines are = tt
 first_lines (suc count) [] are = tt
 first_lines (suc count) (line ∷ later) are = (are.0, first_lines count later are.1)
 
--- The object of a line.
+-- The object of a line is JSON.
 signed : (sign line : List ℕ) → IsStringText sign → IsStringText line → IsValueText (signed_object sign line)
 signed sign line first is =
     object_value ((codes "sign", json_string sign) ∷ (codes "line", json_string line) ∷ []) (
@@ -116,7 +116,7 @@ comparison_value same differences are =
       ),
     )
 
--- The lines of a description.
+-- The lines of a description are lists of such bytes.
 described : (limits : Limits) (file : List ℕ) (meaning : Meaning) → Means limits file meaning →
     AllByRecursion (AllByRecursion IsByteOfLines) (description_texts meaning)
 described limits file meaning means =

@@ -34,9 +34,9 @@ use Rattle.bi_commands.proofs.JsonNames.{reservation_values}
 use Rattle.bi_commands.proofs.JsonNames.{word_member_holds}
 use Rattle.bi_commands.proofs.JsonSizes.{IsShort, part_sizes_small, payloads_of_file}
 
--- Proves that a description in JSON is JSON.
+-- Each description in JSON is JSON.
 
--- A digest.
+-- A digest is a value of JSON.
 digest_value : (digest : PayloadDigest) → IsByteDigest digest → digest.size < 2 ^ 64 → IsValueText (digest_object digest)
 digest_value digest bytes small =
     object_value ((codes "size", _) ∷ (codes "sha256", json_string (hexadecimal_digits digest.sha256)) ∷ []) (
@@ -44,7 +44,7 @@ digest_value digest bytes small =
       (member_holds (codes "sha256") _ refl (string_value (hexadecimal_digits digest.sha256) (digits_string digest.sha256 bytes)), tt),
     )
 
--- A legacy image.
+-- The object of a legacy image is JSON.
 parts : (contents : List (List ℕ)) → AllByRecursion (λ (part : List ℕ). length part < 2 ^ 64) contents →
     AllByRecursion IsValueText (map (λ part. digest_object (digest_of_payload part)) contents)
 parts [] are = tt
@@ -58,7 +58,7 @@ legacy_value image is =
     (header_texts image is.name_bytes is.ranges last
     (member_holds (codes "parts") (json_array values) refl (array_value values (parts image.parts (part_sizes_small image is))), tt))
 
--- A property.
+-- The object of a property is JSON.
 quoted : (texts : List (List ℕ)) → list_all is_quotable texts ≡ true → AllByRecursion IsValueText (map json_string texts)
 quoted [] are = tt
 quoted (text ∷ later) are =
@@ -87,7 +87,7 @@ properties (property ∷ later) are = (
   properties later are.1,
 )
 
--- The size of a payload, if there is one.
+-- The size of a payload is JSON, also if there is no payload.
 abbrev HasSmallSize : NodePayload → Type 0
 HasSmallSize (OfImage (Some digest)) = digest.size < 2 ^ 64
 HasSmallSize payload = ⊤
@@ -96,7 +96,7 @@ abbrev HaveSmallSizes : Nodes DescribedNode → Type 0
 HaveSmallSizes none = ⊤
 HaveSmallSizes (node name own children later) = HasSmallSize own.payload × HaveSmallSizes children × HaveSmallSizes later
 
--- The members of a node.
+-- The members of a node are JSON.
 members : (own : DescribedNode) (children : List JsonText) → IsByteNode own → HasSmallSize own.payload →
     AllByRecursion IsValueText children →
     AllByRecursion IsMemberText (node_members own children)
@@ -120,7 +120,7 @@ members own children bytes small are = by own.payload bytes.1 small
     by (OfImage None) digest size = (member_holds (codes "payload") json_null refl null_value, last)
     by (OfImage (Some made)) digest size = (member_holds (codes "payload") (digest_object made) refl (digest_value made digest size), last)
 
--- Nodes.
+-- The objects of nodes are JSON.
 nodes : (all : Nodes DescribedNode) → AreByteNodes all → HaveSmallSizes all → AllByRecursion IsValueText (node_objects all)
 nodes none bytes small = tt
 nodes (node name own children later) bytes small = (
@@ -131,7 +131,7 @@ nodes (node name own children later) bytes small = (
   nodes later bytes.3 small.2,
 )
 
--- The payloads of a tree are no longer than its file.
+-- The payloads of a tree are not longer than its file.
 plain_small : (all : Nodes PropertyMap) → HaveSmallSizes (with_each plain_node all)
 plain_small none = tt
 plain_small (node name own children later) = (tt, plain_small children, plain_small later)
@@ -157,7 +157,7 @@ all_small file (node name own children later) payloads small are =
     by true = images_small file children payloads small are
     by false = plain_small children
 
--- A flattened image tree.
+-- The object of a FIT is JSON.
 tree_value : (limits : Limits) (file : List ℕ) (tree : ImageTree) → IsInRange limits.file limits.depth → FitMeans limits file tree →
     IsValueText (fit_object tree)
 tree_value limits file tree range means =

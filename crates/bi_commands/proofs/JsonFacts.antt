@@ -12,7 +12,7 @@ use Rattle.bi_commands.specs.JsonGrammar.{LastValue, NextValue, AreJsonMembers, 
 use Rattle.bi_commands.specs.KnownJson.{JsonIsKnown, IsNoJson}
 use Rattle.bi_commands.proofs.JsonLines.{plain_structural}
 
--- Proves what is known of JSON.
+-- These lemmas prove the known facts on JSON.
 
 -- ---- texts that are JSON
 
@@ -80,17 +80,17 @@ true_false is = absurd cc
 differ : (one other : ℕ) → one == other ≡ false → one ≡ other → ⊥
 differ one other fails same = absurd (grind (arith, nat_tests, fails, same))
 
--- A test that the first character passes, and fails.
+-- A test cannot both accept and reject the first character.
 both_ways : {one other : ℕ} {text later : List ℕ} (test : ℕ → Bool) → test one ≡ true → one ∷ text ≡ other ∷ later → test other ≡ false → ⊥
 both_ways test passes is fails = let e = subst (λ (n : ℕ). test n ≡ true) (same_first is) passes in absurd cc
 
--- Before a character that is no space there is no space.
+-- If the first character is not white space, no white space comes before it.
 no_space : {text rest : List ℕ} (first : ℕ) (later : List ℕ) → IsSpace text rest → text ≡ first ∷ later → is_space first ≡ false →
     rest ≡ text
 no_space first later NoSpace is fails = refl
 no_space first later (Space passes more) is fails = absurd (both_ways is_space passes is fails)
 
--- A structural character is then the first one.
+-- A structural character is then the first character.
 structural : {character : ℕ} {text rest : List ℕ} (first : ℕ) (later : List ℕ) → IsStructural character text rest →
     text ≡ first ∷ later → is_space first ≡ false → (character ≡ first) × IsSpace later rest
 structural {rest = rest} first later found is fails =
@@ -114,7 +114,7 @@ no_number first later found is no_minus no_digit = integer found.integer (sign f
     integer (OneDigit {character = character} passes) is = both_ways is_digit (digit character passes) is no_digit
     integer (FirstDigit {character = character} passes more) is = both_ways is_digit (digit character passes) is no_digit
 
--- Where a number ends.
+-- If the character after the first digit cannot be part of the number, the number ends before it.
 number_end : {text rest : List ℕ} (first next : ℕ) (later : List ℕ) → IsJsonNumber text rest → text ≡ first ∷ next ∷ later →
     first == 0x2d ≡ false → (is_first_digit first && is_digit next) ≡ false → next == 0x2e ≡ false →
     (next == 0x65 || next == 0x45) ≡ false → rest ≡ next ∷ later
@@ -174,7 +174,7 @@ begins_quote later (Array left more right) is = absurd (differ 91 34 refl (struc
 begins_quote later (EmptyObject left right) is = absurd (differ 123 34 refl (structural 34 later left is refl).0)
 begins_quote later (Object left more right) is = absurd (differ 123 34 refl (structural 34 later left is refl).0)
 
--- Characters end before one that needs an escape,
+-- The characters of a string end before a character that must be escaped.
 end_before : {text rest : List ℕ} (first : ℕ) (later : List ℕ) → AreCharacters text rest → text ≡ first ∷ later →
     is_unescaped first ≡ false → first == 92 ≡ false → rest ≡ first ∷ later
 end_before first later NoCharacter is fails other = is
@@ -182,7 +182,7 @@ end_before first later (Unescaped passes more) is fails other = absurd (both_way
 end_before first later (Escaped passes more) is fails other = absurd (both_ways (λ (n : ℕ). n == 92) refl is other)
 end_before first later (ByNumber passes more) is fails other = absurd (both_ways (λ (n : ℕ). n == 92) refl is other)
 
--- or go on after one that needs none.
+-- If a character is not a backslash, the string ends before it or goes on after it.
 go_on : {text rest : List ℕ} (first : ℕ) (later : List ℕ) → AreCharacters text rest → text ≡ first ∷ later → first == 92 ≡ false →
     (rest ≡ first ∷ later) ⊎ AreCharacters later rest
 go_on first later NoCharacter is other = inl is
@@ -191,7 +191,7 @@ go_on {rest = rest} first later (Unescaped passes more) is other =
 go_on first later (Escaped passes more) is other = absurd (both_ways (λ (n : ℕ). n == 92) refl is other)
 go_on first later (ByNumber passes more) is other = absurd (both_ways (λ (n : ℕ). n == 92) refl is other)
 
--- A string of one letter ends at the first quote.
+-- A string of one letter ends at the first quote after it.
 one_letter : {rest : List ℕ} (letter : ℕ) (later : List ℕ) → AreCharacters (letter ∷ 34 ∷ later) (34 ∷ rest) → letter == 92 ≡ false →
     letter == 34 ≡ false → rest ≡ later
 one_letter {rest = rest} letter later are other no_quote = by (go_on letter (34 ∷ later) are refl other)
@@ -200,11 +200,11 @@ one_letter {rest = rest} letter later are other no_quote = by (go_on letter (34 
     by (inl is) = absurd (both_ways (λ (n : ℕ). n == 34) refl is no_quote)
     by (inr more) = same_later (end_before 34 later more refl refl refl)
 
--- What a text of JSON begins with, if that is no space.
+-- If a text of JSON does not begin with white space, it begins with its value.
 value_of : (first : ℕ) (later : List ℕ) (is : IsJson (first ∷ later)) → is_space first ≡ false → IsJsonValue (first ∷ later) is.end
 value_of first later is fails = subst (λ (text : List ℕ). IsJsonValue text is.end) (no_space first later is.space refl fails) is.value
 
--- Nothing but space comes after it.
+-- Only white space comes after the value.
 not_after : (first : ℕ) (later : List ℕ) {rest : List ℕ} → IsSpace rest [] → rest ≡ first ∷ later → is_space first ≡ false → ⊥
 not_after first later space is fails = let e = no_space first later space is fails ∙ is in absurd cc
 
@@ -223,7 +223,7 @@ quote_inside is =
     let are = begins_quote (codes "a\"b\"") (value_of 34 (codes "a\"b\"") is refl) refl in
     not_after 98 (34 ∷ []) is.later_space (one_letter 97 (98 ∷ 34 ∷ []) are refl refl) refl
 
--- A member that begins with a brace.
+-- A text that begins with a closing brace does not begin with a member.
 no_member : {text rest : List ℕ} (later : List ℕ) → IsJsonMember text rest → text ≡ 125 ∷ later → ⊥
 no_member later (Named (Quoted more) colon value) is = both_ways (λ (n : ℕ). n == 34) refl is refl
 
@@ -245,7 +245,7 @@ members_end (LastMember member) is = member_end member is
 members_end (NextMember member comma more) is =
     absurd (no_members [] more (no_space 125 [] (structural 44 (codes "}") comma (member_end member is) refl).1 refl refl))
 
--- What is in braces.
+-- This is the text between the braces.
 abbrev IsInBraces : (text rest : List ℕ) → Type 0
 IsInBraces text rest =
     ((end : List ℕ) × IsSpace text end × IsStructural 125 end rest)
@@ -272,7 +272,7 @@ last_comma is = by (begins_brace (codes "\"a\":1,}") (value_of 123 (codes "\"a\"
     by (inr (start, end, space, more, right)) =
         differ 125 44 refl (structural 44 (codes "}") right (members_end more (no_space 34 (codes "a\":1,}") space refl refl)) refl).0
 
--- No text.
+-- The empty text is not JSON.
 no_spaces : {text rest : List ℕ} → IsSpace text rest → text ≡ [] → rest ≡ []
 no_spaces NoSpace is = is
 no_spaces (Space passes more) is = absurd cc

@@ -21,21 +21,21 @@ use Rattle.bi_commands.proofs.AsciiTexts.{HasAscii}
 use Rattle.bi_commands.proofs.PrintableLines.{NoneBelow, visible_escape}
 use Rattle.bi_commands.proofs.ReadableDescriptions.Numbers.{AreDigits, IsAbove, decimal_above, decimal_below}
 
--- Proves that texts are JSON: strings, numbers, arrays and objects as the commands write them.
+-- The strings, numbers, arrays and objects that the commands write are JSON.
 
--- This text is a value, whatever follows it, and has no byte below a space.
+-- This text is a value of JSON before any other text, and has no byte below a space.
 pub record IsValueText (text : List ℕ) : Type 0 where
   pub is_value : (rest : List ℕ) → IsJsonValue (text ++ rest) rest
   pub none_below : NoneBelow text
 
--- What a string may have in it.
+-- A string may have these characters.
 pub record IsStringText (text : List ℕ) : Type 0 where
   pub ascii : HasAscii text
   pub none_below : NoneBelow text
 
 -- ---- strings
 
--- A known text is tested.
+-- A known text is a string.
 pub known_string : (text : List ℕ) → list_all is_printable text ≡ true → IsStringText text
 known_string [] is = record { ascii = tt; none_below = tt }
 known_string (byte ∷ later) is =
@@ -137,7 +137,7 @@ bool_value false =
 pub null_value : IsValueText json_null
 null_value = record { is_value = λ rest. Null; none_below = (omega arith, (omega arith, (omega arith, (omega arith, tt)))) }
 
--- A string that may not be there.
+-- A string that may not be there is a value.
 pub value_or_null : (text : Option (List ℕ)) → IfSome text IsStringText → IsValueText (string_or_null text)
 value_or_null None is = null_value
 value_or_null (Some text) is = string_value text is
@@ -153,7 +153,7 @@ joined_below (text ∷ []) are = are.0
 joined_below (text ∷ next ∷ later) are =
     each-append (λ byte. 32 ≤ byte) text (44 ∷ join_with_byte 44 (next ∷ later)) are.0 (omega arith, joined_below (next ∷ later) are.1)
 
--- What is in brackets.
+-- The text between the brackets is a list of values.
 in_brackets : (one other : ℕ) (text : List ℕ) → 32 ≤ one → 32 ≤ other → NoneBelow text → NoneBelow (one ∷ (text ++ other ∷ []))
 in_brackets one other text low also are = (low, each-append (λ byte. 32 ≤ byte) text (other ∷ []) are (also, tt))
 
@@ -186,7 +186,7 @@ array_value texts are = record {
   none_below = in_brackets 91 93 (join_with_byte 44 texts) (omega arith) (omega arith) (joined_below texts (values_below texts are));
 }
 
--- A member.
+-- A member is a name and a value.
 pub record IsMemberText (member : Member) : Type 0 where
   pub name : IsStringText member.0
   pub value : IsValueText member.1
@@ -239,7 +239,7 @@ tested : (text : List ℕ) → NoneBelow text → list_all (nat_le 0x20) text �
 tested [] are = refl
 tested (byte ∷ later) are = let first = are.0 in let others = tested later are.1 in grind (arith, nat_tests, first, others)
 
--- The line of a value.
+-- A value and a newline are a line.
 pub line_json : (value : JsonText) → IsValueText value → IsJsonLine (json_line value)
 line_json value is = record {
   json = value;

@@ -38,7 +38,7 @@ use Rattle.bi_commands.proofs.JsonNames.{reservation_values, word_member_holds}
 use Rattle.bi_commands.proofs.JsonSizes.{IsSmallPart, placed_parts_small}
 use Rattle.bi_commands.proofs.ShortValues.{HasSmallIndex, index_small}
 
--- Proves that a listing in JSON is JSON.
+-- Each listing in JSON is JSON.
 
 -- ---- legacy images
 
@@ -67,7 +67,7 @@ legacy_value limits file parsed range is =
       (number_member_holds (codes "unused") parsed.unused refl (omega (arith, is.unused, is.means.short, range.1)), tt),
     ))
 
--- ---- flattened image trees
+-- ---- FITs
 
 source_string : (payload_source : PayloadSource) → IsStringText (source_word payload_source)
 source_string NoSource = known_string (codes "none") refl
@@ -75,7 +75,7 @@ source_string (Data data_property) = known_string (source_word (Data data_proper
 source_string (DataOffset offset size) = known_string (source_word (DataOffset offset size)) refl
 source_string (DataPosition position size) = known_string (source_word (DataPosition position size)) refl
 
--- The offset and the size of a payload that is in the file.
+-- The offset and the size of a payload in the file are numbers of JSON.
 offset_small : (file payload : List ℕ) (place : Option ℕ) → length file < 2 ^ 32 → IsAtPlace file place (Some payload) →
     (unwrap_or place 0 < 2 ^ 64) × (length payload < 2 ^ 64)
 offset_small file payload None small is = absurd is

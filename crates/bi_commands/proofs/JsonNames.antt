@@ -18,9 +18,9 @@ use Rattle.bi_commands.proofs.PrintableLines.{visible_address, visible_digits, v
 use Rattle.bi_commands.proofs.JsonLines.{IsMemberText, IsStringText, IsValueText, known_string, number_value, object_value, string_value}
 use Rattle.bi_commands.proofs.JsonLines.{value_or_null}
 
--- Names, digits and codes in JSON.
+-- Names, digits and codes in JSON are JSON.
 
--- A name as it is printed.
+-- A name in its printed form is a string.
 pub name_string : (name : List ℕ) → AreBytes name → IsStringText (shown_text name)
 name_string name bytes = record { ascii = name_shown name bytes; none_below = visible_name name }
 
@@ -30,7 +30,7 @@ digits_string bytes are = record { ascii = bytes_digits bytes are; none_below = 
 address_string : (n : ℕ) → IsStringText (hexadecimal_64 n)
 address_string n = record { ascii = address_64 n; none_below = visible_address n }
 
--- The same where there may be none.
+-- The same holds of a name that may not be there.
 pub maybe_name : (name : Option (List ℕ)) → IfSome name AreBytes → IsValueText (string_or_null (option_map shown_text name))
 maybe_name None bytes = value_or_null None tt
 maybe_name (Some name) bytes = value_or_null (Some (shown_text name)) (name_string name bytes)
@@ -39,7 +39,7 @@ pub maybe_digits : (value : Option (List ℕ)) → IfSome value AreBytes → IsV
 maybe_digits None bytes = value_or_null None tt
 maybe_digits (Some value) bytes = value_or_null (Some (hexadecimal_digits value)) (digits_string value bytes)
 
--- Members by their names.
+-- Members have these names.
 pub member_holds : (name : List ℕ) (value : JsonText) → list_all is_printable name ≡ true → IsValueText value → IsMemberText (name, value)
 member_holds name value is value_is = record { name = known_string name is; value = value_is }
 
@@ -55,7 +55,7 @@ word_member_holds member word is word_is = member_holds member (json_string word
 pub number_member_holds : (member : List ℕ) (n : ℕ) → list_all is_printable member ≡ true → n < 2 ^ 64 → IsMemberText (member, decimal n)
 number_member_holds member n is small = member_holds member (decimal n) is (number_value n small)
 
--- Codes.
+-- A code is a value.
 code_value : (code_names : List CodeName) → list_all (λ (name : CodeName). list_all is_printable name.name) code_names ≡ true →
     (code : ℕ) → code < 2 ^ 64 → IsValueText (named_code (name_of_code code_names code) code)
 code_value [] are code small = number_value code small
@@ -74,7 +74,7 @@ code_member_holds : (member : List ℕ) (code_names : List CodeName) (code : ℕ
 code_member_holds member code_names code is are small =
     member_holds member (named_code (name_of_code code_names code) code) is (code_value code_names are code (omega (arith, small)))
 
--- The members for a header.
+-- The members of a header are JSON.
 pub header_texts : (image : LegacyImage) → AreBytes image.name → FitsFields image → (last : List Member) →
     AllByRecursion IsMemberText last →
     AllByRecursion IsMemberText (header_members image ++ last)
@@ -104,7 +104,7 @@ header_texts image bytes fits last are = (
   ),
 )
 
--- Memory reservations.
+-- Memory reservations are JSON.
 pub reservation_values : (reservations : List Reservation) → AllByRecursion IsValueText (map reservation_object reservations)
 reservation_values [] = tt
 reservation_values (reservation ∷ later) = (

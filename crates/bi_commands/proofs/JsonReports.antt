@@ -41,7 +41,7 @@ use Rattle.bi_commands.proofs.JsonListings.{key_member_holds}
 use Rattle.bi_commands.proofs.JsonNames.{maybe_digits, maybe_name, member_holds, name_member_holds, number_member_holds, word_member_holds}
 use Rattle.bi_commands.proofs.ShortValues.{HasSmallIndex, index_small}
 
--- Proves that reports and concerns in JSON are JSON.
+-- Reports and concerns in JSON are JSON.
 
 -- ---- reports
 
@@ -133,7 +133,7 @@ reports_are_json limits file text range report =
 
 -- ---- concerns
 
--- The number in a concern, if it has one.
+-- The number in a concern, if it has one, is below 2^64.
 abbrev HasSmallNumber : Concern → Type 0
 HasSmallNumber (MissingImage configuration key index) = index < 2 ^ 64
 HasSmallNumber (TrailingBytes count) = count < 2 ^ 64
@@ -188,7 +188,7 @@ concern_values (concern ∷ later) bytes small = (
   concern_values later bytes.1 small.1,
 )
 
--- The numbers of the concerns about a file.
+-- The numbers in the concerns about a file are below 2^64.
 one_small : (b : Bool) (concern : Concern) → HasSmallNumber concern → AllByRecursion HasSmallNumber (cond b [] (concern ∷ []))
 one_small true concern small = tt
 one_small false concern small = (small, tt)

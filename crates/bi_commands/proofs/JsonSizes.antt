@@ -17,11 +17,11 @@ use Rattle.bi_legacy.proofs.EmitParts.{parts_end_from-grows}
 use Rattle.bi_legacy.proofs.NormalLength.{length-normal_body}
 use Rattle.bi_legacy.proofs.PartOffsets.{length-part_table, up4-up4, up4_of_four}
 
--- The numbers that are written in JSON are below 2^64.
+-- Each number that is written in JSON is below 2^64.
 
 -- ---- parts of legacy images
 
--- An offset and a size.
+-- The offset and the size of a part are below 2^64.
 abbrev pub IsSmallPart : PartModel → Type 0
 IsSmallPart part = (part.place < 2 ^ 64) × (length part.bytes < 2 ^ 64)
 
@@ -57,9 +57,9 @@ sizes_of_parts at (part ∷ later) are = (are.0.1, sizes_of_parts (up4 (at + len
 pub part_sizes_small : (image : LegacyImage) → IsLegacyImage image → AllByRecursion (λ (part : List ℕ). length part < 2 ^ 64) image.parts
 part_sizes_small image is = sizes_of_parts (parts_start image.image_type image.parts) image.parts (placed_parts_small image is)
 
--- ---- payloads of flattened image trees
+-- ---- payloads of FITs
 
--- A payload, if there is one, is no longer than the file.
+-- A payload is not longer than the file.
 abbrev pub IsShort : List ℕ → Option (List ℕ) → Type 0
 IsShort file payload = IfSome payload (λ (bytes : List ℕ). length bytes ≤ length file)
 

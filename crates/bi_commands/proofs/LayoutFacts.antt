@@ -13,9 +13,9 @@ use Rattle.bi_legacy.specs.Reading.{part_places}
 use Rattle.bi_legacy.proofs.PartOffsets.{length-part_table}
 use Rattle.bi_commands.specs.ReadPages.{read_image_names}
 
--- Where blocks, parts and payloads are.
+-- These lemmas say where blocks, parts and payloads are.
 
--- A file has all of its memory reservation block.
+-- The whole memory reservation block is in the file.
 pub reservations_in_file : (file : List ℕ) (cpu : ℕ) (reservations : List Reservation) (root : Root FileNode) →
     IsBlob file cpu reservations root → 16 * (length reservations + 1) ≤ length file
 reservations_in_file file cpu reservations root is =
@@ -31,7 +31,7 @@ reservations_in_file file cpu reservations root is =
 pub size_of_reservations : (reservations : List Reservation) → 16 * (length reservations + 1) ≡ length (reservation_block reservations)
 size_of_reservations reservations = omega (arith, length-reservation_block reservations)
 
--- The part table ends where the first part begins,
+-- The part table ends where the first part begins.
 first_part : (image_type : ℕ) (part : List ℕ) (later : List (List ℕ)) → has_part_table image_type ≡ true →
     64 + parts_start image_type (part ∷ later) ≡ 64 + length (part_table (part ∷ later))
 first_part image_type part later has = rw has refl
@@ -46,14 +46,14 @@ table_before_part image place has is = by image.parts is where
       let same : place ≡ 64 + parts_start image.image_type (part ∷ later) = cc in
       same ∙ first_part image.image_type part later has
 
--- or after one cell if there is none.
+-- If there is no part table, it ends after one cell.
 pub table_without_parts : (image : LegacyImage) → None ≡ slice_get (part_places image) 0 → 68 ≡ 64 + length (part_table image.parts)
 table_without_parts image none = by image.parts none where
   by : (parts : List (List ℕ)) → None ≡ slice_get (part_places (record image { parts = parts })) 0 → 68 ≡ 64 + length (part_table parts)
   by [] found = omega (arith, length-part_table [])
   by (part ∷ later) found = absurd cc
 
--- The name of the image at an index,
+-- The name at an index is that of the image there.
 pub name_of_image : (images : List Image) (index : ℕ) (image : Image) → index < length images → image ≡ get_or images index image →
     image.name.now ≡ get_or (read_image_names (map image_model images)) index []
 name_of_image images index image within is = by images index within is where
@@ -63,7 +63,7 @@ name_of_image images index image within is = by images index within is where
   by (first ∷ later) zero within is = ap (λ (i : Image). i.name.now) is
   by (first ∷ later) (suc index) within is = by later index (omega arith) is
 
--- or nothing if there is no such image.
+-- If there is no image at an index, there is no name.
 pub no_name_of_image : (images : List Image) (index : ℕ) → length images ≤ index →
     [] ≡ get_or (read_image_names (map image_model images)) index []
 no_name_of_image images index past =

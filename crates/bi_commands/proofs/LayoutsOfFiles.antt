@@ -19,7 +19,7 @@ use Rattle.bi_commands.proofs.ShownPages.{images_of_file, offset_found}
 
 -- The layout of what was read from a file is that of the file.
 
--- The names of the images,
+-- The names of the images are those of the file,
 names_found : (file : List ℕ) (nodes : Nodes FileNode) (images : List ImageModel) → AllZip (IsReadImage file) (siblings nodes) images →
     read_image_names images ≡ names nodes
 names_found file none [] are = refl
@@ -28,7 +28,7 @@ names_found file (node name own children later) [] are = absurd are
 names_found file (node name own children later) (image ∷ images) are =
     ap₂ (λ (first : List ℕ) (others : List (List ℕ)). first ∷ others) are.0.name (names_found file later images are.1)
 
--- the regions of the payloads,
+-- and so are the regions of the payloads,
 payloads_found : (file : List ℕ) (index : ℕ) (entries : List (Sibling FileNode)) (images : List ImageModel) →
     AllZip (IsReadImage file) entries images →
     read_payload_regions index images ≡ payload_regions file index entries (map (λ (image : ImageModel). image.payload) images)
@@ -49,7 +49,7 @@ regions_found limits file content is =
     (payloads_found file 0 (siblings (file_images content.blob)) content.images (images_of_file limits file content is))
     ∙ ap (λ (root : Root FileNode). fit_regions file root (tree_of content)) (sym is.same_root)
 
--- and so their table.
+-- and their table.
 pub layout_found : (wanted : Bool) (limits : Limits) (file : List ℕ) (content : FitModel) (is : IsReadFit limits file content)
     (table : Table) →
     IsLayoutIf wanted (read_image_names content.images) (read_regions content)

@@ -24,13 +24,13 @@ use Rattle.bi_commands.specs.KnownConcerns.{HasOnlyConcerns, LegacyConcernsAreKn
 module _ (one_legacy : OneLegacyMeaning) (file : List ℕ) (image : LegacyImage) (means : LegacyMeans widest file image) (unused : ℕ)
     (ends : 64 + parts_end image.image_type image.parts + unused ≡ length file) where
   -- What is read, and the bytes after it.
-  abbrev known_model : LegacyModel
+  abbrev pub known_model : LegacyModel
   known_model = record { image = image; unused = unused }
 
   abbrev bytes_after : List ℕ
   bytes_after = drop (length file - unused) file
 
-  is_read : IsReadLegacy widest file known_model
+  pub is_read : IsReadLegacy widest file known_model
   is_read = record {
     means = means;
     only = λ other other_means. one_legacy file other image other_means.is_file means.is_file;

@@ -88,3 +88,4 @@ pub mod JsonFacts
 pub mod FileNames
 pub mod PayloadFiles
 pub mod PayloadFileFacts
+pub mod PageFacts

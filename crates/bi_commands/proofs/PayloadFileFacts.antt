@@ -5,7 +5,7 @@ use Rattle.bi_base.proofs.ByteLists.{bytes_by_test}
 use Rattle.bi_commands.specs.KnownPayloadFiles.{FileNamesAreKnown, ImageFilesAreKnown, PartFilesAreKnown, SafeNamesAreKnown}
 use Rattle.bi_commands.proofs.FileNames.{safe_image_name}
 
--- Small names are safe names of files, and small boot images have known files.
+-- Some small names are safe names of files. The payloads of some small boot images have these files.
 
 pub file_names_are_known : FileNamesAreKnown
 unfolding digits

@@ -38,15 +38,15 @@ use Rattle.bi_commands.specs.Payloads.{IsPayloadError, payload_file}
 use Rattle.bi_commands.proofs.Choices.{names_of_content}
 use Rattle.bi_commands.proofs.FileNames.{names_of_files, safe_part_names, safe_image_name, same_image_file}
 
--- The files of the payloads of a boot image have safe names, no two of which are the same, and each is what `extract` gives.
+-- The files of the payloads of a boot image have safe names. No two names are the same. Each file has the bytes that `extract` returns.
 
 -- ---- parts
 
--- A file of this name with these bytes.
+-- Some file has this name and these bytes.
 abbrev file_of : (name bytes : List ℕ) → PayloadFile
 file_of name bytes = record { name = name; bytes = bytes }
 
--- A part of these parts has its file.
+-- Each of these parts has its file.
 part_has_file : (start index : ℕ) (parts : List (List ℕ)) (bytes : List ℕ) → slice_get parts index ≡ Some bytes →
     slice_get (part_files start parts) index ≡ Some (record { name = part_file_name (start + index); bytes = bytes })
 part_has_file start index [] bytes is = absurd cc
@@ -71,7 +71,7 @@ parts_extracted image start (part ∷ later) there =
           ap (slice_get image.parts) next ∙ there (suc index) bytes is),
     )
 
--- A file has no more parts than 32 bits count.
+-- A file has at most as many parts as 32 bits count.
 parts_fit : (file : List ℕ) (image : LegacyImage) → IsLegacyFile file image → 0 + length image.parts ≤ 2 ^ 64
 parts_fit file image is = by (has_part_table image.image_type) is.parts
   where
@@ -83,11 +83,11 @@ parts_fit file image is = by (has_part_table image.image_type) is.parts
 
 -- ---- images
 
--- The names of images.
+-- These are the names of images.
 abbrev names_of_images : List Image → List (List ℕ)
 names_of_images images = map (λ (image : Image). image.entry.name) images
 
--- An image is found in front of others of its name, and after images of other names.
+-- The image with a name is found before others of that name, and after images of other names.
 head_found : (image : Image) (later : List Image) → image_named image.entry.name (image ∷ later) ≡ Some image
 head_found image later = rw ((bytes_eq-Decides image.entry.name image.entry.name).1 refl) refl
 
@@ -102,7 +102,7 @@ later_found head (image ∷ images) later new found =
     by true is = absurd (new.0 (sym (same_bytes head.entry.name image.entry.name is)))
     by false is = rw is found.0
 
--- Each of some images of distinct names is found by its name.
+-- If the names of images are distinct, each image is found by its name.
 each_found : (images : List Image) → AreDistinct (names_of_images images) →
     AllByRecursion (λ (image : Image). image_named image.entry.name images ≡ Some image) images
 each_found [] distinct = tt
@@ -122,7 +122,7 @@ images_extracted tree (image ∷ later) found = by image.payload refl (images_ex
     by (Some bytes) is rest =
         (OfImage tree refl image.entry.name (ap choice_of_image found.0 ∙ ap choice_of_payload is) refl, rest)
 
--- The images after an image have other names of files.
+-- No later image has the same name of a file.
 new_image : (name : List ℕ) (images : List Image) → IsNew name (names_of_images images) →
     IsNew (image_file_name name) (names_of_files (image_files images))
 new_image name [] new = tt
@@ -133,7 +133,7 @@ new_image name (image ∷ later) new = by image.payload (new_image name later ne
     by None rest = rest
     by (Some bytes) rest = (λ same. new.0 (same_image_file image.entry.name name same), rest)
 
--- The files of images have safe names, and no two the same.
+-- The files of images have safe names, and no two of them have the same name.
 safe_image_names : (images : List Image) → AreDistinct (names_of_images images) →
     AllByRecursion (λ (image : Image). IsSafeFileName (image_file_name image.entry.name)) images →
     AreSafeFileNames (names_of_files (image_files images))
@@ -145,7 +145,7 @@ safe_image_names (image ∷ later) distinct safe = by image.payload (safe_image_
     by None rest = rest
     by (Some bytes) rest = record { each = (safe.0, rest.each); distinct = (new_image image.entry.name later distinct.0, rest.distinct) }
 
--- An image that is found and has a payload has its file.
+-- If an image is found and has a payload, the payload has its file.
 image_has_file : (name bytes : List ℕ) (images : List Image) → choice_of_image (image_named name images) ≡ Chosen bytes →
     Contains (image_files images) (record { name = image_file_name name; bytes = bytes })
 image_has_file name bytes [] is = absurd cc
@@ -173,14 +173,14 @@ image_has_file name bytes (image ∷ later) is = by (bytes_eq image.entry.name n
     by false other (Some payload) has rest =
         Contains-others (file_of (image_file_name image.entry.name) payload) (image_files later) file (rest (rw other at is))
 
--- The images of nodes have names that are new where those of the nodes are.
+-- The names of images are new if the names of their nodes are.
 new_among : (name : List ℕ) (nodes : Nodes PropertyMap) (payloads : List (Option (List ℕ))) → IsNew name (names nodes) →
     IsNew name (names_of_images (images_with (siblings nodes) payloads))
 new_among name none payloads new = tt
 new_among name (node first own children later) [] new = tt
 new_among name (node first own children later) (payload ∷ payloads) new = (new.0, new_among name later payloads new.1)
 
--- They have distinct names.
+-- The names of images are distinct if the names of their nodes are.
 distinct_images : (nodes : Nodes PropertyMap) (payloads : List (Option (List ℕ))) → AreNodes ArePropertiesByName nodes →
     AreDistinct (names_of_images (images_with (siblings nodes) payloads))
 distinct_images none payloads are = tt
@@ -188,7 +188,7 @@ distinct_images (node name own children later) [] are = tt
 distinct_images (node name own children later) (payload ∷ payloads) are =
     (new_among name later payloads are.0.is_new, distinct_images later payloads are.2)
 
--- Each has a safe name for a file.
+-- The name of each image gives a safe name of a file.
 safe_images : (nodes : Nodes PropertyMap) (payloads : List (Option (List ℕ))) → AreNodes ArePropertiesByName nodes → HaveByteNames nodes →
     AllByRecursion (λ (image : Image). IsSafeFileName (image_file_name image.entry.name)) (images_with (siblings nodes) payloads)
 safe_images none payloads are bytes = tt
@@ -196,7 +196,7 @@ safe_images (node name own children later) [] are bytes = tt
 safe_images (node name own children later) (payload ∷ payloads) are bytes =
     (safe_image_name name bytes.0 are.0.is_name.no_slash, safe_images later payloads are.2 bytes.2)
 
--- The image nodes of a tree are nodes that a tree may have, and their names are bytes.
+-- The names of the image nodes of a tree are names of nodes, and consist of bytes.
 image_nodes_are : (tree : ImageTree) → IsImageTree tree →
     AreNodes ArePropertiesByName (nodes_or_none (image_nodes tree.root)) × HaveByteNames (nodes_or_none (image_nodes tree.root))
 image_nodes_are tree is = by (children_of images_name tree.root.children) refl
@@ -219,7 +219,7 @@ file_names_are_safe limits file (OfFit tree) means =
     safe_image_names (images_of tree) (distinct_images (nodes_or_none (image_nodes tree.root)) tree.payloads are.0)
     (safe_images (nodes_or_none (image_nodes tree.root)) tree.payloads are.0 are.1)
 
--- Each file is what `extract` gives.
+-- Each file has the bytes that `extract` returns.
 files_are_extracted : (limits : Limits) (file : List ℕ) (meaning : Meaning) → Means limits file meaning →
     AllByRecursion (IsExtractedFile meaning) (payload_files meaning)
 files_are_extracted limits file (OfLegacy image) means =
@@ -230,7 +230,7 @@ files_are_extracted limits file (OfFit tree) means =
     images_extracted tree (images_of tree) (each_found (images_of tree)
     (distinct_images (nodes_or_none (image_nodes tree.root)) tree.payloads are.0))
 
--- A part that is chosen.
+-- This part is chosen.
 part_chosen : (found : Option (List ℕ)) (bytes : List ℕ) → choice_of_part found ≡ Chosen bytes → found ≡ Some bytes
 part_chosen None bytes is = absurd cc
 part_chosen (Some part) bytes is = let same : part ≡ bytes = cc in ap Some same
@@ -254,7 +254,7 @@ each_payload_has_its_file limits file (OfFit tree) means = record {
 
 -- ---- what the calls return
 
--- An error of reading a file is one of extracting all its payloads.
+-- An error of reading a file is an error of extracting all its payloads.
 pub extract_all_error_of_reading : (limits : Limits) (file : List ℕ) (error : Error) → IsBootImageReadError limits file error →
     IsExtractAllError limits file error
 extract_all_error_of_reading limits file (Refused fault) is = inl is
@@ -262,7 +262,7 @@ extract_all_error_of_reading limits file OutOfMemory is = is
 extract_all_error_of_reading limits file ReadFailed is = is
 extract_all_error_of_reading limits file WriteFailed is = is
 
--- So is one of collecting the payloads of what was read.
+-- An error of collecting the payloads of what was read is one, too.
 pub extract_all_error_of_payloads : {T : Type 0} (limits : Limits) (file : List ℕ) (image : BootImage) (result : Result T Error) →
     IsReadBootImage limits file image → IfErr result (IsPayloadError limits (meaning_of image)) →
     IfErr result (IsExtractAllError limits file)
@@ -295,7 +295,7 @@ payloads_of_opened files_of limits file image (Ok payloads) opened within is =
 
 -- ---- the payloads so far
 
--- One more part.
+-- One more part adds its file.
 pub one_more_part : (payloads pushed : List Payload) (payload : Payload) (bytes : List ℕ) (later : List (List ℕ)) (all : List PayloadFile) →
     pushed ≡ payloads ++ payload ∷ [] → string_bytes payload.file_name ≡ part_file_name (length payloads) → payload.bytes.now ≡ bytes →
     map payload_file payloads ++ part_files (length payloads) (bytes ∷ later) ≡ all →
@@ -311,11 +311,11 @@ one_more_part payloads pushed payload bytes later all is name content so_far =
     ∙ ap (λ (file : PayloadFile). map payload_file payloads ++ file ∷ part_files (length payloads + 1) later) file
     ∙ so_far
 
--- The files of images that were read.
+-- These are the files of images that were read.
 abbrev pub files_of_models : List ImageModel → List PayloadFile
 files_of_models images = flat_map (λ (image : ImageModel). image_file image.name image.payload) images
 
--- They are those of the images of nodes of the same names.
+-- They are those of the images of nodes with the same names.
 files_of_entries : (entries : List (Sibling PropertyMap)) (images : List ImageModel) →
     map (λ (entry : Sibling PropertyMap). entry.name) entries ≡ map (λ (image : ImageModel). image.name) images →
     files_of_models images ≡ image_files (images_with entries (payloads_of_models images))
@@ -327,12 +327,12 @@ files_of_entries (entry ∷ entries) (image ∷ later) same =
     ap (λ name. image_file name image.payload ++ files_of_models later) name
     ∙ ap (λ files. image_file entry.name image.payload ++ files) (files_of_entries entries later cc)
 
--- The images of a tree that was read.
+-- These are the images of a tree that was read.
 pub files_of_content : (content : FitModel) → IsHeld content → files_of_models content.images ≡ payload_files (OfFit (tree_of content))
 files_of_content content held =
     files_of_entries (siblings (nodes_or_none (image_nodes (tree_of content).root))) content.images (names_of_content content held)
 
--- One more image.
+-- One more image adds its file.
 pub one_more_image : (files new : List PayloadFile) (image : ImageModel) (later : List ImageModel) (all : List PayloadFile) →
     new ≡ files ++ image_file image.name image.payload → files ++ files_of_models (image ∷ later) ≡ all →
     new ++ files_of_models later ≡ all

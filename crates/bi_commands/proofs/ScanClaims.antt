@@ -76,12 +76,12 @@ claim_of_image image = by (legacy_decided image) (blob_decided image) where
 
 -- ---- the claims of the first images
 
--- The images at the first offsets of an input claim this many bytes together.
+-- The claims of the images at the first offsets of an input have this many bytes together.
 abbrev pub HasFirstClaims : (input : List ℕ) → (count total : ℕ) → Type 0
 HasFirstClaims input count total =
     (claims : List ℕ) × AllZip (λ offset. IsClaim (input_from offset input)) (range_with_len 0 count) claims × (sum claims ≡ total)
 
--- The next image claims more.
+-- The next image adds its claim.
 pub next_claim : (input image : List ℕ) (count total claim : ℕ) → HasFirstClaims input count total → image ≡ input_from count input →
     IsClaim image claim → HasFirstClaims input (count + 1) (total + claim)
 next_claim input image count total claim (claims, are, same) is claimed = (
@@ -91,7 +91,7 @@ next_claim input image count total claim (claims, are, same) is claimed = (
   sum_by_push (λ (each : ℕ). each) claims claim ∙ ap (λ (n : ℕ). n + claim) same,
 )
 
--- So more images claim as much at least,
+-- So more images claim at least as much.
 more_claims : (input : List ℕ) (count total more : ℕ) → HasFirstClaims input count total →
     (all : ℕ) × HasFirstClaims input (count + more) all × (total ≤ all)
 more_claims input count total zero first = (
@@ -108,7 +108,7 @@ more_claims input count total (suc more) first =
       omega (arith, all.2),
     )
 
--- and if the first images claim more than the limit, all do.
+-- If the first images claim more than the limit, all images do.
 pub over_claims : (limits : Limits) (input : List ℕ) (count total : ℕ) → count ≤ length input → HasFirstClaims input count total →
     limits.file < total → IsOverClaims limits input
 over_claims limits input count total within first over =

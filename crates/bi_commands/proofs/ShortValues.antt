@@ -22,9 +22,9 @@ use Rattle.bi_fit.specs.Names.{configurations_name, images_name, is_payload_name
 use Rattle.bi_fit.proofs.Meanings.{same_in_some}
 use Rattle.bi_fit.proofs.PayloadProperties.{get-without}
 
--- The values of properties of a file are shorter than 2^32 bytes, so the index of a name in one is below that.
+-- The value of each property of a file is shorter than 2^32 bytes, so the index of a name in it is below 2^32.
 
--- ---- in the file
+-- ---- properties of the file
 
 abbrev HasShortValue : FileEvent → Type 0
 HasShortValue (FileNodeProperty property) = length property.value < 2 ^ 32
@@ -44,7 +44,7 @@ tokens_short strings at (EndNode ∷ tokens) bytes (FileNodeEnd ∷ events) are 
     (tt, tokens_short strings (at + width EndNode) tokens _ events are.1 encodes)
 tokens_short strings at tokens bytes events are encodes = absurd encodes
 
--- The properties of a node.
+-- Each property of the node has a short value.
 abbrev AreShort : FileNode → Type 0
 AreShort own = AllByRecursion (λ (property : FileProperty). length property.value < 2 ^ 32) own.properties
 
@@ -61,7 +61,7 @@ nodes_short (node name own children later) each =
       nodes_short later (each-back HasShortValue (file_events children) (FileNodeEnd ∷ file_events later) below).1,
     )
 
--- ---- in what it means
+-- ---- properties of the meaning of the file
 
 abbrev AreShortByName : PropertyMap → Type 0
 AreShortByName own = (name value : List ℕ) → get own name ≡ Some value → length value < 2 ^ 32
@@ -145,7 +145,7 @@ configurations_short file tree is = by (children_of configurations_name tree.roo
 
 -- ---- the index of a name
 
--- The index of the first name that no image has, if there is one.
+-- The index of the first name without an image, if there is one, is below 2^32.
 abbrev pub HasSmallIndex : ListResult → Type 0
 HasSmallIndex (Missing index) = index < 2 ^ 64
 HasSmallIndex result = ⊤

@@ -6,14 +6,14 @@ use Rattle.bi_base.specs.VecSinks.{Grows}
 use Rattle.bi_commands.proofs.AsciiTexts.{HasAscii, is_ascii}
 use Rattle.bi_commands.proofs.FitLines.{joined_after}
 
--- The cells of a page.
+-- These lemmas are about the cells of a page.
 
--- What was appended to nothing is ASCII if the text is.
+-- If a text that is ASCII was appended to an empty sink, the sink has ASCII.
 pub ascii_in_memory : (old new text : List ℕ) → old ≡ [] → Grows old text new → HasAscii text → IsAscii new
 ascii_in_memory old new text empty grown ascii =
     subst IsAscii (sym (grown ∙ ap (λ (l : List ℕ). l ++ text) empty)) (is_ascii text ascii)
 
--- The words of elements, with a space between each two: the first, and then the others, each after a space.
+-- The words of elements, with a space between each two, are the first word, and then each other word after a space.
 pub joined_in_turn : {X : Type 0} (word : X → List ℕ) (all later : List X) (first : X) (start middle end : List ℕ) → all ≡ first ∷ later →
     start ≡ [] → middle ≡ start ++ word first → end ≡ middle ++ flat_map (λ x. 32 ∷ word x) later → end ≡ join_with_byte 32 (map word all)
 joined_in_turn {X} word all later first start middle end is empty one more =

@@ -32,25 +32,25 @@ use Rattle.bi_commands.proofs.AsciiReports.{checked_is_ascii}
 use Rattle.bi_commands.proofs.CheckedFiles.{legacy_checked, tree_checked}
 use Rattle.bi_commands.proofs.ImageCalls.{tree_needs_memory}
 
--- The parts of a page.
+-- These lemmas put the parts of a page together.
 
--- What was appended to nothing.
+-- A text that was appended to an empty sink is what the sink has.
 whole_text : (old new text : List ℕ) → old ≡ [] → Grows old text new → new ≡ text
 whole_text old new text empty grown = grown ∙ ap (λ (l : List ℕ). l ++ text) empty
 
--- Lines of concerns that were appended to nothing,
+-- The sink has the lines of concerns that were appended to it when it was empty,
 pub lines_in_memory : (limits : Limits) (file old new lines : List ℕ) → AreConcernLines limits file lines → old ≡ [] → Grows old lines new →
     AreConcernLines limits file new
 lines_in_memory limits file old new lines are empty grown =
     subst (AreConcernLines limits file) (sym (whole_text old new lines empty grown)) are
 
--- which are ASCII.
+-- and these lines are ASCII.
 pub ascii_lines_in_memory : (limits : Limits) (file old new lines : List ℕ) → AreConcernLines limits file lines → old ≡ [] →
     Grows old lines new → IsAscii new
 ascii_lines_in_memory limits file old new lines are empty grown =
     checked_is_ascii Lines nothing_allowed limits file new (lines_in_memory limits file old new lines are empty grown)
 
--- Those of a legacy image.
+-- The lines of concerns about a legacy image are ASCII.
 abbrev checker : Checker
 checker = record { allowed = nothing_allowed; format = Lines }
 
@@ -58,14 +58,14 @@ pub lines_of_legacy_image : (limits : Limits) (file : List ℕ) (parsed : Legacy
     AreConcernLines limits file (concerns_text Lines nothing_allowed (trailing_concerns (drop (length file - parsed.unused) file)))
 lines_of_legacy_image limits file parsed is = legacy_checked checker limits file parsed is
 
--- Those of a flattened image tree.
+-- The lines of concerns about a FIT are ASCII.
 pub tree_lines_of_concerns : (limits : Limits) (file : List ℕ) (content : FitModel) → IsReadFit limits file content →
     ¬ (IsOverPayloadBound limits (OfFit (tree_of content))) →
     AreConcernLines limits file (concerns_text Lines nothing_allowed (read_concerns file content))
 tree_lines_of_concerns limits file content is within =
     tree_checked checker limits file _ content is (record { within = within; is_text = refl })
 
--- The offset of a payload, by its source.
+-- The offset of a payload depends on its source.
 pub offset_found : (file : List ℕ) (source : PayloadSource) (place : Place) → place ≡ place_of file source →
     offset_of_place place ≡ payload_place file source
 offset_found file NoSource place is = ap offset_of_place is
@@ -84,13 +84,13 @@ rows_of_images file (entry ∷ entries) (image ∷ images) are =
     (ap (image_row entry image.payload) (offset_found file (source_of entry.own) image.place are.0.place))
     (rows_of_images file entries images are.1)
 
--- Its images are those of its file.
+-- The images that were read are those of the file.
 pub images_of_file : (limits : Limits) (file : List ℕ) (content : FitModel) → IsReadFit limits file content →
     AllZip (IsReadImage file) (siblings (file_images content.blob)) content.images
 images_of_file limits file content is =
     subst (λ (f : List ℕ). AllZip (IsReadImage f) (siblings (file_images content.blob)) content.images) is.is_file is.held.images
 
--- The tables of a flattened image tree that was read from a file are those of the file.
+-- The tables of a FIT that was read from a file are those of the file.
 pub tables_of_file : (limits : Limits) (file : List ℕ) (content : FitModel) (is : IsReadFit limits file content) (time : List ℕ)
     (regions : Table) →
     fit_head file (root_of content.blob) (tree_of content) time
@@ -109,14 +109,14 @@ tables_of_file limits file content is time regions =
     (rows_of_images file entries content.images (images_of_file limits file content is))
     ∙ ap (λ (root : Root FileNode). fit_tables file root (tree_of content) time regions) (sym is.same_root)
 
--- A table that was appended.
+-- A table was appended.
 pub shown_table : (old new : List ℕ) (slice rows : List (Vec (String Global) Global)) (table : Table) →
     new ≡ old ++ table_text (cells_of_rows slice) →
     slice ≡ rows → cells_of_rows rows ≡ table → new ≡ old ++ table_text table
 shown_table old new slice rows table is same cells =
     is ∙ ap (λ (t : Table). old ++ table_text t) (ap (λ (l : List (Vec (String Global) Global)). cells_of_rows l) same ∙ cells)
 
--- A page of three tables.
+-- A page of a legacy image has three tables.
 pub three_tables : (first second third lines start one two three page : List ℕ) → start ≡ [] → one ≡ start ++ first → two ≡ one ++ second →
     three ≡ two ++ third → page ≡ three ++ lines → page ≡ (first ++ (second ++ (third ++ []))) ++ lines
 three_tables first second third lines start one two three page empty is_one is_two is_three is_page =
@@ -130,7 +130,7 @@ three_tables first second third lines start one two three page empty is_one is_t
     regroup : (a b c : List ℕ) → (a ++ b) ++ c ≡ a ++ (b ++ (c ++ []))
     regroup a b c = simp (append_assoc, append-nil)
 
--- A page of six tables.
+-- A page of a FIT has six tables.
 pub six_tables : (first second third fourth fifth sixth lines start one two three four five six page : List ℕ) → start ≡ [] →
     one ≡ start ++ first → two ≡ one ++ second → three ≡ two ++ third → four ≡ three ++ fourth → five ≡ four ++ fifth →
     six ≡ five ++ sixth → page ≡ six ++ lines → page ≡ (first ++ (second ++ (third ++ (fourth ++ (fifth ++ (sixth ++ [])))))) ++ lines

@@ -12,9 +12,9 @@ use Rattle.bi_commands.specs.Pages.{Table}
 use Rattle.bi_commands.specs.Rows.{cells_of_rows, cells_of_row}
 use Rattle.bi_commands.proofs.FitLines.{numbers_of, reservation_found, reservation_of}
 
--- The rows of a table, one after the other.
+-- Rows are added to a table one after the other.
 
--- One more row, and those that follow it.
+-- One more row comes before those that follow it.
 pub one_more_row : (rows new : List (Vec (String Global) Global)) (row : Vec (String Global) Global) (cells : List (List ℕ))
     (later all : Table) →
     new ≡ rows ++ row ∷ [] → cells_of_row row.items ≡ cells → cells_of_rows rows ++ cells ∷ later ≡ all → cells_of_rows new ++ later ≡ all
@@ -33,7 +33,7 @@ rows_from_part count next index source left part first same more =
     ∙ ap (λ (n : ℕ). part_row count part ∷ part_rows n left) more
     ∙ ap (part_rows count) (sym first)
 
--- One more row of a word and a cell.
+-- A row of a word and a cell is added.
 pub next_pair : (base done before after : Table) (word cell shown : List ℕ) → before ≡ base ++ done →
     after ≡ before ++ (word ∷ cell ∷ []) ∷ [] → cell ≡ shown → after ≡ base ++ (done ++ (word ∷ shown ∷ []) ∷ [])
 next_pair base done before after word cell shown so_far is same =
@@ -41,12 +41,12 @@ next_pair base done before after word cell shown so_far is same =
     ∙ ap₂ (λ (b : Table) (c : List ℕ). b ++ (word ∷ c ∷ []) ∷ []) so_far same
     ∙ append_assoc base done ((word ∷ shown ∷ []) ∷ [])
 
--- More rows.
+-- Some rows are added.
 pub next_rows : (base done before after more : Table) → before ≡ base ++ done → after ≡ before ++ more → after ≡ base ++ (done ++ more)
 next_rows base done before after more so_far is =
     is ∙ ap (λ (b : Table). b ++ more) so_far ∙ append_assoc base done more
 
--- One more cell of a row.
+-- A cell is added to a row.
 pub last_cell : (row new : List (String Global)) (cell : String Global) (before : List (List ℕ)) (text : List ℕ) → new ≡ row ++ cell ∷ [] →
     cells_of_row row ≡ before → string_bytes cell ≡ text → cells_of_row new ≡ before ++ text ∷ []
 last_cell row new cell before text is same shown =
@@ -54,7 +54,7 @@ last_cell row new cell before text is same shown =
     ∙ map-append string_bytes row (cell ∷ [])
     ∙ ap₂ (λ (b : List (List ℕ)) (t : List ℕ). b ++ t ∷ []) same shown
 
--- The rows from a reservation on are its row and those of the later ones.
+-- The rows from a reservation on are its row and those of the later reservations.
 pub rows_from_reservation : (reservations : List Reservation) (index : ℕ) (found : Option (ℕ × ℕ)) (numbers : ℕ × ℕ) →
     index < length reservations → found ≡ slice_get (map numbers_of reservations) index → found ≡ Some numbers →
     map reservation_row (drop index reservations)

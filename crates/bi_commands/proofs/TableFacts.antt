@@ -6,13 +6,13 @@ use Rattle.std.proofs.lemmas.List.{length-map, length-take, map-append, take_mor
 use Rattle.bi_commands.specs.Pages.{column_widths, concerns_text_of_page, later_cells, row_text, table_text, wider, with_row}
 use Rattle.bi_commands.specs.Rows.{cells_of_rows, cells_of_row}
 
--- The layout of a table, cell by cell and row by row.
+-- A table is written cell by cell and row by row.
 
 wider-nil : (widths : List ℕ) → wider widths [] ≡ widths
 wider-nil [] = refl
 wider-nil (width ∷ widths) = refl
 
--- One more cell in a column that has a width,
+-- If a column has a width, one more cell in it gives the greater of both widths.
 wider-set : (widths cells : List ℕ) (cell d : ℕ) → length cells < length (wider widths cells) →
     set (wider widths cells) (length cells) (max (get_or (wider widths cells) (length cells) d) cell) ≡ wider widths (cells ++ cell ∷ [])
 wider-set [] cells cell d within = absurd (omega (arith, within))
@@ -20,7 +20,7 @@ wider-set (width ∷ widths) [] cell d within = ap (λ (l : List ℕ). max width
 wider-set (width ∷ widths) (first ∷ cells) cell d within =
     ap (λ (l : List ℕ). max width first ∷ l) (wider-set widths cells cell d (omega (arith, within)))
 
--- and in a new column.
+-- In a new column one more cell gives its own width.
 wider-push : (widths cells : List ℕ) (cell : ℕ) → length (wider widths cells) ≤ length cells →
     wider widths cells ++ cell ∷ [] ≡ wider widths (cells ++ cell ∷ [])
 wider-push [] cells cell none = refl
@@ -28,7 +28,7 @@ wider-push (width ∷ widths) [] cell none = absurd (omega (arith, none))
 wider-push (width ∷ widths) (first ∷ cells) cell none =
     ap (λ (l : List ℕ). max width first ∷ l) (wider-push widths cells cell (omega (arith, none)))
 
--- How long the cells of a row are, with one more of them.
+-- One more cell in a row adds its length to the lengths of the cells.
 one_more_cell : (row : List (String Global)) (column : ℕ) (cell : String Global) → column < length row → get_or row column cell ≡ cell →
     map length (cells_of_row (take (column + 1) row)) ≡ map length (cells_of_row (take column row)) ++ length (string_bytes cell) ∷ []
 one_more_cell row column cell within there =
@@ -46,7 +46,7 @@ cells_before row column within =
     let taken = length-take column row in
     omega (arith, many, same, taken, within)
 
--- The widths of columns with one more cell of a row.
+-- One more cell in a row gives these widths of columns.
 pub widths_with_cell : (old current : List ℕ) (row : List (String Global)) (column : ℕ) (cell : String Global) (width d : ℕ) →
     column < length row →
     get_or row column cell ≡ cell → width ≡ length (string_bytes cell) → current ≡ with_row old (cells_of_row (take column row)) →
@@ -74,7 +74,7 @@ widths_with_new_cell old current row column cell width within there wide is none
     ∙ ap (λ (n : ℕ). wider old (cells ++ n ∷ [])) wide
     ∙ ap (wider old) (sym (one_more_cell row column cell within there))
 
--- No cell is left if there are no more widths, or no more cells.
+-- If no width is left, or no cell, no cell is written.
 pub no_more_cells : (left : ℕ) (widths : List ℕ) (cells : List (String Global)) → (widths ≡ []) ⊎ (cells ≡ []) →
     later_cells left widths (cells_of_row cells) ≡ []
 no_more_cells left [] cells none = refl
@@ -82,7 +82,7 @@ no_more_cells left (width ∷ widths) [] none = refl
 no_more_cells left (width ∷ widths) (cell ∷ cells) (inl none) = absurd cc
 no_more_cells left (width ∷ widths) (cell ∷ cells) (inr none) = absurd cc
 
--- A table of at least two rows is shown, and no other one.
+-- A table is shown if and only if it has at least two rows.
 pub some_rows : (rows : List (Vec (String Global) Global)) → 2 ≤ length rows →
     table_text (cells_of_rows rows) ≡ flat_map (row_text (column_widths (cells_of_rows rows))) (cells_of_rows rows) ++ 10 ∷ []
 some_rows [] many = absurd (omega (arith, many))
@@ -94,7 +94,7 @@ few_rows [] few = refl
 few_rows (row ∷ []) few = refl
 few_rows (first ∷ next ∷ later) few = absurd (omega (arith, few))
 
--- Lines of concerns follow a heading.
+-- The lines of concerns come after a heading.
 pub some_concerns : (lines : List ℕ) → (length lines == 0) ≡ false → concerns_text_of_page lines ≡ codes "concerns\n" ++ lines
 some_concerns [] some = absurd cc
 some_concerns (byte ∷ later) some = refl

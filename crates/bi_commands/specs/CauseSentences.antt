@@ -72,11 +72,14 @@ sentence_of NoSize =
     codes "An image has the offset of its payload but not its size: add 'data-size' to it."
 sentence_of OutsideFile =
     codes "A payload ends after the end of the file: copy the whole file, not only the tree "
-    ++ codes "before the payloads."
+    ++ codes "before the payloads. If nothing is missing, mkimage -F was probably run without -E "
+    ++ codes "on a FIT with payloads after the blob: build it again, and run mkimage -F with -E."
 sentence_of TooLarge =
-    codes "The file, the image or description that would be written, or for describe, compare, "
-    ++ codes "check and update --hashes the payloads together are longer than --limit, which is "
-    ++ codes "the offset: give a greater limit if you trust the file."
+    codes "The file, the image or description that would be written, the payloads together "
+    ++ codes "(describe, show, check, compare, update --hashes) or the sizes that headers name "
+    ++ codes "together (scan) are longer than --limit, which is the offset: give a greater limit "
+    ++ codes "if you trust the file. If the file is too long, cut a part out of it: scan finds the "
+    ++ codes "images in that part, and --offset reads one of them."
 sentence_of NoCodeName =
     codes "A FIT stores names, and this code has none: the offset is that of the code in the "
     ++ codes "header for convert, and the number of the image, counted from 0, for build-fit. Give "

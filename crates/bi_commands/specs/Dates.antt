@@ -2,8 +2,8 @@ use Rattle.std.specs.Prelude.{ℕ, zero, suc, ◌+◌, ◌/◌, ◌%◌, ◌==�
 use Rattle.std.specs.Prelude.{List, [], ◌∷◌, ◌++◌, codes, length, sum, if◌then◌else◌}
 use Rattle.bi_commands.specs.declared.show.dates.Date.{Date}
 
--- Dates in the Gregorian calendar, which is continued to the past (ISO 8601), and how a time is
--- printed (profile of this project).
+-- Dates in the Gregorian calendar, which is also used for the time before it was introduced (ISO
+-- 8601), and how a time is printed (profile of this project).
 
 -- Whether a year has a 29 February.
 abbrev pub is_leap_year : (year : ℕ) → Bool
@@ -19,13 +19,13 @@ month_lengths year =
 abbrev pub year_length : (year : ℕ) → ℕ
 year_length year = sum (month_lengths year)
 
--- How many days the first years from 1970 on have together.
+-- How many days the first years from 1970 on have together: this many years.
 abbrev pub days_of_years : (count : ℕ) → ℕ
 days_of_years zero = 0
 days_of_years (suc count) = days_of_years count + year_length (1970 + count)
 
--- The date is this many days after 1970-01-01: so many days have the years before it, the months of
--- its year before its month, and the days of its month before its day, together.
+-- The date is this many days after 1970-01-01: the number of the days of the years before its year,
+-- of the months before its month, and of the days before its day.
 pub record IsDate (days : ℕ) (date : Date) : Type 0 where
   pub years : ℕ
   pub earlier : List ℕ
@@ -55,8 +55,8 @@ clock_text seconds =
     two_digits (seconds / 3600)
     ++ (58 ∷ (two_digits (seconds / 60 % 60) ++ (58 ∷ two_digits (seconds % 60))))
 
--- The text is a time, by how many seconds after 1970-01-01 00:00:00 UTC it is, as
--- `2026-11-28 01:02:03 UTC`. Leap seconds are not counted (POSIX.1, 4.16).
+-- The text is a time, as `2026-11-28 01:02:03 UTC`, this many seconds after 1970-01-01 00:00:00
+-- UTC. Leap seconds are not counted (POSIX.1, 4.16).
 pub record IsTimeText (seconds : ℕ) (text : List ℕ) : Type 0 where
   pub date : Date
   pub is_date : IsDate (seconds / 86400) date

@@ -22,7 +22,7 @@ use Rattle.bi_commands.specs.Pages.{Table}
 use Rattle.bi_commands.specs.Reports.{shown_or_none}
 use Rattle.bi_commands.specs.Shown.{shown_text}
 
--- The page of a flattened image tree (profile of this project).
+-- The page of a FIT (profile of this project).
 
 -- The value of a property of a node, if it is there.
 abbrev pub value_in : FileNode → (name : List ℕ) → Option (List ℕ)
@@ -32,8 +32,8 @@ value_in own name = value_named (properties_of own) name
 abbrev pub timestamp_in : Root FileNode → Option (List ℕ)
 timestamp_in root = value_in root.own timestamp_name
 
--- What the root says, the size of the file, and the default configuration. The cell of the time is
--- given.
+-- The first table: what the root says, the size of the file, and the default configuration. The
+-- cell of the time is given.
 abbrev pub fit_head : (file : List ℕ) → Root FileNode → ImageTree → (time : List ℕ) → Table
 fit_head file root tree time =
     (codes "kind" ∷ codes "flattened image tree" ∷ [])
@@ -45,12 +45,12 @@ fit_head file root tree time =
     ∷ (codes "boot processor" ∷ decimal tree.cpu ∷ [])
     ∷ (codes "default" ∷ shown_or_none (default_of tree) ∷ []) ∷ []
 
--- A memory reservation.
+-- The row of a memory reservation.
 abbrev pub reservation_row : Reservation → List (List ℕ)
 reservation_row reservation =
     hexadecimal_64 reservation.address ∷ hexadecimal_64 reservation.size ∷ []
 
--- The memory reservations.
+-- The table of the memory reservations.
 abbrev pub reservations_table : List Reservation → Table
 reservations_table reservations =
     (codes "reservation" ∷ codes "size" ∷ []) ∷ map reservation_row reservations
@@ -61,7 +61,7 @@ reservations_table reservations =
 abbrev pub image_cell : CellForm → Sibling FileNode → (name : List ℕ) → List ℕ
 image_cell form entry name = property_cell form (value_in entry.own name)
 
--- An image node with this payload, if it has one, at this offset.
+-- The row of an image node. Its payload, if it has one, is at this offset.
 abbrev pub image_row : Sibling FileNode → (payload : Option (List ℕ)) → (offset : Option ℕ)
     → List (List ℕ)
 image_row entry payload offset =
@@ -76,14 +76,14 @@ image_row entry payload offset =
     ∷ image_cell Address entry (codes "entry")
     ∷ hashes_cell (file_hashes entry.name payload (siblings entry.children)) ∷ []
 
--- Image nodes with these payloads.
+-- The rows of image nodes, with these payloads.
 abbrev pub image_rows : (file : List ℕ) → List (Sibling FileNode) → List (Option (List ℕ)) → Table
 image_rows file (entry ∷ entries) (payload ∷ payloads) =
     image_row entry payload (payload_place file (source_of entry.own))
     ∷ image_rows file entries payloads
 image_rows file entries payloads = []
 
--- The cells above them.
+-- The first row of the table of images.
 abbrev pub image_heading : List (List ℕ)
 image_heading =
     codes "image" ∷ codes "type" ∷ codes "os" ∷ codes "arch" ∷ codes "compression" ∷ codes "size"
@@ -95,23 +95,23 @@ image_heading =
 abbrev pub has_key : Key → Sibling FileNode → Bool
 has_key key entry = is_some (value_in entry.own (key_name key))
 
--- The keys that one of these configuration nodes has.
+-- The keys that at least one of these configuration nodes has.
 abbrev pub used_keys : List (Sibling FileNode) → List Key
 used_keys entries = filter (λ key. list_any (has_key key) entries) all_keys
 
--- What a configuration node lists under these keys, and what it is compatible with.
+-- The row of a configuration node: what it lists under these keys, and what it is compatible with.
 abbrev pub configuration_row : List Key → Sibling FileNode → List (List ℕ)
 configuration_row keys entry =
     shown_text entry.name
     ∷ (map (λ key. property_cell Names (value_in entry.own (key_name key))) keys
     ++ property_cell Value (value_in entry.own (codes "compatible")) ∷ [])
 
--- The cells above them.
+-- The first row of the table of configurations.
 abbrev pub configuration_heading : List Key → List (List ℕ)
 configuration_heading keys =
     codes "configuration" ∷ (map key_name keys ++ codes "compatible" ∷ [])
 
--- Configuration nodes.
+-- The table of the configuration nodes.
 abbrev pub configurations_table : List (Sibling FileNode) → Table
 configurations_table entries =
     configuration_heading (used_keys entries)
@@ -119,7 +119,7 @@ configurations_table entries =
 
 -- ---- signatures
 
--- A signature node that is a child of a child of `/images` or `/configurations`.
+-- The row of a signature node. Its parent is a child of `/images` or `/configurations`.
 abbrev pub signature_row : (parent : List ℕ) → (name : List ℕ) → Sibling FileNode → List (List ℕ)
 signature_row parent name signature =
     path (parent ∷ name ∷ signature.name ∷ [])
@@ -127,12 +127,12 @@ signature_row parent name signature =
     ∷ property_cell Value (value_in signature.own (codes "key-name-hint"))
     ∷ codes "not verified" ∷ []
 
--- Those of nodes that are children of `/images` or `/configurations`.
+-- The rows of the signature nodes below the children of `/images` or `/configurations`.
 abbrev pub signature_rows : (parent : List ℕ) → List (Sibling FileNode) → Table
 signature_rows parent entries =
     flat_map (λ entry. map (signature_row parent entry.name) (file_signatures entry)) entries
 
--- All signature nodes. None of them is verified.
+-- The table of all signature nodes. None of them is verified.
 abbrev pub signatures_table : (images configurations : List (Sibling FileNode)) → Table
 signatures_table images configurations =
     (codes "signature" ∷ codes "algorithm" ∷ codes "key" ∷ codes "verdict" ∷ [])
@@ -148,13 +148,13 @@ abbrev pub configurations_below : Root FileNode → List (Sibling FileNode)
 configurations_below root =
     siblings (nodes_or_none (children_of configurations_name root.children))
 
--- The regions of its file.
+-- The regions of the file of a tree.
 abbrev pub fit_regions : (file : List ℕ) → Root FileNode → ImageTree → List LayoutRegion
 fit_regions file root tree =
     blob_regions file tree.reservations
     ++ payload_regions file 0 (images_below root) tree.payloads
 
--- The tables of a flattened image tree. That of its regions is given.
+-- The tables of a FIT. The table of its regions is given.
 abbrev pub fit_tables : (file : List ℕ) → Root FileNode → ImageTree → (time : List ℕ)
     → (regions : Table) → List Table
 fit_tables file root tree time regions =

@@ -147,8 +147,8 @@ mutual
   -- member *( value-separator member )
   pub data AreJsonMembers : (text rest : List ℕ) → Type 0 where
     LastMember : {text rest : List ℕ} → IsJsonMember text rest → AreJsonMembers text rest
-    NextMember : {text end later rest : List ℕ} → IsJsonMember text end → IsStructural 0x2c end later
-        → AreJsonMembers later rest → AreJsonMembers text rest
+    NextMember : {text end later rest : List ℕ} → IsJsonMember text end
+        → IsStructural 0x2c end later → AreJsonMembers later rest → AreJsonMembers text rest
 
   -- member = string name-separator value
   pub data IsJsonMember : (text rest : List ℕ) → Type 0 where

@@ -1,5 +1,6 @@
-use Rattle.std.specs.Prelude.{◌≡◌, ℕ, ◌+◌, ◌-◌, max, Bool, nat_lt, List, [], ◌∷◌, ◌++◌, Option, Some}
-use Rattle.std.specs.Prelude.{codes, get_or, length, map, IsPermutation, MatchBool, if◌then◌else◌}
+use Rattle.std.specs.Prelude.{◌≡◌, ℕ, ◌+◌, ◌-◌, max, Bool, nat_lt, List, [], ◌∷◌, ◌++◌, Option}
+use Rattle.std.specs.Prelude.{Some, codes, get_or, length, map, IsPermutation, MatchBool}
+use Rattle.std.specs.Prelude.{if◌then◌else◌}
 use Rattle.std.specs.Fmt.{decimal}
 use Rattle.std.specs.List.Sorted.{IsNonDecreasingBy, IsStableByKey}
 use Rattle.std.specs.Ordering.{nat_cmp}
@@ -31,19 +32,19 @@ part_table_regions image =
     if has_part_table image.image_type
     then region_at kind.PartTable 64 (length (part_table image.parts)) ∷ [] else []
 
--- Parts, the first of which is part `index`.
+-- The regions of parts. The first part has this index.
 abbrev pub part_regions : (index : ℕ) → List PartModel → List LayoutRegion
 part_regions index [] = []
 part_regions index (part ∷ later) =
     region_at (kind.Part index) part.place (length part.bytes) ∷ part_regions (index + 1) later
 
--- Those of a legacy image.
+-- The regions of a legacy image.
 abbrev pub legacy_regions : LegacyImage → List LayoutRegion
 legacy_regions image =
     region_at kind.Header 0 64
     ∷ (part_table_regions image ++ part_regions 0 (placed_parts image))
 
--- The header of a blob, and its blocks.
+-- The regions of a blob: its header and its blocks.
 abbrev pub blob_regions : (file : List ℕ) → List Reservation → List LayoutRegion
 blob_regions file reservations =
     region_at kind.Header 0 (header_length file)
@@ -51,14 +52,14 @@ blob_regions file reservations =
     ∷ record { kind = kind.Structure; begin = off_dt_struct file; end = structure_end file }
     ∷ record { kind = kind.Strings; begin = off_dt_strings file; end = strings_end file } ∷ []
 
--- The payload of the image at this index, if it has one, at this offset.
+-- The region of the payload of the image at this index, if it has one, at this offset.
 abbrev pub region_of_payload : (index : ℕ) → Option (List ℕ) → (offset : Option ℕ)
     → List LayoutRegion
 region_of_payload index (Some payload) (Some offset) =
     region_at (kind.Payload index) offset (length payload) ∷ []
 region_of_payload index payload offset = []
 
--- The payloads of image nodes, the first of which has this index.
+-- The regions of the payloads of image nodes. The first image has this index.
 abbrev pub payload_regions : (file : List ℕ) → (index : ℕ) → List (Sibling FileNode)
     → List (Option (List ℕ)) → List LayoutRegion
 payload_regions file index (entry ∷ entries) (payload ∷ payloads) =
@@ -68,19 +69,19 @@ payload_regions file index entries payloads = []
 
 -- ---- their order, and what no region has
 
--- These are the regions by their offsets. Those with the same offset keep their order.
+-- The regions are sorted by their offsets. Regions with the same offset keep their order.
 pub record AreByOffset (regions sorted : List LayoutRegion) : Type 0 where
   pub same : IsPermutation regions sorted
   pub by_offset : IsNonDecreasingBy (λ region. region.begin) sorted
   pub stable : IsStableByKey (λ region. region.begin) nat_cmp regions sorted
 
--- What is from an offset on up to another one, if there is anything.
+-- The region from an offset up to another one, if it has any bytes.
 abbrev pub region_between : RegionKind → (begin end : ℕ) → List LayoutRegion
 region_between what begin end =
     if nat_lt begin end then record { kind = what; begin = begin; end = end } ∷ [] else []
 
--- Regions by their offsets, and what is before, between and after them, up to an offset. The
--- regions before them reach up to `covered`.
+-- Regions by their offsets, and the free space before them, between them and after them, up to an
+-- offset. All bytes before `covered` are in earlier regions.
 abbrev pub with_free_space : (covered end : ℕ) → List LayoutRegion → List LayoutRegion
 with_free_space covered end [] = region_between kind.FreeSpace covered end
 with_free_space covered end (region ∷ later) =
@@ -89,7 +90,7 @@ with_free_space covered end (region ∷ later) =
 
 -- ---- how they are shown
 
--- What a region is. Images have these names.
+-- The name of a region. Images have these names.
 abbrev pub kind_cell : (names : List (List ℕ)) → RegionKind → List ℕ
 kind_cell names kind.Header = codes "header"
 kind_cell names kind.PartTable = codes "part table"
@@ -121,7 +122,7 @@ pub record IsLayout (names : List (List ℕ)) (regions : List LayoutRegion) (end
     pub are_sorted : AreByOffset regions sorted
     pub is : table ≡ layout_table names sorted end size
 
--- It is, if a layout is wanted, or else it has no rows.
+-- If a layout is wanted, the table is that of these regions. If not, the table has no rows.
 abbrev pub IsLayoutIf : (wanted : Bool) → (names : List (List ℕ)) → List LayoutRegion
     → (end size : ℕ) → Table → Type 0
 IsLayoutIf wanted names regions end size table =

@@ -11,7 +11,7 @@ use Rattle.bi_commands.specs.Shown.{hexadecimal}
 
 -- The page of a legacy image (profile of this project).
 
--- What the image is, and the size of its file. The cell of the time is given.
+-- The first rows: what the image is, and the size of its file. The cell of the time is given.
 abbrev pub legacy_first_rows : (file : List ℕ) → LegacyImage → (time : List ℕ) → Table
 legacy_first_rows file image time =
     (codes "kind" ∷ codes "legacy image" ∷ [])
@@ -19,7 +19,7 @@ legacy_first_rows file image time =
     ∷ (codes "date" ∷ time ∷ [])
     ∷ (codes "size" ∷ size_cell (length file) ∷ []) ∷ []
 
--- The codes of the header.
+-- The rows of the codes of the header.
 abbrev pub code_rows : LegacyImage → Table
 code_rows image =
     (codes "type" ∷ code_word all_type_names image.image_type ∷ [])
@@ -27,8 +27,8 @@ code_rows image =
     ∷ (codes "arch" ∷ code_word all_arch_names image.arch ∷ [])
     ∷ (codes "compression" ∷ code_word compression_names image.compression ∷ []) ∷ []
 
--- Its addresses, and the verdicts on its checksums, which are good: an image with a wrong one is
--- refused.
+-- The rows of its addresses and of the verdicts on its checksums. Both verdicts are good, since an
+-- image with a wrong checksum is refused.
 abbrev pub legacy_last_rows : LegacyImage → Table
 legacy_last_rows image =
     (codes "load" ∷ hexadecimal image.load ∷ [])
@@ -36,27 +36,27 @@ legacy_last_rows image =
     ∷ (codes "header crc32" ∷ codes "good" ∷ [])
     ∷ (codes "data crc32" ∷ codes "good" ∷ []) ∷ []
 
--- All of these rows.
+-- The first table: all of these rows.
 abbrev pub legacy_head : (file : List ℕ) → LegacyImage → (time : List ℕ) → Table
 legacy_head file image time =
     legacy_first_rows file image time ++ (code_rows image ++ legacy_last_rows image)
 
--- The cells of a part, the one at this index.
+-- The row of the part at this index.
 abbrev pub part_row : (index : ℕ) → PartModel → List (List ℕ)
 part_row index part = decimal index ∷ decimal (length part.bytes) ∷ decimal part.place ∷ []
 
--- The rows of these parts, the first of which is part `index`.
+-- The rows of these parts. The first part has this index.
 abbrev pub part_rows : (index : ℕ) → List PartModel → Table
 part_rows index [] = []
 part_rows index (part ∷ later) =
     part_row index part ∷ part_rows (index + 1) later
 
--- The parts, with their sizes and their offsets in the file.
+-- The table of the parts, with their sizes and their offsets in the file.
 abbrev pub parts_table : LegacyImage → Table
 parts_table image =
     (codes "part" ∷ codes "size" ∷ codes "offset" ∷ []) ∷ part_rows 0 (placed_parts image)
 
--- The tables of a legacy image. That of its regions is given.
+-- The tables of a legacy image. The table of its regions is given.
 abbrev pub legacy_tables : (file : List ℕ) → LegacyImage → (time : List ℕ) → (regions : Table)
     → List Table
 legacy_tables file image time regions =

@@ -74,3 +74,4 @@ pub mod ShownFiles
 pub mod ExtractingAll
 pub mod Payloads
 pub mod KnownPayloadFiles
+pub mod KnownPages

@@ -14,16 +14,16 @@ use Rattle.bi_commands.specs.ValueTexts.{is_quotable, quoted_text, hexadecimal_d
 
 -- The cells of a page (profile of this project).
 
--- What is not there.
+-- The cell of a value that is not there.
 abbrev pub missing_cell : List ℕ
 missing_cell = codes "-"
 
--- A number, if there is one.
+-- The cell of a number, if there is one.
 abbrev pub number_cell : Option ℕ → List ℕ
 number_cell None = missing_cell
 number_cell (Some number) = decimal number
 
--- A number of bytes.
+-- The cell of a number of bytes.
 abbrev pub size_cell : ℕ → List ℕ
 size_cell size = decimal size ++ codes " bytes"
 
@@ -33,13 +33,14 @@ size_cell size = decimal size ++ codes " bytes"
 abbrev pub is_letter : ℕ → Bool
 is_letter byte = (nat_le 65 byte && nat_le byte 90) || (nat_le 97 byte && nat_le byte 122)
 
--- Whether a text is a word, which needs no quotes: it begins with a letter, and a name shows each
--- byte of it unchanged.
+-- Whether a text is a word, which needs no quotes: it begins with a letter, and a printed name has
+-- each of its bytes unchanged.
 abbrev pub is_word : List ℕ → Bool
 is_word [] = false
 is_word (byte ∷ later) = is_letter byte && list_all is_plain later
 
--- A text: in quotes if it is printable and no word, or else as a name is shown.
+-- The cell of a text: in quotes if it is printable and not a word. If not, it is printed like a
+-- name.
 abbrev pub text_cell : List ℕ → List ℕ
 text_cell text =
     if not (is_word text) && is_quotable text then quoted_text text else shown_text text
@@ -49,33 +50,34 @@ abbrev pub is_word_value : List ℕ → Bool
 is_word_value value =
     ends_with nat_eq value (0 ∷ []) && is_word (take (length value - 1) value)
 
--- A value: a word without its zero, two quotes if it is empty, or else as a description shows it.
+-- The cell of a value: a word without its zero, two quotes if it is empty, or else as a description
+-- prints it.
 abbrev pub value_cell : List ℕ → List ℕ
 value_cell value =
     if bytes_eq value [] then codes "\"\"" else
     if is_word_value value then shown_text (take (length value - 1) value) else
     join_with_byte 32 (value_words value)
 
--- A value that is an address of one or two cells, or any other value.
+-- The cell of a value that is an address of one or two cells, or of any other value.
 abbrev pub address_cell : List ℕ → List ℕ
 address_cell value =
     if length value == 4 || length value == 8 then codes "0x" ++ hexadecimal_digits value else
     value_cell value
 
--- A value that lists names, or any other value.
+-- The cell of a value that lists names, or of any other value.
 abbrev pub names_cell : List ℕ → List ℕ
 names_cell value =
     if ends_with nat_eq value (0 ∷ []) then
     join_with_byte 32 (map shown_text (listed_names value)) else value_cell value
 
--- The value of a property, by what it is, if the property is there.
+-- The cell of the value of a property, by what the value is, if the property is there.
 abbrev pub property_cell : CellForm → Option (List ℕ) → List ℕ
 property_cell form None = missing_cell
 property_cell Value (Some value) = value_cell value
 property_cell Address (Some value) = address_cell value
 property_cell Names (Some value) = names_cell value
 
--- The cell is that of a time: of the number of one cell, or any other value, if it is there.
+-- The cell is that of a time: of the number in one cell, or of any other value, if it is there.
 abbrev pub IsTimeCell : Option (List ℕ) → (cell : List ℕ) → Type 0
 IsTimeCell None cell = cell ≡ missing_cell
 IsTimeCell (Some value) cell =
@@ -88,7 +90,7 @@ IsTimeCell (Some value) cell =
 abbrev pub hash_word : CheckedHash → List ℕ
 hash_word hash = shown_or_none hash.algo ++ 58 ∷ verdict_word hash.verdict
 
--- Those of the hash nodes of an image.
+-- The cell of the hash nodes of an image.
 abbrev pub hashes_cell : List CheckedHash → List ℕ
 hashes_cell [] = missing_cell
 hashes_cell (hash ∷ later) = join_with_byte 32 (map hash_word (hash ∷ later))

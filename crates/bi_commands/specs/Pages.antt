@@ -7,13 +7,13 @@ use Rattle.std.specs.Prelude.{replicate}
 abbrev pub Table : Type 0
 Table = List (List (List ℕ))
 
--- The greater of each two widths. Where only one list has a width, it stays.
+-- The greater of each two widths. If only one list has a width, that width is taken.
 abbrev pub wider : List ℕ → List ℕ → List ℕ
 wider [] others = others
 wider (width ∷ widths) [] = width ∷ widths
 wider (width ∷ widths) (other ∷ others) = max width other ∷ wider widths others
 
--- The widths of columns that also have the cells of one more row.
+-- The widths of columns with one more row.
 abbrev pub with_row : (widths : List ℕ) → (row : List (List ℕ)) → List ℕ
 with_row widths row = wider widths (map length row)
 
@@ -21,33 +21,32 @@ with_row widths row = wider widths (map length row)
 abbrev pub column_widths : Table → List ℕ
 column_widths table = fold with_row [] table
 
--- The cells of a row after its first one. Before each come the spaces that the column before it has
--- left, and two more.
+-- The cells of a row after the first one. Spaces fill the column before each cell up to its width,
+-- and two more spaces follow.
 abbrev pub later_cells : (left : ℕ) → (widths : List ℕ) → (cells : List (List ℕ)) → List ℕ
 later_cells left (width ∷ widths) (cell ∷ later) =
     replicate left 32 ++ (32 ∷ 32 ∷ (cell ++ later_cells (width - length cell) widths later))
 later_cells left widths cells = []
 
--- A row, in columns of these widths. So no space is at the end of the line, unless the last cell
--- has one there.
+-- A row, in columns of these widths. No space is at the end of the line, unless the last cell ends
+-- with one.
 abbrev pub row_text : (widths : List ℕ) → (row : List (List ℕ)) → List ℕ
 row_text (width ∷ widths) (cell ∷ later) =
     cell ++ (later_cells (width - length cell) widths later ++ 10 ∷ [])
 row_text widths row = 10 ∷ []
 
--- A table with an empty line after it. The first row is a heading, or else there are others: a
--- table of one row has nothing but its heading, and is left out.
+-- A table, and an empty line after it. A table with one row is left out: it has only a heading.
 abbrev pub table_text : Table → List ℕ
 table_text (first ∷ next ∷ later) =
     let table = first ∷ next ∷ later in
     flat_map (row_text (column_widths table)) table ++ 10 ∷ []
 table_text table = []
 
--- What `check` would write, at the end of a page.
+-- The last lines of a page: what `check` writes, below a heading, or that there are no concerns.
 abbrev pub concerns_text_of_page : (concerns : List ℕ) → List ℕ
 concerns_text_of_page [] = codes "no concerns\n"
 concerns_text_of_page (first ∷ later) = codes "concerns\n" ++ first ∷ later
 
--- A page: tables, and what `check` would write.
+-- A page: its tables, and what `check` writes.
 abbrev pub page_text : List Table → (concerns : List ℕ) → List ℕ
 page_text tables concerns = flat_map table_text tables ++ concerns_text_of_page concerns

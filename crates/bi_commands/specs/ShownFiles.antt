@@ -36,7 +36,7 @@ pub record IsLegacyPage (layout : Bool) (limits : Limits) (file text : List ℕ)
   pub are_concerns : AreConcernLines limits file concerns
   pub is : text ≡ page_text (legacy_tables file parsed.image time regions) concerns
 
--- The text is the page of a flattened image tree.
+-- The text is the page of a FIT.
 pub record IsFitPage (layout : Bool) (limits : Limits) (file text : List ℕ) : Type 0 where
   pub tree : ImageTree
   pub means : FitMeans limits file tree
@@ -51,12 +51,12 @@ pub record IsFitPage (layout : Bool) (limits : Limits) (file text : List ℕ) : 
   pub are_concerns : AreConcernLines limits file concerns
   pub is : text ≡ page_text (fit_tables file means.is_file.root tree time regions) concerns
 
--- The text is the page of the file, which is a legacy image or a flattened image tree.
+-- The text is the page of the file, which is a legacy image or a FIT.
 pub data IsPage (layout : Bool) (limits : Limits) (file text : List ℕ) : Type 0 where
   OfLegacyImage : IsLegacyPage layout limits file text → IsPage layout limits file text
   OfImageTree : IsFitPage layout limits file text → IsPage layout limits file text
 
--- What showing promises as a command. Its errors are those of checking.
+-- What showing promises as a command. It has the errors of checking.
 abbrev pub show_promise : (layout : Bool) → Limits → CommandPromise (Unit {0}) Error
 show_promise layout limits = unit_promise (IsPage layout limits) (IsCheckError limits)
 

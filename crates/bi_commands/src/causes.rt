@@ -89,12 +89,16 @@ pub fn sentence(cause: Cause) -> &'static str
         }
         Cause::OutsideFile => {
             "A payload ends after the end of the file: copy the whole file, not only the \
-             tree before the payloads."
+             tree before the payloads. If nothing is missing, mkimage -F was probably run \
+             without -E on a FIT with payloads after the blob: build it again, and run \
+             mkimage -F with -E."
         }
         Cause::TooLarge => {
-            "The file, the image or description that would be written, or for describe, \
-             compare, check and update --hashes the payloads together are longer than \
-             --limit, which is the offset: give a greater limit if you trust the file."
+            "The file, the image or description that would be written, the payloads \
+             together (describe, show, check, compare, update --hashes) or the sizes that \
+             headers name together (scan) are longer than --limit, which is the offset: give \
+             a greater limit if you trust the file. If the file is too long, cut a part out \
+             of it: scan finds the images in that part, and --offset reads one of them."
         }
         Cause::NoCodeName => {
             "A FIT stores names, and this code has none: the offset is that of the code in \

@@ -77,6 +77,18 @@ pub fn have_same_meaning(
 /// is too long to describe. OutOfMemory may come in place of any of these, but only after the first
 /// file has passed the checks of a legacy image, or of the header and the memory reservation block
 /// of a blob.
+///
+/// # Example
+///
+/// ```
+/// use bi_base::Limits;
+/// use bi_commands::compare::compare;
+///
+/// let limits = Limits::new(0x7fff_ffff, 64).unwrap();
+/// let comparison = compare(rt.alloc(), kernel, board, limits)?;
+/// assert!(rt; !comparison.same);
+/// assert!(rt; comparison.differences.as_str().starts_with("-kind legacy\n"));
+/// ```
 pub fn compare(
     alloc: Global,
     one: &[u8],

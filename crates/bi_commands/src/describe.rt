@@ -37,6 +37,17 @@ use std::io::{Read, Write};
 /// that has it, or if the description is. OutOfMemory may come in place of any of these, but only
 /// after the checks of a legacy image, or of the header and the memory reservation block of a blob.
 /// No payload is hashed before the lengths of the payloads are checked.
+///
+/// # Example
+///
+/// ```
+/// use bi_base::Limits;
+/// use bi_commands::describe::describe;
+///
+/// let limits = Limits::new(0x7fff_ffff, 64).unwrap();
+/// let text = describe(rt.alloc(), board, limits)?;
+/// assert!(rt; text.as_str().starts_with("kind fit\nboot-cpu 0\nnode /\n"));
+/// ```
 pub fn describe(alloc: Global, file: &[u8], limits: Limits) -> Result<String, Error>
     ensures described { IfOk result (λ text. IsDescription Lines limits file.now
         (string_bytes text)) }

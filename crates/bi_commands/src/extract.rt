@@ -89,6 +89,19 @@ impl From<ConfigError> for ExtractError {
 /// default configuration is selected and there is no default. Failed with OutOfMemory comes only
 /// for a legacy image, or for a file whose header and memory reservation block, as those of a blob,
 /// have no fault.
+///
+/// # Example
+///
+/// ```
+/// use bi_base::Limits;
+/// use bi_commands::extract::{ExtractError, Select, extract};
+///
+/// let limits = Limits::new(0x7fff_ffff, 64).unwrap();
+/// let payload = extract(rt.alloc(), board, Select::Image(b"fdt-1"), limits)?;
+/// assert_eq!(rt; payload.len(), 106);
+/// let other = extract(rt.alloc(), board, Select::Image(b"fdt-2"), limits);
+/// assert!(rt; other == Err(ExtractError::NoImage));
+/// ```
 pub fn extract<'a>(
     alloc: Global,
     file: &'a [u8],

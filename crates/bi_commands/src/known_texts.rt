@@ -1,6 +1,6 @@
 //! Small boot images with what the commands write of them. Each function does nothing: what it
-//! ensures is a fact about the definitions. One of them calls the function of a law, from which its
-//! fact follows.
+//! ensures is a fact about the definitions. Two of them call the function of a law, from which their
+//! facts follow.
 
 ghost use Rattle.bi_commands.specs.KnownConcerns.{ConcernsAreKnown, StrongAlgorithmsAreKnown};
 ghost use Rattle.bi_commands.specs.KnownConcerns.{TrailingBytesAreKnown, LegacyConcernsAreKnown};
@@ -8,6 +8,8 @@ ghost use Rattle.bi_commands.specs.KnownConcerns.{AllowedKindsAreKnown};
 ghost use Rattle.bi_commands.specs.KnownDescriptions.{ValuesAreShown, DescriptionsAreKnown};
 ghost use Rattle.bi_commands.specs.KnownDifferences.{DifferencesAreKnown, ComparisonsAreKnown};
 ghost use Rattle.bi_commands.specs.KnownJson.{JsonIsKnown};
+ghost use Rattle.bi_commands.specs.KnownPages.{CellsAreKnown, PagesAreKnown, TablesAreKnown};
+ghost use Rattle.bi_commands.specs.KnownPages.{TimesAreKnown};
 ghost use Rattle.bi_commands.specs.KnownPayloadFiles.{FileNamesAreKnown, ImageFilesAreKnown};
 ghost use Rattle.bi_commands.specs.KnownPayloadFiles.{PartFilesAreKnown, SafeNamesAreKnown};
 ghost use Rattle.bi_commands.specs.KnownScans.{ClaimsAreKnown, OffsetsAreKnown, ScansAreKnown};
@@ -150,3 +152,28 @@ pub fn part_files_are_known()
 pub fn image_files_are_known()
     ensures { ImageFilesAreKnown }
 {}
+
+/// Times have known texts: the first and the last time of 32 bits, and seconds before and after a
+/// day, a leap day and a year begin.
+pub fn times_are_known()
+    ensures { TimesAreKnown }
+{}
+
+/// Small tables have known texts: with a short row, with one row, and with none.
+pub fn tables_are_known()
+    ensures { TablesAreKnown }
+{}
+
+/// Cells are known words: codes with a name and without one, numbers, texts, and values of
+/// properties.
+pub fn cells_are_known()
+    ensures { CellsAreKnown }
+{}
+
+/// The pages of a kernel image and of a multi-file image are known texts, with their layout and
+/// without it.
+pub fn pages_are_known()
+    ensures { PagesAreKnown }
+{
+    bi_legacy::laws::one_meaning();
+}

@@ -26,6 +26,17 @@ use std::io::{Read, Write};
 /// it has fewer than four bytes; BadMagic at 0; those of `Legacy::read` or of `Fit::read`.
 /// OutOfMemory may come in place of any of these, but only after the checks of a legacy image, or
 /// of the header and the memory reservation block of a blob.
+///
+/// # Example
+///
+/// ```
+/// use bi_base::Limits;
+/// use bi_commands::list::listing;
+///
+/// let limits = Limits::new(0x7fff_ffff, 64).unwrap();
+/// let text = listing(rt.alloc(), kernel, limits)?;
+/// assert!(rt; text.as_str().starts_with("kind legacy\nname Linux%20example\n"));
+/// ```
 pub fn listing(alloc: Global, file: &[u8], limits: Limits) -> Result<String, Error>
     ensures lists { IfOk result (λ text. IsListing Lines limits file.now (string_bytes text)) }
     ensures failed { IfErr result (IsBootImageReadError limits file.now) }

@@ -29,6 +29,19 @@ use std::io::{Read, Write};
 /// a flattened image tree is longer. No payload is hashed before the lengths of the payloads are
 /// checked. OutOfMemory comes only after the checks of a legacy image, or of the header and the
 /// memory reservation block of a blob.
+///
+/// # Example
+///
+/// ```
+/// use bi_base::Limits;
+/// use bi_commands::update::{Changes, update};
+/// use bi_fit::Form;
+///
+/// let limits = Limits::new(0x7fff_ffff, 64).unwrap();
+/// let time = Changes { time: Some(1), hashes: false };
+/// let text = update(rt.alloc(), kernel, time, Form::Embedded, limits)?;
+/// assert_eq!(rt; &text[8..12], b"\0\0\0\x01".as_slice());
+/// ```
 pub fn update(
     alloc: Global,
     file: &[u8],

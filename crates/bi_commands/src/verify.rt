@@ -54,6 +54,18 @@ pub struct Report {
 /// it has fewer than four bytes; BadMagic at 0; those of `Legacy::read` or of `Fit::read`.
 /// OutOfMemory may come in place of any of these, but only after the checks of a legacy image, or
 /// of the header and the memory reservation block of a blob.
+///
+/// # Example
+///
+/// ```
+/// use bi_base::Limits;
+/// use bi_commands::verify::verify;
+///
+/// let limits = Limits::new(0x7fff_ffff, 64).unwrap();
+/// let report = verify(rt.alloc(), kernel, limits)?;
+/// assert!(rt; report.all_good);
+/// assert!(rt; report.text.as_str() == "header crc32 good\ndata crc32 good\n");
+/// ```
 pub fn verify(alloc: Global, file: &[u8], limits: Limits) -> Result<Report, Error>
     ensures verified { IfOk result (λ report. IsVerifyOutput Lines limits report.all_good file.now
         (string_bytes report.text)) }

@@ -113,10 +113,10 @@ abbrev pub new_hash : (hashes : Bool) → Image → Sibling PropertyMap → Chec
 new_hash false image hash = checked_hash image hash
 new_hash true image hash = rechecked_by image hash image.payload (known_algorithm hash.own)
 
--- What follows from a tree that was updated, beside what followed from it before. If the digests
--- change, the verdict on each hash node with a known algorithm, of an image with a payload, is Good.
--- All other verdicts stay, and so do the configurations and what they list, the default, and the
--- number of signatures.
+-- What follows from a tree that was updated, compared with what followed from it before. If the
+-- digests change, the verdict is Good on each hash node with a known algorithm, of an image with a
+-- payload. All other verdicts stay, and so do the configurations and what they list, the default,
+-- and the number of signatures.
 pub record HasUpdatedJudgement (changes : Changes) (old new : ImageTree) : Type 0 where
   pub verdicts : verdicts_of new
       ≡ flat_map (λ image. map (new_hash changes.hashes image) (hash_nodes image)) (images_of old)

@@ -59,6 +59,17 @@ impl<'a> Fit<'a> {
     ///   if the payload ends after the file.
     ///
     /// OutOfMemory occurs only if the header and the memory reservation block have no fault.
+    ///
+    /// # Example
+    ///
+    /// ```
+    /// use bi_base::Limits;
+    /// use bi_fit::Fit;
+    ///
+    /// let limits = Limits::new(0x7fff_ffff, 64).unwrap();
+    /// let fit = Fit::read(rt.alloc(), board, limits)?;
+    /// assert_eq!(rt; fit.image_count(), 3);
+    /// ```
     pub fn read(alloc: Global, file: &'a [u8], limits: Limits) -> Result<Fit<'a>, Error>
         ensures read { IfOk result (IsReadFit limits file.entry.now) }
         ensures failed { IfErr result (IsFitReadError limits file.entry.now) }

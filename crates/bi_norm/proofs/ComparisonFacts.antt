@@ -52,7 +52,7 @@ type_of (OfLegacy image) = image.image_type
 type_of other = 0
 
 module _ (one_legacy : OneLegacyMeaning) where
-  only_image : (file : List ℕ) (image : LegacyImage) → LegacyMeans widest file image → MeansOnly widest file (OfLegacy image)
+  pub only_image : (file : List ℕ) (image : LegacyImage) → LegacyMeans widest file image → MeansOnly widest file (OfLegacy image)
   only_image file image means = record {
     means = means;
     only = λ other other_means. one_file_meaning one_legacy widest widest file other (OfLegacy image) other_means means;

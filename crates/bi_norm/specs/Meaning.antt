@@ -31,7 +31,7 @@ abbrev pub normal_text : Form → Meaning → List ℕ
 normal_text form (OfLegacy image) = legacy_text image
 normal_text form (OfFit tree) = fit_text form tree
 
--- How many signature nodes there are: none in a legacy image.
+-- How many signature nodes the tree of a FIT has. A legacy image has none.
 abbrev pub meaning_signature_count : Meaning → ℕ
 meaning_signature_count (OfLegacy image) = 0
 meaning_signature_count (OfFit tree) = signatures_of_tree tree

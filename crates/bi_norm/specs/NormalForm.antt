@@ -10,8 +10,8 @@ use Rattle.bi_fit.specs.Text.{fit_text}
 use Rattle.bi_norm.specs.Meaning.{Meaning, Means, normal_text, meaning_signature_count}
 use Rattle.bi_norm.specs.Reading.{IsReadErrorOrTooLarge}
 
--- What normalising promises: two accepted files of the same kind have the same normal form if and
--- only if they mean the same (profile of this project).
+-- What normalising promises: two accepted files have the same normal form if and only if they mean
+-- the same thing. A legacy image and a FIT never do (profile of this project).
 
 -- The text is the normal form of the file.
 pub record IsNormalForm (limits : Limits) (form : Form) (file text : List ℕ) : Type 0 where
@@ -21,32 +21,34 @@ pub record IsNormalForm (limits : Limits) (form : Form) (file text : List ℕ) :
   pub only : (other : Meaning) → Means limits file other → other ≡ meaning
   -- The text is the normal text of this meaning.
   pub is_text : text ≡ normal_text form meaning
-  -- Of all files that mean something within the limits, exactly those that mean this have this
-  -- normal text.
+  -- Of all files that mean something within the limits, those that mean this have this normal
+  -- text, and no others have it.
   pub distinguishes : (other_file : List ℕ) (other : Meaning) → Means limits other_file other
       → (normal_text form other ≡ text) ↔ (other ≡ meaning)
   -- The text means the same within the same limits, so it is its own normal form.
   pub is_own : Means limits text meaning
-  -- The verdicts, configurations, default and signatures of a flattened image tree stay.
+  -- The verdicts, the configurations and what they list, the default, and the number of signature
+  -- nodes of a FIT stay.
   pub keeps_judgement : (tree other : ImageTree) → FitMeans limits file tree
       → FitMeans limits text other → judgement other ≡ judgement tree
 
--- The text is the normal form of the file, and this is the number of its signature nodes.
+-- The text is the normal form of the file. The number counts the signature nodes of a FIT, which
+-- are children of image nodes and of configuration nodes. It is 0 for a legacy image.
 pub record IsNormaliseOutput (limits : Limits) (form : Form) (count : ℕ) (file text : List ℕ)
     : Type 0
   where
     pub normal : IsNormalForm limits form file text
     pub signatures : count ≡ meaning_signature_count normal.meaning
 
--- The file means a flattened image tree, and its normal text in this form is longer than the limit.
--- No legacy image has such a text.
+-- The file means a FIT, and its normal text in this form is longer than the limit. The normal text
+-- of a legacy image is never longer than its file.
 pub record IsTooLong (limits : Limits) (form : Form) (file : List ℕ) : Type 0 where
   pub tree : ImageTree
   pub means : FitMeans limits file tree
   pub longer : limits.file < length (fit_text form tree)
 
--- The error that normalising a file in memory can have: one of reading it, or its normal text is
--- longer than the limit.
+-- The error of normalising a file in memory: an error of reading it, or TooLarge, if its normal
+-- text is longer than the limit.
 abbrev pub IsNormaliseError : Limits → Form → List ℕ → Error → Type 0
 IsNormaliseError limits form file = IsReadErrorOrTooLarge limits file (IsTooLong limits form file)
 

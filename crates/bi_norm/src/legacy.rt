@@ -19,6 +19,19 @@ use std::alloc::Global;
 /// - TooLarge at the limit, if the text is longer than that;
 /// - EmptyPart at `64 + 4 * index`, for the first empty part of a multi-file image or script;
 /// - OutOfMemory, which occurs only for an image without any of these faults.
+///
+/// # Example
+///
+/// ```
+/// use bi_base::Limits;
+/// use bi_legacy::{Fields, Legacy};
+/// use bi_norm::build_legacy;
+///
+/// let limits = Limits::new(0x7fff_ffff, 64).unwrap();
+/// let fields = Fields { name: b"copy", ..Legacy::read(kernel, limits)?.fields() };
+/// let text = build_legacy(rt.alloc(), fields, &[b"123456789"], limits)?;
+/// assert_eq!(rt; text.len(), 73);
+/// ```
 pub fn build_legacy(
     alloc: Global,
     fields: Fields<'_>,

@@ -17,9 +17,9 @@ use bi_legacy::Legacy;
 use std::alloc::Global;
 use std::io::{Read, Write};
 
-/// Returns the normal form of a boot image. Two accepted files of the same kind have the same
-/// normal form if and only if they mean the same. `form` says where the normal form of a flattened
-/// image tree has the payloads; it has no effect on a legacy image.
+/// Returns the normal form of a boot image. Two accepted files have the same normal form if and only
+/// if they mean the same. `form` says where the normal form of a flattened image tree has the
+/// payloads; it has no effect on a legacy image.
 ///
 /// Fails with the first of these errors that applies, each as `Error::Refused`:
 ///
@@ -31,6 +31,19 @@ use std::io::{Read, Write};
 ///
 /// OutOfMemory occurs only after the checks of a legacy image, or of the header and the memory
 /// reservation block of a blob.
+///
+/// # Example
+///
+/// ```
+/// use bi_base::Limits;
+/// use bi_norm::{Form, normalise};
+///
+/// let limits = Limits::new(0x7fff_ffff, 64).unwrap();
+/// let text = normalise(rt.alloc(), board, Form::Embedded, limits)?;
+/// let external = normalise(rt.alloc(), board, Form::External, limits)?;
+/// assert!(rt; external != text);
+/// assert!(rt; normalise(rt.alloc(), &external, Form::Embedded, limits)? == text);
+/// ```
 pub fn normalise(alloc: Global, file: &[u8], form: Form, limits: Limits) -> Result<Vec<u8>, Error>
     ensures normal_form { IfOk result (λ text. IsNormalForm limits form file.now text.items) }
     ensures failed { IfErr result (IsNormaliseError limits form file.now) }

@@ -18,8 +18,8 @@ use Rattle.bootimg.specs.declared.tasks.Done.{Done}
 use Rattle.bootimg.specs.Runs.{Inputs, Work, problem, IsNotRead, IsImageRead, InputRead, FileRead, IsImageNotRead, InputNotRead}
 use Rattle.bootimg.specs.Runs.{FileNotRead, IsFileRead, IsFileNotRead, OpenedNotRead}
 use Rattle.bootimg.specs.Runs.{IsComparedWork, IsCompareWork, BothRead, OtherNotRead, IsFailedWork, IsBuildWork}
-use Rattle.bootimg.specs.Runs.{IsExplainWork, IsImageWork, IsJobWork, IsHeldWork, IsHeldFailure, failure_in_memory, Run, work_of, inputs_before}
-use Rattle.bootimg.specs.Runs.{inputs_after, IsOutputRun, IsSavedWork, OutputSaved, OutputNotSaved, ToStandardOutput, ToFile}
+use Rattle.bootimg.specs.Runs.{IsExplainWork, IsImageWork, IsJobWork, IsHeldWork, IsHeldFailure, failure_in_memory, Run, work_of}
+use Rattle.bootimg.specs.Runs.{inputs_before, inputs_after, IsOutputRun, IsSavedWork, OutputSaved, OutputNotSaved, ToStandardOutput, ToFile}
 use Rattle.bootimg.proofs.NewFiles.{steps_in_turn}
 
 -- Reading standard input or a file that was opened reads the image, and each job that was done with it is the work of the job.

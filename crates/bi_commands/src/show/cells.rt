@@ -86,7 +86,7 @@ pub(super) fn text_cell(alloc: Global, text: &[u8]) -> Result<String, AllocError
     }
 }
 
-/// Returns a printable text in quotes.
+/// Returns a text in quotes. Requires: it is not empty, and each of its bytes is printable.
 fn quoted_cell(alloc: Global, text: &[u8]) -> Result<String, AllocError>
     requires { IsTrue (is_quotable_of text.now) }
     ensures { IfOk result (λ shown. string_bytes shown ≡ quoted_text text.now) }
@@ -217,7 +217,7 @@ fn are_printable(bytes: &[u8]) -> bool
     bytes.iter().all(|byte| is_printable(*byte))
 }
 
-/// Returns the text of a field.
+/// Returns the text of a field. Requires: that text is ASCII.
 pub(super) fn field_cell(alloc: Global, field: Field) -> Result<String, AllocError>
     requires { IsAscii (field_text field) }
     ensures { IfOk result (λ text. string_bytes text ≡ field_text field.entry) }
@@ -229,7 +229,7 @@ pub(super) fn field_cell(alloc: Global, field: Field) -> Result<String, AllocErr
     }
 }
 
-/// Returns the text that was appended to a sink.
+/// Returns the text that was appended to a sink. Requires: the text is ASCII.
 pub(super) fn text_of(sink: VecSink) -> String
     requires { IsAscii sink }
     ensures { string_bytes result ≡ sink }

@@ -1,6 +1,7 @@
 //! Dates in the Gregorian calendar.
 
-ghost use Rattle.std.specs.Prelude.{◌≡◌, ◌+◌, ◌-◌, ◌<◌, ◌≤◌, ◌++◌, IfOk, OnOk, string_bytes};
+ghost use Rattle.std.specs.Prelude.{◌≡◌, ◌+◌, ◌-◌, ◌/◌, ◌%◌, ◌<◌, ◌≤◌, ◌++◌, IfOk, OnOk};
+ghost use Rattle.std.specs.Prelude.{string_bytes};
 ghost use Rattle.bi_commands.specs.Dates.{IsDate, IsTimeText, clock_text, date_text};
 ghost use Rattle.bi_commands.specs.Dates.{days_of_years};
 ghost use Rattle.bi_commands.specs.Dates.{is_leap_year as is_leap, month_lengths as lengths_of};
@@ -25,22 +26,20 @@ const DAY: u32 = 86400;
 pub(super) fn time_text(alloc: Global, seconds: u32) -> Result<String, AllocError>
     ensures { IfOk result (λ text. IsTimeText seconds (string_bytes text)) }
 {
-    let date = date_of(seconds / DAY);
     let mut text = String::new(alloc);
-    add_date(&mut text, date)?;
+    add_date(&mut text, date_of(seconds))?;
     text.push(' ')?;
-    add_clock(&mut text, seconds % DAY)?;
+    add_clock(&mut text, seconds)?;
     text.push_str(" UTC")?;
     Ok(text)
 }
 
-/// Returns the date that is this many days after 1970-01-01.
-fn date_of(days: u32) -> Date
-    requires { days < 49711 }
-    ensures { IsDate days result }
+/// Returns the date of a time, by how many seconds after 1970-01-01 00:00:00 UTC it is.
+fn date_of(seconds: u32) -> Date
+    ensures { IsDate (seconds / 86400) result }
 {
     let mut year = 1970;
-    let mut left = days;
+    let mut left = seconds / DAY;
     while left >= year_length(year) {
         left -= year_length(year);
         year += 1;
@@ -48,7 +47,8 @@ fn date_of(days: u32) -> Date
     date_in_year(year, left)
 }
 
-/// Returns the date in a year from 1970 on, by how many days of the year come before it.
+/// Returns the date in a year, by how many days of the year come before it. Requires: the year is
+/// 1970 or later, and has more days than come before the date.
 fn date_in_year(year: u32, days: u32) -> Date
     requires from_1970 { 1970 ≤ year }
     requires in_year { days < length_of_year year }
@@ -92,7 +92,8 @@ fn is_leap_year(year: u32) -> bool
     year % 4 == 0 && (year % 100 != 0 || year % 400 == 0)
 }
 
-/// Appends a date.
+/// Appends a date. Requires: the year has at most four digits, and the month and the day have at
+/// most two each.
 fn add_date(text: &mut String, date: Date) -> Result<(), AllocError>
     requires year { date.year < 10000 }
     requires month { date.month < 100 }
@@ -107,19 +108,20 @@ fn add_date(text: &mut String, date: Date) -> Result<(), AllocError>
     add_two_digits(text, date.day)
 }
 
-/// Appends a time of day, by how many seconds have passed.
+/// Appends the time of day of a time, by how many seconds after 1970-01-01 00:00:00 UTC it is.
 fn add_clock(text: &mut String, seconds: u32) -> Result<(), AllocError>
-    requires { seconds < 86400 }
-    ensures { OnOk result (string_bytes text.new ≡ string_bytes text.old ++ clock_text seconds) }
+    ensures { OnOk result
+        (string_bytes text.new ≡ string_bytes text.old ++ clock_text (seconds % 86400)) }
 {
-    add_two_digits(text, seconds / 3600)?;
+    let passed = seconds % DAY;
+    add_two_digits(text, passed / 3600)?;
     text.push(':')?;
-    add_two_digits(text, seconds / 60 % 60)?;
+    add_two_digits(text, passed / 60 % 60)?;
     text.push(':')?;
-    add_two_digits(text, seconds % 60)
+    add_two_digits(text, passed % 60)
 }
 
-/// Appends a number as two decimal digits.
+/// Appends a number as two decimal digits. Requires: it is less than 100.
 fn add_two_digits(text: &mut String, number: u32) -> Result<(), AllocError>
     requires { number < 100 }
     ensures { OnOk result (string_bytes text.new ≡ string_bytes text.old ++ two_digits number) }
@@ -128,7 +130,7 @@ fn add_two_digits(text: &mut String, number: u32) -> Result<(), AllocError>
     text.push(digit(number % 10))
 }
 
-/// Returns a decimal digit.
+/// Returns a decimal digit. Requires: the number is less than 10.
 fn digit(number: u32) -> char
     requires { number < 10 }
     ensures { result ≡ 48 + number }

@@ -7,7 +7,7 @@ use Rattle.bi_c.specs.declared.region.Region.{Region}
 use Rattle.bi_c.specs.PieceBuilding.{IsPieceInside, bytes_of_piece}
 use Rattle.bi_c.proofs.building.pieces.Goals as goal
 
--- What a list of regions gives past its end.
+-- A list of regions has no region past its end.
 abbrev no_region : Region
 no_region = record { offset = 0; size = 0 }
 

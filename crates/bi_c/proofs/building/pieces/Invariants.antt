@@ -4,7 +4,8 @@ use Rattle.bi_base.specs.Slices.{bytes_of}
 use Rattle.bi_c.specs.PieceBuilding.{IsPieceInside, bytes_of_piece}
 use Rattle.bi_c.proofs.building.pieces.Given as goal
 
--- The pieces so far and those of the regions that are left are all, and all regions are inside if and only if those are.
+-- The pieces so far and those of the regions that are left are all pieces. All regions are inside the input if and only if the regions that
+-- are left are.
 abbrev pub invariant-loop-region : goal.invariant-loop-region
 invariant-loop-region l =
     let left = drop l.region-index l.regions in

@@ -39,6 +39,6 @@ returns-in-Err c =
     } in
     FilledNothing c.failure_of.result
     (tree_failed (HasKey c.args.limit c.args.depth c.args.key) (bounds c.args.limit c.args.depth) c.args.file.now _ c.in-Err.error
-    c.failure_of.result valid c.failure_of.ensures (subst (λ (l : Limits). IsFitReadError l c.args.file.now c.in-Err.error) c.in-Some.ensures.value
-    c.in-Err.ensures.failed))
+    c.failure_of.result valid c.failure_of.ensures
+    (subst (λ (l : Limits). IsFitReadError l c.args.file.now c.in-Err.error) c.in-Some.ensures.value c.in-Err.ensures.failed))
     refl c.fail-in-Err.ensures.answer c.fail-in-Err.ensures.status

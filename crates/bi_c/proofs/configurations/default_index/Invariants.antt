@@ -5,7 +5,7 @@ use Rattle.bi_fit.specs.Judgement.{configuration_nodes}
 use Rattle.bi_c.specs.FitElements.{index_of_first}
 use Rattle.bi_c.proofs.configurations.default_index.Given as goal
 
--- The default is none of the configurations before the index.
+-- No configuration before the index is the default one.
 abbrev pub invariant-loop-configuration : goal.invariant-loop-configuration
 invariant-loop-configuration l =
     let names = names (configuration_nodes (tree_of l.fit)) in

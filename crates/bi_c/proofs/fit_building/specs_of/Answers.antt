@@ -6,7 +6,7 @@ use Rattle.bi_c.specs.TreeBuilding.{IsSpecInside, IsSpecOf}
 use Rattle.bi_c.proofs.TreeBuilding.{one_spec_added}
 use Rattle.bi_c.proofs.fit_building.specs_of.Goals as goal
 
--- What a list of elements gives past its end.
+-- A list of elements has no element past its end.
 abbrev no_element : BuildElement
 no_element = record {
   name = record { offset = 0; size = 0 };

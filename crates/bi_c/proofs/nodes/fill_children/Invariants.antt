@@ -6,7 +6,7 @@ use Rattle.bi_c.specs.TreeRegions.{children_of_found, name_region_of}
 use Rattle.bi_c.proofs.ArrayFilling.{IsFilling}
 use Rattle.bi_c.proofs.nodes.fill_children.Given as goal
 
--- The regions of the names of the nodes that are left are still to be written.
+-- The regions of the names of the nodes that are left are not yet written.
 abbrev pub invariant-loop-next : goal.invariant-loop-next
 invariant-loop-next l =
     IsFilling (map name_region_of (children_of_found (option_map node_of l.parent)))

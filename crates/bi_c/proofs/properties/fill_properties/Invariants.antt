@@ -6,7 +6,7 @@ use Rattle.bi_c.specs.TreeRegions.{HasPropertyBytes}
 use Rattle.bi_c.proofs.ArrayFilling.{IsFilling}
 use Rattle.bi_c.proofs.properties.fill_properties.Given as goal
 
--- The elements of the properties that are left are still to be written.
+-- The elements of the properties that are left are not yet written.
 abbrev pub invariant-loop-property : goal.invariant-loop-property
 invariant-loop-property l = record {
   filling : IsFilling (map (element_of_property l.file) (node_of l.node).own.properties)

@@ -7,7 +7,7 @@ use Rattle.bi_fit.specs.HashNodes.{file_images}
 use Rattle.bi_c.specs.VerdictElements.{hash_elements}
 use Rattle.bi_c.proofs.verdicts.hash_elements.Given as goal
 
--- The elements so far and those of the hash nodes of the images that are left are all.
+-- The elements so far and those of the hash nodes of the images that are left are all elements.
 abbrev pub invariant-loop-image : goal.invariant-loop-image
 invariant-loop-image l =
     let nodes = siblings_from (option_map node_of l.next) in

@@ -6,7 +6,7 @@ use Rattle.bi_hash.specs.Regions.{bytes_of_region}
 use Rattle.bi_c.specs.VerdictElements.{hash_elements_among}
 use Rattle.bi_c.proofs.verdicts.push_hashes.Given as goal
 
--- The elements so far and those of the children that are left are all.
+-- The elements so far and those of the children that are left are all elements.
 abbrev pub invariant-loop-next : goal.invariant-loop-next
 invariant-loop-next l =
     let image = node_of l.image in

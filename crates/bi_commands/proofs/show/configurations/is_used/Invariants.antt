@@ -6,7 +6,7 @@ use Rattle.bi_commands.specs.Children.{children_left}
 use Rattle.bi_commands.specs.FitPages.{has_key}
 use Rattle.bi_commands.proofs.show.configurations.is_used.Given as goal
 
--- The configurations that are left decide.
+-- The result depends only on the configurations that are left.
 abbrev pub invariant-loop-node : goal.invariant-loop-node
 invariant-loop-node l =
     list_any (has_key l.key) (children_left l.node-iterator)

@@ -6,7 +6,7 @@ use Rattle.bi_fit.specs.Names.{all_keys}
 use Rattle.bi_commands.specs.FitPages.{has_key, used_keys}
 use Rattle.bi_commands.proofs.show.configurations.used_keys.Given as goal
 
--- The used ones of the keys before this one are there, and those of the others follow.
+-- The keys before this one that are used are in the list, and those of the others that are used follow.
 abbrev pub invariant-loop-key : goal.invariant-loop-key
 invariant-loop-key l =
     let entries = siblings (file_configurations l.fit.blob) in

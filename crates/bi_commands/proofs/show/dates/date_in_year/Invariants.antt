@@ -3,7 +3,7 @@ use Rattle.std.specs.List.{sum}
 use Rattle.bi_commands.specs.Dates.{month_lengths}
 use Rattle.bi_commands.proofs.show.dates.date_in_year.Given as goal
 
--- The days of the months before this one were taken.
+-- The days of the months before this one were subtracted.
 abbrev pub invariant-loop-length : goal.invariant-loop-length
 invariant-loop-length l = record {
   are_lengths : l.length-items ≡ month_lengths l.year;

@@ -3,6 +3,6 @@ use Rattle.bi_commands.specs.Pages.{with_row}
 use Rattle.bi_commands.specs.Rows.{cells_of_row}
 use Rattle.bi_commands.proofs.show.tables.widen.Given as goal
 
--- The widths are those of columns that also have the cells before this one.
+-- The columns have the widths that the cells before this one give them.
 abbrev pub invariant-loop-column : goal.invariant-loop-column
 invariant-loop-column l = l.widths.items ≡ with_row l.initial.widths.items (cells_of_row (take l.column l.row))

@@ -22,7 +22,8 @@ returns-in_err-signatures-in-Normalise-clause-failed g c =
     let input = c.args.input.now in
     let p = err_from_is_err_and c.from_residual.result c.from_residual.ensures.1 in
     rw (c.in-Normalise.is, p.1)
-    (call_failed g.S.Sink.fails (IsNormalForm limits c.in-Normalise.form input) (IsNormaliseError limits c.in-Normalise.form input) c.args.sink.now c.run.new.sink c.in_err-signatures-in-Normalise.field-0.0 p.0 p.2
+    (call_failed g.S.Sink.fails (IsNormalForm limits c.in-Normalise.form input) (IsNormaliseError limits c.in-Normalise.form input)
+    c.args.sink.now c.run.new.sink c.in_err-signatures-in-Normalise.field-0.0 p.0 p.2
     c.in_err-signatures-in-Normalise.ensures.failed)
 
 pub returns-in_err-run-in-Show-clause-failed : goal.returns-in_err-run-in-Show-clause-failed
@@ -31,7 +32,8 @@ returns-in_err-run-in-Show-clause-failed g c =
     let input = c.args.input.now in
     let p = err_from_is_err_and c.from_residual-in_err-run-in-Show.result c.from_residual-in_err-run-in-Show.ensures.1 in
     rw (c.in-Show.is, p.1)
-    (call_failed g.S.Sink.fails (IsPage c.in-Show.presenter.layout limits input) (IsCheckError limits input) c.args.sink.now c.run-in-Show.new.sink c.in_err-run-in-Show.field-0.0 p.0 p.2
+    (call_failed g.S.Sink.fails (IsPage c.in-Show.presenter.layout limits input) (IsCheckError limits input)
+    c.args.sink.now c.run-in-Show.new.sink c.in_err-run-in-Show.field-0.0 p.0 p.2
     c.in_err-run-in-Show.ensures.failed)
 
 pub returns-in_err-run-in-List-clause-failed : goal.returns-in_err-run-in-List-clause-failed
@@ -40,7 +42,8 @@ returns-in_err-run-in-List-clause-failed g c =
     let input = c.args.input.now in
     let p = err_from_is_err_and c.from_residual-in_err-run-in-List.result c.from_residual-in_err-run-in-List.ensures.1 in
     rw (c.in-List.is, p.1)
-    (call_failed g.S.Sink.fails (IsListing c.in-List.format limits input) (IsBootImageReadError limits input) c.args.sink.now c.run-in-List.new.sink c.in_err-run-in-List.field-0.0 p.0 p.2
+    (call_failed g.S.Sink.fails (IsListing c.in-List.format limits input) (IsBootImageReadError limits input)
+    c.args.sink.now c.run-in-List.new.sink c.in_err-run-in-List.field-0.0 p.0 p.2
     c.in_err-run-in-List.ensures.failed)
 
 pub returns-in_err-run-in-Describe-clause-failed : goal.returns-in_err-run-in-Describe-clause-failed
@@ -49,7 +52,8 @@ returns-in_err-run-in-Describe-clause-failed g c =
     let input = c.args.input.now in
     let p = err_from_is_err_and c.from_residual-in_err-run-in-Describe.result c.from_residual-in_err-run-in-Describe.ensures.1 in
     rw (c.in-Describe.is, p.1)
-    (call_failed g.S.Sink.fails (IsDescription c.in-Describe.format limits input) (IsDescribeError c.in-Describe.format limits input) c.args.sink.now c.run-in-Describe.new.sink c.in_err-run-in-Describe.field-0.0 p.0 p.2
+    (call_failed g.S.Sink.fails (IsDescription c.in-Describe.format limits input) (IsDescribeError c.in-Describe.format limits input)
+    c.args.sink.now c.run-in-Describe.new.sink c.in_err-run-in-Describe.field-0.0 p.0 p.2
     c.in_err-run-in-Describe.ensures.failed)
 
 pub returns-in_err-good-in-Verify-clause-failed : goal.returns-in_err-good-in-Verify-clause-failed
@@ -58,7 +62,8 @@ returns-in_err-good-in-Verify-clause-failed g c =
     let input = c.args.input.now in
     let p = err_from_is_err_and c.from_residual-in_err-good-in-Verify.result c.from_residual-in_err-good-in-Verify.ensures.1 in
     rw (c.in-Verify.is, p.1)
-    (call_failed g.S.Sink.fails (IsReport c.in-Verify.format limits input) (IsBootImageReadError limits input) c.args.sink.now c.run-in-Verify.new.sink c.in_err-good-in-Verify.field-0.0 p.0 p.2
+    (call_failed g.S.Sink.fails (IsReport c.in-Verify.format limits input) (IsBootImageReadError limits input)
+    c.args.sink.now c.run-in-Verify.new.sink c.in_err-good-in-Verify.field-0.0 p.0 p.2
     c.in_err-good-in-Verify.ensures.failed)
 
 pub returns-in_err-clean-in-Check-clause-failed : goal.returns-in_err-clean-in-Check-clause-failed
@@ -67,7 +72,8 @@ returns-in_err-clean-in-Check-clause-failed g c =
     let input = c.args.input.now in
     let p = err_from_is_err_and c.from_residual-in_err-clean-in-Check.result c.from_residual-in_err-clean-in-Check.ensures.1 in
     rw (c.in-Check.is, p.1)
-    (call_failed g.S.Sink.fails (IsChecked c.in-Check.format c.in-Check.allowed limits input) (IsCheckError limits input) c.args.sink.now c.run-in-Check.new.sink c.in_err-clean-in-Check.field-0.0 p.0 p.2
+    (call_failed g.S.Sink.fails (IsChecked c.in-Check.format c.in-Check.allowed limits input) (IsCheckError limits input)
+    c.args.sink.now c.run-in-Check.new.sink c.in_err-clean-in-Check.field-0.0 p.0 p.2
     c.in_err-clean-in-Check.ensures.failed)
 
 pub returns-in_err-found-in-Scan-clause-failed : goal.returns-in_err-found-in-Scan-clause-failed
@@ -76,7 +82,8 @@ returns-in_err-found-in-Scan-clause-failed g c =
     let input = c.args.input.now in
     let p = err_from_is_err_and c.from_residual-in_err-found-in-Scan.result c.from_residual-in_err-found-in-Scan.ensures.1 in
     rw (c.in-Scan.is, p.1)
-    (call_failed g.S.Sink.fails (IsScanText limits input) (IsScanError limits input) c.args.sink.now c.run-in-Scan.new.sink c.in_err-found-in-Scan.field-0.0 p.0 p.2
+    (call_failed g.S.Sink.fails (IsScanText limits input) (IsScanError limits input)
+    c.args.sink.now c.run-in-Scan.new.sink c.in_err-found-in-Scan.field-0.0 p.0 p.2
     c.in_err-found-in-Scan.ensures.failed)
 
 pub returns-in_err-signatures-in-Update-clause-failed : goal.returns-in_err-signatures-in-Update-clause-failed
@@ -87,7 +94,8 @@ returns-in_err-signatures-in-Update-clause-failed g c =
     let form = c.in-Update.form in
     let p = err_from_is_err_and c.from_residual-in_err-signatures-in-Update.result c.from_residual-in_err-signatures-in-Update.ensures.1 in
     rw (c.in-Update.is, p.1)
-    (call_failed g.S.Sink.fails (IsUpdated changes limits form input) (IsUpdateError changes limits form input) c.args.sink.now c.run-in-Update.new.sink
+    (call_failed g.S.Sink.fails (IsUpdated changes limits form input) (IsUpdateError changes limits form input)
+    c.args.sink.now c.run-in-Update.new.sink
     c.in_err-signatures-in-Update.field-0.0 p.0 p.2 c.in_err-signatures-in-Update.ensures.failed)
 
 pub returns-in_err-run-in-Extract-clause-failed : goal.returns-in_err-run-in-Extract-clause-failed
@@ -99,7 +107,8 @@ returns-in_err-run-in-Extract-clause-failed g c =
     let same = c.select-select.ensures in
     let p = err_from_is_err_and c.from_residual-in_err-run-in-Extract.result c.from_residual-in_err-run-in-Extract.ensures.1 in
     rw (c.in-Extract.is, p.1)
-    (extract_failed g.S.Sink.fails (IsChosen other limits input) (IsExtractError other limits input) c.args.sink.now c.run-in-Extract.new.sink c.in_err-run-in-Extract.field-0.0 p.0 p.2
+    (extract_failed g.S.Sink.fails (IsChosen other limits input) (IsExtractError other limits input)
+    c.args.sink.now c.run-in-Extract.new.sink c.in_err-run-in-Extract.field-0.0 p.0 p.2
     (same_failure g.S.Sink.fails one other same limits input c.args.sink.now c.run-in-Extract.new.sink c.in_err-run-in-Extract.field-0.0
     c.in_err-run-in-Extract.ensures.failed))
 
@@ -109,7 +118,8 @@ returns-in_err-run-in-Convert-clause-failed g c =
     let input = c.args.input.now in
     let p = err_from_is_err_and c.from_residual-in_err-run-in-Convert.result c.from_residual-in_err-run-in-Convert.ensures.1 in
     rw (c.in-Convert.is, p.1)
-    (call_failed g.S.Sink.fails (IsConvertedFile limits input) (IsConvertError limits input) c.args.sink.now c.run-in-Convert.new.sink c.in_err-run-in-Convert.field-0.0 p.0 p.2
+    (call_failed g.S.Sink.fails (IsConvertedFile limits input) (IsConvertError limits input)
+    c.args.sink.now c.run-in-Convert.new.sink c.in_err-run-in-Convert.field-0.0 p.0 p.2
     c.in_err-run-in-Convert.ensures.failed)
 
 pub returns-in-List-clause-appended : goal.returns-in-List-clause-appended
@@ -124,6 +134,10 @@ returns-in-Extract-clause-appended g c =
     rw (c.in-Extract.is)
     (record {
       text = appended.text;
-      is_text = (same_chosen c.select-select.result (select_of c.in-Extract.selection) c.select-select.ensures c.args.limits c.args.input.now appended.text appended.is_text, search rules);
+      is_text = (
+        same_chosen c.select-select.result (select_of c.in-Extract.selection) c.select-select.ensures
+            c.args.limits c.args.input.now appended.text appended.is_text,
+        search rules,
+      );
       appended = appended.appended;
     })
