@@ -80,15 +80,39 @@ class Hash:
     value: bytes | None
 
 
-@dataclass(frozen=True, slots=True)
+@dataclass(frozen=True, eq=False)
 class Node:
-    """A node of the tree of a FIT: its name, which is empty for the root, the values of its
-    properties by their names, and its children. The properties that place the payload of an image
-    are left out."""
+    """A node of the tree of a FIT: its name, which is empty for the root, and its path.
+
+    `properties` and `children` are read at their first use, by a call that reads the whole file
+    again. `bootimg.describe_json` returns a whole tree by one call.
+
+    >>> import bootimg
+    >>> root = bootimg.open("examples/board.itb").root
+    >>> root.properties["description"], [node.name for node in root.children]
+    (b'example board\\x00', ['images', 'configurations'])
+    >>> for node in root.child("images").children:
+    ...     print(node.path, node.properties["type"], [child.name for child in node.children])
+    /images/kernel-1 b'kernel\\x00' ['hash-1']
+    /images/ramdisk-1 b'ramdisk\\x00' ['hash-1']
+    /images/fdt-1 b'flat_dt\\x00' ['hash-1']
+    """
 
     name: str
-    properties: dict[str, bytes]
-    children: tuple[Node, ...]
+    path: str
+    _file: Image = field(repr=False)
+
+    @functools.cached_property
+    def properties(self) -> dict[str, bytes]:
+        """The values of all properties of the node by their names, in their order."""
+        return self._file.properties(self.path)
+
+    @functools.cached_property
+    def children(self) -> tuple[Node, ...]:
+        """The children of the node, in their order."""
+        above = self.path.rstrip("/")
+        names = self._file.children(self.path)
+        return tuple(Node(name, f"{above}/{name}", self._file) for name in names)
 
     def child(self, name: str) -> Node:
         """Returns the child with the given name. Raises KeyError if there is none."""
@@ -118,13 +142,8 @@ class FitImage:
     def properties(self) -> dict[str, bytes]:
         """The values of the properties of the image by their names, but for those that place the
         payload. They are read at each use."""
-        path = "/images/" + self.name
-        found = self._file.properties(path) if "/" not in self.name else self._in_tree()
+        found = self._file.properties("/images/" + self.name)
         return {name: value for name, value in found.items() if name not in _PLACING}
-
-    def _in_tree(self) -> dict[str, bytes]:
-        """The properties of an image whose name no path has."""
-        return self._file.root.child("images").child(self.name).properties
 
     @property
     def hashes(self) -> tuple[Hash, ...]:
@@ -254,11 +273,9 @@ class Image:
 
     @functools.cached_property
     def root(self) -> Node:
-        """The root of the tree of a FIT. It is read, and a digest of each payload computed, at the
-        first use. Raises NotFound for a legacy image, and Refused with TooLarge if the payloads
-        together, or the description in JSON, are longer than the limit."""
+        """The root of the tree of a FIT. Raises NotFound for a legacy image."""
         self._require_fit()
-        return _node_of(json.loads(bootimg.describe_json(self.file, *self._bounds))["root"])
+        return Node("", "/", self)
 
     def properties(self, path: bytes | str) -> dict[str, bytes]:
         """Returns the values of all properties of the node of a FIT at a path, such as
@@ -425,18 +442,6 @@ def _header_of(listed: dict[str, Any]) -> LegacyHeader | FitHeader:
         for pair in listed["reservations"]
     ]
     return FitHeader(listed["boot_cpu"], listed["total_size"], tuple(reservations))
-
-
-def _node_of(node: dict[str, Any]) -> Node:
-    properties = {_name_of(value["name"]): _value_of(value) for value in node["properties"]}
-    children = tuple(map(_node_of, node["children"]))
-    return Node(_name_of(node.get("name", "-")), properties, children)
-
-
-def _value_of(value: dict[str, Any]) -> bytes:
-    if "hex" in value:
-        return bytes.fromhex(value["hex"])
-    return b"".join(text.encode("ascii") + b"\0" for text in value["strings"])
 
 
 def _concern_of(concern: dict[str, Any]) -> Concern:

@@ -48,18 +48,16 @@ fn digits(name: &[u8]) -> String {
 }
 
 fn print_legacy(legacy: &Legacy) {
-    println!("name {}", digits(legacy.name));
+    let header = &legacy.header;
+    println!("name {}", digits(header.name));
     println!(
         "time {}\nload {}\nentry {}",
-        legacy.time, legacy.load, legacy.entry
+        header.time, header.load, header.entry
     );
-    let codes = [
-        legacy.os,
-        legacy.arch,
-        legacy.image_type,
-        legacy.compression,
-    ];
-    println!("codes {} {} {} {}", codes[0], codes[1], codes[2], codes[3]);
+    println!(
+        "codes {} {} {} {}",
+        header.os, header.arch, header.image_type, header.compression
+    );
     for (part, offset) in legacy.parts.iter().zip(&legacy.offsets) {
         println!("part {offset} {}", part.len());
     }

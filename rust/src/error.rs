@@ -1,6 +1,7 @@
 //! Why a call fails.
 
-use crate::{fill, sys, text_of};
+use crate::calls::{fill, text_of};
+use crate::sys;
 use std::fmt;
 
 /// Why a file is refused.
@@ -100,7 +101,8 @@ impl fmt::Display for Cause {
 pub struct Refusal {
     /// The cause.
     pub cause: Cause,
-    /// Its offset in the file in bytes. For TooLarge it is the limit.
+    /// Its offset in the file in bytes. For TooLarge it is the limit, and for `build_fit` the index
+    /// of an image.
     pub offset: u32,
     /// The index of the file in the call, counted from 1.
     pub file: u32,
@@ -174,7 +176,8 @@ pub(crate) fn failure(status: u32, answer: &sys::Answer) -> Error {
 #[cfg(test)]
 mod tests {
     use super::Cause;
-    use crate::{fill, sys, text_of};
+    use crate::calls::{fill, text_of};
+    use crate::sys;
 
     #[test]
     fn causes_have_the_names_of_the_library() {

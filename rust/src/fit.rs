@@ -1,7 +1,8 @@
 //! FITs (flattened image trees).
 
+use crate::calls::{bytes_of, fields_of, fill, fill_of};
 pub use crate::sys::Reservation;
-use crate::{bytes_of, elements, fields, fill, sys, Error, Key, Limits};
+use crate::{sys, Error, Key, Limits};
 
 /// What places the payload of an image.
 #[derive(Clone, Copy, Debug, PartialEq, Eq)]
@@ -80,11 +81,11 @@ impl<'a> Fit<'a> {
     /// `Refused`: TooLarge if the file is longer than the limit, or else the cause of the first
     /// check of the format that fails. BadMagic at 0 for a file that is not a FIT. `OutOfMemory`.
     pub fn read(file: &'a [u8], limits: Limits) -> Result<Fit<'a>, Error> {
-        let header = fields(sys::bootimg_fit, file, limits)?;
-        let (reservations, _) = elements(sys::bootimg_reservations, file, limits)?;
-        let (images, _) = elements(sys::bootimg_images, file, limits)?;
+        let header = fields_of(sys::bootimg_fit, file, limits)?;
+        let (reservations, _) = fill_of(sys::bootimg_reservations, 16, file, limits)?;
+        let (images, _) = fill_of(sys::bootimg_images, 16, file, limits)?;
         let images: Vec<_> = images.iter().map(|image| image_of(file, image)).collect();
-        let (names, default) = elements(sys::bootimg_configurations, file, limits)?;
+        let (names, default) = fill_of(sys::bootimg_configurations, 16, file, limits)?;
         let configurations = names
             .iter()
             .map(|&name| configuration_of(file, bytes_of(file, name), &images, limits))

@@ -1,6 +1,7 @@
 //! The hash nodes of a FIT.
 
-use crate::{bytes_of, elements, sys, Error, Fit};
+use crate::calls::{bytes_of, fill_of};
+use crate::{sys, Error, Fit};
 
 /// The verdict on a hash node.
 #[derive(Clone, Copy, Debug, PartialEq, Eq)]
@@ -58,7 +59,7 @@ impl<'a> Fit<'a> {
     ///
     /// `OutOfMemory`.
     pub fn verdicts(&self) -> Result<Vec<Hash<'a>>, Error> {
-        let (hashes, _) = elements(sys::bootimg_verdicts, self.file, self.limits)?;
+        let (hashes, _) = fill_of(sys::bootimg_verdicts, 16, self.file, self.limits)?;
         Ok(hashes.iter().map(|hash| self.hash_of(hash)).collect())
     }
 

@@ -17,6 +17,8 @@
 
 #![warn(missing_docs)]
 
+mod building;
+mod calls;
 mod error;
 mod fit;
 mod hashes;
@@ -25,10 +27,11 @@ mod nodes;
 mod sys;
 mod texts;
 
+pub use building::{build_fit, build_legacy, BuildImage};
 pub use error::{Cause, Error, Refusal};
 pub use fit::{Configuration, Fit, FitImage, Place, Reservation};
 pub use hashes::{Hash, Verdict};
-pub use legacy::{build_legacy, Header, Legacy};
+pub use legacy::{Header, Legacy};
 pub use nodes::Property;
 pub use texts::{
     check, check_json, compare, compare_json, convert, describe, describe_json, listing,
@@ -36,7 +39,7 @@ pub use texts::{
     Concerns, Form, NormalForm, Report,
 };
 
-use error::failure;
+use calls::{answer_of, fill, text_of};
 
 /// The limits of a call.
 #[derive(Clone, Copy, Debug, PartialEq, Eq)]
@@ -98,13 +101,11 @@ impl Key {
 /// Truncated at 0 for a file of fewer than four bytes, and BadMagic at 0 for one without a magic
 /// number.
 pub fn kind(file: &[u8]) -> Result<Kind, Error> {
-    let mut answer = sys::Answer::default();
-    // Safety: the file is as long as its length, and the answer is a struct of the library's.
-    let status = unsafe { sys::bootimg_kind(file.as_ptr(), file.len(), &mut answer) };
-    match (status, answer.value) {
-        (sys::DONE, 1) => Ok(Kind::Legacy),
-        (sys::DONE, _) => Ok(Kind::Fit),
-        _ => Err(failure(status, &answer)),
+    // Safety: the file is as long as its length, and `answer_of` passes a struct of the library's.
+    let call = |answer: *mut _| unsafe { sys::bootimg_kind(file.as_ptr(), file.len(), answer) };
+    match answer_of(call)?.value {
+        1 => Ok(Kind::Legacy),
+        _ => Ok(Kind::Fit),
     }
 }
 
@@ -117,79 +118,4 @@ pub fn version() -> String {
     fill(16, call)
         .map(|(text, _)| text_of(text))
         .unwrap_or_default()
-}
-
-/// Makes a call with an array of `room` elements, or of as many as there are if that is more, and
-/// returns the elements and the number that it returns.
-fn fill<T: Clone + Default>(
-    room: usize,
-    call: impl Fn(*mut T, usize, *mut sys::Answer) -> u32,
-) -> Result<(Vec<T>, usize), Error> {
-    let mut elements = vec![T::default(); room];
-    loop {
-        let mut answer = sys::Answer::default();
-        let status = call(elements.as_mut_ptr(), elements.len(), &mut answer);
-        match status {
-            sys::DONE => {
-                elements.truncate(answer.size);
-                return Ok((elements, answer.value));
-            }
-            sys::NO_ROOM => elements.resize(answer.size, T::default()),
-            _ => return Err(failure(status, &answer)),
-        }
-    }
-}
-
-/// Returns the elements of a file, and the number that the call returns.
-fn elements<T: Clone + Default>(
-    call: sys::Listing<T>,
-    file: &[u8],
-    limits: Limits,
-) -> Result<(Vec<T>, usize), Error> {
-    fill(16, |array, count, answer| {
-        // Safety: the file is as long as its length, and `fill` passes an array and its length.
-        unsafe {
-            call(
-                file.as_ptr(),
-                file.len(),
-                limits.limit,
-                limits.depth,
-                array,
-                count,
-                answer,
-            )
-        }
-    })
-}
-
-/// Returns a struct that a call sets.
-fn fields<T: Default>(call: sys::Setting<T>, file: &[u8], limits: Limits) -> Result<T, Error> {
-    let mut fields = T::default();
-    let mut answer = sys::Answer::default();
-    // Safety: the file is as long as its length, and the structs are those of the library.
-    let status = unsafe {
-        call(
-            file.as_ptr(),
-            file.len(),
-            limits.limit,
-            limits.depth,
-            &mut fields,
-            &mut answer,
-        )
-    };
-    if status == sys::DONE {
-        Ok(fields)
-    } else {
-        Err(failure(status, &answer))
-    }
-}
-
-/// Returns the bytes of a file in a region that the library returned for it.
-fn bytes_of(file: &[u8], region: sys::Region) -> &[u8] {
-    &file[region.offset..][..region.size]
-}
-
-/// Returns a text of the library, which is ASCII.
-fn text_of(bytes: Vec<u8>) -> String {
-    String::from_utf8(bytes).expect("the texts of the library are ASCII")
 }

@@ -1,6 +1,7 @@
 //! The nodes of a FIT.
 
-use crate::{bytes_of, failure, fill, sys, Error, Fit};
+use crate::calls::{answer_of, bytes_of, fill_of_two};
+use crate::{sys, Error, Fit};
 
 /// A property of a node of a FIT.
 #[derive(Clone, Copy, Debug, PartialEq, Eq)]
@@ -49,25 +50,23 @@ impl<'a> Fit<'a> {
     /// `NoNode` if no node has the path, or `NoProperty` if the node has no such property.
     /// `OutOfMemory`.
     pub fn property(&self, path: &[u8], name: &[u8]) -> Result<&'a [u8], Error> {
-        let mut answer = sys::Answer::default();
-        // Safety: the file, the path and the name are as long as their lengths, and the answer is a
-        // struct of the library's.
-        let status = unsafe {
-            sys::bootimg_property_value(
-                self.file.as_ptr(),
-                self.file.len(),
-                path.as_ptr(),
-                path.len(),
-                name.as_ptr(),
-                name.len(),
-                self.limits.limit,
-                self.limits.depth,
-                &mut answer,
-            )
-        };
-        if status != sys::DONE {
-            return Err(failure(status, &answer));
-        }
+        let answer = answer_of(|answer| {
+            // Safety: the file, the path and the name are as long as their lengths, and `answer_of`
+            // passes a struct of the library's.
+            unsafe {
+                sys::bootimg_property_value(
+                    self.file.as_ptr(),
+                    self.file.len(),
+                    path.as_ptr(),
+                    path.len(),
+                    name.as_ptr(),
+                    name.len(),
+                    self.limits.limit,
+                    self.limits.depth,
+                    answer,
+                )
+            }
+        })?;
         let (offset, size) = (answer.value, answer.size);
         Ok(bytes_of(self.file, sys::Region { offset, size }))
     }
@@ -75,26 +74,9 @@ impl<'a> Fit<'a> {
     /// Returns the elements of the node at a path.
     fn elements_at<T: Clone + Default>(
         &self,
-        call: sys::NodeListing<T>,
+        call: sys::OnTwo<T>,
         path: &[u8],
     ) -> Result<Vec<T>, Error> {
-        let call = |array: *mut T, count, answer: *mut _| {
-            // Safety: the file and the path are as long as their lengths, and `fill` passes an
-            // array and its length.
-            unsafe {
-                call(
-                    self.file.as_ptr(),
-                    self.file.len(),
-                    path.as_ptr(),
-                    path.len(),
-                    self.limits.limit,
-                    self.limits.depth,
-                    array,
-                    count,
-                    answer,
-                )
-            }
-        };
-        Ok(fill(16, call)?.0)
+        Ok(fill_of_two(call, 16, self.file, path, self.limits)?.0)
     }
 }

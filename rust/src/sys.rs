@@ -80,322 +80,90 @@ pub struct Property {
     pub value: Region,
 }
 
+/// An image of a FIT to be built.
+#[repr(C)]
+#[derive(Clone, Copy, Debug, Default)]
+pub struct BuildImage {
+    pub name: Region,
+    pub payload: Region,
+    pub load: u32,
+    pub entry: u32,
+    pub addresses: u32,
+    pub os: u8,
+    pub arch: u8,
+    pub image_type: u8,
+    pub compression: u8,
+}
+
 pub const DONE: u32 = 0;
 pub const REFUSED: u32 = 1;
 pub const OUT_OF_MEMORY: u32 = 2;
 pub const NO_ROOM: u32 = 3;
 pub const WRONG_ARGUMENT: u32 = 4;
 
-/// A call on one file that has a buffer.
-pub type Filling =
-    unsafe extern "C" fn(*const u8, usize, u32, u32, *mut u8, usize, *mut Answer) -> u32;
-
-/// A call on two files that has a buffer.
-pub type Comparing = unsafe extern "C" fn(
-    *const u8,
-    usize,
-    *const u8,
-    usize,
-    u32,
-    u32,
-    *mut u8,
-    usize,
-    *mut Answer,
-) -> u32;
+/// The first byte of a file, a name or a path.
+pub type Bytes = *const u8;
 
 /// A call on one file that has an array.
-pub type Listing<T> =
-    unsafe extern "C" fn(*const u8, usize, u32, u32, *mut T, usize, *mut Answer) -> u32;
+pub type OnFile<T> =
+    unsafe extern "C" fn(Bytes, usize, u32, u32, *mut T, usize, *mut Answer) -> u32;
 
-/// A call on a node of a file that has an array.
-pub type NodeListing<T> = unsafe extern "C" fn(
-    *const u8,
-    usize,
-    *const u8,
-    usize,
-    u32,
-    u32,
-    *mut T,
-    usize,
-    *mut Answer,
-) -> u32;
+/// A call on one file that has a number and a buffer.
+pub type OnFileWithNumber =
+    unsafe extern "C" fn(Bytes, usize, u32, u32, u32, *mut u8, usize, *mut Answer) -> u32;
+
+/// A call on two files, or on a file and a path, that has an array.
+pub type OnTwo<T> =
+    unsafe extern "C" fn(Bytes, usize, Bytes, usize, u32, u32, *mut T, usize, *mut Answer) -> u32;
 
 /// A call on one file that sets a struct.
-pub type Setting<T> = unsafe extern "C" fn(*const u8, usize, u32, u32, *mut T, *mut Answer) -> u32;
+pub type Setting<T> = unsafe extern "C" fn(Bytes, usize, u32, u32, *mut T, *mut Answer) -> u32;
 
-extern "C" {
-    pub fn bootimg_kind(file: *const u8, size: usize, answer: *mut Answer) -> u32;
-    pub fn bootimg_normalise(
-        file: *const u8,
-        size: usize,
-        form: u32,
-        limit: u32,
-        depth: u32,
-        buffer: *mut u8,
-        room: usize,
-        answer: *mut Answer,
-    ) -> u32;
-    pub fn bootimg_update(
-        file: *const u8,
-        size: usize,
-        changes: u32,
-        time: u32,
-        form: u32,
-        limit: u32,
-        depth: u32,
-        buffer: *mut u8,
-        room: usize,
-        answer: *mut Answer,
-    ) -> u32;
-    pub fn bootimg_list(
-        file: *const u8,
-        size: usize,
-        limit: u32,
-        depth: u32,
-        buffer: *mut u8,
-        room: usize,
-        answer: *mut Answer,
-    ) -> u32;
-    pub fn bootimg_describe(
-        file: *const u8,
-        size: usize,
-        limit: u32,
-        depth: u32,
-        buffer: *mut u8,
-        room: usize,
-        answer: *mut Answer,
-    ) -> u32;
-    pub fn bootimg_verify(
-        file: *const u8,
-        size: usize,
-        limit: u32,
-        depth: u32,
-        buffer: *mut u8,
-        room: usize,
-        answer: *mut Answer,
-    ) -> u32;
-    pub fn bootimg_check(
-        file: *const u8,
-        size: usize,
-        kinds: u32,
-        limit: u32,
-        depth: u32,
-        buffer: *mut u8,
-        room: usize,
-        answer: *mut Answer,
-    ) -> u32;
-    pub fn bootimg_show(
-        file: *const u8,
-        size: usize,
-        layout: u32,
-        limit: u32,
-        depth: u32,
-        buffer: *mut u8,
-        room: usize,
-        answer: *mut Answer,
-    ) -> u32;
-    pub fn bootimg_convert(
-        file: *const u8,
-        size: usize,
-        limit: u32,
-        depth: u32,
-        buffer: *mut u8,
-        room: usize,
-        answer: *mut Answer,
-    ) -> u32;
-    pub fn bootimg_compare(
-        one: *const u8,
-        one_size: usize,
-        other: *const u8,
-        other_size: usize,
-        limit: u32,
-        depth: u32,
-        buffer: *mut u8,
-        room: usize,
-        answer: *mut Answer,
-    ) -> u32;
-    pub fn bootimg_list_json(
-        file: *const u8,
-        size: usize,
-        limit: u32,
-        depth: u32,
-        buffer: *mut u8,
-        room: usize,
-        answer: *mut Answer,
-    ) -> u32;
-    pub fn bootimg_describe_json(
-        file: *const u8,
-        size: usize,
-        limit: u32,
-        depth: u32,
-        buffer: *mut u8,
-        room: usize,
-        answer: *mut Answer,
-    ) -> u32;
-    pub fn bootimg_verify_json(
-        file: *const u8,
-        size: usize,
-        limit: u32,
-        depth: u32,
-        buffer: *mut u8,
-        room: usize,
-        answer: *mut Answer,
-    ) -> u32;
-    pub fn bootimg_check_json(
-        file: *const u8,
-        size: usize,
-        kinds: u32,
-        limit: u32,
-        depth: u32,
-        buffer: *mut u8,
-        room: usize,
-        answer: *mut Answer,
-    ) -> u32;
-    pub fn bootimg_compare_json(
-        one: *const u8,
-        one_size: usize,
-        other: *const u8,
-        other_size: usize,
-        limit: u32,
-        depth: u32,
-        buffer: *mut u8,
-        room: usize,
-        answer: *mut Answer,
-    ) -> u32;
-    pub fn bootimg_same_meaning(
-        one: *const u8,
-        one_size: usize,
-        other: *const u8,
-        other_size: usize,
-        limit: u32,
-        depth: u32,
-        answer: *mut Answer,
-    ) -> u32;
-    pub fn bootimg_legacy(
-        file: *const u8,
-        size: usize,
-        limit: u32,
-        depth: u32,
-        fields: *mut LegacyFields,
-        answer: *mut Answer,
-    ) -> u32;
-    pub fn bootimg_parts(
-        file: *const u8,
-        size: usize,
-        limit: u32,
-        depth: u32,
-        parts: *mut Region,
-        count: usize,
-        answer: *mut Answer,
-    ) -> u32;
-    pub fn bootimg_fit(
-        file: *const u8,
-        size: usize,
-        limit: u32,
-        depth: u32,
-        fields: *mut FitFields,
-        answer: *mut Answer,
-    ) -> u32;
-    pub fn bootimg_reservations(
-        file: *const u8,
-        size: usize,
-        limit: u32,
-        depth: u32,
-        reservations: *mut Reservation,
-        count: usize,
-        answer: *mut Answer,
-    ) -> u32;
-    pub fn bootimg_images(
-        file: *const u8,
-        size: usize,
-        limit: u32,
-        depth: u32,
-        images: *mut Image,
-        count: usize,
-        answer: *mut Answer,
-    ) -> u32;
-    pub fn bootimg_verdicts(
-        file: *const u8,
-        size: usize,
-        limit: u32,
-        depth: u32,
-        hashes: *mut Hash,
-        count: usize,
-        answer: *mut Answer,
-    ) -> u32;
-    pub fn bootimg_configurations(
-        file: *const u8,
-        size: usize,
-        limit: u32,
-        depth: u32,
-        names: *mut Region,
-        count: usize,
-        answer: *mut Answer,
-    ) -> u32;
-    pub fn bootimg_listed(
-        file: *const u8,
-        size: usize,
-        name: *const u8,
-        name_size: usize,
-        key: u32,
-        limit: u32,
-        depth: u32,
-        images: *mut usize,
-        count: usize,
-        answer: *mut Answer,
-    ) -> u32;
-    pub fn bootimg_children(
-        file: *const u8,
-        size: usize,
-        path: *const u8,
-        path_size: usize,
-        limit: u32,
-        depth: u32,
-        names: *mut Region,
-        count: usize,
-        answer: *mut Answer,
-    ) -> u32;
-    pub fn bootimg_properties(
-        file: *const u8,
-        size: usize,
-        path: *const u8,
-        path_size: usize,
-        limit: u32,
-        depth: u32,
-        properties: *mut Property,
-        count: usize,
-        answer: *mut Answer,
-    ) -> u32;
-    pub fn bootimg_property_value(
-        file: *const u8,
-        size: usize,
-        path: *const u8,
-        path_size: usize,
-        name: *const u8,
-        name_size: usize,
-        limit: u32,
-        depth: u32,
-        answer: *mut Answer,
-    ) -> u32;
-    pub fn bootimg_version(buffer: *mut u8, room: usize, answer: *mut Answer) -> u32;
+/// Declares calls by the types of their arguments, without the struct that each of them sets.
+macro_rules! declare {
+    ($($(#[$attribute:meta])? $call:ident($($argument:ty),*);)*) => {
+        extern "C" {
+            $($(#[$attribute])? pub fn $call($(_: $argument,)* answer: *mut Answer) -> u32;)*
+        }
+    };
+}
+
+declare! {
+    bootimg_kind(Bytes, usize);
+    bootimg_normalise(Bytes, usize, u32, u32, u32, *mut u8, usize);
+    bootimg_update(Bytes, usize, u32, u32, u32, u32, u32, *mut u8, usize);
+    bootimg_legacy(Bytes, usize, u32, u32, *mut LegacyFields);
+    bootimg_parts(Bytes, usize, u32, u32, *mut Region, usize);
+    bootimg_fit(Bytes, usize, u32, u32, *mut FitFields);
+    bootimg_reservations(Bytes, usize, u32, u32, *mut Reservation, usize);
+    bootimg_images(Bytes, usize, u32, u32, *mut Image, usize);
+    bootimg_configurations(Bytes, usize, u32, u32, *mut Region, usize);
+    bootimg_listed(Bytes, usize, Bytes, usize, u32, u32, u32, *mut usize, usize);
+    bootimg_verdicts(Bytes, usize, u32, u32, *mut Hash, usize);
+    bootimg_children(Bytes, usize, Bytes, usize, u32, u32, *mut Region, usize);
+    bootimg_properties(Bytes, usize, Bytes, usize, u32, u32, *mut Property, usize);
+    bootimg_property_value(Bytes, usize, Bytes, usize, Bytes, usize, u32, u32);
+    bootimg_same_meaning(Bytes, usize, Bytes, usize, u32, u32);
+    bootimg_list(Bytes, usize, u32, u32, *mut u8, usize);
+    bootimg_describe(Bytes, usize, u32, u32, *mut u8, usize);
+    bootimg_show(Bytes, usize, u32, u32, u32, *mut u8, usize);
+    bootimg_verify(Bytes, usize, u32, u32, *mut u8, usize);
+    bootimg_check(Bytes, usize, u32, u32, u32, *mut u8, usize);
+    bootimg_compare(Bytes, usize, Bytes, usize, u32, u32, *mut u8, usize);
+    bootimg_list_json(Bytes, usize, u32, u32, *mut u8, usize);
+    bootimg_describe_json(Bytes, usize, u32, u32, *mut u8, usize);
+    bootimg_verify_json(Bytes, usize, u32, u32, *mut u8, usize);
+    bootimg_check_json(Bytes, usize, u32, u32, u32, *mut u8, usize);
+    bootimg_compare_json(Bytes, usize, Bytes, usize, u32, u32, *mut u8, usize);
+    bootimg_convert(Bytes, usize, u32, u32, *mut u8, usize);
+    bootimg_build_legacy(
+        Bytes, usize, *const LegacyFields, *const Region, usize, u32, u32, *mut u8, usize
+    );
+    bootimg_build_fit(
+        Bytes, usize, Bytes, usize, u32, *const BuildImage, usize, u32, u32, u32, *mut u8, usize
+    );
     #[cfg(test)]
-    pub fn bootimg_cause_name(
-        number: u32,
-        buffer: *mut u8,
-        room: usize,
-        answer: *mut Answer,
-    ) -> u32;
-    pub fn bootimg_explain(number: u32, buffer: *mut u8, room: usize, answer: *mut Answer) -> u32;
-    pub fn bootimg_build_legacy(
-        input: *const u8,
-        size: usize,
-        fields: *const LegacyFields,
-        parts: *const Region,
-        parts_count: usize,
-        limit: u32,
-        depth: u32,
-        buffer: *mut u8,
-        room: usize,
-        answer: *mut Answer,
-    ) -> u32;
+    bootimg_cause_name(u32, *mut u8, usize);
+    bootimg_explain(u32, *mut u8, usize);
+    bootimg_version(*mut u8, usize);
 }

@@ -1,6 +1,7 @@
 //! Texts about files, and files that are made of files.
 
-use crate::{fill, sys, text_of, Error, Limits};
+use crate::calls::{answer_of, fill, fill_of, fill_of_two, fill_with_number, text_of};
+use crate::{sys, Error, Limits};
 
 /// Whether the payloads in the normal form of a FIT are inside the blob or after it.
 #[derive(Clone, Copy, Debug, Default, PartialEq, Eq)]
@@ -80,32 +81,9 @@ impl Concerns {
     }
 }
 
-/// Makes a call on one file, with a buffer of `room` bytes at first.
-fn of_one(
-    call: sys::Filling,
-    room: usize,
-    file: &[u8],
-    limits: Limits,
-) -> Result<(Vec<u8>, usize), Error> {
-    fill(room, |buffer, size, answer| {
-        // Safety: the file is as long as its length, and `fill` passes a buffer and its length.
-        unsafe {
-            call(
-                file.as_ptr(),
-                file.len(),
-                limits.limit,
-                limits.depth,
-                buffer,
-                size,
-                answer,
-            )
-        }
-    })
-}
-
 /// Makes a call on one file that returns a text.
-fn text_about(call: sys::Filling, file: &[u8], limits: Limits) -> Result<(String, bool), Error> {
-    let (text, value) = of_one(call, 16384, file, limits)?;
+fn text_about(call: sys::OnFile<u8>, file: &[u8], limits: Limits) -> Result<(String, bool), Error> {
+    let (text, value) = fill_of(call, 16384, file, limits)?;
     Ok((text_of(text), value == 1))
 }
 
@@ -115,22 +93,8 @@ fn text_about(call: sys::Filling, file: &[u8], limits: Limits) -> Result<(String
 ///
 /// Those of reading the file, and TooLarge if the normal form is longer than the limit.
 pub fn normalise(file: &[u8], form: Form, limits: Limits) -> Result<NormalForm, Error> {
-    let call = |buffer: *mut u8, room, answer: *mut _| {
-        // Safety: the file is as long as its length, and `fill` passes a buffer and its length.
-        unsafe {
-            sys::bootimg_normalise(
-                file.as_ptr(),
-                file.len(),
-                form as u32,
-                limits.limit,
-                limits.depth,
-                buffer,
-                room,
-                answer,
-            )
-        }
-    };
-    let (image, signatures) = fill(file.len() + 4096, call)?;
+    let (call, room) = (sys::bootimg_normalise, file.len() + 4096);
+    let (image, signatures) = fill_with_number(call, form as u32, room, file, limits)?;
     Ok(NormalForm { image, signatures })
 }
 
@@ -175,7 +139,7 @@ pub fn update(
 /// BadMagic for a file that is not a legacy image, NoCodeName, EmptyPart or TooManyParts for one
 /// that cannot be converted, and TooLarge if the output is longer than the limit.
 pub fn convert(file: &[u8], limits: Limits) -> Result<Vec<u8>, Error> {
-    Ok(of_one(sys::bootimg_convert, file.len() + 4096, file, limits)?.0)
+    Ok(fill_of(sys::bootimg_convert, file.len() + 4096, file, limits)?.0)
 }
 
 /// Returns the listing of a file.
@@ -235,32 +199,14 @@ pub fn verify_json(file: &[u8], limits: Limits) -> Result<Report, Error> {
     Ok(Report { text, all_good })
 }
 
-/// A call with one more number before the limits.
-type WithNumber =
-    unsafe extern "C" fn(*const u8, usize, u32, u32, u32, *mut u8, usize, *mut sys::Answer) -> u32;
-
-/// Makes a call with one more number before the limits, that returns a text.
+/// Makes a call on one file with a number, that returns a text.
 fn text_with_number(
-    call: WithNumber,
+    call: sys::OnFileWithNumber,
     file: &[u8],
     number: u32,
     limits: Limits,
 ) -> Result<String, Error> {
-    let (text, _) = fill(16384, |buffer, room, answer| {
-        // Safety: the file is as long as its length, and `fill` passes a buffer and its length.
-        unsafe {
-            call(
-                file.as_ptr(),
-                file.len(),
-                number,
-                limits.limit,
-                limits.depth,
-                buffer,
-                room,
-                answer,
-            )
-        }
-    })?;
+    let (text, _) = fill_with_number(call, number, 16384, file, limits)?;
     Ok(text_of(text))
 }
 
@@ -297,28 +243,12 @@ pub fn show(file: &[u8], layout: bool, limits: Limits) -> Result<String, Error> 
 
 /// Makes a call that compares two files.
 fn compared(
-    call: sys::Comparing,
+    call: sys::OnTwo<u8>,
     one: &[u8],
     other: &[u8],
     limits: Limits,
 ) -> Result<Comparison, Error> {
-    let (text, value) = fill(16384, |buffer, room, answer| {
-        // Safety: the files are as long as their lengths, and `fill` passes a buffer and its
-        // length.
-        unsafe {
-            call(
-                one.as_ptr(),
-                one.len(),
-                other.as_ptr(),
-                other.len(),
-                limits.limit,
-                limits.depth,
-                buffer,
-                room,
-                answer,
-            )
-        }
-    })?;
+    let (text, value) = fill_of_two(call, 16384, one, other, limits)?;
     Ok(Comparison {
         differences: text_of(text),
         same: value == 1,
@@ -351,22 +281,20 @@ pub fn compare_json(one: &[u8], other: &[u8], limits: Limits) -> Result<Comparis
 ///
 /// Those of reading the files.
 pub fn same_meaning(one: &[u8], other: &[u8], limits: Limits) -> Result<bool, Error> {
-    let mut answer = sys::Answer::default();
-    // Safety: the files are as long as their lengths, and the answer is a struct of the library's.
-    let status = unsafe {
-        sys::bootimg_same_meaning(
-            one.as_ptr(),
-            one.len(),
-            other.as_ptr(),
-            other.len(),
-            limits.limit,
-            limits.depth,
-            &mut answer,
-        )
-    };
-    if status == sys::DONE {
-        Ok(answer.value == 1)
-    } else {
-        Err(crate::error::failure(status, &answer))
-    }
+    let answer = answer_of(|answer| {
+        // Safety: the files are as long as their lengths, and `answer_of` passes a struct of the
+        // library's.
+        unsafe {
+            sys::bootimg_same_meaning(
+                one.as_ptr(),
+                one.len(),
+                other.as_ptr(),
+                other.len(),
+                limits.limit,
+                limits.depth,
+                answer,
+            )
+        }
+    })?;
+    Ok(answer.value == 1)
 }

@@ -1,10 +1,10 @@
 //! Calls on the images in `examples/`.
 
 use bootimg::{
-    build_legacy, check, check_json, compare, compare_json, convert, describe, describe_json, kind,
-    listing, listing_json, normalise, same_meaning, show, update, verify, verify_json, version,
-    Cause, Changes, Concerns, Error, Fit, Form, Header, Key, Kind, Legacy, Limits, Place, Refusal,
-    Verdict,
+    build_fit, build_legacy, check, check_json, compare, compare_json, convert, describe,
+    describe_json, kind, listing, listing_json, normalise, same_meaning, show, update, verify,
+    verify_json, version, BuildImage, Cause, Changes, Concerns, Error, Fit, Form, Header, Key,
+    Kind, Legacy, Limits, Place, Refusal, Verdict,
 };
 
 const ALL: Limits = Limits {
@@ -36,28 +36,20 @@ fn kinds() {
 fn legacy_images() {
     let file = example("two-parts.uimage");
     let image = Legacy::read(&file, ALL).unwrap();
-    assert_eq!(image.name, b"two parts");
-    assert_eq!(
-        (image.os, image.arch, image.image_type, image.compression),
-        (5, 2, 4, 0)
-    );
-    assert_eq!(
-        (image.time, image.load, image.entry),
-        (1_700_000_000, 0x8000, 0x8000)
-    );
+    let header = Header {
+        name: b"two parts",
+        time: 1_700_000_000,
+        load: 0x8000,
+        entry: 0x8000,
+        os: 5,
+        arch: 2,
+        image_type: 4,
+        compression: 0,
+    };
+    assert_eq!(image.header, header);
     assert_eq!(image.parts.len(), 2);
     assert_eq!(image.parts[1].as_ptr(), file[image.offsets[1]..].as_ptr());
     assert_eq!(image.unused, 0);
-    let header = Header {
-        name: image.name,
-        time: image.time,
-        load: image.load,
-        entry: image.entry,
-        os: image.os,
-        arch: image.arch,
-        image_type: image.image_type,
-        compression: image.compression,
-    };
     assert_eq!(build_legacy(&header, &image.parts, ALL), Ok(file.clone()));
     assert_eq!(
         build_legacy(&header, &[b"part", b""], ALL),
@@ -127,6 +119,101 @@ fn fits() {
 }
 
 #[test]
+fn new_fits() {
+    let kernel = BuildImage {
+        name: b"kernel-1",
+        payload: b"a kernel",
+        load: Some(0x8000),
+        os: 5,
+        arch: 22,
+        image_type: 2,
+        ..BuildImage::default()
+    };
+    let tree = BuildImage {
+        name: b"fdt-1",
+        payload: b"",
+        image_type: 8,
+        ..kernel
+    };
+    for (form, place) in [
+        (Form::Embedded, Place::Data),
+        (Form::External, Place::DataOffset),
+    ] {
+        let file = build_fit(&[kernel, tree], b"two", 7, form, ALL).unwrap();
+        let fit = Fit::read(&file, ALL).unwrap();
+        for (made, image) in fit.images.iter().zip([kernel, tree]) {
+            assert_eq!((made.name, made.payload), (image.name, Some(image.payload)));
+            assert_eq!(made.place, Some(place));
+        }
+        let configuration = fit.default_configuration().unwrap();
+        assert_eq!(configuration.name, b"conf-1");
+        assert_eq!(configuration.listed(Key::Kernel), Ok(&fit.images[..1]));
+        assert_eq!(configuration.listed(Key::Fdt), Ok(&fit.images[1..]));
+        let verdicts = fit.verdicts().unwrap();
+        assert_eq!(verdicts.len(), 2);
+        assert!(verdicts
+            .iter()
+            .all(|hash| hash.verdict == Verdict::Good && hash.algorithm == Some(b"sha256")));
+        let path = b"/images/kernel-1";
+        assert_eq!(fit.property(path, b"load"), Ok(&[0, 0, 0x80, 0][..]));
+        assert_eq!(fit.property(path, b"entry"), Err(Error::NoProperty));
+        assert_eq!(fit.property(b"/", b"description"), Ok(&b"two\0"[..]));
+        assert_eq!(fit.property(b"/", b"timestamp"), Ok(&[0, 0, 0, 7][..]));
+        assert_eq!(
+            normalise(&file, form, ALL).map(|normal| normal.image),
+            Ok(file.clone())
+        );
+    }
+}
+
+#[test]
+fn fits_that_cannot_be_built() {
+    let kernel = BuildImage {
+        name: b"kernel-1",
+        payload: b"a kernel",
+        entry: Some(u32::MAX),
+        os: 5,
+        arch: 22,
+        image_type: 2,
+        ..BuildImage::default()
+    };
+    let built = |image, limit| {
+        let limits = Limits { limit, ..ALL };
+        build_fit(&[kernel, image], b"", 0, Form::Embedded, limits).map(|file| file.len())
+    };
+    let refused = |image, cause, offset| {
+        assert_eq!(built(image, ALL.limit), Err(refusal(cause, offset, 1)));
+    };
+    for name in [&b""[..], b"a/b", b"a\0"] {
+        refused(BuildImage { name, ..kernel }, Cause::BadField, 1);
+    }
+    refused(kernel, Cause::DuplicateNode, 1);
+    let second = BuildImage {
+        name: b"kernel-2",
+        ..kernel
+    };
+    let multi = BuildImage {
+        image_type: 4,
+        ..second
+    };
+    refused(multi, Cause::BadField, 1);
+    refused(BuildImage { os: 255, ..second }, Cause::NoCodeName, 1);
+    let size = built(second, ALL.limit).unwrap();
+    assert_eq!(built(second, size as u32), Ok(size));
+    assert_eq!(
+        built(second, size as u32 - 1),
+        Err(refusal(Cause::TooLarge, size as u32 - 1, 1))
+    );
+    assert_eq!(built(second, 63), Err(Error::WrongArgument));
+    assert_eq!(
+        build_fit(&[], b"\0", 0, Form::Embedded, ALL),
+        Err(refusal(Cause::BadField, 0, 1))
+    );
+    let empty = build_fit(&[], b"", 0, Form::Embedded, ALL).unwrap();
+    assert!(Fit::read(&empty, ALL).unwrap().images.is_empty());
+}
+
+#[test]
 fn texts() {
     let (board, kernel) = (example("board.itb"), example("kernel.uimage"));
     assert!(listing(&board, ALL)
@@ -185,7 +272,7 @@ fn other_files() {
         hashes: true,
     };
     let updated = update(&kernel, later, Form::Embedded, ALL).unwrap();
-    assert_eq!(Legacy::read(&updated.image, ALL).unwrap().time, 5);
+    assert_eq!(Legacy::read(&updated.image, ALL).unwrap().header.time, 5);
     let converted = convert(&kernel, ALL).unwrap();
     let payload = Fit::read(&converted, ALL).unwrap().images[0].payload;
     assert_eq!(payload, Some(Legacy::read(&kernel, ALL).unwrap().parts[0]));

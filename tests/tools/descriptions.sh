@@ -187,9 +187,9 @@ echo "-payload /images/kernel-1 size 70001 sha256 $before
 +property /images/kernel-1/hash-1 value 0x$after" > wanted
 check "the differences of a changed payload" differs yesterday.itb today.itb
 
-# git diff over descriptions, set up by the two commands of README.md.
+# git diff over descriptions, set up by the two commands of README.md, which are indented there or not.
 export GIT_CONFIG_GLOBAL=/dev/null GIT_CONFIG_SYSTEM=/dev/null
-grep -e '^git config diff\.' -e ' >> \.gitattributes$' "$root/README.md" > setup
+grep -e '^ *git config diff\.' -e ' >> \.gitattributes$' "$root/README.md" > setup
 check "README.md has two commands for git" test "$(wc -l < setup)" = 2
 mkdir repository
 cp inside.itb changed.itb repository

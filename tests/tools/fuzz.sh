@@ -22,7 +22,7 @@ work_in_new_directory
 target=$root/tests/tools/c_library/fuzz.c
 # The target makes each call that the header declares.
 sed -n 's/^uint32_t \(bootimg_[a-z_]*\)(.*/\1/p' "$root/include/bootimg.h" | sort > declared
-grep -o 'bootimg_[a-z_]*(' "$target" | tr -d '(' | sort -u > called
+grep -oh 'bootimg_[a-z_]*(' "$target" "$root/tests/tools/c_library/arrays.h" | tr -d '(' | sort -u > called
 check "the target makes each call" diff declared called
 
 if ! clang -std=gnu99 -Wall -Wextra -Werror -g -fsanitize=fuzzer-no-link,address,undefined -I"$root/include" -c "$target" -o target.o 2> log ||

@@ -230,10 +230,10 @@ check "nothing changes then" holds blocked share share/man share/bash-completion
     share/bash-completion/completions/bootimg
 check "where no directory can be made" fails 1 "install: cannot make the directory /proc/bootimg" --prefix /proc/bootimg
 # The script may run as root, who can write to any directory: nobody cannot. A stub is in the place of the checkout.
-mkdir -p stub/crates/bootimg/out stub/man stub/contrib closed/bin closed/share/man/man1
+mkdir -p stub/crates/bootimg/out stub/man closed/bin closed/share/man/man1
 cp "$install" stub
 cp "$root/man/bootimg.1" stub/man
-cp "$root"/contrib/* stub/contrib
+cp -r "$root/contrib" stub
 printf '#!/bin/sh\necho built > "$(dirname "$0")/crates/bootimg/out/bootimg"\n' > stub/bootimg
 chmod -R a+rwX stub
 chmod a+x stub/bootimg stub/install

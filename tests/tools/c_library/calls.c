@@ -82,14 +82,6 @@ static uint32_t make_with(const struct call *call, struct memory *buffer, size_t
     return status;
 }
 
-static int is_unchanged(const uint8_t *bytes, size_t size)
-{
-    for (size_t i = 0; i < size; i++)
-        if (bytes[i] != 0xa5)
-            return 0;
-    return 1;
-}
-
 /* The refused file as the program names it, and why it is refused. */
 static void tell(const struct call *call, const bootimg_result *answer)
 {

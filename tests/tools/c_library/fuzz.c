@@ -5,9 +5,7 @@
  * The checksums of a legacy image are made right in every second input, so that mutations pass them.
  */
 #define _GNU_SOURCE
-#include "guarded.h"
-
-#include <bootimg.h>
+#include "arrays.h"
 
 enum { HEAD = 8, MOST = 1 << 16, ROOM = 1 << 22 };
 
@@ -67,19 +65,15 @@ static void repair(uint8_t *file, size_t size)
     put_number(file + 4, crc32_of(file, 64));
 }
 
-/* The calls with a buffer or an array, and the sizes of their elements. */
+/* The calls with a buffer, after those with an array. */
 enum {
-    NORMALISE, UPDATE, CONVERT, LIST, LIST_JSON, DESCRIBE, DESCRIBE_JSON, SHOW, VERIFY, VERIFY_JSON, CHECK_LINES, CHECK_JSON, COMPARE,
-    COMPARE_JSON, CAUSE_NAME, EXPLAIN, VERSION, PARTS, RESERVATIONS, IMAGES, CONFIGURATIONS, LISTED, VERDICTS, CHILDREN, PROPERTIES, CALLS
+    NORMALISE = ARRAYS, UPDATE, CONVERT, LIST, LIST_JSON, DESCRIBE, DESCRIBE_JSON, SHOW, VERIFY, VERIFY_JSON, CHECK_LINES, CHECK_JSON,
+    COMPARE, COMPARE_JSON, CAUSE_NAME, EXPLAIN, VERSION, CALLS
 };
 
 static size_t element_size(int call)
 {
-    static const size_t sizes[CALLS - PARTS] = {
-        sizeof(bootimg_region), sizeof(bootimg_reservation), sizeof(bootimg_image),  sizeof(bootimg_region),
-        sizeof(size_t),         sizeof(bootimg_hash),        sizeof(bootimg_region), sizeof(bootimg_property),
-    };
-    return call < PARTS ? 1 : sizes[call - PARTS];
+    return call < ARRAYS ? element_sizes[call] : 1;
 }
 
 static uint32_t make_text(const struct choice *c, int call, uint8_t *to, size_t room, bootimg_result *answer)
@@ -124,26 +118,9 @@ static uint32_t make_text(const struct choice *c, int call, uint8_t *to, size_t 
 
 static uint32_t make(const struct choice *c, int call, void *to, size_t room, bootimg_result *answer)
 {
-    switch (call) {
-    case PARTS:
-        return bootimg_parts(c->file, c->size, c->limit, c->depth, to, room, answer);
-    case RESERVATIONS:
-        return bootimg_reservations(c->file, c->size, c->limit, c->depth, to, room, answer);
-    case IMAGES:
-        return bootimg_images(c->file, c->size, c->limit, c->depth, to, room, answer);
-    case CONFIGURATIONS:
-        return bootimg_configurations(c->file, c->size, c->limit, c->depth, to, room, answer);
-    case LISTED:
-        return bootimg_listed(c->file, c->size, c->name, c->name_size, c->number % 7, c->limit, c->depth, to, room, answer);
-    case VERDICTS:
-        return bootimg_verdicts(c->file, c->size, c->limit, c->depth, to, room, answer);
-    case CHILDREN:
-        return bootimg_children(c->file, c->size, c->name, c->name_size, c->limit, c->depth, to, room, answer);
-    case PROPERTIES:
-        return bootimg_properties(c->file, c->size, c->name, c->name_size, c->limit, c->depth, to, room, answer);
-    default:
-        return make_text(c, call, to, room, answer);
-    }
+    const struct memory file = {.bytes = (uint8_t *)c->file, .size = c->size}, name = {.bytes = (uint8_t *)c->name, .size = c->name_size};
+    const struct call made = {.call = call, .file = file, .name = name, .key = c->number % 7};
+    return call < ARRAYS ? fill_array(&made, c->limit, c->depth, to, room, answer) : make_text(c, call, to, room, answer);
 }
 
 /* The numbers of the struct are those that the status has. */
@@ -155,14 +132,6 @@ static void check_answer(uint32_t status, const bootimg_result *answer)
     CHECK(answer->offset == 0 || status == BOOTIMG_REFUSED);
     CHECK((answer->reason != 0) == (status == BOOTIMG_NOT_FOUND) && answer->reason <= BOOTIMG_NO_PROPERTY);
     CHECK(answer->size == 0 || status == BOOTIMG_OK || status == BOOTIMG_NO_ROOM);
-}
-
-static int is_unchanged(const uint8_t *bytes, size_t size)
-{
-    for (size_t i = 0; i < size; i++)
-        if (bytes[i] != 0xa5)
-            return 0;
-    return 1;
 }
 
 /* A region that an element has is inside the file. */

@@ -44,6 +44,15 @@ static void give_back(struct memory memory)
     CHECK(munmap(memory.map, memory.map_size) == 0);
 }
 
+/* Whether all of these bytes are 0xa5. */
+static __attribute__((unused)) int is_unchanged(const uint8_t *bytes, size_t size)
+{
+    for (size_t i = 0; i < size; i++)
+        if (bytes[i] != 0xa5)
+            return 0;
+    return 1;
+}
+
 /* The bytes of a file, which may not be changed. */
 static __attribute__((unused)) struct memory read_file(const char *path)
 {

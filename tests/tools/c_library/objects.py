@@ -96,11 +96,14 @@ def value_text(value):
 
 def node_lines(image, node, path):
     yield f"node {path or '/'}"
+    properties = node.properties
     if path.count("/") == 2 and path.startswith("/images/"):
         payload = image.image(node.name).payload
         yield f"payload {path} {'none' if payload is None else digest(payload)}"
-        check(f"{path}: the properties of the image", image.image(node.name).properties == node.properties)
-    for name, value in node.properties.items():
+        placing = "data", "data-size", "data-offset", "data-position"
+        properties = {name: value for name, value in properties.items() if name not in placing}
+        check(f"{path}: the properties of the image", image.image(node.name).properties == properties)
+    for name, value in sorted(properties.items(), key=lambda pair: pair[0].encode("utf-8", "surrogateescape")):
         yield f"property {path or '/'} {shown(name)} {value_text(value)}".rstrip(" ")
     for child in node.children:
         yield from node_lines(image, child, f"{path}/{shown(child.name)}")

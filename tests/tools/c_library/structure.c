@@ -4,51 +4,9 @@
  * none, and what it leaves is checked. Then four threads take all files apart at the same time.
  */
 #define _GNU_SOURCE
-#include "guarded.h"
-
-#include <bootimg.h>
+#include "arrays.h"
 
 #include <pthread.h>
-
-/* The calls with an array. */
-enum { PARTS, IMAGES, RESERVATIONS, CONFIGURATIONS, VERDICTS, LISTED, CHILDREN, PROPERTIES, ARRAYS };
-
-static const size_t element_sizes[ARRAYS] = {
-    sizeof(bootimg_region), sizeof(bootimg_image), sizeof(bootimg_reservation), sizeof(bootimg_region),
-    sizeof(bootimg_hash),   sizeof(size_t),        sizeof(bootimg_region),      sizeof(bootimg_property),
-};
-
-/* What is called on a file: which call, of LISTED the name and the key, and of CHILDREN and PROPERTIES the path. */
-struct call {
-    int call;
-    struct memory file;
-    struct memory name;
-    uint32_t key;
-};
-
-static uint32_t make(const struct call *call, uint32_t limit, uint32_t depth, void *array, size_t count, bootimg_result *answer)
-{
-    const uint8_t *file = call->file.bytes;
-    const size_t size = call->file.size;
-    switch (call->call) {
-    case PARTS:
-        return bootimg_parts(file, size, limit, depth, array, count, answer);
-    case IMAGES:
-        return bootimg_images(file, size, limit, depth, array, count, answer);
-    case RESERVATIONS:
-        return bootimg_reservations(file, size, limit, depth, array, count, answer);
-    case CONFIGURATIONS:
-        return bootimg_configurations(file, size, limit, depth, array, count, answer);
-    case VERDICTS:
-        return bootimg_verdicts(file, size, limit, depth, array, count, answer);
-    case LISTED:
-        return bootimg_listed(file, size, call->name.bytes, call->name.size, call->key, limit, depth, array, count, answer);
-    case CHILDREN:
-        return bootimg_children(file, size, call->name.bytes, call->name.size, limit, depth, array, count, answer);
-    default:
-        return bootimg_properties(file, size, call->name.bytes, call->name.size, limit, depth, array, count, answer);
-    }
-}
 
 /* Calls with an array of this many elements, whose bytes are 0xa5. */
 static uint32_t make_with(const struct call *call, struct memory *array, size_t count, bootimg_result *answer)
@@ -61,18 +19,10 @@ static uint32_t make_with(const struct call *call, struct memory *array, size_t 
     *array = take(count * element_sizes[call->call]);
     memset(array->bytes, 0xa5, array->size);
     memset(&room, 0xc3, sizeof room);
-    status = make(call, BOOTIMG_LIMIT, BOOTIMG_DEPTH, array->bytes, count, &room.answer);
+    status = fill_array(call, BOOTIMG_LIMIT, BOOTIMG_DEPTH, array->bytes, count, &room.answer);
     CHECK(room.after == 0xc3c3c3c3c3c3c3c3u);
     *answer = room.answer;
     return status;
-}
-
-static int is_unchanged(const uint8_t *bytes, size_t size)
-{
-    for (size_t i = 0; i < size; i++)
-        if (bytes[i] != 0xa5)
-            return 0;
-    return 1;
 }
 
 /* Prints why a call failed. */
@@ -99,7 +49,7 @@ static struct memory elements_of(const struct call *call, const char *what, uint
     bootimg_result again;
     *status = make_with(call, &array, 0, answer);
     give_back(array);
-    CHECK(make(call, BOOTIMG_LIMIT, BOOTIMG_DEPTH, NULL, 0, &again) == *status && memcmp(answer, &again, sizeof again) == 0);
+    CHECK(fill_array(call, BOOTIMG_LIMIT, BOOTIMG_DEPTH, NULL, 0, &again) == *status && memcmp(answer, &again, sizeof again) == 0);
     if (*status != BOOTIMG_OK && *status != BOOTIMG_NO_ROOM) {
         CHECK(make_with(call, &array, 3, &again) == *status && memcmp(answer, &again, sizeof again) == 0);
         CHECK(is_unchanged(array.bytes, array.size));
@@ -155,20 +105,6 @@ static void print_legacy(FILE *output, struct memory file)
     fprintf(output, "\ntime %u\nload %u\nentry %u\n", (unsigned)fields->time, (unsigned)fields->load, (unsigned)fields->entry);
     fprintf(output, "codes %u %u %u %u\n", (unsigned)fields->os, (unsigned)fields->arch, (unsigned)fields->image_type,
             (unsigned)fields->compression);
-}
-
-static void print_parts(FILE *output, struct memory file)
-{
-    const struct call call = {.call = PARTS, .file = file};
-    bootimg_result answer;
-    uint32_t status;
-    struct memory array = elements_of(&call, "parts", &status, &answer, output);
-    const bootimg_region *parts = (const bootimg_region *)(const void *)array.bytes;
-    for (size_t i = 0; i < answer.size; i++)
-        fprintf(output, "part %zu %zu\n", parts[i].offset, parts[i].size);
-    if (status == BOOTIMG_OK)
-        fprintf(output, "unused %zu\n", answer.value);
-    give_back(array);
 }
 
 /* What is read of a legacy image builds its normal form, with buffers of several sizes. A region outside the input is no piece of it. */
@@ -288,34 +224,28 @@ static void print_fit(FILE *output, struct memory file)
     fprintf(output, "boot-cpu %u\ntotal-size %u\n", (unsigned)room.fields.boot_cpu, (unsigned)room.fields.total_size);
 }
 
-static void print_reservations(FILE *output, struct memory file)
+static void print_part(FILE *output, struct memory file, const void *element)
 {
-    const struct call call = {.call = RESERVATIONS, .file = file};
-    bootimg_result answer;
-    uint32_t status;
-    struct memory array = elements_of(&call, "reservations", &status, &answer, output);
-    const bootimg_reservation *reservations = (const bootimg_reservation *)(const void *)array.bytes;
-    for (size_t i = 0; i < answer.size; i++)
-        fprintf(output, "reservation %llu %llu\n", (unsigned long long)reservations[i].address, (unsigned long long)reservations[i].size);
-    give_back(array);
+    const bootimg_region *part = element;
+    CHECK(part->offset <= file.size && part->size <= file.size - part->offset);
+    fprintf(output, "part %zu %zu\n", part->offset, part->size);
 }
 
-static void print_images(FILE *output, struct memory file)
+static void print_reservation(FILE *output, struct memory file, const void *element)
 {
-    const struct call call = {.call = IMAGES, .file = file};
-    bootimg_result answer;
-    uint32_t status;
-    struct memory array = elements_of(&call, "images", &status, &answer, output);
-    const bootimg_image *images = (const bootimg_image *)(const void *)array.bytes;
-    CHECK(answer.value == 0);
-    for (size_t i = 0; i < answer.size; i++) {
-        const bootimg_region payload = images[i].payload;
-        fputs("image ", output);
-        print_bytes(output, file, images[i].name);
-        fprintf(output, " %u %zu %zu\n", (unsigned)images[i].place, payload.offset, payload.size);
-        CHECK(payload.offset <= file.size && payload.size <= file.size - payload.offset);
-    }
-    give_back(array);
+    const bootimg_reservation *reservation = element;
+    (void)file;
+    fprintf(output, "reservation %llu %llu\n", (unsigned long long)reservation->address, (unsigned long long)reservation->size);
+}
+
+static void print_image(FILE *output, struct memory file, const void *element)
+{
+    const bootimg_image *image = element;
+    const bootimg_region payload = image->payload;
+    fputs("image ", output);
+    print_bytes(output, file, image->name);
+    fprintf(output, " %u %zu %zu\n", (unsigned)image->place, payload.offset, payload.size);
+    CHECK(payload.offset <= file.size && payload.size <= file.size - payload.offset);
 }
 
 /* Prints the images that a configuration lists under each key that it has. */
@@ -342,44 +272,52 @@ static void print_keys(FILE *output, struct memory file, bootimg_region name)
     give_back(call.name);
 }
 
-static void print_configurations(FILE *output, struct memory file)
+static void print_configuration(FILE *output, struct memory file, const void *element)
 {
-    const struct call call = {.call = CONFIGURATIONS, .file = file};
-    bootimg_result answer;
-    uint32_t status;
-    struct memory array = elements_of(&call, "configurations", &status, &answer, output);
-    const bootimg_region *names = (const bootimg_region *)(const void *)array.bytes;
-    for (size_t i = 0; i < answer.size; i++) {
-        fputs("configuration ", output);
-        print_bytes(output, file, names[i]);
-        fputc('\n', output);
-        print_keys(output, file, names[i]);
-    }
-    if (status == BOOTIMG_OK)
-        fprintf(output, "default %zu\n", answer.value);
-    give_back(array);
+    const bootimg_region *name = element;
+    fputs("configuration ", output);
+    print_bytes(output, file, *name);
+    fputc('\n', output);
+    print_keys(output, file, *name);
 }
 
-static void print_verdicts(FILE *output, struct memory file)
+static void print_verdict(FILE *output, struct memory file, const void *element)
 {
-    const struct call call = {.call = VERDICTS, .file = file};
+    const bootimg_hash *hash = element;
+    const bootimg_region regions[] = {hash->image, hash->node, hash->algorithm, hash->value};
+    fputs("hash", output);
+    for (int i = 0; i < 4; i++) {
+        fputc(' ', output);
+        if (regions[i].offset == 0 && regions[i].size == 0)
+            fputs("none", output);
+        else
+            print_bytes(output, file, regions[i]);
+    }
+    fprintf(output, " %u\n", (unsigned)hash->verdict);
+}
+
+/* Prints the elements of a file that a call writes, or why there are none, and `value`, if the call returns one. */
+static void print_elements(FILE *output, struct memory file, int which)
+{
+    static const struct {
+        const char *what, *value;
+        void (*print)(FILE *output, struct memory file, const void *element);
+    } calls[] = {
+        [PARTS] = {"parts", "unused", print_part},
+        [RESERVATIONS] = {"reservations", NULL, print_reservation},
+        [IMAGES] = {"images", NULL, print_image},
+        [CONFIGURATIONS] = {"configurations", "default", print_configuration},
+        [VERDICTS] = {"verdicts", NULL, print_verdict},
+    };
+    const struct call call = {.call = which, .file = file};
     bootimg_result answer;
     uint32_t status;
-    struct memory array = elements_of(&call, "verdicts", &status, &answer, output);
-    const bootimg_hash *hashes = (const bootimg_hash *)(const void *)array.bytes;
-    CHECK(answer.value == 0);
-    for (size_t i = 0; i < answer.size; i++) {
-        const bootimg_region regions[] = {hashes[i].image, hashes[i].node, hashes[i].algorithm, hashes[i].value};
-        fputs("hash", output);
-        for (int j = 0; j < 4; j++) {
-            fputc(' ', output);
-            if (regions[j].offset == 0 && regions[j].size == 0)
-                fputs("none", output);
-            else
-                print_bytes(output, file, regions[j]);
-        }
-        fprintf(output, " %u\n", (unsigned)hashes[i].verdict);
-    }
+    struct memory array = elements_of(&call, calls[which].what, &status, &answer, output);
+    for (size_t i = 0; i < answer.size; i++)
+        calls[which].print(output, file, array.bytes + i * element_sizes[which]);
+    CHECK(calls[which].value != NULL || answer.value == 0);
+    if (calls[which].value != NULL && status == BOOTIMG_OK)
+        fprintf(output, "%s %zu\n", calls[which].value, answer.value);
     give_back(array);
 }
 
@@ -414,7 +352,7 @@ static void has_no_node(struct memory file, const char *before, struct memory pa
     call.name.bytes[more + path.size] = (uint8_t)after;
     memset(element, 0xa5, sizeof element);
     for (call.call = CHILDREN; call.call <= PROPERTIES; call.call++) {
-        CHECK(make(&call, BOOTIMG_LIMIT, BOOTIMG_DEPTH, element, 1, &answer) == BOOTIMG_NOT_FOUND);
+        CHECK(fill_array(&call, BOOTIMG_LIMIT, BOOTIMG_DEPTH, element, 1, &answer) == BOOTIMG_NOT_FOUND);
         CHECK(answer.reason == BOOTIMG_NO_NODE && answer.value == 0 && answer.size == 0 && answer.cause == 0);
     }
     CHECK(bootimg_property_value(file.bytes, file.size, call.name.bytes, call.name.size, element, 1, BOOTIMG_LIMIT, BOOTIMG_DEPTH,
@@ -487,10 +425,10 @@ static void try_null(struct memory file)
     for (int i = 0; i < ARRAYS; i++) {
         struct call one = {.call = i, .file = file, .name = none}, other = one;
         other.name = null;
-        CHECK(make(&one, BOOTIMG_LIMIT, BOOTIMG_DEPTH, NULL, 0, &answer) == make(&other, BOOTIMG_LIMIT, BOOTIMG_DEPTH, NULL, 0, &again));
+        CHECK(fill_array(&one, BOOTIMG_LIMIT, BOOTIMG_DEPTH, NULL, 0, &answer) == fill_array(&other, BOOTIMG_LIMIT, BOOTIMG_DEPTH, NULL, 0, &again));
         CHECK(memcmp(&answer, &again, sizeof again) == 0);
         other.file = null;
-        CHECK(make(&other, BOOTIMG_LIMIT, BOOTIMG_DEPTH, NULL, 0, &again) == BOOTIMG_REFUSED);
+        CHECK(fill_array(&other, BOOTIMG_LIMIT, BOOTIMG_DEPTH, NULL, 0, &again) == BOOTIMG_REFUSED);
         CHECK(again.cause == BOOTIMG_CAUSE_TRUNCATED && again.offset == 0 && again.file == 1);
     }
     CHECK(bootimg_legacy(NULL, 0, BOOTIMG_LIMIT, BOOTIMG_DEPTH, &fields, &answer) == BOOTIMG_REFUSED);
@@ -516,13 +454,13 @@ static void try_numbers(struct memory file)
         CHECK(bootimg_legacy(file.bytes, file.size, limit, depth, &fields, &answer) == BOOTIMG_WRONG_ARGUMENT);
         CHECK(bootimg_fit(file.bytes, file.size, limit, depth, &fit, &answer) == BOOTIMG_WRONG_ARGUMENT);
         for (call.call = 0; call.call < ARRAYS; call.call++) {
-            CHECK(make(&call, limit, depth, element, 1, &answer) == BOOTIMG_WRONG_ARGUMENT);
+            CHECK(fill_array(&call, limit, depth, element, 1, &answer) == BOOTIMG_WRONG_ARGUMENT);
             CHECK(answer.size == 0 && answer.value == 0 && answer.cause == 0);
         }
     }
     call.call = LISTED;
     call.key = BOOTIMG_SCRIPT + 1;
-    CHECK(make(&call, BOOTIMG_LIMIT, BOOTIMG_DEPTH, element, 1, &answer) == BOOTIMG_WRONG_ARGUMENT);
+    CHECK(fill_array(&call, BOOTIMG_LIMIT, BOOTIMG_DEPTH, element, 1, &answer) == BOOTIMG_WRONG_ARGUMENT);
     CHECK(is_unchanged(element, sizeof element) && is_unchanged((const uint8_t *)&fields, sizeof fields));
     CHECK(is_unchanged((const uint8_t *)&fit, sizeof fit));
 }
@@ -542,15 +480,15 @@ static void *take_apart(void *argument)
         struct memory file = read_file(work->paths[i]);
         fprintf(output, "file %s\n", work->paths[i]);
         print_legacy(output, file);
-        print_parts(output, file);
+        print_elements(output, file, PARTS);
         build_again(file);
         build_tree(file, BOOTIMG_EMBEDDED);
         build_tree(file, BOOTIMG_EXTERNAL);
         print_fit(output, file);
-        print_reservations(output, file);
-        print_images(output, file);
-        print_configurations(output, file);
-        print_verdicts(output, file);
+        print_elements(output, file, RESERVATIONS);
+        print_elements(output, file, IMAGES);
+        print_elements(output, file, CONFIGURATIONS);
+        print_elements(output, file, VERDICTS);
         print_tree(output, file);
         try_null(file);
         try_numbers(file);

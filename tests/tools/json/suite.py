@@ -1,27 +1,23 @@
 """Compares what a program does with --json with what it does without, on the files of tests/conformance.
 
-suite.py [--only TEXT] [--outputs FILE] PROGRAM: runs list, describe, verify and check on each file, compare on it and itself and on it and
-another one, and these commands with the options that they have in a run of the suite: each without --json and with it. The status and
-standard error are the same. The output is JSON of which lines.py makes the lines, and is that of tests/conformance/reference.py. describe
-is also tried with the least limit that its JSON fits in, and with one less.
-
---only runs those whose file and arguments contain TEXT. --outputs writes the JSON, a line for each run. With `reference` as PROGRAM
-reference.py is tried, without a process. The last line is `N passed, M failed`.
+suite.py [--only TEXT] [--outputs FILE] PROGRAM (see tests/tools/runs.py): runs list, describe, verify and check on each file, compare on
+it and itself and on it and another one, and these commands with the options that they have in a run of the suite: each without --json and
+with it. The status and standard error are the same. The output is JSON of which lines.py makes the lines, and is that of
+tests/conformance/reference.py. describe is also tried with the least limit that its JSON fits in, and with one less.
 """
 
-import os
 import shlex
-import subprocess
 import sys
 import tempfile
-from concurrent.futures import ThreadPoolExecutor
+from functools import partial
 from pathlib import Path
 
 sys.dont_write_bytecode = True
 TESTS = Path(__file__).resolve().parents[2]
-sys.path.insert(0, str(TESTS / "conformance"))
+sys.path += [str(TESTS / "conformance"), str(TESTS / "tools")]
 import reference
 from lines import COMMANDS, WrongJson, lines_of, value_of
+from runs import answer_of, options_of, report
 from vectors import Vectors
 
 
@@ -57,9 +53,7 @@ class Suite:
     def answer(self, name, arguments):
         if self.program == "reference":
             return self.reference(name, arguments)
-        file = self.vectors.bytes(name)
-        result = subprocess.run([self.program, *arguments], input=file, capture_output=True, cwd=self.directory, timeout=60, check=False)
-        return result.returncode, result.stdout, result.stderr
+        return answer_of(self.program, arguments, self.vectors.bytes(name), self.directory)
 
     def runs(self):
         """Each file with arguments without --json."""
@@ -112,28 +106,13 @@ class Suite:
 
 
 def main(words):
-    options = {"--only": "", "--outputs": ""}
-    while words[0] in options:
-        options[words[0]] = words[1]
-        words = words[2:]
-    (program,) = words
-    failed = 0
-    with tempfile.TemporaryDirectory() as directory, ThreadPoolExecutor(os.cpu_count()) as pool:
-        suite = Suite(program if program == "reference" else os.path.abspath(program), Path(directory))
-        runs = [(suite.wrong_run, name, command) for name, command in suite.runs()]
-        runs += [(suite.wrong_limits, name, "describe --json --limit") for name in suite.accepted]
-        runs = [run for run in runs if options["--only"] in f"{run[1]}: {run[2]}"]
-        results = pool.map(lambda run: run[0](*run[1:]), runs)
-        outputs = []
-        for (_, name, command), (wrong, output) in zip(runs, results):
-            failed += bool(wrong)
-            outputs.append(output)
-            if wrong:
-                print("\n    ".join([f"FAILED: {name}: {command}", *wrong]))
-    if options["--outputs"]:
-        Path(options["--outputs"]).write_bytes(b"".join(outputs))
-    print(f"{len(runs) - failed} passed, {failed} failed")
-    return int(failed > 0 or not runs)
+    options, program, _ = options_of(words)
+    with tempfile.TemporaryDirectory() as directory:
+        suite = Suite(program, Path(directory))
+        runs = [(f"{name}: {command}", partial(suite.wrong_run, name, command)) for name, command in suite.runs()]
+        limited = "describe --json --limit"
+        runs += [(f"{name}: {limited}", partial(suite.wrong_limits, name, limited)) for name in suite.accepted]
+        return report(runs, options)
 
 
 if __name__ == "__main__":

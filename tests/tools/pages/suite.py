@@ -1,28 +1,24 @@
 """Compares the pages that a program shows with what its other commands write as JSON, on the files of tests/conformance and on others.
 
-suite.py [--only TEXT] [--outputs FILE] PROGRAM [FILE..]: runs `show` and `show --layout` on each file of the suite and on each FILE, with
-the limits that `check` has in a run of the suite too. The errors are those of `check`, and else the status is 0. A page is that of
-tests/conformance/reference.py, byte for byte. page.py, which shares no code with the reference, reads it, and then it says what `list`,
-`describe`, `verify` and `check` say of the file with --json; its layout has each byte of the file.
-
---only runs those whose file and arguments contain TEXT. --outputs writes the pages. With `reference` as PROGRAM reference.py is tried,
-without a process. The last line is `N passed, M failed`.
+suite.py [--only TEXT] [--outputs FILE] PROGRAM [FILE..] (see tests/tools/runs.py): runs `show` and `show --layout` on each file of the
+suite and on each FILE, with the limits that `check` has in a run of the suite too. The errors are those of `check`, and else the status is
+0. A page is that of tests/conformance/reference.py, byte for byte. page.py, which shares no code with the reference, reads it, and then it
+says what `list`, `describe`, `verify` and `check` say of the file with --json; its layout has each byte of the file.
 """
 
 import json
-import os
 import shlex
-import subprocess
 import sys
-from concurrent.futures import ThreadPoolExecutor
+from functools import partial
 from pathlib import Path
 
 sys.dont_write_bytecode = True
 TESTS = Path(__file__).resolve().parents[2]
-sys.path.insert(0, str(TESTS / "conformance"))
+sys.path += [str(TESTS / "conformance"), str(TESTS / "tools")]
 import page
 import reference
 from page import WrongPage, page_of
+from runs import answer_of, options_of, report
 from vectors import Vectors
 
 FIELDS = ("type", "os", "arch", "compression")
@@ -46,8 +42,7 @@ class Suite:
     def answer(self, name, arguments):
         if self.program == "reference":
             return self.reference(name, arguments)
-        result = subprocess.run([self.program, *arguments], input=self.files[name], capture_output=True, timeout=60, check=False)
-        return result.returncode, result.stdout, result.stderr
+        return answer_of(self.program, arguments, self.files[name])
 
     def runs(self):
         """Each file with the arguments of `show`."""
@@ -198,25 +193,10 @@ def demand_layout(shown, listed, length):
 
 
 def main(words):
-    options = {"--only": "", "--outputs": ""}
-    while words[0] in options:
-        options[words[0]] = words[1]
-        words = words[2:]
-    program, *others = words
-    failed = 0
-    suite = Suite(program if program == "reference" else os.path.abspath(program), others)
-    runs = [run for run in suite.runs() if options["--only"] in f"{run[0]}: {shlex.join(run[1])}"]
-    outputs = []
-    with ThreadPoolExecutor(os.cpu_count()) as pool:
-        for (name, arguments), (wrong, output) in zip(runs, pool.map(lambda run: suite.wrong_run(*run), runs)):
-            failed += bool(wrong)
-            outputs.append(output)
-            if wrong:
-                print("\n    ".join([f"FAILED: {name}: {shlex.join(arguments)}", *wrong]))
-    if options["--outputs"]:
-        Path(options["--outputs"]).write_bytes(b"".join(outputs))
-    print(f"{len(runs) - failed} passed, {failed} failed")
-    return int(failed > 0 or not runs)
+    options, program, others = options_of(words)
+    suite = Suite(program, others)
+    runs = [(f"{name}: {shlex.join(arguments)}", partial(suite.wrong_run, name, arguments)) for name, arguments in suite.runs()]
+    return report(runs, options)
 
 
 if __name__ == "__main__":
