@@ -20,6 +20,7 @@ An edit counts only if its function is wrong by its contract. Where the prover f
 
 An edit of the first kind counts. One of the other kinds counts only if it has a line `differs:`. This shows an input for which the
 function does something else: EXPRESSION, in the module of the function, matches the pattern RIGHT, and with the edit it matches WRONG.
+In a file that begins with a line `# Not judged yet` each edit counts that the prover refuses.
 
 A function is proved from its own code and the contracts of the functions that it calls, and `rt ci` proves those. So in a check the
 functions without an edit have no code but `unreachable!()`, and a hole for their proof: rattle takes them by their contracts.
@@ -385,10 +386,17 @@ def try_round(crate, copies, edits, texts, command, kept):
     return verdicts, None
 
 
+def is_judged(edits):
+    """Returns whether the edits of a file, or of a directory, have to count by the judge."""
+    return edits.is_dir() or not edits.read_text(encoding="utf-8").startswith("# Not judged yet")
+
+
 def report(crate, edit, finding, why, wanted="refused"):
     """Prints the verdict on an edit, and returns whether it is the wanted one: `refused` or `proved`, or any for the judge."""
     counts = finding == "false" or bool(finding and edit.differs)
-    is_wanted = {"refused": counts, "proved": not finding and bool(PROVED.match(why)), "judged": True}[wanted]
+    is_proved = not finding and bool(PROVED.match(why))
+    is_wanted = {"refused": counts, "not proved": bool(finding), "proved": is_proved, "judged": True}[wanted]
+    wanted = "refused" if wanted == "not proved" else wanted
     said = f"{finding}: " if finding else ""
     print(f"{wanted if is_wanted else 'FAILED'}: {crate.name}/{edit.name}: {edit.function}: {said}{why[:160]}", flush=True)
     return is_wanted
@@ -430,7 +438,7 @@ def differ(crate, edits, texts, call):
     tests = []
     for copy in copies:
         name, number = copy.edit.function.rpartition("::")[2], 2 * edits.index(copy.edit) + 1
-        expression = re.sub(rf"\b{name}(?=\()", copy.function.rpartition("::")[2], copy.edit.differs[0])
+        expression = re.sub(rf"\b{name}(?=\(|::<)", copy.function.rpartition("::")[2], copy.edit.differs[0])
         tests.append((copy.original.file, number, test_of(number, expression, copy.edit.differs[2])))
     rounds[0] = (copied, rounds[0][1] + tests)
     waiting = [edit for edit in edits if all(copy.edit != edit for copy in copies)]
@@ -486,6 +494,8 @@ def main():
         del arguments[0]
     crate, edits, *call = arguments
     crate = Path(crate)
+    if wanted == "refused" and not is_judged(Path(edits)):
+        wanted = "not proved"
     # An edit for `rt must-fail` names no function.
     is_for_rt = Path(edits).name == "must-fail"
     edits = read_edits(Path(edits))
