@@ -93,7 +93,8 @@ def parse_edit(name, text):
         if key == "refused":
             function = text
         elif key == "differs":
-            differs = tuple(re.split(r" => | \| (?!.* => )", text))
+            expression, _, patterns = text.rpartition(" => ")
+            differs = (expression, *patterns.split(" | ", 1))
         elif key == "file":
             file = text
         elif key == "old":
@@ -264,7 +265,7 @@ class Goal(NamedTuple):
 
 def open_goals(output, function):
     """Returns the goals that are open in the lines of a function."""
-    note = rf"^note: {re.escape(function.file)}:(\d+):(\d+): it is not proved that .* \(`([^`]*)`\)(.*)$"
+    note = rf"^note: {re.escape(function.file)}:(\d+):(\d+): (?:it is not proved that .*|.* found no proof) \(`([^`]*)`\)(.*)$"
     goals = []
     for line, column, name, remark in re.findall(note, output, re.M):
         if function.first < int(line) <= function.last + 1:
