@@ -409,6 +409,11 @@ def test_of(number, expression, pattern):
     return ["", *lines, f"    assert!(rt; matches!({expression}, {pattern}));", "}"]
 
 
+def call_of(edit):
+    """Returns the pattern of the name of the function of an edit in a call of it."""
+    return re.compile(rf"\b{edit.function.rpartition('::')[2]}(?=\(|::<)")
+
+
 def failed_tests(crate, texts, tests, call):
     """Runs these tests, each of a module and its lines, in a copy of the crate with these texts. Returns what is printed, and the numbers
     of those that fail."""
@@ -430,16 +435,18 @@ def failed_tests(crate, texts, tests, call):
 
 def differ(crate, edits, texts, call):
     """Tries the lines `differs:` of these edits: each expression has its value without the edit, and the other one with it. The edits that
-    are made in copies are tried together, and so are those of different functions. Returns whether all is so."""
+    are made in copies are tried together, and so are those of different functions. An edit is made in the function itself if its
+    expression does not call the function. Returns whether all is so."""
     edits = [edit for edit in edits if edit.differs]
     functions = functions_of(texts)
     copies = [copy for copy in (copy_of(edit, number, texts, functions) for number, edit in enumerate(edits, 1)) if copy]
+    copies = [copy for copy in copies if call_of(copy.edit).search(copy.edit.differs[0])]
     rounds = [(texts, [(functions[edit.function].file, 2 * at, test_of(2 * at, *edit.differs[:2])) for at, edit in enumerate(edits)])]
     copied = add_copies(copies, texts)
     tests = []
     for copy in copies:
-        name, number = copy.edit.function.rpartition("::")[2], 2 * edits.index(copy.edit) + 1
-        expression = re.sub(rf"\b{name}(?=\(|::<)", copy.function.rpartition("::")[2], copy.edit.differs[0])
+        number = 2 * edits.index(copy.edit) + 1
+        expression = call_of(copy.edit).sub(copy.function.rpartition("::")[2], copy.edit.differs[0])
         tests.append((copy.original.file, number, test_of(number, expression, copy.edit.differs[2])))
     rounds[0] = (copied, rounds[0][1] + tests)
     waiting = [edit for edit in edits if all(copy.edit != edit for copy in copies)]
