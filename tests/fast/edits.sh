@@ -1,8 +1,8 @@
 #!/bin/sh
 # Checks that each piece of wrong code can be made in the sources: each text of an edit is in its file once, and the sources have the
 # function that it names. Nothing is proved. The tables in tests/prover/README.md have the pieces of their crates, and no
-# others. Then changes a source and a table in a copy, and shows that this is found. The script needs python3, and installs Debian's
-# if it is missing and the script runs as root.
+# others. Then changes a source and a table in a copy, and shows that this is found. At last the judge of wrong code is tried, on what
+# rattle prints of each kind of edit. The script needs python3, and installs Debian's if it is missing and the script runs as root.
 set -u
 
 root=$(cd "$(dirname "$0")/../.." && pwd)
@@ -65,4 +65,69 @@ is_missed() {
 
 check "a piece without a row is found" is_missed '/^| `value_prefix_is_good`/d' '< value_prefix_is_good'
 check "a row without a piece is found" is_missed '/^| `value_prefix_is_good`/a | `value_is_good` | more |' '> value_is_good'
+
+# A crate with a function, edits of it, and what rattle would print of the copies in which these are made.
+mkdir -p toy/src
+cat > toy/src/sums.rt << 'END'
+pub fn next(n: u64) -> Result<u64, Error> {
+    let m = count(n)?;
+    Ok(m + 1)
+}
+END
+while read -r name old new; do
+    printf '## %s\nrefused: sums::next\nfile: src/sums.rt\nold: %s\nnew: %s\n\n' "$name" "$(echo "$old" | tr _ ' ')" "$(echo "$new" | tr _ ' ')"
+done > toy.edits << 'END'
+another_value m_+_1 m_+_2
+way_out Ok(m if_m_>_9_{_return_Err(Full);_}_Ok(m
+new_call count(n)? count(twice(n)?)?
+loops m_+_1 m_+_3
+other_answer m_+_1 m_+_4
+long_search m_+_1 m_+_5
+right m_+_1 1_+_m
+END
+cat > rattle << 'END'
+#!/bin/sh
+[ "$1" = check ] || { sed -n 's/^fn \(differs_[0-9]*\).*/test \1 ... ok/p' src/sums.rt; exit; }
+# note COPY COLUMN GOAL REMARK: what is printed of an open goal, in the second line of a copy, or in the third.
+note() {
+    echo "note: src/sums.rt:$(($(grep -n "fn next_wrong_$1" src/sums.rt | cut -d: -f1) + $2)):$3: it is not proved that it holds (\`$4\`)$5"
+}
+note 1 0 1 returns
+note 2 2 22 returns-then-m-gt9
+note 3 1 13 returns-in_err-twice
+note 4 1 5 loop-preserved
+note 6 0 1 returns '; `search` gave up at one of its limits'
+echo './proofs/sums/next_wrong_5/Answers.antt:9:5: error: `returns`: the two types differ'
+for copy in 1 2 3 4 5 6; do
+    echo "fn toy::sums::next_wrong_$copy: no proof: expected answers"
+done
+echo 'fn toy::sums::next_wrong_7: no holes'
+echo 'fn toy::sums::next: no holes'
+echo 'only=7 holes=6'
+END
+chmod +x rattle
+
+# judged FLAGS WANTED: with these flags the lines that the judge prints of the edits begin with these words.
+judged() {
+    python3 -B "$root/tests/prover/wrong_bodies.py" $1 toy toy.edits "$PWD/rattle" toy > lines
+    sed 's|^\(.*\): toy/\(.*\): sums::next: \([a-z ]*\).*|\1 \2 \3|; s|^\(FAILED: toy/.*\): the value.*|\1 differs|; /^test /d; /^$/d' lines | uniq > found
+    printf '%s\n' "$2" | diff - found
+}
+
+judgments='another_value false
+way_out new
+new_call new
+loops invariant
+other_answer answer
+long_search limit
+right no holes'
+check "the judge tells the kinds of edits" judged --judge "$(echo "$judgments" | sed 's/^/judged /')"
+check "an edit counts only if a goal of the function is false" \
+    judged "" "$(echo "$judgments" | sed 's/^another/refused another/; t; s/^/FAILED /')"
+sed -i 's/^refused: sums::next$/&\ndiffers: next(1) => Ok(2) | Ok(3)/' toy.edits
+check "an edit counts if an input shows that it differs" \
+    judged "" "$(echo "$judgments" | sed 's/^right/FAILED right/; t; s/^/refused /')"
+sed -i 's/ok.p/FAILED\/p/' rattle
+check "an input on which nothing differs is found" \
+    judged --differs "$(echo "$judgments" | sed 's|^\([a-z_]*\) .*|FAILED: toy/\1 differs|')"
 finish

@@ -1,11 +1,26 @@
 """Tries the wrong bodies of a crate, which are in tests/prover/wrong_bodies/CRATE.edits, and prints a line for each.
 
-wrong_bodies.py [--unchanged] CRATE_DIRECTORY EDITS [CHECK..]: CHECK is a command that runs `rattle check` on the crate in the
-current directory. The script adds the flags --incremental, --allow-holes and --only. Without CHECK nothing is tried, and only the edits
-that cannot be made are printed. With --unchanged the edits change nothing, and a function has to be proved but for the holes of others.
+wrong_bodies.py [--unchanged | --judge | --differs] CRATE_DIRECTORY EDITS [CALL CRATE]: `CALL check CRATE` runs `rattle check` on the crate
+in the current directory, and `CALL try CRATE` runs its tests. The script adds the flags --incremental, --allow-holes and --only to a
+check. Without CALL nothing is tried, and only the edits that cannot be made are printed. With --unchanged the edits change nothing, and a function has
+to be proved but for the holes of others. With --judge each line says what was found, also of an edit that does not count. With --differs
+only the lines `differs:` are tried.
 
 EDITS is a file with a heading for each edit, `## NAME`, or a directory of edits for `rt must-fail`. Below its heading an edit has a line
-`refused: FUNCTION`, and then the lines of an edit for `rt must-fail`, which change what this function does. It is refused if a goal of the function stays open, or if an answer to one of its goals is wrong.
+`refused: FUNCTION`, maybe a line `differs: EXPRESSION => RIGHT | WRONG`, and then the lines of an edit for `rt must-fail`, which change
+what this function does.
+
+An edit counts only if its function is wrong by its contract. Where the prover finds no proof, this is one of (see FINDINGS):
+
+    false      a goal that the function has without the edit is open, and search ended before its limits
+    new        only goals are open that the edit brought, by a call, an arm or a way out
+    invariant  only an invariant of a loop does not hold. It is part of the proof, and not of the contract
+    answer     only answers do not fit. An answer may have to be written anew after any edit
+    limit      search stopped at a limit
+
+An edit of the first kind counts. One of the other kinds counts only if it has a line `differs:`. This shows an input for which the
+function does something else: EXPRESSION, in the module of the function, matches the pattern RIGHT, and with the edit it matches WRONG.
+In a file that begins with a line `# Not judged yet` each edit counts that the prover refuses.
 
 A function is proved from its own code and the contracts of the functions that it calls, and `rt ci` proves those. So in a check the
 functions without an edit have no code but `unreachable!()`, and a hole for their proof: rattle takes them by their contracts.
@@ -27,10 +42,20 @@ from typing import NamedTuple
 # What rattle prints of a function that is proved, but for the holes in the proofs of those that it calls.
 PROVED = re.compile("no holes$|depends on a hole in ")
 
+# What is found of a function for which there is no proof. Only the first says by itself that the function is wrong.
+FINDINGS = ("false", "new", "invariant", "answer", "limit")
+
+# What makes a way through a function: an arm, a way out, a loop, a choice.
+WAY = re.compile(r"\b(?:if|else|match|while|for|loop|return|break|continue)\b|=>|\?(?=[;.,)\s])|&&|\|\|")
+
+# Calls that have no goal of their own: each returns a value, whatever its arguments are.
+CALL_WITHOUT_GOAL = re.compile(r"(?:(?:saturating|wrapping)_(?:add|sub)|min|max|get|unwrap_or|len|is_empty)$")
+
 
 class Edit(NamedTuple):
     name: str
     function: str
+    differs: tuple  # an expression, and the patterns of its value without the edit and with it; or nothing
     changes: tuple  # each of a file, the text in it, and the text in its place
 
 
@@ -61,19 +86,22 @@ def read_edits(path):
 
 
 def parse_edit(name, text):
-    function, file, old, changes = None, None, None, []
+    function, file, old, differs, changes = None, None, None, (), []
     for line in text.split("\n"):
         key, _, text = line.partition(":")
         text = text.removeprefix(" ")
         if key == "refused":
             function = text
+        elif key == "differs":
+            expression, _, patterns = text.rpartition(" => ")
+            differs = (expression, *patterns.split(" | ", 1))
         elif key == "file":
             file = text
         elif key == "old":
             old = text
         elif key == "new":
             changes.append((file, old, text))
-    return Edit(name, function, tuple(changes))
+    return Edit(name, function, differs, tuple(changes))
 
 
 def apply(edit, texts):
@@ -226,32 +254,81 @@ def check(crate, texts, edited, removed, copies, command, kept):
         return subprocess.run(command, cwd=directory, **how).stdout
 
 
+class Goal(NamedTuple):
+    """A goal that is open, or whose answer is wrong."""
+
+    name: str
+    line: int  # where it is in its file, from 0, or -1 of an answer
+    column: int
+    finding: str
+
+
 def open_goals(output, function):
-    """Returns the goals that are open in the lines of a function. If search gave up at a limit, the goal may be true."""
-    notes = re.findall(rf"^note: {re.escape(function.file)}:(\d+):\d+: it is not proved that .* \((`[^`]*`)\)$", output, re.M)
-    return [goal for line, goal in notes if function.first < int(line) <= function.last + 1]
+    """Returns the goals that are open in the lines of a function."""
+    note = rf"^note: {re.escape(function.file)}:(\d+):(\d+): (?:it is not proved that .*|.* found no proof) \(`([^`]*)`\)(.*)$"
+    goals = []
+    for line, column, name, remark in re.findall(note, output, re.M):
+        if function.first < int(line) <= function.last + 1:
+            is_invariant = name.startswith("loop") or "invariant of the loop" in remark
+            finding = "limit" if "at one of its limits" in remark else "invariant" if is_invariant else "false"
+            goals.append(Goal(name, int(line) - 1, int(column) - 1, finding))
+    return goals
 
 
-def verdict(output, crate, name, function):
-    """Returns whether a function is refused, and why."""
+def inserted(old, new):
+    """Returns where the text begins and ends in `new` that is not in `old`."""
+    begin = 0
+    while begin < min(len(old), len(new)) and old[begin] == new[begin]:
+        begin += 1
+    end = len(new)
+    while end > begin and len(old) - (len(new) - end) > begin and old[len(old) - (len(new) - end) - 1] == new[end - 1]:
+        end -= 1
+    return begin, end
+
+
+def ways_and_calls(text):
+    """Returns how many ways a text makes, and how many calls it has that have goals of their own."""
+    text = re.sub(r"""b?"(\\.|[^"\\])*"|b?'(\\.|[^'\\])'""", "0", text)
+    calls = [name for name in re.findall(r"(\w+)!?\(", text) if name[0].islower() and not CALL_WITHOUT_GOAL.match(name)]
+    return len(WAY.findall(text)), len(calls)
+
+
+def is_new(goal, edit, function, text):
+    """Returns whether an edit brought a goal: it has more ways or calls than the text in its place, and the goal is in what it added, or
+    is named after a word there. The text is that of the file with the edit."""
+    lines = text.split("\n")
+    words, is_inside, adds = set(), False, False
+    for _, old, new in edit.changes:
+        adds |= any(more > before for more, before in zip(ways_and_calls(new), ways_and_calls(old)))
+        begin, end = inserted(old, new)
+        words |= set(re.findall(r"\w+", new[begin:end]))
+        at = lines[goal.line].find(new)
+        is_inside |= at >= 0 and at + begin <= goal.column < at + max(end, begin + 1)
+    ways = re.sub(r"-clause-.*", "", goal.name).split("-")[1:]
+    return adds and (is_inside or any(way in words for way in ways if way not in ("then", "else", "in", "in_err")))
+
+
+def verdict(output, crate, name, function, edit, text):
+    """Returns what is found of a function, or None if it is not refused, and why."""
     found = re.search(rf"^fn {re.escape(crate)}::{re.escape(name)}: (.*)$", output, re.M)
     if not found:
-        return False, "rattle does not name the function"
-    goals = re.search(r"`search` did not prove (`[^;]*)", found[1])
-    if goals:
-        return True, goals[1]
+        return None, "rattle does not name the function"
+    if not re.match("no proof|not proved", found[1]):
+        return None, found[1]
+    goals = open_goals(output, function)
+    goals = [goal._replace(finding="new") if goal.finding == "false" and is_new(goal, edit, function, text) else goal for goal in goals]
     answers = re.escape("./proofs/" + name.replace("::", "/")) + r"/Answers\.antt:\d+:\d+: error: (.*)"
     # These errors name what the edit took away, or an answer with such an error. They say nothing about the contract. rattle may break a
     # message: the lines that continue it begin with two spaces.
     names = r": record `|has no |is no name|is not in scope|w(as|ere) (not admitted|rejected)|have not been loaded|cannot be unfolded"
     joined = re.sub(r"\n  (?=\S)", " ", output)
     wrong = [it for it in re.findall(answers, joined) if not re.search(names, it)]
-    wrong += open_goals(output, function)
-    # An answer that takes a part of a record says less: the last choice.
-    wrong.sort(key=lambda it: "projects from a record" in it)
-    if found[1].startswith("not proved") and wrong:
-        return True, wrong[0]
-    return False, found[1]
+    goals += [Goal(it, -1, -1, "limit" if "at its own limit" in it else "answer") for it in wrong]
+    for finding in FINDINGS:
+        these = [goal.name for goal in goals if goal.finding == finding]
+        if these:
+            return finding, ", ".join(these)
+    return None, found[1]
 
 
 def fault(output, is_edited):
@@ -304,14 +381,94 @@ def try_round(crate, copies, edits, texts, command, kept):
     if why:
         return {}, "\n".join([why, *output.splitlines()[-20:]])
     functions = functions_of(texts)
-    return {edit: verdict(output, crate.name, name, functions[name]) for name, edit in edited.items()}, None
+    verdicts = {}
+    for name, edit in edited.items():
+        verdicts[edit] = verdict(output, crate.name, name, functions[name], edit, texts[functions[name].file])
+    return verdicts, None
 
 
-def report(crate, edit, refused, why, wanted="refused"):
-    """Prints the verdict on an edit, and returns whether it is the wanted one: `refused` or `proved`."""
-    is_wanted = refused if wanted == "refused" else not refused and bool(PROVED.match(why))
-    print(f"{wanted if is_wanted else 'FAILED'}: {crate.name}/{edit.name}: {edit.function}: {why[:160]}", flush=True)
+def is_judged(edits):
+    """Returns whether the edits of a file, or of a directory, have to count by the judge."""
+    return edits.is_dir() or not edits.read_text(encoding="utf-8").startswith("# Not judged yet")
+
+
+def report(crate, edit, finding, why, wanted="refused"):
+    """Prints the verdict on an edit, and returns whether it is the wanted one: `refused` or `proved`, or any for the judge."""
+    counts = finding == "false" or bool(finding and edit.differs)
+    is_proved = not finding and bool(PROVED.match(why))
+    is_wanted = {"refused": counts, "not proved": bool(finding), "proved": is_proved, "judged": True}[wanted]
+    wanted = "refused" if wanted == "not proved" else wanted
+    said = f"{finding}: " if finding else ""
+    print(f"{wanted if is_wanted else 'FAILED'}: {crate.name}/{edit.name}: {edit.function}: {said}{why[:160]}", flush=True)
     return is_wanted
+
+
+def test_of(number, expression, pattern):
+    """Returns the lines of a test that the value of an expression matches a pattern."""
+    lines = ["#[test]", f"fn differs_{number}(rt: HostRuntime) {{", "    let alloc = rt.alloc();", "    let _ = alloc;"]
+    return ["", *lines, f"    assert!(rt; matches!({expression}, {pattern}));", "}"]
+
+
+def call_of(edit):
+    """Returns the pattern of the name of the function of an edit in a call of it."""
+    return re.compile(rf"\b{edit.function.rpartition('::')[2]}(?=\(|::<)")
+
+
+def failed_tests(crate, texts, tests, call):
+    """Runs these tests, each of a module and its lines, in a copy of the crate with these texts. Returns what is printed, and the numbers
+    of those that fail."""
+    texts = dict(texts)
+    for file, _, lines in tests:
+        texts[file] = "\n".join([texts[file].rstrip("\n"), *lines, ""])
+    with tempfile.TemporaryDirectory() as directory:
+        copy = Path(directory, crate.name)
+        for part in ("src", "specs", "proofs"):
+            if (crate / part).is_dir():
+                shutil.copytree(crate / part, copy / part)
+        for file, text in texts.items():
+            (copy / file).write_text(text, encoding="utf-8")
+        how = {"stdin": subprocess.DEVNULL, "stdout": subprocess.PIPE, "stderr": subprocess.STDOUT, "text": True, "errors": "replace"}
+        output = subprocess.run([call[0], "try", *call[1:]], cwd=copy, **how).stdout
+    passed = {int(number) for number in re.findall(r"^test .*\bdiffers_(\d+) \.\.\. ok$", output, re.M)}
+    return output, {number for _, number, _ in tests} - passed
+
+
+def differ(crate, edits, texts, call):
+    """Tries the lines `differs:` of these edits: each expression has its value without the edit, and the other one with it. The edits that
+    are made in copies are tried together, and so are those of different functions. An edit is made in the function itself if its
+    expression does not call the function. Returns whether all is so."""
+    edits = [edit for edit in edits if edit.differs]
+    functions = functions_of(texts)
+    copies = [copy for copy in (copy_of(edit, number, texts, functions) for number, edit in enumerate(edits, 1)) if copy]
+    copies = [copy for copy in copies if call_of(copy.edit).search(copy.edit.differs[0])]
+    rounds = [(texts, [(functions[edit.function].file, 2 * at, test_of(2 * at, *edit.differs[:2])) for at, edit in enumerate(edits)])]
+    copied = add_copies(copies, texts)
+    tests = []
+    for copy in copies:
+        number = 2 * edits.index(copy.edit) + 1
+        expression = call_of(copy.edit).sub(copy.function.rpartition("::")[2], copy.edit.differs[0])
+        tests.append((copy.original.file, number, test_of(number, expression, copy.edit.differs[2])))
+    rounds[0] = (copied, rounds[0][1] + tests)
+    waiting = [edit for edit in edits if all(copy.edit != edit for copy in copies)]
+    while waiting:
+        chosen = choose(waiting, [], texts, functions)
+        changed, tests = texts, []
+        for edit in chosen:
+            changed = apply(edit, changed)
+            number = 2 * edits.index(edit) + 1
+            tests.append((functions[edit.function].file, number, test_of(number, edit.differs[0], edit.differs[2])))
+        rounds.append((changed, tests))
+        waiting = [edit for edit in waiting if edit not in chosen]
+    all_differ = True
+    for changed, tests in rounds if edits else []:
+        output, failed = failed_tests(crate, changed, tests, call)
+        for number in sorted(failed):
+            what = "with" if number % 2 else "without"
+            print(f"FAILED: {crate.name}/{edits[number // 2].name}: the value {what} the edit is another one")
+        if failed:
+            print(output[-3000:])
+        all_differ &= not failed
+    return all_differ
 
 
 def try_all(crate, edits, texts, command, wanted):
@@ -328,7 +485,7 @@ def try_all(crate, edits, texts, command, wanted):
             if why:
                 print(f"FAILED: {crate.name}: {why}")
                 return False
-            again = [copy.edit for copy in copies if wanted == "refused" and not verdicts[copy.edit][0]]
+            again = [copy.edit for copy in copies if wanted != "proved" and not verdicts[copy.edit][0]]
             for edit, result in verdicts.items():
                 if edit not in again:
                     all_wanted &= report(crate, edit, *result, wanted)
@@ -339,12 +496,14 @@ def try_all(crate, edits, texts, command, wanted):
 
 def main():
     arguments = sys.argv[1:]
-    wanted = "refused"
-    if arguments[0] == "--unchanged":
-        wanted = "proved"
+    modes = {"--unchanged": "proved", "--judge": "judged", "--differs": "different"}
+    wanted = modes.get(arguments[0], "refused")
+    if arguments[0] in modes:
         del arguments[0]
-    crate, edits, *command = arguments
+    crate, edits, *call = arguments
     crate = Path(crate)
+    if wanted == "refused" and not is_judged(Path(edits)):
+        wanted = "not proved"
     # An edit for `rt must-fail` names no function.
     is_for_rt = Path(edits).name == "must-fail"
     edits = read_edits(Path(edits))
@@ -354,14 +513,18 @@ def main():
     applicable = [edit for edit in edits if edit.function in names and apply(edit, texts)]
     for edit in edits:
         if edit not in applicable:
-            report(crate, edit, False, "a text is not in its file once, or the sources have no such function")
-    if not command:
+            report(crate, edit, None, "a text is not in its file once, or the sources have no such function")
+    if any(edit.differs and len(edit.differs) != 3 for edit in edits):
+        print(f"FAILED: {crate.name}: a line `differs:` is not EXPRESSION => RIGHT | WRONG")
+        return 1
+    if not call:
         return 0 if len(applicable) == len(edits) else 1
     if wanted == "proved":
         # The text of a later change may be there only after an earlier one.
         unchanged = [tuple((file, old, old) for file, old, _ in edit.changes if texts[file].count(old) == 1) for edit in applicable]
         applicable = [edit._replace(changes=changes) for edit, changes in zip(applicable, unchanged)]
-    all_wanted = try_all(crate, applicable, texts, command, wanted)
+    all_wanted = wanted in ("proved", "judged") or differ(crate, applicable, texts, call)
+    all_wanted &= wanted == "different" or try_all(crate, applicable, texts, [call[0], "check", *call[1:]], wanted)
     return 0 if all_wanted and len(applicable) == len(edits) else 1
 
 

@@ -1,20 +1,24 @@
 #!/bin/sh
 # Tries wrong bodies of functions, which are in tests/prover/wrong_bodies: the prover has to refuse the function that each edit names.
 # The wrong bodies of a crate are tried together, in a copy of the crate over the other crates as they are built, so this takes much
-# less time than `rt must-fail`, which checks a crate once for each edit. The checks are in tests/prover/wrong_bodies.py. As many crates
-# are tried at a time as there are processors. The arguments name the crates; without any, all are tried. The script needs python3, and
-# installs Debian's if it is missing and the script runs as root.
+# less time than `rt must-fail`, which checks a crate once for each edit. The checks are in tests/prover/wrong_bodies.py, and so is what
+# makes an edit count. As many crates are tried at a time as there are processors. The arguments name the crates; without any, all are
+# tried. The script needs python3, and installs Debian's if it is missing and the script runs as root.
 #
-# With --unchanged before the crates the edits change nothing, and each function has to be proved: a copy that is refused without its edit
-# would show nothing.
+# Before the crates there may be one of these:
+# --unchanged: the edits change nothing, and each function has to be proved: a copy that is refused without its edit would show nothing
+# --judge: what is found of each edit is printed, also of one that does not count
+# --differs: only the lines `differs:` are tried, and nothing is proved
 set -u
 
 root=$(cd "$(dirname "$0")/../.." && pwd)
 here=$root/tests/prover
 . "$root/tests/kit"
 
-# The script calls itself, to have rattle check a copy of a crate in the current directory.
-if [ "${1-}" = check ]; then
+# The script calls itself, to have rattle check a copy of a crate in the current directory, or to run the tests of the copy.
+case ${1-} in
+check | try)
+    verb=$1
     crate=$2
     shift 2
     # rattle reads the code of all libraries below a program or a static library, which takes minutes, and only what is public of those
@@ -24,36 +28,53 @@ if [ "${1-}" = check ]; then
         modules_of_program src/main.rt > src/lib.rt
         rm src/main.rt
     fi
-    rattle check "$crate" src/lib.rt "$(sed -n "s/^$crate\( staticlib\)*: *//p" "$root/crates.txt")" "$@"
+    libraries=$(sed -n "s/^$crate\( staticlib\)*: *//p" "$root/crates.txt")
+    if [ "$verb" = check ]; then
+        rattle check "$crate" src/lib.rt "$libraries" "$@"
+        exit
+    fi
+    work=$(dirname "$PWD")
+    [ "$crate" = scripted_io ] || libraries="$libraries scripted_io"
+    crate=$PWD
+    try_crate --steps 20000000 --seconds 300 < /dev/null
     exit
-fi
+    ;;
+esac
 
-unchanged=
+mode=
 wanted=refused
-if [ "${1-}" = --unchanged ]; then
-    unchanged=$1
-    wanted=proved
+case ${1-} in
+--unchanged) wanted=proved ;;
+--judge) wanted=judged ;;
+--differs) wanted= ;;
+esac
+case ${1-} in
+--*)
+    mode=$1
     shift
-fi
-export unchanged
+    ;;
+esac
+export mode
 
 need python3 python3
-need_libraries
+[ "$mode" = --differs ] || need_libraries
 work_in_new_directory
 
 # Tries the wrong bodies of the crate $2. What they give is in the file $2.log.
 try='
     here=$1/tests/prover
-    python3 "$here/wrong_bodies.py" $unchanged "$1/crates/$2" "$here/wrong_bodies/$2.edits" "$here/wrong_bodies.sh" check "$2" > "$2.log" 2>&1'
+    python3 "$here/wrong_bodies.py" $mode "$1/crates/$2" "$here/wrong_bodies/$2.edits" "$here/wrong_bodies.sh" "$2" > "$2.log" 2>&1'
 # The crates that take longest are the first.
 [ $# != 0 ] || set -- bootimg bi_commands bi_c bi_fit $(basename -s .edits "$here"/wrong_bodies/*)
 printf '%s\n' "$@" | awk '!seen[$0]++' | xargs -n 1 -P "$(nproc)" sh -c "$try" sh "$root"
 for log in *.log; do
     [ -e "$log" ] || continue
     crate=${log%.log}
+    [ "$mode" != --judge ] || cat "$log"
+    [ "$mode" != --differs ] || check "what differs in $crate does" test ! -s "$log"
     for name in $(sed -n 's/^## //p' "$here/wrong_bodies/$crate.edits"); do
-        check "$crate/$name is $wanted" grep -F "$wanted: $crate/$name: " "$log"
+        [ -z "$wanted" ] || check "$crate/$name is $wanted" grep -F "$wanted: $crate/$name: " "$log"
     done
-    grep -v "^$wanted: " "$log"
+    grep -v "^${wanted:-.*}: " "$log"
 done
 finish
