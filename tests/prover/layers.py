@@ -26,7 +26,7 @@ from concurrent.futures import ThreadPoolExecutor
 from pathlib import Path
 from typing import NamedTuple
 
-from wrong_bodies import PROVED, fault, functions_of, remove_bodies, verdict, write_hole
+from wrong_bodies import PROVED, fault, functions_of, goals_of, remove_bodies, write_hole
 
 
 class Piece(NamedTuple):
@@ -154,6 +154,14 @@ def check(crates, lower, upper, texts, functions, command):
     return {function: verdict(output, upper, function, functions_of(above)[function]) for function in functions}
 
 
+def verdict(output, crate, name, function):
+    """Returns whether a function is refused, and why. It is not refused for an answer that names a part that the weaker clause does not
+    have."""
+    goals, why = goals_of(output, crate, name, function)
+    telling = [goal.name for goal in goals if "projects from a record" not in goal.name]
+    return (True, telling[0]) if telling else (False, why)
+
+
 def judge(crates, batch, command):
     """Returns a line for each piece of a batch."""
     lower, upper = batch[0].lower, batch[0].upper
@@ -175,8 +183,7 @@ def line_of(piece, over_whole, over_weaker):
     place = f"{piece.name}: {piece.upper} {piece.function}"
     if over_whole[0] is not False or not PROVED.match(over_whole[1]):
         return f"FAILED: {place}: it is not proved over the whole contract: {over_whole[1]}"
-    is_refused = over_weaker[0] and "projects from a record" not in over_weaker[1]
-    return f"{'refused' if is_refused else 'FAILED'}: {place}: {over_weaker[1][:160] if is_refused else over_weaker[1]}"
+    return f"{'refused' if over_weaker[0] else 'FAILED'}: {place}: {over_weaker[1][:160] if over_weaker[0] else over_weaker[1]}"
 
 
 def main():

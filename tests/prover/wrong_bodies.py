@@ -308,27 +308,32 @@ def is_new(goal, edit, function, text):
     return adds and (is_inside or any(way in words for way in ways if way not in ("then", "else", "in", "in_err")))
 
 
-def verdict(output, crate, name, function, edit, text):
-    """Returns what is found of a function, or None if it is not refused, and why."""
+def goals_of(output, crate, name, function):
+    """Returns the goals of a function that are open and those with a wrong answer, and what rattle says of the function."""
     found = re.search(rf"^fn {re.escape(crate)}::{re.escape(name)}: (.*)$", output, re.M)
     if not found:
-        return None, "rattle does not name the function"
+        return [], "rattle does not name the function"
     if not re.match("no proof|not proved", found[1]):
-        return None, found[1]
-    goals = open_goals(output, function)
-    goals = [goal._replace(finding="new") if goal.finding == "false" and is_new(goal, edit, function, text) else goal for goal in goals]
+        return [], found[1]
     answers = re.escape("./proofs/" + name.replace("::", "/")) + r"/Answers\.antt:\d+:\d+: error: (.*)"
     # These errors name what the edit took away, or an answer with such an error. They say nothing about the contract. rattle may break a
     # message: the lines that continue it begin with two spaces.
     names = r": record `|has no |is no name|is not in scope|w(as|ere) (not admitted|rejected)|have not been loaded|cannot be unfolded"
     joined = re.sub(r"\n  (?=\S)", " ", output)
     wrong = [it for it in re.findall(answers, joined) if not re.search(names, it)]
-    goals += [Goal(it, -1, -1, "limit" if "at its own limit" in it else "answer") for it in wrong]
+    answered = [Goal(it, -1, -1, "limit" if "at its own limit" in it else "answer") for it in wrong]
+    return open_goals(output, function) + answered, found[1]
+
+
+def verdict(output, crate, name, function, edit, text):
+    """Returns what is found of a function, or None if it is not refused, and why."""
+    goals, why = goals_of(output, crate, name, function)
+    goals = [goal._replace(finding="new") if goal.finding == "false" and is_new(goal, edit, function, text) else goal for goal in goals]
     for finding in FINDINGS:
         these = [goal.name for goal in goals if goal.finding == finding]
         if these:
             return finding, ", ".join(these)
-    return None, found[1]
+    return None, why
 
 
 def fault(output, is_edited):
