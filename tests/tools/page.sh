@@ -46,9 +46,11 @@ shows() {
     python3 "$dom" text "$id" < "$shown" > found && [ "$(cat found)" = "$(cat wanted)" ] || { diff wanted found; false; }
 }
 
-# refusal FILE: what the page shows of a file that the program refuses.
+# refusal FILE: what the page shows of a file that the program refuses: its line, and what the cause means.
 refusal() {
-    "$program" list < "$1" 2>&1 | sed 's/^bootimg: /The image is refused: /'
+    line=$("$program" list < "$1" 2>&1 | sed 's/^bootimg: /The image is refused: /')
+    cause=${line#*refused: }
+    printf '%s%s' "$line" "$("$program" explain "${cause%% *}")"
 }
 
 # odd_names: a flattened image tree whose images have names that look like HTML, and other bytes.
