@@ -18,6 +18,7 @@ pub mod TreeNames
 pub mod BlobViews
 pub mod NodeEntries
 pub mod NodeViews
+pub mod StepsLeft
 pub mod NumberedTables
 pub mod DistinctKeys
 pub mod NameOrders

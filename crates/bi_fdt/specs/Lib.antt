@@ -14,6 +14,7 @@ pub mod TreeNames
 pub mod Fields
 pub mod ReadBlobs
 pub mod Views
+pub mod NodeSteps
 pub mod Strings
 pub mod NameParts
 pub mod PartNumbers

@@ -1,4 +1,5 @@
 use Rattle.std.specs.Prelude.{ℕ, ◌+◌, ◌-◌, List, [], ◌∷◌, nat_lt, ◌==◌, if◌then◌else◌}
+use Rattle.std.specs.Prelude.{Bool, true, false}
 use Rattle.bi_blob.specs.Tree.{Nodes, none, node, FileProperty, FileNode}
 use Rattle.bi_blob.specs.Events.{FileEvent, FileNodeStart, FileNodeProperty, FileNodeEnd}
 
@@ -39,3 +40,15 @@ count_inside depth [] = 0
 count_inside depth (PropertyItem property ∷ later) = count_inside depth later + 1
 count_inside depth (NodeItem own_depth place name ∷ later) =
     if nat_lt depth own_depth then count_inside depth later + 1 else 0
+
+-- Whether items begin with a node at this depth.
+abbrev pub begins_at_depth : ℕ → List TableItem → Bool
+begins_at_depth depth [] = false
+begins_at_depth depth (PropertyItem property ∷ later) = false
+begins_at_depth depth (NodeItem own_depth place name ∷ later) = own_depth == depth
+
+-- Whether items are none, or begin with a node that is less deep.
+abbrev pub ends_above : ℕ → List TableItem → Bool
+ends_above depth [] = true
+ends_above depth (PropertyItem property ∷ later) = false
+ends_above depth (NodeItem own_depth place name ∷ later) = nat_lt own_depth depth

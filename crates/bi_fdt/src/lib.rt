@@ -14,6 +14,7 @@ mod name_table;
 mod name_tails;
 mod names;
 mod node;
+mod node_steps;
 mod order;
 mod other_names;
 mod part_numbers;
@@ -28,6 +29,7 @@ mod used_names;
 
 pub use blob::Blob;
 pub use node::NodeRef;
+pub use node_steps::{NodeStep, NodeSteps};
 pub use order::{OrderedProperties, PropertyOrder};
 pub use properties::Properties;
 pub use ranks::{NameRanks, keys_at, rank_names};

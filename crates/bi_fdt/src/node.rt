@@ -49,6 +49,8 @@ impl<'a, 'b> NodeRef<'a, 'b> {
         requires { HasNodeAt blob.now.table index }
         ensures node { node_of result ≡ node_in blob.entry.now.table index }
         ensures same_table { table_of_node result ≡ blob.entry.now.table }
+        ensures same_blob { result.blob.now ≡ blob.entry.now }
+        ensures same_index { result.index ≡ index }
     {
         // The call gives the invariant of the blob to the proof: its table is short.
         let _ = blob.entries();
@@ -65,7 +67,7 @@ impl<'a, 'b> NodeRef<'a, 'b> {
     }
 
     /// Returns the node's entry.
-    fn entry(self) -> NodeEntry
+    pub(crate) fn entry(self) -> NodeEntry
         ensures { IsNodeOf self.entry.blob.now.file self.entry.blob.now.table self.entry.index
             result }
     {
