@@ -40,8 +40,7 @@ pub mod ComparedTexts
 pub mod ComparedImages
 pub mod ReadableDescriptions
 pub mod KeptProperties
-pub mod NextNodes
-pub mod EntriesOfNodes
+pub mod EntriesOfSteps
 pub mod DescribedFiles
 pub mod ListedFiles
 pub mod ListedNames

@@ -14,7 +14,7 @@ pub mod Extracting
 pub mod LimitedSinks
 pub mod Listing
 pub mod ImagePayloads
-pub mod MadeEntries
+pub mod StepEntries
 pub mod Parts
 pub mod PayloadBounds
 pub mod Shown

@@ -13,14 +13,12 @@ ghost use Rattle.bi_commands.specs.ReadDescription.{IsDescriptionOf, IsHeldImage
 mod digests;
 mod entries;
 mod fit;
-mod image_nodes;
 mod image_payload;
 mod json;
 mod legacy;
 mod limited_sink;
 mod lines;
-mod nodes;
-mod properties;
+mod steps;
 
 use crate::format::Format;
 use bi_base::{Command, Error, Limits, Sink, VecSink, are_bytes, pipe_to};

@@ -48,6 +48,8 @@ pub mod NewDigests
 pub mod TakenDigests
 pub mod RegionPairs
 pub mod NormalTrees
+pub mod WalkedTrees
+pub mod MeantWalks
 pub mod LongNames
 pub mod ImagesPositions
 pub mod NormalDocuments

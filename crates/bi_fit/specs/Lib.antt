@@ -6,6 +6,8 @@ pub mod Faults
 pub mod Text
 pub mod Judgement
 pub mod Updating
+pub mod Walks
+pub mod WalksOfFiles
 pub mod NewDigests
 pub mod UpdateLaws
 pub mod Building

@@ -27,6 +27,7 @@ mod property_names;
 mod signatures;
 mod text;
 pub mod update_laws;
+mod walk;
 
 pub use building::{Head, NamedImage, append_built};
 pub use changes::Changes;
@@ -41,3 +42,4 @@ pub use name_order::NameOrder;
 pub use payload_names::is_payload_name;
 pub use property_names::PropertyNames;
 pub use text::FitText;
+pub use walk::{Role, Step, Walk};

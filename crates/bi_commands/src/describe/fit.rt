@@ -12,10 +12,10 @@ ghost use Rattle.bi_commands.specs.ReadDescription.{read_text};
 ghost use Rattle.bi_commands.specs.TreeEntries.{most_open, as_entry};
 
 use super::entries::Entry;
-use super::image_nodes::entries_of;
 use super::json::put_fit_object;
 use super::limited_sink::LimitedSink;
 use super::lines::{most_open, put_tree};
+use super::steps::entries_of;
 use crate::common_lines::put_reservation_lines;
 use crate::fields::{Field, put_lines};
 use crate::format::Format;
