@@ -1,11 +1,15 @@
-use Rattle.std.proofs.Common.{◌≡◌, ℕ, T, not, cond, List, None, Equal, sym, ap, ◌∙◌, nat_cmp}
+use Rattle.std.proofs.Common.{◌≡◌, ℕ, T, not, true, cond, List, [], ◌∷◌, None, Equal, refl, sym, ap, ◌∙◌, nat_cmp}
 use Rattle.std.specs.Cmp.Lexicographic.{slice_cmp}
 use Rattle.std.specs.FinMap.{entries, from_sorted, get, entries-from_sorted, entries_sorted, is_sorted, get-from_sorted, same_entries_map}
 use Rattle.std.specs.FinMap.Entries.{where_key, find-where_key, is_sorted-where_key}
-use Rattle.bi_blob.specs.Tree.{Property, PropertyMap}
+use Rattle.bi_blob.specs.Tree.{Property, PropertyMap, FileNode}
 use Rattle.bi_blob.proofs.Texts.PropertyOrder.{order_tells}
+use Rattle.bi_fit.specs.declared.walk.Role.{Role}
+use Rattle.bi_fit.specs.declared.walk.Role.TheVariants as role
 use Rattle.bi_fit.specs.ImageTree.{without_payload}
 use Rattle.bi_fit.specs.Names.{is_payload_name}
+use Rattle.bi_fit.specs.NormalNodes.{properties_by_name}
+use Rattle.bi_fit.specs.WalksOfFiles.{is_meant, meant_properties}
 use Rattle.bi_fit.proofs.PayloadProperties.{same, get-without}
 
 -- The properties of an image node without those that hold a payload or name its region are the others, in the same order.
@@ -38,3 +42,19 @@ entries_without properties =
     is_sorted_kept : T (is_sorted (slice_cmp nat_cmp) kept)
     is_sorted_kept =
         is_sorted-where_key (slice_cmp nat_cmp) (λ name. not (is_payload_name name)) (entries properties) (entries_sorted properties)
+
+-- The properties that a node with this role means are those of these, in the same order.
+abbrev pub kept_of : {Given : Type 0} → Role Given → List Property → List Property
+kept_of kind properties = where_key (slice_cmp nat_cmp) (is_meant kind) properties
+
+all_kept : (properties : List Property) → where_key (slice_cmp nat_cmp) (λ _. true) properties ≡ properties
+all_kept [] = refl
+all_kept (property ∷ properties) = ap (λ l. property ∷ l) (all_kept properties)
+
+pub entries_meant : {Given : Type 0} (kind : Role Given) (own : FileNode) →
+    entries (meant_properties kind own) ≡ kept_of kind (entries (properties_by_name own))
+entries_meant role.Root own = sym (all_kept (entries (properties_by_name own)))
+entries_meant role.Images own = sym (all_kept (entries (properties_by_name own)))
+entries_meant (role.Image given) own = entries_without (properties_by_name own)
+entries_meant role.Hash own = sym (all_kept (entries (properties_by_name own)))
+entries_meant role.Other own = sym (all_kept (entries (properties_by_name own)))

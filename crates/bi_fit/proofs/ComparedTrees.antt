@@ -3,8 +3,8 @@ use Rattle.std.proofs.lemmas.Slice.Eq.{bytes_eq-Decides}
 use Rattle.bi_blob.specs.Tree.{Nodes, none, node, FileNode, names, as_nodes, IsNew, AreNodes}
 use Rattle.bi_blob.specs.Lookups.{Sibling}
 use Rattle.bi_fdt.specs.Content.{root_of}
-use Rattle.bi_fit.specs.declared.comparing.role.Role.{Role}
-use Rattle.bi_fit.specs.declared.comparing.role.Role.TheVariants.{RootChild, ImageNode, OtherNode}
+use Rattle.bi_fit.specs.declared.comparing.role.ComparedRole.{ComparedRole}
+use Rattle.bi_fit.specs.declared.comparing.role.ComparedRole.TheVariants.{RootChild, ImageNode, OtherNode}
 use Rattle.bi_fit.specs.Names.{images_name}
 use Rattle.bi_fit.specs.ImageTree.{ImageTree, with_children_of, without_payload, without_payloads}
 use Rattle.bi_fit.specs.Content.{FitModel, tree_of, IsHeld}
@@ -16,7 +16,7 @@ use Rattle.bi_fit.proofs.NormalTrees.{other_name, held_nodes}
 -- Image trees are equal if and only if what is compared of them is.
 
 -- After two nodes that are equal, the later ones are equal if and only if all are.
-pub same_later : (role : Role) (one other : Sibling FileNode) → compared_nodes role (alone one) ≡ compared_nodes role (alone other) →
+pub same_later : (role : ComparedRole) (one other : Sibling FileNode) → compared_nodes role (alone one) ≡ compared_nodes role (alone other) →
     (compared_nodes role one.later ≡ compared_nodes role other.later)
     ↔ (compared_nodes role (nodes_from (Some one)) ≡ compared_nodes role (nodes_from (Some other)))
 same_later role one other same = ((λ later. cc), (λ all. cc))

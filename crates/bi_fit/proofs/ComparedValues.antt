@@ -21,8 +21,8 @@ use Rattle.bi_fdt.specs.Order.{KeyedProperty, AreByNumber}
 use Rattle.bi_fdt.proofs.ByName.{found_by_name}
 use Rattle.bi_fdt.proofs.DistinctKeys.{one_name_each}
 use Rattle.bi_fdt.proofs.DistinctNumbers.{one_number_of_name}
-use Rattle.bi_fit.specs.declared.comparing.role.Role.{Role}
-use Rattle.bi_fit.specs.declared.comparing.role.Role.TheVariants.{RootNode, RootChild, ImageNode, OtherNode}
+use Rattle.bi_fit.specs.declared.comparing.role.ComparedRole.{ComparedRole}
+use Rattle.bi_fit.specs.declared.comparing.role.ComparedRole.TheVariants.{RootNode, RootChild, ImageNode, OtherNode}
 use Rattle.bi_fit.specs.NormalNodes.{HasDistinctNames, properties_by_name}
 use Rattle.bi_fit.specs.ComparedNodes.{is_compared, compared_properties, compared_values}
 use Rattle.bi_fit.proofs.PayloadProperties.{same, get-without}
@@ -58,7 +58,7 @@ value_named name [] = None
 value_named name (one ∷ keyed) = cond (bytes_eq name one.1.name) (Some one.1.value) (value_named name keyed)
 
 -- The properties that are compared of a node, by name.
-get-compared : (role : Role) (own : FileNode) (name : List ℕ) →
+get-compared : (role : ComparedRole) (own : FileNode) (name : List ℕ) →
     get (compared_properties role own) name ≡ cond (is_compared role name) (get (properties_by_name own) name) None
 get-compared RootNode own name = refl
 get-compared RootChild own name = refl
@@ -74,7 +74,7 @@ named_is name (one ∷ keyed) =
     (is_eq-slice_cmp name one.1.name)
     ∙ ap (cond (bytes_eq name one.1.name) (Some one.1.value)) (named_is name keyed)
 
-got : (role : Role) (own : FileNode) (keyed : List KeyedProperty) → HasDistinctNames own →
+got : (role : ComparedRole) (own : FileNode) (keyed : List KeyedProperty) → HasDistinctNames own →
     IsPermutation own.properties (map (λ one. one.1) keyed) →
     (name : List ℕ) → get (compared_properties role own) name ≡ cond (is_compared role name) (value_named name keyed) None
 got role own keyed distinct moved name =
@@ -84,7 +84,7 @@ got role own keyed distinct moved name =
 -- ---- values in the order of numbers
 
 -- A number that is below others is below their values.
-below_values : (role : Role) (number : ℕ) (keyed : List KeyedProperty) → AllByRecursion (λ other. nat_cmp number other ≡ Less)
+below_values : (role : ComparedRole) (number : ℕ) (keyed : List KeyedProperty) → AllByRecursion (λ other. nat_cmp number other ≡ Less)
     (keys_of keyed) →
     T (below_all nat_cmp number (compared_values role keyed))
 below_values role number [] below = tt
@@ -97,7 +97,7 @@ below_values role number (one ∷ keyed) below =
     ]
 
 -- The values are in the order of their numbers.
-sorted_values : (role : Role) (keyed : List KeyedProperty) → IsStrictlySortedBy nat_cmp (keys_of keyed) →
+sorted_values : (role : ComparedRole) (keyed : List KeyedProperty) → IsStrictlySortedBy nat_cmp (keys_of keyed) →
     T (is_sorted nat_cmp (compared_values role keyed))
 sorted_values role [] ascend = tt
 sorted_values role (one ∷ keyed) ascend =
@@ -109,7 +109,7 @@ sorted_values role (one ∷ keyed) ascend =
       | false ↦ rest
     ]
 
-module _ (names : List (List ℕ)) (distinct : AreDistinct names) (role : Role) where
+module _ (names : List (List ℕ)) (distinct : AreDistinct names) (role : ComparedRole) where
   -- Numbers are equal if and only if the names are.
   same_test : (number wanted : ℕ) (property_name name : List ℕ) → slice_get names number ≡ Some property_name →
       slice_get names wanted ≡ Some name → (wanted == number) ≡ bytes_eq name property_name

@@ -21,7 +21,7 @@ use crate::comparing::nodes::are_same_nodes;
 use crate::comparing::orders::Orders;
 use crate::comparing::payloads::have_same_payloads;
 use crate::comparing::reservations::have_same_reservations;
-use crate::comparing::role::Role;
+use crate::comparing::role::ComparedRole;
 use crate::fit::Fit;
 use bi_base::Error;
 use bi_fdt::Blob;
@@ -75,5 +75,5 @@ fn have_same_trees<'a>(alloc: Global, own: &Blob<'a>, other: &Blob<'a>) -> Resul
         ↔ (compared_tree own.now ≡ compared_tree other.now)) }
 {
     let orders = Orders::new(alloc, own, other)?;
-    Ok(are_same_nodes(own.root(), other.root(), Role::RootNode, &orders))
+    Ok(are_same_nodes(own.root(), other.root(), ComparedRole::RootNode, &orders))
 }

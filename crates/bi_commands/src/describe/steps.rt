@@ -72,7 +72,7 @@ fn add_begin<'a>(
     name: &'a [u8],
 ) -> Result<(), AllocError>
     ensures { OnOk result (map as_entry entries.new.items ≡ map as_entry entries.old.items
-        ++ begin_entries role name.entry.now) }
+        ++ begin_entries role.entry name.entry.now) }
 {
     match role {
         Role::Root => {}
@@ -95,7 +95,7 @@ fn add_properties<'a>(
     requires order { IsNameOrder (table_of_node node) order.now }
     requires distinct { HasDistinctNames (node_of node).own }
     ensures { OnOk result (map as_entry entries.new.items ≡ map as_entry entries.old.items
-        ++ property_entries (meant_properties role (node_of node.entry).own)) }
+        ++ property_entries (meant_properties role.entry (node_of node.entry).own)) }
 {
     for (_, property) in node.properties_in(&order.properties) {
         if !role.means(property.name) {

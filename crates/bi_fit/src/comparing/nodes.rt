@@ -8,7 +8,7 @@ ghost use Rattle.bi_fit.specs.ComparedNodes.{HaveOneOrder, compared_nodes};
 
 use crate::comparing::orders::Orders;
 use crate::comparing::properties::have_same_properties;
-use crate::comparing::role::Role;
+use crate::comparing::role::ComparedRole;
 use bi_fdt::NodeRef;
 
 /// Returns whether two nodes with this role are the same, with all nodes below them: they have the
@@ -17,7 +17,7 @@ use bi_fdt::NodeRef;
 pub(super) fn are_same_nodes(
     own: NodeRef<'_, '_>,
     other: NodeRef<'_, '_>,
-    role: Role,
+    role: ComparedRole,
     orders: &Orders,
 ) -> bool
     requires orders { HaveOneOrder own other orders.now }
@@ -38,7 +38,7 @@ pub(super) fn are_same_nodes(
 fn have_same_children(
     own: NodeRef<'_, '_>,
     other: NodeRef<'_, '_>,
-    role: Role,
+    role: ComparedRole,
     orders: &Orders,
 ) -> bool
     requires orders { HaveOneOrder own other orders.now }

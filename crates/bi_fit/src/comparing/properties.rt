@@ -6,7 +6,7 @@ ghost use Rattle.bi_fit.specs.NormalNodes.{HasDistinctNames};
 ghost use Rattle.bi_fit.specs.ComparedNodes.{HaveOneOrder, compared_properties, compared_values};
 
 use crate::comparing::orders::Orders;
-use crate::comparing::role::Role;
+use crate::comparing::role::ComparedRole;
 use bi_fdt::{NodeRef, OrderedProperties};
 
 /// Returns whether two nodes with this role have the same properties by name, without those that
@@ -16,7 +16,7 @@ use bi_fdt::{NodeRef, OrderedProperties};
 pub(super) fn have_same_properties(
     own: NodeRef<'_, '_>,
     other: NodeRef<'_, '_>,
-    role: Role,
+    role: ComparedRole,
     orders: &Orders,
 ) -> bool
     requires orders { HaveOneOrder own other orders.now }
@@ -42,7 +42,7 @@ pub(super) fn have_same_properties(
 /// value after its key. Returns None if there is no such property.
 fn next_value<'a>(
     properties: &mut OrderedProperties<'a, '_, '_>,
-    role: Role,
+    role: ComparedRole,
 ) -> Option<(usize, &'a [u8])>
     ensures value { MatchOption result (compared_values role properties.old ≡ [])
         (λ value. compared_values role properties.old

@@ -7,7 +7,7 @@ use crate::payload_names::is_payload_name;
 
 /// What a node of a flattened image tree is.
 #[derive(Clone, Copy)]
-pub(super) enum Role {
+pub(super) enum ComparedRole {
     /// The root.
     RootNode,
     /// A child of the root.
@@ -18,15 +18,15 @@ pub(super) enum Role {
     OtherNode,
 }
 
-impl Role {
+impl ComparedRole {
     /// Returns the role of the children of a node with this role and the given name.
-    pub(super) fn below(self, name: &[u8]) -> Role
+    pub(super) fn below(self, name: &[u8]) -> ComparedRole
         ensures { result ≡ role_below self name.now }
     {
         match self {
-            Role::RootNode => Role::RootChild,
-            Role::RootChild if name == b"images".as_slice() => Role::ImageNode,
-            Role::RootChild | Role::ImageNode | Role::OtherNode => Role::OtherNode,
+            ComparedRole::RootNode => ComparedRole::RootChild,
+            ComparedRole::RootChild if name == b"images".as_slice() => ComparedRole::ImageNode,
+            ComparedRole::RootChild | ComparedRole::ImageNode | ComparedRole::OtherNode => ComparedRole::OtherNode,
         }
     }
 
@@ -36,8 +36,8 @@ impl Role {
         ensures { result ≡ is_compared self name.now }
     {
         match self {
-            Role::ImageNode => !is_payload_name(name),
-            Role::RootNode | Role::RootChild | Role::OtherNode => true,
+            ComparedRole::ImageNode => !is_payload_name(name),
+            ComparedRole::RootNode | ComparedRole::RootChild | ComparedRole::OtherNode => true,
         }
     }
 }
