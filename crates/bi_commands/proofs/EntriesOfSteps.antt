@@ -108,7 +108,8 @@ module _ (payloads : List ImagePayload) where
   images_here name own children later is same = rw is at same
 
   images_later : (name : List ℕ) (own : PropertyMap) (children later : Nodes PropertyMap) → bytes_eq name images_name ≡ false →
-      length payloads ≡ length (siblings (images_among (node name own children later))) → length payloads ≡ length (siblings (images_among later))
+      length payloads ≡ length (siblings (images_among (node name own children later))) →
+      length payloads ≡ length (siblings (images_among later))
   images_later name own children later is same = rw is at same
 
   entries_root : (nodes : Nodes PropertyMap) → AreDistinct (names nodes) → length payloads ≡ length (siblings (images_among nodes)) →
@@ -120,7 +121,8 @@ module _ (payloads : List ImagePayload) where
       (by_name (bytes_eq name images_name) refl (entries_root later distinct.1))
     where
       by_name : (b : Bool) → bytes_eq name images_name ≡ b →
-          (length payloads ≡ length (siblings (images_among later)) → entries_in (nodes_of_root payloads later) ≡ node_entries (described later)) →
+          (length payloads ≡ length (siblings (images_among later)) →
+          entries_in (nodes_of_root payloads later) ≡ node_entries (described later)) →
           entries_in (nodes_of_root payloads later) ≡ node_entries (described later)
       by_name true is rest =
           entries_later later (subst (λ n. IsNew n (names later)) ((bytes_eq-Decides name images_name).0 is) distinct.0)
@@ -155,12 +157,13 @@ pub tree_is_good : (content : FitModel) → IsHeld content → IsImageTree (tree
 tree_is_good content held = file_means_image_tree content.blob.file (tree_of content) (held_means content held)
 
 -- Without the last entry they are the others.
-pub popped : (entries left : List Entry) (last : Option Entry) (all : List EntryModel) → entries ≡ left ++ option_to_list last → IsSome last →
+pub entries-pop : (entries left : List Entry) (last : Option Entry) (all : List EntryModel) → entries ≡ left ++ option_to_list last →
+    IsSome last →
     map as_entry entries ≡ all ++ NodeEnds ∷ [] → map as_entry left ≡ all
-popped entries left (Some entry) all is some are =
+entries-pop entries left (Some entry) all is some are =
     (same_from_push (map as_entry left) all (as_entry entry) NodeEnds
     (sym (map-append as_entry left (entry ∷ [])) ∙ ap (map as_entry) (sym is) ∙ are)).0
-popped entries left None all is some are = absurd (false≢true some)
+entries-pop entries left None all is some are = absurd (false≢true some)
 
 -- There is a last one.
 pub some_entries : (entries : List Entry) (all : List EntryModel) → map as_entry entries ≡ all ++ NodeEnds ∷ [] → 0 < length entries

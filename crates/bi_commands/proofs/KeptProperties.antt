@@ -44,15 +44,15 @@ entries_without properties =
         is_sorted-where_key (slice_cmp nat_cmp) (λ name. not (is_payload_name name)) (entries properties) (entries_sorted properties)
 
 -- The properties that a node with this role means are those of these, in the same order.
-abbrev pub kept_of : {Given : Type 0} → Role Given → List Property → List Property
-kept_of kind properties = where_key (slice_cmp nat_cmp) (is_meant kind) properties
+abbrev pub meant_among : {Given : Type 0} → Role Given → List Property → List Property
+meant_among kind properties = where_key (slice_cmp nat_cmp) (is_meant kind) properties
 
 all_kept : (properties : List Property) → where_key (slice_cmp nat_cmp) (λ _. true) properties ≡ properties
 all_kept [] = refl
 all_kept (property ∷ properties) = ap (λ l. property ∷ l) (all_kept properties)
 
 pub entries_meant : {Given : Type 0} (kind : Role Given) (own : FileNode) →
-    entries (meant_properties kind own) ≡ kept_of kind (entries (properties_by_name own))
+    entries (meant_properties kind own) ≡ meant_among kind (entries (properties_by_name own))
 entries_meant role.Root own = sym (all_kept (entries (properties_by_name own)))
 entries_meant role.Images own = sym (all_kept (entries (properties_by_name own)))
 entries_meant (role.Image given) own = entries_without (properties_by_name own)

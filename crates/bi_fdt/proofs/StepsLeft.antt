@@ -14,7 +14,7 @@ use Rattle.bi_fdt.specs.Fields.{IsNodeOf}
 use Rattle.bi_fdt.specs.NodeSteps.{NodeStepModel, NodeBegins, NodeEnds, node_steps, steps_from, table_of_steps}
 use Rattle.bi_fdt.specs.Table.{node_name_in}
 use Rattle.bi_fdt.proofs.NodeViews.{after_node}
-use Rattle.bi_fdt.proofs.TableTrees.{EndsAbove, nodes-same, nodes-above, nodes-deeper}
+use Rattle.bi_fdt.proofs.TableTrees.{EndsAbove, nodes-end, nodes-same, nodes-deeper}
 use Rattle.bi_fdt.proofs.NodeEntries.{first_depth, first_rest, nodes-past_properties}
 
 -- The steps of a walk through a table are those of its tree.
@@ -37,17 +37,12 @@ begins_node depth (PropertyItem property ∷ items) begins = absurd (false≢tru
 begins_node depth (NodeItem own place name ∷ items) begins = refl
 
 -- Items that end above the next depth and begin with no node at this one end above it.
-pub ends_here : (depth : ℕ) (items : List TableItem) → EndsAbove (depth + 1) items → begins_at_depth depth items ≡ false → EndsAbove depth items
+pub ends_here : (depth : ℕ) (items : List TableItem) → EndsAbove (depth + 1) items → begins_at_depth depth items ≡ false →
+    EndsAbove depth items
 ends_here depth [] ends not_here = tt
 ends_here depth (PropertyItem property ∷ items) ends not_here = absurd ends
 ends_here depth (NodeItem own place name ∷ items) ends not_here =
     let other : own ≡ depth → ⊥ = λ same. false≢true (sym not_here ∙ eq-eqb own depth same) in omega arith
-
--- No nodes are left then.
-pub none_left : (depth : ℕ) (items : List TableItem) → EndsAbove depth items → nodes_of depth items ≡ none
-none_left depth [] ends = refl
-none_left depth (PropertyItem property ∷ items) ends = absurd ends
-none_left depth (NodeItem own place name ∷ items) ends = nodes-above depth own place name items ends
 
 -- After the properties of a node come items that end above its grandchildren.
 pub ends_below : (depth : ℕ) (items : List TableItem) (es : List FileEvent) → items ≡ items_of depth es →
@@ -55,14 +50,14 @@ pub ends_below : (depth : ℕ) (items : List TableItem) (es : List FileEvent) �
 ends_below depth items es is =
     by_rest (drop (length (first_properties items)) items) (first_rest items)
     (λ own place name rest at. first_depth depth es own place name rest (ap (λ l. drop (length (first_properties l)) l) (sym is) ∙ at))
-    where
-      by_rest : (rest : List TableItem) → ((p : FileProperty) (more : List TableItem) → rest ≡ PropertyItem p ∷ more → ⊥)
-          → ((own place : ℕ) (name : List ℕ) (more : List TableItem) → rest ≡ NodeItem own place name ∷ more → own ≤ depth)
-          → EndsAbove (depth + 1) rest
-      by_rest [] no_property least = tt
-      by_rest (PropertyItem p ∷ rest) no_property least = absurd (no_property p rest refl)
-      by_rest (NodeItem own place name ∷ rest) no_property least =
-          let most : own ≤ depth = least own place name rest refl in omega arith
+  where
+    by_rest : (rest : List TableItem) → ((p : FileProperty) (more : List TableItem) → rest ≡ PropertyItem p ∷ more → ⊥)
+        → ((own place : ℕ) (name : List ℕ) (more : List TableItem) → rest ≡ NodeItem own place name ∷ more → own ≤ depth)
+        → EndsAbove (depth + 1) rest
+    by_rest [] no_property least = tt
+    by_rest (PropertyItem p ∷ rest) no_property least = absurd (no_property p rest refl)
+    by_rest (NodeItem own place name ∷ rest) no_property least =
+        let most : own ≤ depth = least own place name rest refl in omega arith
 
 -- A node that is deeper than all siblings of open nodes makes no difference to what follows it.
 steps_past : (depth own place : ℕ) (name : List ℕ) (items : List TableItem) → depth < own →
@@ -133,11 +128,11 @@ module _ (file : List ℕ) (table : List TableItem) (index depth : ℕ) (n : Nod
 -- Where none begins, the innermost open node ends.
 pub steps_end : (depth : ℕ) (items : List TableItem) → EndsAbove (suc depth) items →
     steps_from (suc depth) items ≡ NodeEnds ∷ steps_from depth items
-steps_end depth items ends = ap (λ nodes. node_steps (suc depth) nodes ++ (NodeEnds ∷ steps_from depth items)) (none_left (suc depth) items ends)
+steps_end depth items ends = ap (λ nodes. node_steps (suc depth) nodes ++ (NodeEnds ∷ steps_from depth items)) (nodes-end (suc depth) items ends)
 
 -- Nothing is left where no node is open.
 pub steps_none : (items : List TableItem) → EndsAbove 0 items → steps_from 0 items ≡ []
-steps_none items ends = ap (node_steps 0) (none_left 0 items ends)
+steps_none items ends = ap (node_steps 0) (nodes-end 0 items ends)
 
 -- The node that a walk has come to.
 pub begins_here : (s : NodeSteps) → begins_at_depth s.depth (drop s.index (table_of_steps s)) ≡ true → HasNodeAt (table_of_steps s) s.index

@@ -16,7 +16,8 @@ use Rattle.bi_fit.proofs.NormalTrees.{other_name, held_nodes}
 -- Image trees are equal if and only if what is compared of them is.
 
 -- After two nodes that are equal, the later ones are equal if and only if all are.
-pub same_later : (role : ComparedRole) (one other : Sibling FileNode) → compared_nodes role (alone one) ≡ compared_nodes role (alone other) →
+pub same_later : (role : ComparedRole) (one other : Sibling FileNode) →
+    compared_nodes role (alone one) ≡ compared_nodes role (alone other) →
     (compared_nodes role one.later ≡ compared_nodes role other.later)
     ↔ (compared_nodes role (nodes_from (Some one)) ≡ compared_nodes role (nodes_from (Some other)))
 same_later role one other same = ((λ later. cc), (λ all. cc))

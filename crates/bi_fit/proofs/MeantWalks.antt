@@ -133,13 +133,15 @@ module _ (Given : Type 0) where
       AllByRecursion HasDistinctStep (steps (node name (in_role kind own) children later))
   distinct_node kind name own children later here below after = (here, distinct_append (steps children) (StepEnds ∷ steps later) below (tt, after))
 
-  distinct_others : (nodes : Nodes FileNode) → EachOwn HasDistinctNames nodes → AllByRecursion (HasDistinctStep {Given = Given}) (steps (other_nodes nodes))
+  distinct_others : (nodes : Nodes FileNode) → EachOwn HasDistinctNames nodes →
+      AllByRecursion (HasDistinctStep {Given = Given}) (steps (other_nodes nodes))
   distinct_others none each = tt
   distinct_others (node name own children later) each =
       distinct_node role.Other name own (other_nodes children) (other_nodes later) each.0 (distinct_others children each.1)
       (distinct_others later each.2)
 
-  distinct_children : (nodes : Nodes FileNode) → EachOwn HasDistinctNames nodes → AllByRecursion (HasDistinctStep {Given = Given}) (steps (nodes_of_image nodes))
+  distinct_children : (nodes : Nodes FileNode) → EachOwn HasDistinctNames nodes →
+      AllByRecursion (HasDistinctStep {Given = Given}) (steps (nodes_of_image nodes))
   distinct_children none each = tt
   distinct_children (node name own children later) each =
       distinct_node (role_in_image name) name own (other_nodes children) (nodes_of_image later) each.0 (distinct_others children each.1)

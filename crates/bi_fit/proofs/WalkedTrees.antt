@@ -6,13 +6,13 @@ use Rattle.bi_fit.specs.declared.walk.Role.TheVariants as role
 use Rattle.bi_fit.specs.Names.{images_name}
 use Rattle.bi_fit.specs.Walks.{StepModel, StepBegins, StepEnds, InRole, in_role, steps, other_nodes, role_in_image, nodes_of_image, nodes_of_images}
 use Rattle.bi_fit.specs.Walks.{with_root_child, nodes_of_root, nodes_in_roles}
-use Rattle.bi_fit.specs.WalksOfFiles.{walked, role_in_root}
+use Rattle.bi_fit.specs.WalksOfFiles.{role_steps, role_in_root}
 
 -- The steps of a walk through the nodes of a file are those of its tree with roles.
 
 module _ {Given : Type 0} (images : List Given) where
   abbrev Walked : Option (List Given) → List NodeStepModel → List (StepModel Given FileNode)
-  Walked left list = walked images left list
+  Walked left list = role_steps images left list
 
   -- A node's begin, the steps of its children, its end, and what follows.
   begin_then : (begin : StepModel Given FileNode) (left : Option (List Given)) (children later : List (StepModel Given FileNode))

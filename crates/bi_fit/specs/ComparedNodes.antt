@@ -17,7 +17,7 @@ use Rattle.bi_fit.specs.NormalNodes.{properties_by_name, alone}
 -- What is compared of the nodes of two image trees, node by node of their files.
 
 -- The role of the children of a node with this role and the given name.
-abbrev pub role_below : ComparedRole → (name : List ℕ) → Role
+abbrev pub role_below : ComparedRole → (name : List ℕ) → ComparedRole
 role_below RootNode name = RootChild
 role_below RootChild name = if bytes_eq name images_name then ImageNode else OtherNode
 role_below ImageNode name = OtherNode

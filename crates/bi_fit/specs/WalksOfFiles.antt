@@ -76,13 +76,13 @@ role_at images left (suc (suc (suc zero))) name = (role_below_images left name, 
 role_at images left (suc (suc (suc (suc depth)))) name = (role.Other, left)
 
 -- The steps of these steps of nodes.
-abbrev pub walked : {Given : Type 0} → List Given → Option (List Given) → List NodeStepModel
+abbrev pub role_steps : {Given : Type 0} → List Given → Option (List Given) → List NodeStepModel
     → List (StepModel Given FileNode)
-walked images left [] = []
-walked images left (NodeEnds ∷ later) = StepEnds ∷ walked images left later
-walked images left (NodeBegins depth begun ∷ later) =
+role_steps images left [] = []
+role_steps images left (NodeEnds ∷ later) = StepEnds ∷ role_steps images left later
+role_steps images left (NodeBegins depth begun ∷ later) =
     StepBegins (role_at images left depth begun.name).0 begun.name begun.own
-    ∷ walked images (role_at images left depth begun.name).1 later
+    ∷ role_steps images (role_at images left depth begun.name).1 later
 
 -- The table that a walk is through.
 abbrev pub table_of_walk : {Given : Type 0} → Walk Given → List TableItem
@@ -91,7 +91,7 @@ table_of_walk walk = table_of_steps walk.nodes
 -- The steps that are left of a walk.
 abbrev pub walk_left : {Given : Type 0} → Walk Given → List (StepModel Given FileNode)
 walk_left walk =
-    walked walk.images.now (option_map (λ left. left.now) walk.left) (steps_left walk.nodes)
+    role_steps walk.images.now (option_map (λ left. left.now) walk.left) (steps_left walk.nodes)
 
 -- A step that the code made.
 abbrev pub as_step : {Given : Type 0} → Step Given → StepModel Given FileNode

@@ -26,7 +26,8 @@ impl ComparedRole {
         match self {
             ComparedRole::RootNode => ComparedRole::RootChild,
             ComparedRole::RootChild if name == b"images".as_slice() => ComparedRole::ImageNode,
-            ComparedRole::RootChild | ComparedRole::ImageNode | ComparedRole::OtherNode => ComparedRole::OtherNode,
+            ComparedRole::RootChild | ComparedRole::ImageNode | ComparedRole::OtherNode =>
+                ComparedRole::OtherNode,
         }
     }
 

@@ -4,11 +4,11 @@ use Rattle.bi_fdt.specs.Views.{node_of}
 use Rattle.bi_fit.specs.WalksOfFiles.{meant_properties}
 use Rattle.bi_commands.specs.StepEntries.{property_entries}
 use Rattle.bi_commands.specs.TreeEntries.{PropertyEntry, as_entry}
-use Rattle.bi_commands.proofs.KeptProperties.{kept_of}
+use Rattle.bi_commands.proofs.KeptProperties.{meant_among}
 use Rattle.bi_commands.proofs.describe.steps.add_properties.Given as goal
 
 -- The entries so far and those of the properties that are left are all.
 abbrev pub invariant-loop-property : goal.invariant-loop-property
 invariant-loop-property l =
-    map as_entry l.entries.items ++ map PropertyEntry (kept_of l.role (map (λ keyed. property_of keyed.1) l.property-iterator))
+    map as_entry l.entries.items ++ map PropertyEntry (meant_among l.role (map (λ keyed. property_of keyed.1) l.property-iterator))
     ≡ map as_entry l.initial.entries.items ++ property_entries (meant_properties l.role (node_of l.node).own)

@@ -5,7 +5,7 @@ use Rattle.bi_fit.specs.Walks.{walk_of}
 use Rattle.bi_fit.specs.WalksOfFiles.{walk_left, table_of_walk, meant_step, HasDistinctStep}
 use Rattle.bi_commands.specs.StepEntries.{step_entries}
 use Rattle.bi_commands.specs.TreeEntries.{NodeEnds, as_entry, tree_entries}
-use Rattle.bi_commands.proofs.EntriesOfSteps.{walk_entries, tree_is_good, popped, some_entries}
+use Rattle.bi_commands.proofs.EntriesOfSteps.{walk_entries, tree_is_good, entries-pop, some_entries}
 use Rattle.bi_commands.proofs.describe.steps.entries_of.Goals as goal
 
 pub loop-step-init : goal.loop-step-init
@@ -34,5 +34,5 @@ returns c =
     let all : map as_entry entries ≡ tree_entries tree ++ NodeEnds ∷ [] =
     sym (append-nil (map as_entry entries))
     ∙ ap (λ left. map as_entry entries ++ flat_map step_entries (map meant_step left)) (sym none) ∙ c.loop-step.invariant.left in
-    popped entries c.pop.new.self.items c.pop.result (tree_entries tree) c.pop.ensures.items
+    entries-pop entries c.pop.new.self.items c.pop.result (tree_entries tree) c.pop.ensures.items
     (c.pop.ensures.variant.1 (omega (arith, c.loop-step.entries.ok.0, some_entries entries (tree_entries tree) all))) all

@@ -2,14 +2,14 @@ use Rattle.std.proofs.Common.{◌≡◌, None, map, sym, ap, subst, ◌∙◌}
 use Rattle.std.specs.List.{AllByRecursion}
 use Rattle.bi_fdt.specs.Content.{Blob, root_of}
 use Rattle.bi_fit.specs.Walks.{steps, nodes_in_roles}
-use Rattle.bi_fit.specs.WalksOfFiles.{walked, walk_of_blob, meant_step, HasDistinctStep}
+use Rattle.bi_fit.specs.WalksOfFiles.{role_steps, walk_of_blob, meant_step, HasDistinctStep}
 use Rattle.bi_fit.proofs.WalkedTrees.{walked_tree}
 use Rattle.bi_fit.proofs.MeantWalks.{meant_walk, distinct_walk}
 use Rattle.bi_fit.proofs.fit.Fit.walk.Goals as goal
 
 pub returns-clause-steps : goal.returns-clause-steps
 returns-clause-steps g c =
-    ap (walked c.args.images.now None) c.node_steps.ensures.steps
+    ap (role_steps c.args.images.now None) c.node_steps.ensures.steps
     ∙ walked_tree c.args.images.now (root_of c.blob.result.now)
     ∙ ap (λ (blob : Blob). steps (nodes_in_roles c.args.images.now (root_of blob))) c.blob.ensures
 
