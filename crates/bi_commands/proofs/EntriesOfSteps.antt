@@ -14,7 +14,7 @@ use Rattle.bi_fit.specs.declared.walk.Role.TheVariants as role
 use Rattle.bi_fit.specs.Content.{FitModel, tree_of, IsHeld}
 use Rattle.bi_fit.specs.ImageTree.{ImageTree, IsImageTree, IsApart, ArePropertiesByName, children_of, nodes_or_none, each_own}
 use Rattle.bi_fit.specs.Names.{images_name, is_hash_name}
-use Rattle.bi_fit.specs.Walks.{StepBegins, StepEnds, InRole, in_role, steps, other_nodes, role_in_image, nodes_of_image, nodes_of_images}
+use Rattle.bi_fit.specs.Walks.{StepEnds, InRole, in_role, steps, other_nodes, role_in_image, nodes_of_image, nodes_of_images}
 use Rattle.bi_fit.specs.Walks.{with_root_child, nodes_of_root, walk_of}
 use Rattle.bi_fit.proofs.FileConfigurations.{names_are_distinct}
 use Rattle.bi_fit.proofs.NormalTrees.{held_means}

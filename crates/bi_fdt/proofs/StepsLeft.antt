@@ -1,9 +1,9 @@
-use Rattle.std.proofs.Common.{◌≡◌, ℕ, zero, suc, ◌+◌, ◌<◌, ◌≤◌, Bool, true, false, List, [], ◌∷◌, ◌++◌, length, drop, refl, sym, ap, subst}
+use Rattle.std.proofs.Common.{◌≡◌, ℕ, zero, suc, ◌+◌, ◌<◌, ◌≤◌, true, false, List, [], ◌∷◌, ◌++◌, length, drop, refl, sym, ap, subst}
 use Rattle.std.proofs.Common.{◌∙◌, arith}
-use Rattle.std.specs.Prelude.{◌==◌, IsTrue}
-use Rattle.std.proofs.lemmas.Bool.{eqb-true, eq-eqb, ltb-true, lt-ltb, false≢true}
+use Rattle.std.specs.Prelude.{IsTrue}
+use Rattle.std.proofs.lemmas.Bool.{eqb-true, lt-ltb, false≢true}
 use Rattle.std.proofs.lemmas.List.{append_assoc}
-use Rattle.bi_blob.specs.Tree.{Nodes, none, node, FileNode, FileProperty}
+use Rattle.bi_blob.specs.Tree.{node, FileProperty}
 use Rattle.bi_blob.specs.Events.{FileEvent}
 use Rattle.bi_fdt.specs.TableItems.{TableItem, NodeItem, PropertyItem, first_properties, nodes_of, items_of, begins_at_depth, ends_above}
 use Rattle.bi_fdt.specs.Content.{begins_with_node, first_sibling}
@@ -11,20 +11,15 @@ use Rattle.bi_fdt.specs.declared.node_steps.NodeSteps.{NodeSteps}
 use Rattle.bi_fdt.specs.declared.table.NodeEntry.{NodeEntry}
 use Rattle.bi_fdt.specs.Views.{HasNodeAt}
 use Rattle.bi_fdt.specs.Fields.{IsNodeOf}
-use Rattle.bi_fdt.specs.NodeSteps.{NodeStepModel, NodeBegins, NodeEnds, node_steps, steps_from, table_of_steps}
+use Rattle.bi_fdt.specs.NodeSteps.{NodeBegins, NodeEnds, node_steps, steps_from, table_of_steps}
 use Rattle.bi_fdt.specs.Table.{node_name_in}
 use Rattle.bi_fdt.proofs.NodeViews.{after_node}
-use Rattle.bi_fdt.proofs.TableTrees.{EndsAbove, nodes-end, nodes-same, nodes-deeper}
+use Rattle.bi_fdt.proofs.TableTrees.{EndsAbove, nodes-same, nodes-deeper}
 use Rattle.bi_fdt.proofs.NodeEntries.{first_depth, first_rest, nodes-past_properties}
 
 -- The steps of a walk through a table are those of its tree.
 
 -- What the test of where items end tells.
-pub ends_above-EndsAbove : (depth : ℕ) (items : List TableItem) → IsTrue (ends_above depth items) → EndsAbove depth items
-ends_above-EndsAbove depth [] ends = tt
-ends_above-EndsAbove depth (PropertyItem property ∷ items) ends = absurd (false≢true ends)
-ends_above-EndsAbove depth (NodeItem own place name ∷ items) ends = ltb-true own depth ends
-
 pub EndsAbove-ends_above : (depth : ℕ) (items : List TableItem) → EndsAbove depth items → IsTrue (ends_above depth items)
 EndsAbove-ends_above depth [] ends = refl
 EndsAbove-ends_above depth (PropertyItem property ∷ items) ends = absurd ends
@@ -35,14 +30,6 @@ begins_node : (depth : ℕ) (items : List TableItem) → begins_at_depth depth i
 begins_node depth [] begins = absurd (false≢true begins)
 begins_node depth (PropertyItem property ∷ items) begins = absurd (false≢true begins)
 begins_node depth (NodeItem own place name ∷ items) begins = refl
-
--- Items that end above the next depth and begin with no node at this one end above it.
-pub ends_here : (depth : ℕ) (items : List TableItem) → EndsAbove (depth + 1) items → begins_at_depth depth items ≡ false →
-    EndsAbove depth items
-ends_here depth [] ends not_here = tt
-ends_here depth (PropertyItem property ∷ items) ends not_here = absurd ends
-ends_here depth (NodeItem own place name ∷ items) ends not_here =
-    let other : own ≡ depth → ⊥ = λ same. false≢true (sym not_here ∙ eq-eqb own depth same) in omega arith
 
 -- After the properties of a node come items that end above its grandchildren.
 pub ends_below : (depth : ℕ) (items : List TableItem) (es : List FileEvent) → items ≡ items_of depth es →
@@ -124,15 +111,6 @@ module _ (file : List ℕ) (table : List TableItem) (index depth : ℕ) (n : Nod
             ∙ (λ i. steps_from (next i) (sym after_is i)) where
               next : suc depth ≡ depth + 1
               next = omega arith
-
--- Where none begins, the innermost open node ends.
-pub steps_end : (depth : ℕ) (items : List TableItem) → EndsAbove (suc depth) items →
-    steps_from (suc depth) items ≡ NodeEnds ∷ steps_from depth items
-steps_end depth items ends = ap (λ nodes. node_steps (suc depth) nodes ++ (NodeEnds ∷ steps_from depth items)) (nodes-end (suc depth) items ends)
-
--- Nothing is left where no node is open.
-pub steps_none : (items : List TableItem) → EndsAbove 0 items → steps_from 0 items ≡ []
-steps_none items ends = ap (node_steps 0) (nodes-end 0 items ends)
 
 -- The node that a walk has come to.
 pub begins_here : (s : NodeSteps) → begins_at_depth s.depth (drop s.index (table_of_steps s)) ≡ true → HasNodeAt (table_of_steps s) s.index

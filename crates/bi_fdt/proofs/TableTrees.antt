@@ -38,7 +38,7 @@ nodes-above depth own place name items above =
     (nodes_of depth items) else (if nat_lt depth own then nodes_of depth items else none)) (ne_eqb own depth (λ e. omega arith))
     ∙ ap (λ b. if b then nodes_of depth items else none) (le-ltb depth own (omega arith))
 
-pub nodes-end : (depth : ℕ) (items : List TableItem) → EndsAbove depth items → nodes_of depth items ≡ none
+nodes-end : (depth : ℕ) (items : List TableItem) → EndsAbove depth items → nodes_of depth items ≡ none
 nodes-end depth [] ends = refl
 nodes-end depth (PropertyItem property ∷ items) ends = absurd ends
 nodes-end depth (NodeItem own place name ∷ items) ends = nodes-above depth own place name items ends

@@ -1,14 +1,12 @@
-use Rattle.std.proofs.Common.{◌≡◌, ℕ, suc, Bool, true, false, List, [], ◌∷◌, ◌++◌, length, map, Option, Some, None, bytes_eq, refl, sym, ap, subst}
+use Rattle.std.proofs.Common.{◌≡◌, ℕ, Bool, true, false, List, [], ◌∷◌, ◌++◌, length, map, bytes_eq, refl, ap, subst}
 use Rattle.std.proofs.Common.{◌∙◌, arith}
 use Rattle.std.specs.Prelude.{if◌then◌else◌}
 use Rattle.std.specs.List.{AllByRecursion}
-use Rattle.std.specs.FinMap.{from_entries}
 use Rattle.std.proofs.lemmas.List.{map-append}
 use Rattle.std.proofs.lemmas.Slice.Zip.{AllZip-long}
 use Rattle.std.proofs.lemmas.Slice.Eq.{bytes_eq-Decides}
 use Rattle.bi_blob.specs.Tree.{Nodes, none, node, Root, PropertyMap, FileNode, EachOwn, AreDistinct, AreProperties, IsNew, names, with_each, properties_of}
 use Rattle.bi_blob.specs.Lookups.{siblings, root_node}
-use Rattle.bi_blob.proofs.Blobs.Lookups.{names-with_each}
 use Rattle.bi_fdt.specs.Content.{root_of}
 use Rattle.bi_fit.specs.declared.walk.Role.{Role}
 use Rattle.bi_fit.specs.declared.walk.Role.TheVariants as role

@@ -1,10 +1,10 @@
-use Rattle.std.proofs.Common.{◌≡◌, ℕ, zero, suc, ◌+◌, Bool, true, false, List, [], ◌∷◌, ◌++◌, Option, Some, None, bytes_eq, refl, sym, ap, ◌∙◌, arith}
+use Rattle.std.proofs.Common.{◌≡◌, ℕ, suc, ◌+◌, Bool, true, false, List, [], ◌∷◌, ◌++◌, Option, Some, None, bytes_eq, refl, sym, ap, ◌∙◌, arith}
 use Rattle.std.proofs.lemmas.List.{append_assoc}
 use Rattle.bi_blob.specs.Tree.{Nodes, none, node, Root, FileNode, as_nodes}
 use Rattle.bi_fdt.specs.NodeSteps.{NodeStepModel, NodeEnds, node_steps}
 use Rattle.bi_fit.specs.declared.walk.Role.TheVariants as role
 use Rattle.bi_fit.specs.Names.{images_name}
-use Rattle.bi_fit.specs.Walks.{StepModel, StepBegins, StepEnds, InRole, in_role, steps, other_nodes, role_in_image, nodes_of_image, nodes_of_images}
+use Rattle.bi_fit.specs.Walks.{StepModel, StepBegins, StepEnds, steps, other_nodes, role_in_image, nodes_of_image, nodes_of_images}
 use Rattle.bi_fit.specs.Walks.{with_root_child, nodes_of_root, nodes_in_roles}
 use Rattle.bi_fit.specs.WalksOfFiles.{role_steps, role_in_root}
 

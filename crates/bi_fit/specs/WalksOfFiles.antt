@@ -1,5 +1,5 @@
-use Rattle.std.specs.Prelude.{◌≡◌, ℕ, zero, suc, Bool, true, false, not, List, [], ◌∷◌, ⊤, map}
-use Rattle.std.specs.Prelude.{Option, Some, None, IfSome, bytes_eq, if◌then◌else◌, option_map}
+use Rattle.std.specs.Prelude.{◌≡◌, ℕ, zero, suc, Bool, true, false, not, List, [], ◌∷◌, ⊤}
+use Rattle.std.specs.Prelude.{Option, Some, None, IfSome, bytes_eq, option_map}
 use Rattle.std.specs.Iterator.{YieldsFirstBy}
 use Rattle.bi_blob.specs.Tree.{FileNode, PropertyMap}
 use Rattle.bi_fdt.specs.Content.{Blob, root_of}
