@@ -14,6 +14,8 @@ pub mod ProgramFacts
 pub mod NoRequests
 pub mod CauseLines
 pub mod FilesAfter
+pub mod DirectoriesAfter
+pub mod NewDirectories
 pub mod LeftFiles
 pub mod MemoryLogs
 pub mod JobStatuses

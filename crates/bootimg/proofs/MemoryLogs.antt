@@ -1,14 +1,14 @@
 use Rattle.std.proofs.Common.{◌≡◌, ◌++◌, ◌∷◌, [], ◌∙◌, ◌<◌, ◌≤◌, ◌+◌, ◌-◌, ℕ, Bool, true, false, List, Option, Some, None, map, length}
 use Rattle.std.proofs.Common.{take, get_or, ap, arith, subst, sym, refl}
 use Rattle.std.specs.Prelude.{IfSome, IsFalse, IsTrue}
-use Rattle.std.proofs.lemmas.List.{map_push, take_more}
+use Rattle.std.proofs.lemmas.List.{map_push, take_all, take_more}
 use Rattle.bootimg.specs.declared.memory_files.MemoryStep.{MemoryStep}
 use Rattle.bootimg.specs.declared.memory_files.StepKind.{StepKind}
 use Rattle.bootimg.specs.declared.memory_files.StepKind.TheVariants as kind
 use Rattle.bootimg.specs.Files.{FileStep, TookSteps}
 use Rattle.bootimg.specs.FilesAfter.{no_names, after_step, after_steps, HasContents, HaveContents}
 use Rattle.bootimg.specs.LeftFiles.{LeavesFiles}
-use Rattle.bootimg.specs.MemoryFiles.{recorded_names, recorded_steps, recorded_step, named_step}
+use Rattle.bootimg.specs.MemoryFiles.{IsFound, IsFoundToo, recorded_names, recorded_steps, recorded_step, named_step}
 use Rattle.bootimg.specs.Runs.{Run, IsRun}
 use Rattle.bootimg.proofs.FilesAfter.{after_steps-append}
 use Rattle.bootimg.proofs.LeftFiles.{run_leaves}
@@ -57,15 +57,22 @@ pub names_before_one : (log : List MemoryStep) (left : ℕ) (d : MemoryStep) →
 names_before_one log left d within =
     ap recorded_names (take_more log left d within) ∙ names_after_one (take left log) (get_or log left d)
 
+-- What is found of a name before no step is back is found of it.
+pub found_before : (log : List MemoryStep) (name : List ℕ)
+    → IsFoundToo (recorded_names (take (length log) log) name) (recorded_names log name)
+found_before log name what is = subst (λ l. IsFound (recorded_names l name) what) (take_all (length log) log (omega arith)) is
+
 -- The last of the steps that were not seen yet.
 pub one_step_back : (log : List MemoryStep) (left : ℕ) (step : MemoryStep) (name wanted : List ℕ) → 0 < left → left ≤ length log
-    → step ≡ get_or log (left - 1) step → recorded_names log name ≡ recorded_names (take left log) wanted
-    → recorded_names log name ≡ after_step (recorded_names (take (left - 1) log)) (recorded_step step) wanted
-one_step_back log left step name wanted some within is same =
+    → step ≡ get_or log (left - 1) step → IsFoundToo (recorded_names (take left log) wanted) (recorded_names log name)
+    → IsFoundToo (after_step (recorded_names (take (left - 1) log)) (recorded_step step) wanted) (recorded_names log name)
+one_step_back log left step name wanted some within is same what found =
     let one : left - 1 + 1 ≡ left = omega arith in
     let back = names_before_one log (left - 1) step (omega arith) in
-    same ∙ ap (λ n. recorded_names (take n log) wanted) (sym one) ∙ ap (λ n. n wanted) back
-    ∙ ap (λ s. after_step (recorded_names (take (left - 1) log)) (recorded_step s) wanted) (sym is)
+    let equal : recorded_names (take left log) wanted ≡ after_step (recorded_names (take (left - 1) log)) (recorded_step step) wanted =
+    ap (λ n. recorded_names (take n log) wanted) (sym one) ∙ ap (λ n. n wanted) back
+    ∙ ap (λ s. after_step (recorded_names (take (left - 1) log)) (recorded_step s) wanted) (sym is) in
+    same what (subst (λ e. IsFound e what) (sym equal) found)
 
 -- ---- a run
 
@@ -82,6 +89,17 @@ contents_of_kind name (kind.Renamed other) = tt
 contents_of_kind name (kind.NotRenamed other) = tt
 contents_of_kind name kind.Removed = tt
 contents_of_kind name kind.NotRemoved = tt
+contents_of_kind name kind.DirectoryMade = tt
+contents_of_kind name (kind.MadeIn in_it file) = (file.bytes.now, refl)
+contents_of_kind name (kind.NotMadeIn in_it) = tt
+contents_of_kind name (kind.ClosedIn in_it file) = tt
+contents_of_kind name (kind.NotClosedIn in_it file) = tt
+contents_of_kind name (kind.DirectoryRenamed other) = tt
+contents_of_kind name (kind.DirectoryNotRenamed other) = tt
+contents_of_kind name (kind.RemovedIn in_it) = tt
+contents_of_kind name (kind.NotRemovedIn in_it) = tt
+contents_of_kind name kind.DirectoryRemoved = tt
+contents_of_kind name kind.DirectoryNotRemoved = tt
 
 have_contents : (log : List MemoryStep) → HaveContents (map recorded_step log)
 have_contents [] = tt

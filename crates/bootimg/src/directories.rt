@@ -1,10 +1,8 @@
 //! Saving payloads in a new directory.
 
-ghost use Rattle.std.specs.Prelude.{◌≡◌, ◌≤◌, map, length, take, IfOk, IfErr, OnOk, string_bytes};
-ghost use Rattle.std.specs.Prelude.{IsTrue, IsFalse};
+ghost use Rattle.std.specs.Prelude.{◌≤◌, map, length, take, IfOk, IfErr, OnOk, OnErr};
+ghost use Rattle.std.specs.Prelude.{string_bytes};
 ghost use Rattle.bi_commands.specs.Payloads.{payload_file};
-ghost use Rattle.bi_base.specs.Writing.{WroteAndFlushed};
-ghost use Rattle.bootimg.specs.declared.failure.Failure.TheVariants.{NotWritten};
 ghost use Rattle.bootimg.specs.Directories.{AreFilesNotPut, AreFilesPut, IsDirectoryInPlace};
 ghost use Rattle.bootimg.specs.Directories.{IsDirectoryMade, IsDirectoryNotInPlace};
 ghost use Rattle.bootimg.specs.Directories.{IsDirectoryNotSaved, IsDirectoryRemoved};
@@ -114,30 +112,33 @@ fn put_files<F: FileSystem>(
             return Err(made);
         };
         made += 1;
-        if !fill(files, directory, payload, file) {
-            return Err(made);
+        match fill(files, directory, payload, file) {
+            Ok(()) => {}
+            Err(_) => return Err(made),
         }
     }
     Ok(())
 }
 
-/// Writes the bytes of a payload to its new file in this directory, flushes it and closes it.
-/// Returns whether that succeeded. It is closed in any case.
+/// Writes the bytes of a payload to its new file in this directory, flushes it and closes it. Fails
+/// with NotWritten. After an error it is closed, too.
 fn fill<F: FileSystem>(
     files: &mut F,
     directory: &str,
     payload: &Payload<'_>,
     mut file: F::Created,
-) -> bool
-    ensures filled { IsTrue result → IsFileFilled directory.now (payload_file payload.now)
-        (F.Created.trace file) (F.steps files.old) (F.steps files.new) }
-    ensures not_filled { IsFalse result → IsFileNotFilled directory.now
-        (payload_file payload.now) (F.Created.trace file) (F.steps files.old)
-        (F.steps files.new) }
+) -> Result<(), Failure>
+    ensures filled { OnOk result (IsFileFilled directory.now (payload_file payload.now)
+        (F.Created.trace file) (F.steps files.old) (F.steps files.new)) }
+    ensures not_filled { OnErr result (IsFileNotFilled directory.now (payload_file payload.now)
+        (F.Created.trace file) (F.steps files.old) (F.steps files.new)) }
 {
     let written = write_and_flush(&mut file, payload.bytes);
     let closed = files.close_in(directory, payload.file_name.as_str(), file);
-    written.is_ok() && closed.is_ok()
+    match (written, closed) {
+        (Ok(()), Ok(())) => Ok(()),
+        _ => Err(Failure::NotWritten),
+    }
 }
 
 /// Removes the files of these payloads from this directory, and then the directory. What cannot be
