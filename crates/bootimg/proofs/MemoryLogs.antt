@@ -8,7 +8,7 @@ use Rattle.bootimg.specs.declared.memory_files.StepKind.TheVariants as kind
 use Rattle.bootimg.specs.Files.{FileStep, TookSteps}
 use Rattle.bootimg.specs.FilesAfter.{no_names, after_step, after_steps, HasContents, HaveContents}
 use Rattle.bootimg.specs.LeftFiles.{LeavesFiles}
-use Rattle.bootimg.specs.MemoryFiles.{IsFound, IsFoundToo, recorded_names, recorded_steps, recorded_step, named_step}
+use Rattle.bootimg.specs.MemoryFiles.{IsOccupant, IsOccupantToo, recorded_names, recorded_steps, recorded_step, named_step}
 use Rattle.bootimg.specs.Runs.{Run, IsRun}
 use Rattle.bootimg.proofs.FilesAfter.{after_steps-append}
 use Rattle.bootimg.proofs.LeftFiles.{run_leaves}
@@ -59,20 +59,20 @@ names_before_one log left d within =
 
 -- What is found of a name before no step is back is found of it.
 pub found_before : (log : List MemoryStep) (name : List ℕ)
-    → IsFoundToo (recorded_names (take (length log) log) name) (recorded_names log name)
-found_before log name what is = subst (λ l. IsFound (recorded_names l name) what) (take_all (length log) log (omega arith)) is
+    → IsOccupantToo (recorded_names (take (length log) log) name) (recorded_names log name)
+found_before log name what is = subst (λ l. IsOccupant (recorded_names l name) what) (take_all (length log) log (omega arith)) is
 
 -- The last of the steps that were not seen yet.
 pub one_step_back : (log : List MemoryStep) (left : ℕ) (step : MemoryStep) (name wanted : List ℕ) → 0 < left → left ≤ length log
-    → step ≡ get_or log (left - 1) step → IsFoundToo (recorded_names (take left log) wanted) (recorded_names log name)
-    → IsFoundToo (after_step (recorded_names (take (left - 1) log)) (recorded_step step) wanted) (recorded_names log name)
+    → step ≡ get_or log (left - 1) step → IsOccupantToo (recorded_names (take left log) wanted) (recorded_names log name)
+    → IsOccupantToo (after_step (recorded_names (take (left - 1) log)) (recorded_step step) wanted) (recorded_names log name)
 one_step_back log left step name wanted some within is same what found =
     let one : left - 1 + 1 ≡ left = omega arith in
     let back = names_before_one log (left - 1) step (omega arith) in
     let equal : recorded_names (take left log) wanted ≡ after_step (recorded_names (take (left - 1) log)) (recorded_step step) wanted =
     ap (λ n. recorded_names (take n log) wanted) (sym one) ∙ ap (λ n. n wanted) back
     ∙ ap (λ s. after_step (recorded_names (take (left - 1) log)) (recorded_step s) wanted) (sym is) in
-    same what (subst (λ e. IsFound e what) (sym equal) found)
+    same what (subst (λ e. IsOccupant e what) (sym equal) found)
 
 -- ---- a run
 

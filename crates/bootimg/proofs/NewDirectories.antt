@@ -1,17 +1,20 @@
-use Rattle.std.proofs.Common.{◌≡◌, ◌≢◌, ◌++◌, ◌∷◌, [], ◌∙◌, ◌<◌, ◌⊎◌, ℕ, List, Option, Result, Unit, Ok, Err, map, ap, inl, inr, refl, subst, sym}
-use Rattle.std.proofs.Common.{drop, take}
+use Rattle.std.proofs.Common.{◌≡◌, ◌≢◌, ◌++◌, ◌∷◌, [], ◌∙◌, ◌<◌, ◌+◌, ◌⊎◌, ℕ, zero, suc, List, Option, Result, Unit, Ok, Err, map, take, length}
+use Rattle.std.proofs.Common.{ap, arith, get_or, refl, string_bytes, subst, sym}
 use Rattle.std.specs.Prelude.{OnOk, OnErr}
-use Rattle.std.proofs.lemmas.List.{append_assoc, take-append-drop}
+use Rattle.std.proofs.lemmas.List.{map_more}
 use Rattle.bi_base.specs.Sinks.{Wrote}
 use Rattle.bi_base.specs.Traces.{WriteTrace}
 use Rattle.bi_base.specs.Writing.{WroteAndFlushed, WriteOrFlushStopped}
 use Rattle.bi_base.specs.declared.fault.Error.{Error}
 use Rattle.bi_commands.specs.ExtractingAll.{PayloadFile}
+use Rattle.bi_commands.specs.Payloads.{payload_file}
+use Rattle.bi_commands.specs.declared.extract_all.Payload.{Payload}
+use Rattle.bootimg.specs.declared.failure.Failure.TheVariants.{NotWritten}
 use Rattle.bootimg.specs.Directories.{AreFilesNotPut, AreFilesPut, AreFilesRemoved, ClosingFilledFailed, FillingStopped, IsDirectoryMade}
 use Rattle.bootimg.specs.Directories.{IsDirectoryNotInPlace, IsDirectoryNotSaved, IsFileFilled, IsFileNotFilled, IsFileNotPut, IsFilePut}
 use Rattle.bootimg.specs.Directories.{IsDirectoryRemoved, NewDirectoryFailed, NextNotFilled, NextNotMade, SavesNoDirectory}
 use Rattle.bootimg.specs.Files.{AreNamesTaken, ClosedIn, DirectoryMade, FileStep, IsBeside, IsNewFile, IsNoFile, KnownFiles, MadeIn, NameHas}
-use Rattle.bootimg.specs.Files.{NotClosedIn, NotMadeIn, NotRemovedIn, RemovedIn, TookSteps, no_files}
+use Rattle.bootimg.specs.Files.{DirectoryNotRemoved, DirectoryRemoved, NotClosedIn, NotMadeIn, NotRemovedIn, RemovedIn, TookSteps, no_files}
 use Rattle.bootimg.proofs.NewFiles.{either}
 
 -- A new directory gets its files one after another, and loses those that were made after a failure.
@@ -30,9 +33,12 @@ pub files_removed_next : {T E : Type 0} (directory : List ℕ) (payloads : List 
     → OnOk result (TookSteps middle new (RemovedIn directory payload.name ∷ []))
     → OnErr result (TookSteps middle new (NotRemovedIn directory payload.name ∷ []))
     → AreFilesRemoved directory (payloads ++ payload ∷ []) old new
-files_removed_next directory [] payload old middle new result are well badly =
-    (new, subst (λ s. TookSteps s new (RemovedIn directory payload.name ∷ []) ⊎ TookSteps s new (NotRemovedIn directory payload.name ∷ []))
-    are (either result well badly), refl)
+files_removed_next directory [] payload old middle new result are well badly = (
+  new,
+  subst (λ s. TookSteps s new (RemovedIn directory payload.name ∷ []) ⊎ TookSteps s new (NotRemovedIn directory payload.name ∷ []))
+      are (either result well badly),
+  refl,
+)
 files_removed_next directory (first ∷ later) payload old middle new result are well badly =
     (are.0, are.1, files_removed_next directory later payload are.0 middle new result are.2 well badly)
 
@@ -90,3 +96,94 @@ directory_made_beside files later name beside shown number old middle new within
 -- Without files no directory is saved.
 pub no_directory_is_saved : SavesNoDirectory no_files
 no_directory_is_saved name payloads old new saved = saved.is_unused
+
+-- ---- the payloads of a slice
+
+-- A list of payloads, around the one at an index.
+payloads_around : (payloads : List Payload) (index : ℕ) (d : Payload) → index < length payloads
+    → (later : List PayloadFile)
+    × (map payload_file payloads ≡ map payload_file (take index payloads) ++ payload_file (get_or payloads index d) ∷ later)
+payloads_around [] index d within = absurd (omega (arith, within))
+payloads_around (payload ∷ payloads) zero d within = (map payload_file payloads, refl)
+payloads_around (payload ∷ payloads) (suc index) d within =
+    let around = payloads_around payloads index d (omega (arith, within)) in
+    (around.0, ap (λ (l : List PayloadFile). payload_file payload ∷ l) around.1)
+
+-- The next file could not be made.
+pub next_not_made : (directory : List ℕ) (payloads : List Payload) (index made : ℕ) (payload : Payload) (shown : List ℕ)
+    (old put new : Option (List FileStep)) → made ≡ index → index < length payloads → payload ≡ get_or payloads index payload
+    → shown ≡ string_bytes payload.file_name → AreFilesPut directory (map payload_file (take index payloads)) old put
+    → TookSteps put new (NotMadeIn directory shown ∷ [])
+    → AreFilesNotPut directory (map payload_file payloads) (map payload_file (take made payloads)) old new
+next_not_made directory payloads index made payload shown old put new count within is shows are took =
+    let around = payloads_around payloads index payload within in
+    subst (λ m. AreFilesNotPut directory (map payload_file payloads) (map payload_file (take m payloads)) old new) (sym count)
+    (NextNotMade (payload_file payload) around.0 put
+    (subst (λ (p : Payload). map payload_file payloads ≡ map payload_file (take index payloads) ++ payload_file p ∷ around.0) (sym is)
+    around.1)
+    are (subst (λ n. TookSteps put new (NotMadeIn directory n ∷ [])) shows took))
+
+-- It was made, and could not be filled.
+pub next_not_filled : (directory : List ℕ) (payloads : List Payload) (index made : ℕ) (payload : Payload) (shown : List ℕ)
+    (file : WriteTrace) (old put created new : Option (List FileStep)) → made ≡ index + 1 → index < length payloads
+    → payload ≡ get_or payloads index payload → shown ≡ string_bytes payload.file_name
+    → AreFilesPut directory (map payload_file (take index payloads)) old put → IsNewFile file
+    → TookSteps put created (MadeIn directory shown file ∷ []) → IsFileNotFilled directory (payload_file payload) file created new
+    → AreFilesNotPut directory (map payload_file payloads) (map payload_file (take made payloads)) old new
+next_not_filled directory payloads index made payload shown file old put created new count within is shows are fresh took not =
+    let around = payloads_around payloads index payload within in
+    let more = map_more payload_file payloads index payload within in
+    subst (λ m. AreFilesNotPut directory (map payload_file payloads) (map payload_file (take m payloads)) old new) (sym count)
+    (NextNotFilled (map payload_file (take index payloads)) (payload_file payload) around.0 put
+    (subst (λ (p : Payload). map payload_file payloads ≡ map payload_file (take index payloads) ++ payload_file p ∷ around.0) (sym is)
+    around.1)
+    (subst (λ (p : Payload). map payload_file (take (index + 1) payloads) ≡ map payload_file (take index payloads) ++ payload_file p ∷ [])
+    (sym is) more)
+    are
+    (file_not_put directory (payload_file payload) file put created new fresh
+    (subst (λ n. TookSteps put created (MadeIn directory n file ∷ [])) shows took) not))
+
+-- It was made and filled.
+pub next_put : (directory : List ℕ) (payloads : List Payload) (index : ℕ) (payload : Payload) (shown : List ℕ) (file : WriteTrace)
+    (old put created new : Option (List FileStep)) → index < length payloads → payload ≡ get_or payloads index payload
+    → shown ≡ string_bytes payload.file_name → AreFilesPut directory (map payload_file (take index payloads)) old put → IsNewFile file
+    → TookSteps put created (MadeIn directory shown file ∷ []) → IsFileFilled directory (payload_file payload) file created new
+    → AreFilesPut directory (map payload_file (take (index + 1) payloads)) old new
+next_put directory payloads index payload shown file old put created new within is shows are fresh took filled =
+    subst (λ l. AreFilesPut directory l old new) (sym (map_more payload_file payloads index payload within))
+    (subst (λ (p : Payload). AreFilesPut directory (map payload_file (take index payloads) ++ payload_file p ∷ []) old new) is
+    (files_put_next directory (map payload_file (take index payloads)) (payload_file payload) old put new are
+    (file_put directory (payload_file payload) file put created new fresh
+    (subst (λ n. TookSteps put created (MadeIn directory n file ∷ [])) shows took) filled)))
+
+-- It was removed, or that failed.
+pub next_removed : {T E : Type 0} (directory : List ℕ) (payloads : List Payload) (index : ℕ) (payload : Payload) (shown : List ℕ)
+    (old middle new : Option (List FileStep)) (result : Result T E) → index < length payloads → payload ≡ get_or payloads index payload
+    → shown ≡ string_bytes payload.file_name → AreFilesRemoved directory (map payload_file (take index payloads)) old middle
+    → OnOk result (TookSteps middle new (RemovedIn directory shown ∷ []))
+    → OnErr result (TookSteps middle new (NotRemovedIn directory shown ∷ []))
+    → AreFilesRemoved directory (map payload_file (take (index + 1) payloads)) old new
+next_removed {T} {E} directory payloads index payload shown old middle new result within is shows are well badly =
+    subst (λ l. AreFilesRemoved directory l old new) (sym (map_more payload_file payloads index payload within))
+    (subst (λ (p : Payload). AreFilesRemoved directory (map payload_file (take index payloads) ++ payload_file p ∷ []) old new) is
+    (files_removed_next directory (map payload_file (take index payloads)) (payload_file payload) old middle new result are
+    (subst (λ n. OnOk result (TookSteps middle new (RemovedIn directory n ∷ []))) shows well)
+    (subst (λ n. OnErr result (TookSteps middle new (NotRemovedIn directory n ∷ []))) shows badly)))
+
+-- All were removed, and then the directory, or that failed.
+pub directory_removed : {T E : Type 0} (directory : List ℕ) (made : List PayloadFile) (old emptied new : Option (List FileStep))
+    (result : Result T E) → AreFilesRemoved directory made old emptied
+    → OnOk result (TookSteps emptied new (DirectoryRemoved directory ∷ []))
+    → OnErr result (TookSteps emptied new (DirectoryNotRemoved directory ∷ [])) → IsDirectoryRemoved directory made old new
+directory_removed directory made old emptied new result are well badly =
+    record { emptied = emptied; are_removed = are; removed = either result well badly }
+
+-- A new directory was made and did not take the name, and was removed, or that failed.
+pub new_directory_failed : (files : KnownFiles) (name : List ℕ) (payloads in_it : List PayloadFile) (beside shown again : List ℕ)
+    (old made failed new : Option (List FileStep)) → NameHas files name IsNoFile → IsDirectoryMade files name beside old made
+    → shown ≡ beside → IsDirectoryNotInPlace name shown payloads in_it made failed → again ≡ beside
+    → IsDirectoryRemoved again in_it failed new → IsDirectoryNotSaved files name payloads NotWritten old new
+new_directory_failed files name payloads in_it beside shown again old made failed new unused is shows not same gone =
+    NewDirectoryFailed beside in_it made failed unused is
+    (subst (λ b. IsDirectoryNotInPlace name b payloads in_it made failed) shows not)
+    (subst (λ b. IsDirectoryRemoved b in_it failed new) same gone) refl

@@ -13,7 +13,9 @@ use Rattle.clap.specs.declared.parser.matches.ArgMatches.{ArgMatches}
 use Rattle.clap.specs.declared.parser.matches.ArgMatches.TheViews.{out-ArgMatches, out-SubCommand}
 use Rattle.bootimg.specs.CommandLine.{limit_of, Gives, HasNoText, HasText, IsBadValue, IsFailureOutcome, IsJob, IsLimits, IsNoRequest}
 use Rattle.bootimg.specs.CommandLine.{IsOutcomeOf}
-use Rattle.bootimg.specs.CommandLine.{IsAllFailure, IsTaskFailure, NoJob, NoLimits, NoMemory, NotAll, SelectsAll}
+use Rattle.bootimg.specs.CommandLine.{IsAllFailure, IsAllRequest, IsAllRequested, IsNoneGiven, IsTaskFailure, NoJob, NoLimits, NoMemory}
+use Rattle.bootimg.specs.CommandLine.{NotAll, SelectsAll}
+use Rattle.bootimg.specs.declared.command_line.extract.AllRequest.{AllRequest}
 use Rattle.bootimg.specs.Program.{program_app, IsCommandName}
 use Rattle.bootimg.specs.declared.command_line.Job.{Job}
 use Rattle.bootimg.specs.declared.command_line.Outcome.{Outcome}
@@ -144,3 +146,15 @@ pub no_all : {T : Type 0} (arguments : List (List ℕ)) (name : List ℕ) (optio
 no_all arguments name options result failure gives named selects is bad =
     passed_on arguments result (outcome.Failure failure) is
     (NotAll options (subst (λ n. Gives arguments n options) named gives) selects bad)
+
+-- They request all payloads.
+pub all_requested : (arguments : List (List ℕ)) (name : List ℕ) (options : ArgMatches) (request : AllRequest)
+    → Gives arguments name options → name ≡ codes "extract" → SelectsAll options true → IsNoneGiven options → IsAllRequest options request
+    → IsAllRequested arguments request
+all_requested arguments name options request gives named selects none is = record {
+  options = options;
+  given = subst (λ n. Gives arguments n options) named gives;
+  selects = selects;
+  none = none;
+  is = is;
+}

@@ -564,8 +564,7 @@ all_requests_are_known = record {
       let image : option_of options (codes "image") ≡ None = option_is line name options is (codes "image") ∙ refl in
       let config : option_of options (codes "config") ≡ None = option_is line name options is (codes "config") ∙ refl in
       let flag : default_flag options ≡ Some (codes "false") = flag_is line name options is (codes "default") ∙ refl in
-      let directory : option_of options (codes "output") ≡ Some (codes "d") = option_is line name options is (codes "output") ∙ refl in
-      (
+      let directory : option_of options (codes "output") ≡ Some (codes "d") = option_is line name options is (codes "output") ∙ refl in (
         record {
           default = false;
           default_is = no_default_given options flag;

@@ -628,3 +628,8 @@ IsOrder arguments (order.ExtractAll request) = IsAllRequested arguments request
 abbrev pub HasOrderLengths : Order → Type 0
 HasOrderLengths (order.Do request) = HasJobLengths request.job
 HasOrderLengths (order.ExtractAll request) = ⊤
+
+-- A tree may have 64 levels.
+abbrev pub HasOrderDepth : Order → Type 0
+HasOrderDepth (order.Do request) = request.limits.depth ≡ 64
+HasOrderDepth (order.ExtractAll request) = request.limits.depth ≡ 64

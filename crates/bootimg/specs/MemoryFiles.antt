@@ -10,8 +10,8 @@ use Rattle.bootimg.specs.Files.{Opened, NotOpened, ReaderClosed}
 use Rattle.bootimg.specs.Files.{Made, NameTaken, NotMade, Closed, NotClosed}
 use Rattle.bootimg.specs.Files.{Renamed, NotRenamed, Removed, NotRemoved}
 use Rattle.bootimg.specs.FilesAfter.{no_names, after_steps}
-use Rattle.bootimg.specs.declared.memory_files.Found.{Found}
-use Rattle.bootimg.specs.declared.memory_files.Found.TheVariants as found
+use Rattle.bootimg.specs.declared.memory_files.Occupant.{Occupant}
+use Rattle.bootimg.specs.declared.memory_files.Occupant.TheVariants as occupant
 use Rattle.bootimg.specs.declared.memory_files.Lookup.{Lookup}
 use Rattle.bootimg.specs.declared.memory_files.Lookup.TheVariants.{Has, HadName, HadSameName}
 use Rattle.bootimg.specs.declared.memory_files.MemoryStep.{MemoryStep}
@@ -95,20 +95,20 @@ abbrev pub recorded_names : List MemoryStep → Names
 recorded_names log = after_steps no_names (map recorded_step log)
 
 -- What was found of a name: nothing, a regular file with its bytes, or a directory.
-abbrev pub IsFound : Entry → Found → Type 0
-IsFound entry found.Nothing = entry ≡ NoFile
-IsFound entry (found.File bytes) = entry ≡ RegularFile bytes.now
-IsFound entry found.Directory = (files : List PayloadFile) × (entry ≡ Directory files)
+abbrev pub IsOccupant : Entry → Occupant → Type 0
+IsOccupant entry occupant.Nothing = entry ≡ NoFile
+IsOccupant entry (occupant.File bytes) = entry ≡ RegularFile bytes.now
+IsOccupant entry occupant.Directory = (files : List PayloadFile) × (entry ≡ Directory files)
 
 -- What was found of one entry is found of another one.
-abbrev pub IsFoundToo : (one other : Entry) → Type 0
-IsFoundToo one other = (what : Found) → IsFound one what → IsFound other what
+abbrev pub IsOccupantToo : (one other : Entry) → Type 0
+IsOccupantToo one other = (what : Occupant) → IsOccupant one what → IsOccupant other what
 
 -- What is known of a name after a step, where `names` is what had each name before it and
 -- `after names` what has it then.
 abbrev pub AreLookedUp : (after : Names → Names) → (name : List ℕ) → Lookup → Type 0
-AreLookedUp after name (Has what) = (names : Names) → IsFound (after names name) what
+AreLookedUp after name (Has what) = (names : Names) → IsOccupant (after names name) what
 AreLookedUp after name (HadName other) =
-    (names : Names) → IsFoundToo (names other.now) (after names name)
+    (names : Names) → IsOccupantToo (names other.now) (after names name)
 AreLookedUp after name HadSameName =
-    (names : Names) → IsFoundToo (names name) (after names name)
+    (names : Names) → IsOccupantToo (names name) (after names name)

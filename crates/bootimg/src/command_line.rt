@@ -12,9 +12,10 @@ mod source;
 mod table;
 mod update;
 
-ghost use Rattle.std.specs.Prelude.{◌≡◌, ◌≢◌, false, IfOk, IfErr, codes};
+ghost use Rattle.std.specs.Prelude.{◌≡◌, ◌≢◌, false, true, IfOk, IfErr, IsFalse, IsTrue, codes};
 ghost use Rattle.bi_base.specs.declared.fault.Error.TheVariants.{OutOfMemory};
-ghost use Rattle.bootimg.specs.CommandLine.{HasJobLengths, HasOrderLengths, IsFailureOutcome};
+ghost use Rattle.bootimg.specs.CommandLine.{HasJobLengths, HasOrderDepth, HasOrderLengths};
+ghost use Rattle.bootimg.specs.CommandLine.{IsFailureOutcome};
 ghost use Rattle.bootimg.specs.CommandLine.{IsJob, IsNoRequest, IsOrder, IsOutcomeOf, IsTask};
 ghost use Rattle.bootimg.specs.CommandLine.{IsTaskFailure, SelectsAll, texts_of};
 ghost use Rattle.bootimg.specs.Program.{IsCommandName};
@@ -168,13 +169,15 @@ pub fn parse_arguments<'a>(alloc: Global, arguments: &'a [&'a str]) -> Result<Or
     ensures order { IfOk result (IsOrder (texts_of arguments.entry.now)) }
     ensures failure { IfErr result (IsNoRequest (texts_of arguments.entry.now)) }
     ensures lengths { IfOk result HasOrderLengths }
+    ensures depth { IfOk result HasOrderDepth }
 {
     let matches = program(alloc)?.try_get_matches_from(arguments)?;
     let Some((name, options)) = matches.subcommand() else {
         unreachable!()
     };
-    if name == "extract" && options.get_flag("all") {
-        return Ok(Order::ExtractAll(all_request(options)?));
+    if extracts_all(name, options) {
+        let request = all_request(options)?;
+        return Ok(Order::ExtractAll(request));
     }
     let job = parse_job(alloc, name, options)?;
     let limits = limits(options)?;
@@ -183,6 +186,15 @@ pub fn parse_arguments<'a>(alloc: Global, arguments: &'a [&'a str]) -> Result<Or
         limits,
         output: options.get_str("output"),
     }))
+}
+
+/// Returns whether the command of this name with the options is `extract --all`.
+fn extracts_all(name: &str, options: &ArgMatches<'_>) -> bool
+    ensures all { IsTrue result → (name.now ≡ codes "extract") × SelectsAll options.now true }
+    ensures not_all { IsFalse result → name.now ≡ codes "extract"
+        → SelectsAll options.now false }
+{
+    name == "extract" && options.get_flag("all")
 }
 
 /// Returns what the command of this name does with the options. Fails as `parse_arguments` does.

@@ -10,7 +10,7 @@ ghost use Rattle.bootimg.specs.LeftFiles.{LeavesFiles};
 ghost use Rattle.bootimg.specs.Files.{Entry, TookSteps};
 ghost use Rattle.bootimg.specs.FilesAfter.{after_renaming, after_step, with_entry_at};
 ghost use Rattle.bootimg.specs.MemoryFiles.{recorded_names, recorded_steps, recorded_step};
-ghost use Rattle.bootimg.specs.MemoryFiles.{named_step, AreLookedUp, IsFound};
+ghost use Rattle.bootimg.specs.MemoryFiles.{named_step, AreLookedUp, IsOccupant};
 
 use crate::files::FileSystem;
 use crate::new_file::{NewFile, WriteCalls};
@@ -94,7 +94,7 @@ pub struct MemoryStep<'a> {
 
 /// What has a name.
 #[derive(Clone, Copy)]
-pub enum Found<'a> {
+pub enum Occupant<'a> {
     /// Nothing has it.
     Nothing,
     /// A file with these bytes has it.
@@ -107,7 +107,7 @@ pub enum Found<'a> {
 #[derive(Clone, Copy)]
 enum Lookup<'a> {
     /// This is what has the name.
-    Has(Found<'a>),
+    Has(Occupant<'a>),
     /// It had this name before.
     HadName(&'a [u8]),
     /// It had the same name before. If it is a directory, its files may have changed.
@@ -144,8 +144,8 @@ impl<'a> MemoryFiles<'a> {
     }
 
     /// Returns what has this name.
-    pub fn find(&self, name: &[u8]) -> Found<'a>
-        ensures { IsFound (recorded_names self.now.log.items name.now) result }
+    pub fn find(&self, name: &[u8]) -> Occupant<'a>
+        ensures { IsOccupant (recorded_names self.now.log.items name.now) result }
     {
         let mut wanted = name;
         let mut left = self.log.len();
@@ -157,7 +157,7 @@ impl<'a> MemoryFiles<'a> {
                 Lookup::HadSameName => {}
             }
         }
-        Found::Nothing
+        Occupant::Nothing
     }
 
     /// Returns whether memory ran out for a step, so that not all are recorded.
@@ -194,7 +194,7 @@ impl<'a> MemoryFiles<'a> {
         ensures lost { OnErr result
             (recorded_steps self.new.is_lost self.new.log.items ≡ None) }
         ensures same_log { OnErr result (self.new.log.items ≡ self.old.log.items) }
-        ensures kind { IfErr result (λ error. error_kind error ≡ OutOfMemory) }
+        ensures failed { IfErr result (λ error. error_kind error ≡ OutOfMemory) }
     {
         if self.record(name, kind) {
             Ok(())
@@ -253,13 +253,13 @@ fn look_up<'a>(step: MemoryStep<'a>, name: &[u8]) -> Lookup<'a>
     match step.kind {
         StepKind::Made(file) | StepKind::Closed(file) | StepKind::NotClosed(file) => look_up_at(
             step.name,
-            Found::File(file.bytes),
+            Occupant::File(file.bytes),
             name,
         ),
-        StepKind::DirectoryMade => look_up_at(step.name, Found::Directory, name),
+        StepKind::DirectoryMade => look_up_at(step.name, Occupant::Directory, name),
         StepKind::Removed | StepKind::DirectoryRemoved => look_up_at(
             step.name,
-            Found::Nothing,
+            Occupant::Nothing,
             name,
         ),
         StepKind::Renamed(new_name) | StepKind::DirectoryRenamed(new_name) => look_up_renamed(
@@ -270,8 +270,8 @@ fn look_up<'a>(step: MemoryStep<'a>, name: &[u8]) -> Lookup<'a>
 }
 
 /// Returns what is known of this name after this was found to have the name `changed`.
-fn look_up_at<'a>(changed: &'a [u8], found: Found<'a>, name: &[u8]) -> Lookup<'a>
-    ensures { (entry : Entry) → IsFound entry found.entry
+fn look_up_at<'a>(changed: &'a [u8], found: Occupant<'a>, name: &[u8]) -> Lookup<'a>
+    ensures { (entry : Entry) → IsOccupant entry found.entry
         → AreLookedUp (λ names. with_entry_at names changed.now entry) name.now result }
 {
     if name == changed {
@@ -289,7 +289,7 @@ fn look_up_renamed<'a>(old_name: &'a [u8], new_name: &'a [u8], name: &[u8]) -> L
     if name == new_name {
         Lookup::HadName(old_name)
     } else if name == old_name {
-        Lookup::Has(Found::Nothing)
+        Lookup::Has(Occupant::Nothing)
     } else {
         Lookup::HadSameName
     }
@@ -306,11 +306,11 @@ impl<'a> FileSystem for MemoryFiles<'a> {
 
     fn open(&mut self, name: &str) -> Option<OpenedFile<&'a [u8]>> {
         match self.find(name.as_bytes()) {
-            Found::File(bytes) => {
+            Occupant::File(bytes) => {
                 self.record(name.as_bytes(), StepKind::Opened(bytes));
                 Some(OpenedFile::new(bytes))
             }
-            Found::Nothing | Found::Directory => {
+            Occupant::Nothing | Occupant::Directory => {
                 self.record(name.as_bytes(), StepKind::NotOpened);
                 None
             }
@@ -325,7 +325,7 @@ impl<'a> FileSystem for MemoryFiles<'a> {
     }
 
     fn can_replace(&self, name: &str) -> bool {
-        !matches!(self.find(name.as_bytes()), Found::Directory)
+        !matches!(self.find(name.as_bytes()), Occupant::Directory)
     }
 
     fn create(&mut self, name: &str, _replaced: &str) -> io::Result<NewFile<Vec<u8>>> {
@@ -375,7 +375,7 @@ impl<'a> FileSystem for MemoryFiles<'a> {
     }
 
     fn is_unused(&self, name: &str) -> bool {
-        matches!(self.find(name.as_bytes()), Found::Nothing)
+        matches!(self.find(name.as_bytes()), Occupant::Nothing)
     }
 
     fn make_directory(&mut self, name: &str) -> io::Result<()> {

@@ -1,13 +1,13 @@
 //! The command `extract`.
 
-ghost use Rattle.std.specs.Prelude.{◌≡◌, Some, IfSome, IfOk, IfErr, IsTrue, IsFalse, OnOk};
+ghost use Rattle.std.specs.Prelude.{◌≡◌, Some, IfSome, IfOk, IfErr, OnOk};
 ghost use Rattle.bi_fit.specs.declared.key.Key.{Key};
 ghost use Rattle.bi_fit.specs.Names.{key_name};
 ghost use Rattle.bi_norm.specs.Meaning.{Meaning};
 ghost use Rattle.bi_commands.specs.Extracting.{choice_of};
 ghost use Rattle.bootimg.specs.CommandLine.{IsFailureOutcome, IsBadValue, IsEntry, IsNameOf};
-ghost use Rattle.bootimg.specs.CommandLine.{IsAllFailure, IsAllRequest, IsNoneGiven, IsOneGiven};
-ghost use Rattle.bootimg.specs.CommandLine.{IsSelected, IsSelectionFailure};
+ghost use Rattle.bootimg.specs.CommandLine.{IsAllFailure, IsAllRequest, IsNoneGiven, IsSelected};
+ghost use Rattle.bootimg.specs.CommandLine.{IsSelectionFailure};
 ghost use Rattle.bootimg.specs.Selections.{select_of};
 
 use crate::command_line::options::{limits, number, value};
@@ -108,21 +108,14 @@ pub fn all_request<'a>(options: &ArgMatches<'a>) -> Result<AllRequest<'a>, Failu
     ensures none { OnOk result (IsNoneGiven options.now) }
     ensures failure { IfErr result (IsAllFailure options.now) }
 {
-    if selects_one(options) {
-        return Err(Failure::NoSelection);
+    let part = options.get_str("part");
+    let image = options.get_str("image");
+    let config = options.get_str("config");
+    let default = options.get_flag("default");
+    match (part, image, config, default) {
+        (None, None, None, false) => all_values(options),
+        _ => Err(Failure::NoSelection),
     }
-    all_values(options)
-}
-
-/// Returns whether the options select something else than `--all`.
-fn selects_one(options: &ArgMatches<'_>) -> bool
-    ensures one { IsTrue result → IsOneGiven options.now }
-    ensures none { IsFalse result → IsNoneGiven options.now }
-{
-    options.get_str("part").is_some()
-        || options.get_str("image").is_some()
-        || options.get_str("config").is_some()
-        || options.get_flag("default")
 }
 
 /// Returns what the values of the options of `extract --all` request. Fails with BadValue.
@@ -131,11 +124,14 @@ fn all_values<'a>(options: &ArgMatches<'a>) -> Result<AllRequest<'a>, Failure>
     ensures bad { IfErr result (IsBadValue (IsAllRequest options.now)) }
 {
     entry(options)?;
+    let directory = options.get_str("output").ok_or(Failure::BadValue)?;
+    let offset = number(options, "offset")?;
+    let limits = limits(options)?;
     Ok(AllRequest {
-        directory: options.get_str("output").ok_or(Failure::BadValue)?,
-        offset: number(options, "offset")?,
+        directory,
+        offset,
         source: source(options, "file"),
-        limits: limits(options)?,
+        limits,
     })
 }
 

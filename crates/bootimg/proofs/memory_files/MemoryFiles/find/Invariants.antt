@@ -1,12 +1,12 @@
 use Rattle.std.proofs.Common.{◌≤◌, length, take}
-use Rattle.bootimg.specs.MemoryFiles.{recorded_names, IsFoundToo}
+use Rattle.bootimg.specs.MemoryFiles.{recorded_names, IsOccupantToo}
 use Rattle.bootimg.proofs.memory_files.MemoryFiles.find.Given as goal
 
 -- What was found of the wanted name before the steps that were seen is found of the name after all.
 abbrev pub invariant-loop-left : goal.invariant-loop-left
 invariant-loop-left l = record {
   within : l.left ≤ length l.self.log.items;
-  same : IsFoundToo (recorded_names (take l.left l.self.log.items) l.wanted) (recorded_names l.self.log.items l.fn.name);
+  same : IsOccupantToo (recorded_names (take l.left l.self.log.items) l.wanted) (recorded_names l.self.log.items l.fn.name);
 }
 
 abbrev pub decreases-loop-left : goal.decreases-loop-left
