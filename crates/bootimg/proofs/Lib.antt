@@ -23,4 +23,5 @@ pub mod ArgumentFacts
 pub mod OptionFacts
 pub mod RequestFacts
 pub mod RunEnds
+pub mod AllRuns
 pub mod StepFacts

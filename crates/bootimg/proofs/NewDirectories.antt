@@ -1,7 +1,7 @@
-use Rattle.std.proofs.Common.{◌≡◌, ◌≢◌, ◌++◌, ◌∷◌, [], ◌∙◌, ◌<◌, ◌+◌, ◌⊎◌, ℕ, zero, suc, List, Option, Result, Unit, Ok, Err, map, take, length}
+use Rattle.std.proofs.Common.{◌≡◌, ◌≢◌, ◌++◌, ◌∷◌, [], ◌∙◌, ◌<◌, ◌≤◌, ◌+◌, ◌⊎◌, ℕ, zero, suc, List, Option, Result, Unit, Ok, Err, map, take, length}
 use Rattle.std.proofs.Common.{ap, arith, get_or, refl, string_bytes, subst, sym}
 use Rattle.std.specs.Prelude.{OnOk, OnErr}
-use Rattle.std.proofs.lemmas.List.{map_more}
+use Rattle.std.proofs.lemmas.List.{map_more, take_all}
 use Rattle.bi_base.specs.Sinks.{Wrote}
 use Rattle.bi_base.specs.Traces.{WriteTrace}
 use Rattle.bi_base.specs.Writing.{WroteAndFlushed, WriteOrFlushStopped}
@@ -187,3 +187,14 @@ new_directory_failed files name payloads in_it beside shown again old made faile
     NewDirectoryFailed beside in_it made failed unused is
     (subst (λ b. IsDirectoryNotInPlace name b payloads in_it made failed) shows not)
     (subst (λ b. IsDirectoryRemoved b in_it failed new) same gone) refl
+
+-- All payloads are the first ones up to the end.
+pub all_put : (directory : List ℕ) (payloads : List Payload) (index : ℕ) (old new : Option (List FileStep)) → length payloads ≤ index
+    → AreFilesPut directory (map payload_file (take index payloads)) old new → AreFilesPut directory (map payload_file payloads) old new
+all_put directory payloads index old new past are =
+    subst (λ (l : List Payload). AreFilesPut directory (map payload_file l) old new) (take_all index payloads past) are
+
+pub all_removed : (directory : List ℕ) (payloads : List Payload) (index : ℕ) (old new : Option (List FileStep)) → length payloads ≤ index
+    → AreFilesRemoved directory (map payload_file (take index payloads)) old new → AreFilesRemoved directory (map payload_file payloads) old new
+all_removed directory payloads index old new past are =
+    subst (λ (l : List Payload). AreFilesRemoved directory (map payload_file l) old new) (take_all index payloads past) are
