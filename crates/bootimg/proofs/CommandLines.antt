@@ -351,7 +351,7 @@ same_word : {A : Type 0} {one other : A} (option : Option A) → option ≡ Some
 same_word option is also = let e = sym is ∙ also in cc
 
 -- An option that is given and is not given.
-pub not_both : {A : Type 0} {one : A} {P : Type 0} (option : Option A) → option ≡ None → option ≡ Some one → P
+not_both : {A : Type 0} {one : A} {P : Type 0} (option : Option A) → option ≡ None → option ≡ Some one → P
 not_both option is also = absurd (let e = sym is ∙ also in cc)
 
 -- The index of a part is no number.

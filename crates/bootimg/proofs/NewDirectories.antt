@@ -195,6 +195,7 @@ all_put directory payloads index old new past are =
     subst (λ (l : List Payload). AreFilesPut directory (map payload_file l) old new) (take_all index payloads past) are
 
 pub all_removed : (directory : List ℕ) (payloads : List Payload) (index : ℕ) (old new : Option (List FileStep)) → length payloads ≤ index
-    → AreFilesRemoved directory (map payload_file (take index payloads)) old new → AreFilesRemoved directory (map payload_file payloads) old new
+    → AreFilesRemoved directory (map payload_file (take index payloads)) old new
+    → AreFilesRemoved directory (map payload_file payloads) old new
 all_removed directory payloads index old new past are =
     subst (λ (l : List Payload). AreFilesRemoved directory (map payload_file l) old new) (take_all index payloads past) are

@@ -1,8 +1,8 @@
-use Rattle.std.proofs.Common.{◌≡◌, ◌∙◌, None, ap, codes, option_map, sym}
+use Rattle.std.proofs.Common.{◌≡◌, ◌∙◌, None, Some, ap, codes, option_map, sym}
 use Rattle.bootimg.specs.CommandLine.{given_offset, limit_of, option_of, IsAllRequest, IsBadValue, IsEntry, IsLimits}
 use Rattle.bootimg.specs.Numbers.{IsNumber}
 use Rattle.bootimg.specs.declared.failure.Failure.TheVariants.{BadValue}
-use Rattle.bootimg.proofs.CommandLines.{bad_part, err_if, not_both, ok_or_failed, text_required}
+use Rattle.bootimg.proofs.CommandLines.{bad_part, err_if, ok_or_failed, text_required}
 use Rattle.bootimg.proofs.command_line.extract.all_values.Goals as goal
 
 pub returns-in_err-entry-clause-bad : goal.returns-in_err-entry-clause-bad
@@ -18,7 +18,7 @@ returns-in_err-directory-clause-bad c =
     let failed = ok_or_failed c.get_str.result BadValue exit.field-0.0 c.ok_or.result c.ok_or.ensures.value exit.was in
     let none : option_of options (codes "output") ≡ None = sym c.get_str.ensures ∙ ap (option_map (λ s. s.now)) failed.0 in
     err_if (IsBadValue (IsAllRequest options)) c.from_residual-in_err-directory.result c.from_residual-in_err-directory.ensures.1
-    (λ failure same. (same ∙ failed.1, λ request is. not_both (option_of options (codes "output")) none is.directory))
+    (λ failure same. (same ∙ failed.1, λ request is. absurd (let e : None ≡ Some request.directory.now = sym none ∙ is.directory in cc)))
 
 pub returns-in_err-offset-clause-bad : goal.returns-in_err-offset-clause-bad
 returns-in_err-offset-clause-bad c =
