@@ -1,4 +1,4 @@
-use Rattle.std.proofs.Common.{ap, arith, map}
+use Rattle.std.proofs.Common.{ap, arith, length, map}
 use Rattle.std.proofs.lemmas.List.{take_all}
 use Rattle.std.proofs.lemmas.Result.{err_from_is_err_and}
 use Rattle.bi_commands.specs.Payloads.{payload_file}
@@ -17,5 +17,5 @@ returns-in_err-put_files-clause-within g c =
 
 pub returns-in-Err-clause-not_put : goal.returns-in-Err-clause-not_put
 returns-in-Err-clause-not_put g c =
-    TakingNameFailed _ (ap (map payload_file) (take_all c.len.result c.args.payloads.now (omega (arith, c.len.ensures))))
+    TakingNameFailed _ (ap (map payload_file) (take_all (length c.args.payloads.now) c.args.payloads.now (omega arith)))
     c.in_ok-put_files.ensures.put c.in-Err.ensures.not_renamed

@@ -1,8 +1,7 @@
-use Rattle.std.proofs.Common.{List, map, refl, string_bytes, subst, take}
+use Rattle.std.proofs.Common.{map, refl, string_bytes, take}
 use Rattle.std.proofs.lemmas.Result.{err_from_is_err_and}
 use Rattle.bi_commands.specs.Payloads.{payload_file}
-use Rattle.bi_commands.specs.declared.extract_all.Payload.{Payload}
-use Rattle.bootimg.specs.Directories.{NoNewDirectory, IsDirectoryRemoved}
+use Rattle.bootimg.specs.Directories.{NoNewDirectory}
 use Rattle.bootimg.proofs.NewDirectories.{new_directory_failed}
 use Rattle.bootimg.proofs.directories.save_all.Goals as goal
 
@@ -17,5 +16,4 @@ returns-clause-failed g c =
     (map payload_file (take c.in-Err.made c.args.payloads.now)) (string_bytes c.in_ok-beside.beside) c.as_str.result.now
     c.as_str-in-Err.result.now _ _ _ _ (c.if-not-is_unused.ensures.unused refl) c.in_ok-beside.ensures.made c.as_str.ensures.value
     c.in-Err.ensures.not_put c.as_str-in-Err.ensures.value
-    (subst (λ (l : List Payload). IsDirectoryRemoved c.as_str-in-Err.result.now (map payload_file l) _ _) c.index.ensures
-    c.remove_all.ensures)
+    c.remove_all.ensures
