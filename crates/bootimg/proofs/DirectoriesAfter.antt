@@ -1,5 +1,5 @@
 use Rattle.std.proofs.Common.{◌≡◌, ◌≢◌, ◌++◌, ◌∷◌, [], ◌∙◌, ℕ, Bool, true, false, List, Option, Some, None, map, ap, inl, inr, refl, subst, sym}
-use Rattle.std.specs.Prelude.{if◌then◌else◌, bytes_eq, IfSome}
+use Rattle.std.specs.Prelude.{⊤, if◌then◌else◌, bytes_eq, IfSome}
 use Rattle.std.specs.List.{AllByRecursion}
 use Rattle.std.proofs.lemmas.List.{append-nil, append_assoc}
 use Rattle.bi_base.proofs.EqualBytes.{same_bytes, other_bytes}
@@ -163,32 +163,37 @@ IsNoneNamed name files = AllByRecursion (λ (file : PayloadFile). name ≢ file.
 with_new_file : (name bytes : List ℕ) (files : List PayloadFile) → IsNoneNamed name files
     → with_file name bytes files ≡ files ++ record { name = name; bytes = bytes } ∷ []
 with_new_file name bytes [] none = refl
-with_new_file name bytes (file ∷ later) none = at (bytes_eq file.name name) refl
+with_new_file name bytes (file ∷ later) none = at (bytes_eq file.name name) refl (with_new_file name bytes later none.1)
   where
     at : (b : Bool) → bytes_eq file.name name ≡ b
+        → with_file name bytes later ≡ later ++ record { name = name; bytes = bytes } ∷ []
         → (if b then record { name = name; bytes = bytes } ∷ later else file ∷ with_file name bytes later)
         ≡ file ∷ (later ++ record { name = name; bytes = bytes } ∷ [])
-    at true same = absurd (none.0 (sym (same_bytes file.name name same)))
-    at false differs = ap (λ (l : List PayloadFile). file ∷ l) (with_new_file name bytes later none.1)
+    at true same rest = absurd (none.0 (sym (same_bytes file.name name same)))
+    at false differs rest = ap (λ (l : List PayloadFile). file ∷ l) rest
+
+abbrev file_with : (name bytes : List ℕ) → PayloadFile
+file_with name bytes = record { name = name; bytes = bytes }
 
 with_last_file : (name first bytes : List ℕ) (files : List PayloadFile) → IsNoneNamed name files
     → with_file name bytes (files ++ record { name = name; bytes = first } ∷ []) ≡ files ++ record { name = name; bytes = bytes } ∷ []
 with_last_file name first bytes [] none = at (bytes_eq name name) refl
   where
     at : (b : Bool) → bytes_eq name name ≡ b
-        → (if b then record { name = name; bytes = bytes } ∷ []
-        else record { name = name; bytes = first } ∷ record { name = name; bytes = bytes } ∷ [])
+        → (if b then file_with name bytes ∷ [] else file_with name first ∷ file_with name bytes ∷ [])
         ≡ record { name = name; bytes = bytes } ∷ []
     at true same = refl
     at false differs = absurd (other_bytes name name differs refl)
-with_last_file name first bytes (file ∷ later) none = at (bytes_eq file.name name) refl
+with_last_file name first bytes (file ∷ later) none =
+    at (bytes_eq file.name name) refl (with_last_file name first bytes later none.1)
   where
     at : (b : Bool) → bytes_eq file.name name ≡ b
+        → with_file name bytes (later ++ record { name = name; bytes = first } ∷ []) ≡ later ++ record { name = name; bytes = bytes } ∷ []
         → (if b then record { name = name; bytes = bytes } ∷ (later ++ record { name = name; bytes = first } ∷ [])
         else file ∷ with_file name bytes (later ++ record { name = name; bytes = first } ∷ []))
         ≡ file ∷ (later ++ record { name = name; bytes = bytes } ∷ [])
-    at true same = absurd (none.0 (sym (same_bytes file.name name same)))
-    at false differs = ap (λ (l : List PayloadFile). file ∷ l) (with_last_file name first bytes later none.1)
+    at true same rest = absurd (none.0 (sym (same_bytes file.name name same)))
+    at false differs rest = ap (λ (l : List PayloadFile). file ∷ l) rest
 
 -- The directory has these files now, if the steps are known.
 abbrev FilesAre : (base : Names) → (directory : List ℕ) → List PayloadFile → Option (List FileStep) → Type 0

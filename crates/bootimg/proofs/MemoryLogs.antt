@@ -66,10 +66,15 @@ pub names_before_one : (log : List MemoryStep) (left : ℕ) (d : MemoryStep) →
 names_before_one log left d within =
     ap recorded_names (take_more log left d within) ∙ names_after_one (take left log) (get_or log left d)
 
--- What is found of a name before no step is back is found of it.
-pub found_before : (log : List MemoryStep) (name : List ℕ)
-    → IsOccupantToo (recorded_names (take (length log) log) name) (recorded_names log name)
-found_before log name what is = subst (λ l. IsOccupant (recorded_names l name) what) (take_all (length log) log (omega arith)) is
+-- What is found of a name after all steps is found of it.
+pub found_after_all : (log : List MemoryStep) (count : ℕ) (name : List ℕ) → length log ≤ count
+    → IsOccupantToo (recorded_names (take count log) name) (recorded_names log name)
+found_after_all log count name all what is = subst (λ l. IsOccupant (recorded_names l name) what) (take_all count log all) is
+
+-- If nothing was found in any step, nothing has the name.
+pub nothing_is_found : (log : List MemoryStep) (left : ℕ) (name wanted : List ℕ) → left ≡ 0
+    → IsOccupantToo (recorded_names (take left log) wanted) (recorded_names log name) → recorded_names log name ≡ NoFile
+nothing_is_found log left name wanted none same = same occupant.Nothing (ap (λ n. recorded_names (take n log) wanted) none)
 
 -- The last of the steps that were not seen yet.
 pub one_step_back : (log : List MemoryStep) (left : ℕ) (step : MemoryStep) (name wanted : List ℕ) → 0 < left → left ≤ length log

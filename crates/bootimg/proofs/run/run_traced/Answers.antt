@@ -26,8 +26,8 @@ returns-in-Err-Failure g c =
     Rejected c.in-Err-Failure.failure (subst (λ o. IsNoRequest (texts_of c.args.arguments.now) o) is c.in-Err-Failure.ensures.failure)
     (run_is_rejected _ _ _ refl refl refl c.report.ensures.line c.report.ensures.status)
 
-pub returns-in-Ok-clap_text : goal.returns-in-Ok-clap_text
-returns-in-Ok-clap_text g c =
+pub returns-in-Ok : goal.returns-in-Ok-clap_text
+returns-in-Ok g c =
     let is : c.in-Err-Text.field-0 ≡ outcome.Text c.in-Err-Text.text = search rules in
     WroteText (kind_of c.in-Err-Text.text) _ (subst (λ o. IsNoRequest (texts_of c.args.arguments.now) o) is c.in-Err-Text.ensures.failure)
     (c.print.ensures (kind_of c.in-Err-Text.text) _ _ c.use_stderr.ensures)

@@ -1,10 +1,10 @@
 use Rattle.std.proofs.Common.{◌-◌, arith, take}
 use Rattle.bootimg.specs.MemoryFiles.{recorded_names}
-use Rattle.bootimg.proofs.MemoryLogs.{one_step_back, found_before}
+use Rattle.bootimg.proofs.MemoryLogs.{found_after_all, nothing_is_found, one_step_back}
 use Rattle.bootimg.proofs.memory_files.MemoryFiles.find.Goals as goal
 
 pub loop-left-init : goal.loop-left-init
-loop-left-init c = record { within = omega arith; same = found_before c.args.self.now.log.items c.args.name.now }
+loop-left-init c = record { within = omega arith; same = found_after_all c.args.self.now.log.items c.len-left.result c.args.name.now (omega arith) }
 
 pub returns-in-Has : goal.returns-in-Has
 returns-in-Has c =
@@ -36,3 +36,8 @@ loop-left-preserved c =
       within = omega arith;
       same = λ what is. back what (c.in-HadSameName.ensures (recorded_names (take (c.loop-left.left - 1) log)) what is);
     }
+
+pub returns : goal.returns
+returns c =
+    nothing_is_found c.args.self.now.log.items c.loop-left.left c.args.name.now c.loop-left.wanted.now
+    (omega (arith, c.loop-left-test.false)) c.loop-left.invariant.same
