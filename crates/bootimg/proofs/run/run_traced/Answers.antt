@@ -26,7 +26,7 @@ returns-in-Err-Failure g c =
     Rejected c.in-Err-Failure.failure (subst (λ o. IsNoRequest (texts_of c.args.arguments.now) o) is c.in-Err-Failure.ensures.failure)
     (run_is_rejected _ _ _ refl refl refl c.report.ensures.line c.report.ensures.status)
 
-pub returns-in-Ok : goal.returns-in-Ok-clap_text
+pub returns-in-Ok : goal.returns-in-Ok
 returns-in-Ok g c =
     let is : c.in-Err-Text.field-0 ≡ outcome.Text c.in-Err-Text.text = search rules in
     WroteText (kind_of c.in-Err-Text.text) _ (subst (λ o. IsNoRequest (texts_of c.args.arguments.now) o) is c.in-Err-Text.ensures.failure)
