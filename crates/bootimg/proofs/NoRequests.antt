@@ -140,12 +140,10 @@ no_limits arguments name options job result failure gives is is_job bad =
     passed_on arguments result (outcome.Failure failure) is (NoLimits name options job gives is_job bad)
 
 -- The options of `extract --all` request nothing.
-pub no_all : {T : Type 0} (arguments : List (List ℕ)) (name : List ℕ) (options : ArgMatches) (result : Result T Outcome)
-    (failure : Failure) → Gives arguments name options → name ≡ codes "extract" → SelectsAll options true
-    → IsErrAnd result (λ given. given ≡ outcome.Failure failure) → IsAllFailure options failure → IfErr result (IsNoRequest arguments)
-no_all arguments name options result failure gives named selects is bad =
-    passed_on arguments result (outcome.Failure failure) is
-    (NotAll options (subst (λ n. Gives arguments n options) named gives) selects bad)
+pub no_all : (arguments : List (List ℕ)) (name : List ℕ) (options : ArgMatches) (failure : Failure) → Gives arguments name options
+    → name ≡ codes "extract" → SelectsAll options true → IsAllFailure options failure → IsNoRequest arguments (outcome.Failure failure)
+no_all arguments name options failure gives named selects bad =
+    NotAll options (subst (λ n. Gives arguments n options) named gives) selects bad
 
 -- They request all payloads.
 pub all_requested : (arguments : List (List ℕ)) (name : List ℕ) (options : ArgMatches) (request : AllRequest)

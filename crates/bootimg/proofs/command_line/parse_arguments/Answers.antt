@@ -44,26 +44,25 @@ returns-in_err-limits-clause-failure c =
     c.subcommand.ensures.name c.subcommand.ensures.rows)
     c.from_residual-in_err-limits.ensures.1 c.in_ok-job.ensures.job c.in_err-limits.ensures.bad
 
-pub returns-in_err-request-clause-failure : goal.returns-in_err-request-clause-failure
-returns-in_err-request-clause-failure c =
+pub returns-in-Err-clause-failure : goal.returns-in-Err-clause-failure
+returns-in-Err-clause-failure c =
     let all = c.if-extracts_all.ensures.all refl in
-    no_all (texts_of c.args.arguments.now) c.in-Some.name.now c.in-Some.options.now c.from_residual-in_err-request.result
-    c.in_err-request.field-0.0
+    no_all (texts_of c.args.arguments.now) c.in-Some.name.now c.in-Some.options.now c.in-Err.failure
     (arguments_give (app_of c.in_ok-program.field-0)
     (texts_of c.args.arguments.now) c.in_ok-matches.matches c.subcommand.result c.in-Some.name
     c.in-Some.options c.in_ok-program.ensures c.in_ok-matches.ensures.kinds c.in_ok-matches.ensures.matches c.in-Some.is
     c.subcommand.ensures.name c.subcommand.ensures.rows)
-    all.0 all.1 c.from_residual-in_err-request.ensures.1 c.in_err-request.ensures.failure
+    all.0 all.1 c.in-Err.ensures.failure
 
-pub returns-then-extracts_all-clause-order : goal.returns-then-extracts_all-clause-order
-returns-then-extracts_all-clause-order c =
+pub returns-in-Ok-clause-order : goal.returns-in-Ok-clause-order
+returns-in-Ok-clause-order c =
     let all = c.if-extracts_all.ensures.all refl in
-    all_requested (texts_of c.args.arguments.now) c.in-Some.name.now c.in-Some.options.now c.in_ok-request.request
+    all_requested (texts_of c.args.arguments.now) c.in-Some.name.now c.in-Some.options.now c.in-Ok.request
     (arguments_give (app_of c.in_ok-program.field-0)
     (texts_of c.args.arguments.now) c.in_ok-matches.matches c.subcommand.result c.in-Some.name
     c.in-Some.options c.in_ok-program.ensures c.in_ok-matches.ensures.kinds c.in_ok-matches.ensures.matches c.in-Some.is
     c.subcommand.ensures.name c.subcommand.ensures.rows)
-    all.0 all.1 c.in_ok-request.ensures.none c.in_ok-request.ensures.request
+    all.0 all.1 c.in-Ok.ensures.none c.in-Ok.ensures.request
 
 pub returns-clause-order : goal.returns-clause-order
 returns-clause-order c = record {

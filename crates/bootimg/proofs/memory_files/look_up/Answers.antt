@@ -20,28 +20,28 @@ returns-in_default c names =
 
 pub returns-in-Renamed : goal.returns-in-Renamed
 returns-in-Renamed c = elim c.in-Renamed-1.branch [
-  in-Renamed w ↦ (
-    let is : c.args.step.kind ≡ kind.Renamed c.in-Renamed-1.new_name = search rules in
-    renamed_looked_up c.args.step c.in-Renamed-1.new_name c.args.name.now c.look_up_renamed.result (inl is) c.look_up_renamed.ensures
-  )
+  | in-Renamed w ↦ (
+      let is : c.args.step.kind ≡ kind.Renamed c.in-Renamed-1.new_name = search rules in
+      renamed_looked_up c.args.step c.in-Renamed-1.new_name c.args.name.now c.look_up_renamed.result (inl is) c.look_up_renamed.ensures
+      )
   | in-Renamed-2 w ↦ (
-    let is : c.args.step.kind ≡ kind.DirectoryRenamed c.in-Renamed-1.new_name = search rules in
-    renamed_looked_up c.args.step c.in-Renamed-1.new_name c.args.name.now c.look_up_renamed.result (inr is) c.look_up_renamed.ensures
-  )
+      let is : c.args.step.kind ≡ kind.DirectoryRenamed c.in-Renamed-1.new_name = search rules in
+      renamed_looked_up c.args.step c.in-Renamed-1.new_name c.args.name.now c.look_up_renamed.result (inr is) c.look_up_renamed.ensures
+      )
 ]
 
 pub returns-in-Made : goal.returns-in-Made
 returns-in-Made c = elim c.in-Made-1.branch [
-  in-Made w ↦ (
-    let is : c.args.step.kind ≡ kind.Made c.in-Made-1.file = search rules in
-    file_looked_up c.args.step c.in-Made-1.file c.args.name.now c.look_up_at-in-Made.result (inl is) c.look_up_at-in-Made.ensures
-  )
+  | in-Made w ↦ (
+      let is : c.args.step.kind ≡ kind.Made c.in-Made-1.file = search rules in
+      file_looked_up c.args.step c.in-Made-1.file c.args.name.now c.look_up_at-in-Made.result (inl is) c.look_up_at-in-Made.ensures
+      )
   | in-Made-2 w ↦ (
-    let is : c.args.step.kind ≡ kind.Closed c.in-Made-1.file = search rules in
-    file_looked_up c.args.step c.in-Made-1.file c.args.name.now c.look_up_at-in-Made.result (inr (inl is)) c.look_up_at-in-Made.ensures
-  )
+      let is : c.args.step.kind ≡ kind.Closed c.in-Made-1.file = search rules in
+      file_looked_up c.args.step c.in-Made-1.file c.args.name.now c.look_up_at-in-Made.result (inr (inl is)) c.look_up_at-in-Made.ensures
+      )
   | in-Made-3 w ↦ (
-    let is : c.args.step.kind ≡ kind.NotClosed c.in-Made-1.file = search rules in
-    file_looked_up c.args.step c.in-Made-1.file c.args.name.now c.look_up_at-in-Made.result (inr (inr is)) c.look_up_at-in-Made.ensures
-  )
+      let is : c.args.step.kind ≡ kind.NotClosed c.in-Made-1.file = search rules in
+      file_looked_up c.args.step c.in-Made-1.file c.args.name.now c.look_up_at-in-Made.result (inr (inr is)) c.look_up_at-in-Made.ensures
+      )
 ]
