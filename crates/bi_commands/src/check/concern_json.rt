@@ -11,7 +11,7 @@ ghost use Rattle.bi_commands.specs.Checking.{is_good as is_good_hash};
 ghost use Rattle.bi_commands.specs.ConcernJson.{concern_object};
 ghost use Rattle.bi_commands.specs.Formats.{WroteInTurn, in_turn};
 ghost use Rattle.bi_commands.specs.HashedImages.{hashes_left};
-ghost use Rattle.bi_commands.specs.LineValues.{concern_value};
+ghost use Rattle.bi_commands.specs.ConcernsLeft.{concern_value};
 ghost use Rattle.bi_commands.specs.ReadChecking.{good_algorithm_json};
 
 use super::concern::{Concern, is_good};
@@ -27,14 +27,14 @@ pub(super) fn put_concern_object<S: Sink>(concern: Concern, sink: &mut S) -> Res
         sink.new }
 {
     match concern {
-        Concern::BadHash(hash) => put_bad_hash_object(&hash, sink),
-        Concern::UnhashedImage(image) => put_unhashed_object(image, sink),
-        Concern::WeakHash(image, hashes) => put_weak_hash_object(image, hashes, sink),
-        Concern::BadKey(configuration, key) => put_bad_key_object(configuration, key, sink),
+        Concern::BadHash(_, _, hash) => put_bad_hash_object(&hash, sink),
+        Concern::UnhashedImage(image) => put_unhashed_object(image.name(), sink),
+        Concern::WeakHash(image, hashes) => put_weak_hash_object(image.name(), hashes, sink),
+        Concern::BadKey(configuration, key) => put_bad_key_object(configuration.name(), key, sink),
         Concern::MissingImage(configuration, key, index) => {
-            put_missing_object(configuration, key, index, sink)
+            put_missing_object(configuration.name(), key, index, sink)
         }
-        Concern::BadDefault(default) => put_bad_default_object(default, sink),
+        Concern::BadDefault(default, _) => put_bad_default_object(default, sink),
         Concern::TrailingBytes(count) => put_trailing_object(count, sink),
     }
 }
