@@ -117,8 +117,8 @@ tree_has limits file content is within = record {
 }
 
 -- So do the same concerns.
-pub has_these : (limits : Limits) (file : List ℕ) (found all : List FoundConcern) → found ≡ all → HasConcerns limits file (concerns_in all) →
-    HasConcerns limits file (concerns_in found)
+pub has_these : (limits : Limits) (file : List ℕ) (found all : List FoundConcern) → found ≡ all →
+    HasConcerns limits file (concerns_in all) → HasConcerns limits file (concerns_in found)
 has_these limits file found all same has = subst (λ (f : List FoundConcern). HasConcerns limits file (concerns_in f)) (sym same) has
 
 -- The text of these concerns checks the file.

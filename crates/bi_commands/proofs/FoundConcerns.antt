@@ -2,7 +2,7 @@ use Rattle.std.proofs.Common.{◌≡◌, Bool, true, false, List, [], ◌∷◌,
 use Rattle.std.proofs.Common.{refl, sym, ap, ap₂, ◌∙◌}
 use Rattle.bi_commands.specs.declared.check.Allowed.{Allowed}
 use Rattle.bi_commands.specs.Checking.{Concern, allows, kept_concerns, kind_of}
-use Rattle.bi_commands.specs.FoundConcerns.{FoundConcern, Subject, concerns_about, concerns_in, kept_of}
+use Rattle.bi_commands.specs.FoundConcerns.{FoundConcern, Subject, concerns_about, concerns_in, kept_found}
 use Rattle.bi_commands.proofs.TextsInTurn.{map_append}
 
 -- Concerns with what they are about: the concerns alone, and those that iterators have left.
@@ -24,24 +24,25 @@ concerns_in_each f g same (x ∷ xs) =
     concerns_in_both (f x) (flat_map f xs) ∙ ap₂ (λ (a b : List Concern). a ++ b) (same x) (concerns_in_each f g same xs)
 
 -- Those that are kept.
-pub kept_in : (allowed : Allowed) (found : List FoundConcern) → concerns_in (kept_of allowed found) ≡ kept_concerns allowed (concerns_in found)
+pub kept_in : (allowed : Allowed) (found : List FoundConcern) →
+    concerns_in (kept_found allowed found) ≡ kept_concerns allowed (concerns_in found)
 kept_in allowed [] = refl
 kept_in allowed (one ∷ later) = by (allows allowed (kind_of one.concern)) refl (kept_in allowed later)
   where
     by : (b : Bool) → allows allowed (kind_of one.concern) ≡ b →
-        concerns_in (kept_of allowed later) ≡ kept_concerns allowed (concerns_in later) →
-        concerns_in (kept_of allowed (one ∷ later)) ≡ kept_concerns allowed (concerns_in (one ∷ later))
+        concerns_in (kept_found allowed later) ≡ kept_concerns allowed (concerns_in later) →
+        concerns_in (kept_found allowed (one ∷ later)) ≡ kept_concerns allowed (concerns_in (one ∷ later))
     by true is rest = rw is rest
     by false is rest = rw is (ap (λ (l : List Concern). one.concern ∷ l) rest)
 
 -- The first concern is kept or not.
 pub first_kept : (allowed : Allowed) (one : FoundConcern) (all later : List FoundConcern) → all ≡ one ∷ later →
-    allows allowed (kind_of one.concern) ≡ false → kept_of allowed all ≡ one ∷ kept_of allowed later
-first_kept allowed one all later is kept = ap (kept_of allowed) is ∙ rw kept refl
+    allows allowed (kind_of one.concern) ≡ false → kept_found allowed all ≡ one ∷ kept_found allowed later
+first_kept allowed one all later is kept = ap (kept_found allowed) is ∙ rw kept refl
 
 pub first_allowed : (allowed : Allowed) (one : FoundConcern) (all later : List FoundConcern) → all ≡ one ∷ later →
-    allows allowed (kind_of one.concern) ≡ true → kept_of allowed later ≡ kept_of allowed all
-first_allowed allowed one all later is left_out = sym (ap (kept_of allowed) is ∙ rw left_out refl)
+    allows allowed (kind_of one.concern) ≡ true → kept_found allowed later ≡ kept_found allowed all
+first_allowed allowed one all later is left_out = sym (ap (kept_found allowed) is ∙ rw left_out refl)
 
 -- ---- what iterators give
 

@@ -107,7 +107,8 @@ verdicts_left hashes = of (filter (λ child. is_hash_name child.name) (siblings_
     payload = option_map (bytes_of_region hashes.digests.now) hashes.payload
 
     of : (nodes : List (Sibling FileNode)) →
-        map (λ (hash : FoundHash). hash.checked) (map (λ hash. record { node = hash; checked = file_hash hashes.image.now payload hash }) nodes)
+        map (λ (hash : FoundHash). hash.checked)
+        (map (λ hash. record { node = hash; checked = file_hash hashes.image.now payload hash }) nodes)
         ≡ map (file_hash hashes.image.now payload) nodes
     of [] = refl
     of (first ∷ later) = ap (λ (l : List CheckedHash). file_hash hashes.image.now payload first ∷ l) (of later)

@@ -18,7 +18,7 @@ use Rattle.bi_commands.specs.Checking.{MissingImage, BadDefault, TrailingBytes, 
 use Rattle.bi_commands.specs.Children.{children_left}
 use Rattle.bi_commands.specs.FoundConcerns.{Default, FoundConcern, HashOf, NodeItself, Rest, Subject}
 use Rattle.bi_commands.specs.FoundConcerns.{found_in_configuration, found_in_hash, found_in_image}
-use Rattle.bi_commands.specs.FoundConcerns.{found_in_key, kept_of}
+use Rattle.bi_commands.specs.FoundConcerns.{found_in_key, kept_found}
 use Rattle.bi_commands.specs.HashedImages.{found_left, hashed_left, hashes_left}
 
 -- The concerns that iterators have left.
@@ -98,4 +98,4 @@ concerns_left left = tree_left_or_none left.of_tree ++ found_or_none left.of_res
 
 -- and those of them that are not allowed.
 abbrev pub kept_left : KeptConcerns → List FoundConcern
-kept_left left = kept_of left.allowed (concerns_left left.concerns)
+kept_left left = kept_found left.allowed (concerns_left left.concerns)

@@ -105,5 +105,5 @@ abbrev pub concerns_in : List FoundConcern → List Concern
 concerns_in found = map (λ one. one.concern) found
 
 -- Those that are not allowed.
-abbrev pub kept_of : Allowed → List FoundConcern → List FoundConcern
-kept_of allowed found = filter (λ one. not (allows allowed (kind_of one.concern))) found
+abbrev pub kept_found : Allowed → List FoundConcern → List FoundConcern
+kept_found allowed found = filter (λ one. not (allows allowed (kind_of one.concern))) found

@@ -36,7 +36,7 @@ impl<'a> CheckedImage<'a> {
     ghost use Rattle.bi_commands.specs.CheckedFiles.{IsCheckError};
     ghost use Rattle.bi_commands.specs.CheckedImages.{IsCheckedImage, found_of};
     ghost use Rattle.bi_commands.specs.ConcernsLeft.{concerns_left, kept_left};
-    ghost use Rattle.bi_commands.specs.FoundConcerns.{kept_of};
+    ghost use Rattle.bi_commands.specs.FoundConcerns.{kept_found};
 
     /// Reads a boot image, and computes the digests. The errors are those of `check`.
     pub fn read(alloc: Global, file: &'a [u8], limits: Limits) -> Result<CheckedImage<'a>, Error>
@@ -67,7 +67,7 @@ impl<'a> CheckedImage<'a> {
 
     /// Returns those of the concerns whose kind is not allowed.
     pub fn kept_concerns<'b>(&'b self, allowed: Allowed) -> KeptConcerns<'a, 'b>
-        ensures { kept_left result ≡ kept_of allowed (found_of self.entry.now) }
+        ensures { kept_left result ≡ kept_found allowed (found_of self.entry.now) }
     {
         self.concerns().kept(allowed)
     }

@@ -56,7 +56,7 @@ pub struct Concerns<'a, 'b> {
 
 impl<'a, 'b> Concerns<'a, 'b> {
     ghost use Rattle.bi_commands.specs.ConcernsLeft.{concerns_left, kept_left};
-    ghost use Rattle.bi_commands.specs.FoundConcerns.{found_in_fit, found_in_legacy, kept_of};
+    ghost use Rattle.bi_commands.specs.FoundConcerns.{found_in_fit, found_in_legacy, kept_found};
 
     /// Returns the concern about a legacy image that was read from this file, if there is one.
     pub(crate) fn of_legacy(file: &[u8], image: &Legacy) -> Concerns<'a, 'b>
@@ -90,7 +90,7 @@ impl<'a, 'b> Concerns<'a, 'b> {
 
     /// Returns those of the concerns whose kind is not allowed.
     pub fn kept(self, allowed: Allowed) -> KeptConcerns<'a, 'b>
-        ensures { kept_left result ≡ kept_of allowed (concerns_left self.entry) }
+        ensures { kept_left result ≡ kept_found allowed (concerns_left self.entry) }
     {
         KeptConcerns {
             concerns: self,
