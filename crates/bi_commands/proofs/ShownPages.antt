@@ -1,5 +1,5 @@
 use Rattle.std.proofs.Common.{◌≡◌, ◌∷◌, ◌++◌, ℕ, ◌-◌, List, [], String, Vec, Result, Ok, Err, IfErr, ap, ap₂, append-nil}
-use Rattle.std.proofs.Common.{append_assoc, drop, length, map, refl, subst, sym, ◌∙◌}
+use Rattle.std.proofs.Common.{append_assoc, map, refl, subst, sym, ◌∙◌}
 use Rattle.std.specs.Prelude.{IsAscii}
 use Rattle.std.specs.declared.alloc.Global.{Global}
 use Rattle.std.specs.List.{AllZip}

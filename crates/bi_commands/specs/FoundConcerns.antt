@@ -1,4 +1,4 @@
-use Rattle.std.specs.Prelude.{ℕ, ◌-◌, List, [], ◌∷◌, ◌++◌, Option, option_and_then, drop, filter}
+use Rattle.std.specs.Prelude.{ℕ, ◌-◌, List, ◌++◌, Option, option_and_then, drop, filter}
 use Rattle.std.specs.Prelude.{flat_map, length, map, not}
 use Rattle.bi_blob.specs.Lookups.{Sibling, node_named, property_named, siblings}
 use Rattle.bi_blob.specs.Tree.{FileNode, FileProperty}

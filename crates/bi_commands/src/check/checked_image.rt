@@ -48,10 +48,13 @@ impl<'a> CheckedImage<'a> {
                 file,
                 content: CheckedContent::Legacy(image),
             }),
-            BootImage::Fit(fit) => Ok(CheckedImage {
-                file,
-                content: CheckedContent::Fit(JudgedFit::new(alloc, fit, limits)?),
-            }),
+            BootImage::Fit(image) => {
+                let judged = JudgedFit::new(alloc, image, limits)?;
+                Ok(CheckedImage {
+                    file,
+                    content: CheckedContent::Fit(judged),
+                })
+            }
         }
     }
 

@@ -1,6 +1,6 @@
 //! The concerns about the configurations of a flattened image tree.
 
-ghost use Rattle.std.specs.Prelude.{◌≡◌, ◌≤◌, length};
+ghost use Rattle.std.specs.Prelude.{◌≡◌};
 ghost use Rattle.std.specs.Iterator.{YieldsFirstBy};
 ghost use Rattle.std.specs.Option.{option_map};
 ghost use Rattle.bi_blob.specs.Lookups.{siblings};
