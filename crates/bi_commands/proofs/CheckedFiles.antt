@@ -21,11 +21,11 @@ use Rattle.bi_norm.proofs.NormalForms.{only_legacy, only_tree}
 use Rattle.bi_commands.specs.declared.check.Allowed.{Allowed}
 use Rattle.bi_commands.specs.declared.format.Format.{Format}
 use Rattle.bi_commands.specs.CheckedFiles.{IsChecked, IsCheckError, IsCheckOutput, concerns_text}
-use Rattle.bi_commands.specs.CheckedImages.{HasConcerns}
 use Rattle.bi_commands.specs.Checking.{Concern, OfLegacyImage, OfImageTree, content_end, kept_concerns, payload_end, tree_concerns}
 use Rattle.bi_commands.specs.Checking.{trailing_concerns}
-use Rattle.bi_commands.specs.FoundConcerns.{Default, FoundConcern, Rest, concerns_in, default_property, found_in_configuration, found_in_default}
-use Rattle.bi_commands.specs.FoundConcerns.{found_in_fit, found_in_image, found_in_legacy, found_in_rest}
+use Rattle.bi_commands.specs.FoundConcerns.{Default, FoundConcern, HasConcerns, InImageTree, InLegacyImage, Rest, concerns_in}
+use Rattle.bi_commands.specs.FoundConcerns.{default_property, found_in_configuration, found_in_default, found_in_fit, found_in_image}
+use Rattle.bi_commands.specs.FoundConcerns.{found_in_legacy, found_in_rest}
 use Rattle.bi_commands.specs.HashedImages.{images_of_blob}
 use Rattle.bi_commands.specs.PayloadBounds.{IsOverPayloadBound}
 use Rattle.bi_commands.specs.ReadChecking.{IsReadCheckError, end_at, end_of_read_payloads}
@@ -98,50 +98,48 @@ concerns_of_file limits file content is =
 
 -- A legacy image that was read has the concern about the bytes after it,
 pub legacy_has : (limits : Limits) (file : List ℕ) (parsed : LegacyModel) → IsReadLegacy limits file parsed →
-    HasConcerns limits file (concerns_in (found_in_legacy file parsed))
+    HasConcerns limits file (found_in_legacy file parsed)
 legacy_has limits file parsed opened = record {
   meaning = OfLegacy parsed.image;
   means = record { means = opened.means; only = only_legacy limits file parsed opened };
   within = λ over. over;
   are_concerns = OfLegacyImage parsed opened (only_concerns Rest _);
+  are_found = InLegacyImage parsed opened refl;
 }
 
 -- and a flattened image tree has all concerns about it.
 pub tree_has : (limits : Limits) (file : List ℕ) (content : FitModel) → IsReadFit limits file content →
-    ¬ (IsOverPayloadBound limits (OfFit (tree_of content))) → HasConcerns limits file (concerns_in (found_in_fit file content))
+    ¬ (IsOverPayloadBound limits (OfFit (tree_of content))) → HasConcerns limits file (found_in_fit file content)
 tree_has limits file content is within = record {
   meaning = OfFit (tree_of content);
   means = record { means = is.means; only = only_tree limits file content is };
   within = within;
   are_concerns = OfImageTree (tree_of content) is.means (concerns_of_file limits file content is);
+  are_found = InImageTree content is refl;
 }
 
--- So do the same concerns.
-pub has_these : (limits : Limits) (file : List ℕ) (found all : List FoundConcern) → found ≡ all →
-    HasConcerns limits file (concerns_in all) → HasConcerns limits file (concerns_in found)
-has_these limits file found all same has = subst (λ (f : List FoundConcern). HasConcerns limits file (concerns_in f)) (sym same) has
-
 -- The text of these concerns checks the file.
-pub text_checks : (format : Format) (allowed : Allowed) (limits : Limits) (file : List ℕ) (concerns : List Concern) →
-    HasConcerns limits file concerns → IsChecked format allowed limits file (concerns_text format allowed concerns)
-text_checks format allowed limits file concerns has = record {
+pub text_checks : (format : Format) (allowed : Allowed) (limits : Limits) (file : List ℕ) (found : List FoundConcern) →
+    HasConcerns limits file found → IsChecked format allowed limits file (concerns_text format allowed (concerns_in found))
+text_checks format allowed limits file found has = record {
   meaning = has.meaning;
   means = has.means;
   within = has.within;
-  concerns = concerns;
+  concerns = concerns_in found;
   are_concerns = has.are_concerns;
   is_text = refl;
 }
 
 -- So does a call that appends it.
 pub text_appended : {S : Type 0} (appends : S → List ℕ → S → Type 0) (format : Format) (allowed : Allowed) (limits : Limits)
-    (file : List ℕ) (concerns : List Concern) (old new : S) (clean : Bool) → HasConcerns limits file concerns →
-    appends old (concerns_text format allowed concerns) new → (IsTrue clean ↔ (kept_concerns allowed concerns ≡ [])) →
+    (file : List ℕ) (found : List FoundConcern) (old new : S) (clean : Bool) → HasConcerns limits file found →
+    appends old (concerns_text format allowed (concerns_in found)) new →
+    (IsTrue clean ↔ (kept_concerns allowed (concerns_in found) ≡ [])) →
     Appended appends (IsCheckOutput format allowed limits clean file) old new
 unfolding text_checks
-text_appended appends format allowed limits file concerns old new clean has wrote tested = record {
-  text = concerns_text format allowed concerns;
-  is_text = record { checked = text_checks format allowed limits file concerns has; is_empty = tested };
+text_appended appends format allowed limits file found old new clean has wrote tested = record {
+  text = concerns_text format allowed (concerns_in found);
+  is_text = record { checked = text_checks format allowed limits file found has; is_empty = tested };
   appended = wrote;
 }
 

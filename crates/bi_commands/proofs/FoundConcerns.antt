@@ -34,26 +34,3 @@ kept_in allowed (one ∷ later) = by (allows allowed (kind_of one.concern)) refl
         concerns_in (kept_found allowed (one ∷ later)) ≡ kept_concerns allowed (concerns_in (one ∷ later))
     by true is rest = rw is rest
     by false is rest = rw is (ap (λ (l : List Concern). one.concern ∷ l) rest)
-
--- The first concern is kept or not.
-pub first_kept : (allowed : Allowed) (one : FoundConcern) (all later : List FoundConcern) → all ≡ one ∷ later →
-    allows allowed (kind_of one.concern) ≡ false → kept_found allowed all ≡ one ∷ kept_found allowed later
-first_kept allowed one all later is kept = ap (kept_found allowed) is ∙ rw kept refl
-
-pub first_allowed : (allowed : Allowed) (one : FoundConcern) (all later : List FoundConcern) → all ≡ one ∷ later →
-    allows allowed (kind_of one.concern) ≡ true → kept_found allowed later ≡ kept_found allowed all
-first_allowed allowed one all later is left_out = sym (ap (kept_found allowed) is ∙ rw left_out refl)
-
--- ---- what iterators give
-
--- A part gives its first concern, or it has none, and the later parts are left.
-pub part_gives : {X : Type 0} (f : X → List FoundConcern) (x : X) (left later : List X) (all part rest : List FoundConcern)
-    (one : FoundConcern) → flat_map f left ≡ all → left ≡ x ∷ later → part ≡ f x → part ≡ one ∷ rest →
-    all ≡ one ∷ (rest ++ flat_map f later)
-part_gives f x left later all part rest one so_far is made first =
-    sym so_far ∙ ap (flat_map f) is ∙ ap (λ (l : List FoundConcern). l ++ flat_map f later) (sym made ∙ first)
-
-pub part_is_done : {X : Type 0} (f : X → List FoundConcern) (x : X) (left later : List X) (all part : List FoundConcern) →
-    flat_map f left ≡ all → left ≡ x ∷ later → part ≡ f x → part ≡ [] → flat_map f later ≡ all
-part_is_done f x left later all part so_far is made none =
-    sym (ap (flat_map f) is ∙ ap (λ (l : List FoundConcern). l ++ flat_map f later) (sym made ∙ none)) ∙ so_far

@@ -15,19 +15,18 @@ use Rattle.bi_fit.specs.HashNodes.{file_configurations, file_images}
 use Rattle.bi_fit.specs.Payloads.{PayloadSource, NoSource, Data, DataOffset, DataPosition, payload_place, source_of}
 use Rattle.bi_fit.specs.Reading.{IsReadFit}
 use Rattle.bi_commands.specs.CheckedFiles.{IsCheckError, concerns_text}
-use Rattle.bi_commands.specs.CheckedImages.{HasConcerns}
 use Rattle.bi_commands.specs.Checking.{nothing_allowed}
 use Rattle.bi_commands.specs.declared.format.Format.TheVariants.{Lines}
 use Rattle.bi_commands.specs.FitPages.{configurations_table, fit_head, fit_tables, image_heading, image_row, image_rows, reservations_table}
 use Rattle.bi_commands.specs.FitPages.{signatures_table}
 use Rattle.bi_commands.specs.Pages.{Table, table_text}
-use Rattle.bi_commands.specs.FoundConcerns.{FoundConcern, concerns_in}
+use Rattle.bi_commands.specs.FoundConcerns.{FoundConcern, HasConcerns, concerns_in}
 use Rattle.bi_commands.specs.ReadChecking.{IsReadCheckError}
 use Rattle.bi_commands.specs.ReadPages.{read_image_rows}
 use Rattle.bi_commands.specs.Rows.{cells_of_rows}
 use Rattle.bi_commands.specs.ShownFiles.{AreConcernLines}
 use Rattle.bi_commands.proofs.AsciiReports.{checked_is_ascii}
-use Rattle.bi_commands.proofs.CheckedFiles.{check_error_of_tree, has_these, text_checks}
+use Rattle.bi_commands.proofs.CheckedFiles.{check_error_of_tree, text_checks}
 
 -- The parts of a page.
 
@@ -49,9 +48,9 @@ ascii_lines_in_memory limits file old new lines are empty grown =
 
 -- Those of the concerns about the file.
 pub lines_of_concerns : (limits : Limits) (file : List ℕ) (found all : List FoundConcern) → found ≡ all →
-    HasConcerns limits file (concerns_in all) → AreConcernLines limits file (concerns_text Lines nothing_allowed (concerns_in found))
+    HasConcerns limits file all → AreConcernLines limits file (concerns_text Lines nothing_allowed (concerns_in found))
 lines_of_concerns limits file found all same has =
-    text_checks Lines nothing_allowed limits file (concerns_in found) (has_these limits file found all same has)
+    text_checks Lines nothing_allowed limits file found (subst (HasConcerns limits file) (sym same) has)
 
 -- The offset of a payload, by its source.
 pub offset_found : (file : List ℕ) (source : PayloadSource) (place : Place) → place ≡ place_of file source →

@@ -53,33 +53,31 @@ abbrev pub found_or_none : Option ConcernValue → List FoundConcern
 found_or_none None = []
 found_or_none (Some value) = found_value value ∷ []
 
+-- Those that an iterator has left, if there is one.
+abbrev pub left_or_none : {I : Type 0} → (I → List FoundConcern) → Option I → List FoundConcern
+left_or_none left None = []
+left_or_none left (Some iterator) = left iterator
+
 -- Those about an image,
 abbrev pub image_left : ImageConcerns → List FoundConcern
 image_left left =
     flat_map (found_in_hash (node_of left.image)) (found_left left.hashes)
     ++ found_or_none left.of_payload
 
-abbrev pub image_left_or_none : Option ImageConcerns → List FoundConcern
-image_left_or_none None = []
-image_left_or_none (Some left) = image_left left
-
 -- about it and the images after it,
 abbrev pub images_left : AllImageConcerns → List FoundConcern
-images_left left = image_left_or_none left.current ++ flat_map found_in_image (hashed_left left.images)
+images_left left =
+    left_or_none image_left left.current ++ flat_map found_in_image (hashed_left left.images)
 
 -- about a configuration,
 abbrev pub configuration_left : ConfigurationConcerns → List FoundConcern
 configuration_left left =
     flat_map (found_in_key left.fit.now.images (node_of left.node)) (drop left.index all_keys)
 
-abbrev pub configuration_left_or_none : Option ConfigurationConcerns → List FoundConcern
-configuration_left_or_none None = []
-configuration_left_or_none (Some left) = configuration_left left
-
 -- about it and the configurations after it,
 abbrev pub configurations_left : AllConfigurationConcerns → List FoundConcern
 configurations_left left =
-    configuration_left_or_none left.current
+    left_or_none configuration_left left.current
     ++ flat_map (found_in_configuration left.fit.now.images) (children_left left.nodes)
 
 -- about a flattened image tree,
@@ -88,13 +86,9 @@ tree_left left =
     images_left left.images
     ++ (configurations_left left.configurations ++ found_or_none left.of_default)
 
-abbrev pub tree_left_or_none : Option TreeConcerns → List FoundConcern
-tree_left_or_none None = []
-tree_left_or_none (Some left) = tree_left left
-
 -- about a boot image,
 abbrev pub concerns_left : Concerns → List FoundConcern
-concerns_left left = tree_left_or_none left.of_tree ++ found_or_none left.of_rest
+concerns_left left = left_or_none tree_left left.of_tree ++ found_or_none left.of_rest
 
 -- and those of them that are not allowed.
 abbrev pub kept_left : KeptConcerns → List FoundConcern

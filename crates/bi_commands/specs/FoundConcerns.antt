@@ -1,5 +1,6 @@
-use Rattle.std.specs.Prelude.{ℕ, ◌-◌, List, ◌++◌, Option, option_and_then, drop, filter}
+use Rattle.std.specs.Prelude.{◌≡◌, ℕ, ◌-◌, List, ◌++◌, Option, option_and_then, drop, filter}
 use Rattle.std.specs.Prelude.{flat_map, length, map, not}
+use Rattle.bi_base.specs.Limits.{Limits}
 use Rattle.bi_blob.specs.Lookups.{Sibling, node_named, property_named, siblings}
 use Rattle.bi_blob.specs.Tree.{FileNode, FileProperty}
 use Rattle.bi_fdt.specs.Content.{Blob, root_of}
@@ -7,13 +8,17 @@ use Rattle.bi_fit.specs.declared.key.Key.{Key}
 use Rattle.bi_fit.specs.Content.{FitModel, ImageModel, tree_of}
 use Rattle.bi_fit.specs.HashNodes.{file_configurations, file_listed}
 use Rattle.bi_fit.specs.Judgement.{configuration_nodes, default_of}
+use Rattle.bi_fit.specs.Reading.{IsReadFit}
 use Rattle.bi_fit.specs.Names.{all_keys, configurations_name, default_name}
 use Rattle.bi_blob.specs.Tree.{names}
-use Rattle.bi_legacy.specs.Reading.{LegacyModel}
+use Rattle.bi_legacy.specs.Reading.{LegacyModel, IsReadLegacy}
+use Rattle.bi_norm.specs.Comparing.{MeansOnly}
+use Rattle.bi_norm.specs.Meaning.{Meaning}
 use Rattle.bi_commands.specs.declared.check.Allowed.{Allowed}
-use Rattle.bi_commands.specs.Checking.{Concern, allows, default_concerns, hash_concerns, kind_of}
-use Rattle.bi_commands.specs.Checking.{list_concerns, payload_concerns, trailing_concerns}
+use Rattle.bi_commands.specs.Checking.{AreConcerns, Concern, allows, default_concerns}
+use Rattle.bi_commands.specs.Checking.{hash_concerns, kind_of, list_concerns, payload_concerns, trailing_concerns}
 use Rattle.bi_commands.specs.HashedImages.{FoundHash, HashedImage, images_of_blob}
+use Rattle.bi_commands.specs.PayloadBounds.{IsOverPayloadBound}
 use Rattle.bi_commands.specs.ReadChecking.{end_of_read_payloads}
 
 -- The concerns about a boot image that was read, each with what it is about.
@@ -107,3 +112,22 @@ concerns_in found = map (λ one. one.concern) found
 -- Those that are not allowed.
 abbrev pub kept_found : Allowed → List FoundConcern → List FoundConcern
 kept_found allowed found = filter (λ one. not (allows allowed (kind_of one.concern))) found
+
+-- ---- files
+
+-- These are the concerns, each with what it is about, that are found in what reading the file
+-- returns.
+pub data AreFound (limits : Limits) (file : List ℕ) (found : List FoundConcern) : Type 0 where
+  InLegacyImage : (image : LegacyModel) → IsReadLegacy limits file image
+      → found ≡ found_in_legacy file image → AreFound limits file found
+  InImageTree : (content : FitModel) → IsReadFit limits file content
+      → found ≡ found_in_fit file content → AreFound limits file found
+
+-- These are the concerns about a file, in their order, each with what it is about. The file means
+-- something and nothing else, and its payloads are within the payload bound.
+pub record HasConcerns (limits : Limits) (file : List ℕ) (found : List FoundConcern) : Type 0 where
+  pub meaning : Meaning
+  pub means : MeansOnly limits file meaning
+  pub within : ¬ (IsOverPayloadBound limits meaning)
+  pub are_concerns : AreConcerns limits file (concerns_in found)
+  pub are_found : AreFound limits file found

@@ -8,10 +8,10 @@ ghost use Rattle.bi_commands.specs.CheckedFiles.{IsChecked, IsCheckError, IsChec
 ghost use Rattle.bi_commands.specs.CheckedFiles.{check_promise, check_laws};
 ghost use Rattle.bi_commands.specs.Checking.{kind_word, allows as allows_kind};
 
-pub mod checked_image;
-pub mod concern;
+mod checked_image;
+mod concern;
 mod concern_json;
-pub mod concerns;
+mod concerns;
 mod configurations;
 mod images;
 pub(crate) mod text;
@@ -19,7 +19,9 @@ pub(crate) mod trailing;
 
 use crate::format::Format;
 use bi_base::{Command, Error, Limits, Sink, VecSink, pipe_to};
-use checked_image::CheckedImage;
+pub use checked_image::CheckedImage;
+pub use concern::Concern;
+pub use concerns::{Concerns, KeptConcerns};
 use std::alloc::Global;
 use std::io::{Read, Write};
 use text::put_concerns;

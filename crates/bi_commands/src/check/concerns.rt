@@ -2,8 +2,6 @@
 
 ghost use Rattle.std.specs.Prelude.{◌≡◌};
 ghost use Rattle.bi_fit.specs.Content.{AreAtTheirPlaces};
-ghost use Rattle.std.specs.Iterator.{YieldsFirstBy};
-ghost use Rattle.bi_commands.specs.ConcernsLeft.{found_value, tree_left_or_none};
 
 use super::Allowed;
 use super::concern::Concern;
@@ -59,7 +57,7 @@ impl<'a, 'b> Concerns<'a, 'b> {
     ghost use Rattle.bi_commands.specs.FoundConcerns.{found_in_fit, found_in_legacy, kept_found};
 
     /// Returns the concern about a legacy image that was read from this file, if there is one.
-    pub(crate) fn of_legacy(file: &[u8], image: &Legacy) -> Concerns<'a, 'b>
+    pub(crate) fn of_legacy(file: &[u8], image: &'b Legacy<'a>) -> Concerns<'a, 'b>
         ensures { concerns_left result ≡ found_in_legacy file.now image.now }
     {
         Concerns {
@@ -110,20 +108,12 @@ impl<'a, 'b> Iterator for Concerns<'a, 'b> {
     ghost remaining = { item_count concerns_left };
 
     fn next(&mut self) -> Option<Concern<'a, 'b>> {
-        if let Some(concern) = next_in_tree(&mut self.of_tree) {
-            return Some(concern);
+        if let Some(concerns) = &mut self.of_tree {
+            if let Some(concern) = concerns.next() {
+                return Some(concern);
+            }
         }
         self.of_rest.take()
-    }
-}
-
-/// Takes the first concern that is left about a flattened image tree, if there is one.
-fn next_in_tree<'a, 'b>(tree: &mut Option<TreeConcerns<'a, 'b>>) -> Option<Concern<'a, 'b>>
-    ensures { YieldsFirstBy found_value tree_left_or_none tree.old result tree.new }
-{
-    match tree {
-        Some(concerns) => concerns.next(),
-        None => None,
     }
 }
 

@@ -1,7 +1,6 @@
 //! The concerns about the configurations of a flattened image tree.
 
 ghost use Rattle.std.specs.Prelude.{◌≡◌};
-ghost use Rattle.std.specs.Iterator.{YieldsFirstBy};
 ghost use Rattle.std.specs.Option.{option_map};
 ghost use Rattle.bi_blob.specs.Lookups.{siblings};
 ghost use Rattle.bi_blob.specs.Tree.{names};
@@ -11,8 +10,7 @@ ghost use Rattle.bi_fit.specs.Content.{tree_of};
 ghost use Rattle.bi_fit.specs.HashNodes.{file_configurations};
 ghost use Rattle.bi_fit.specs.Judgement.{configuration_nodes as nodes_of_configurations};
 ghost use Rattle.bi_commands.specs.Checking.{names_one_of};
-ghost use Rattle.bi_commands.specs.ConcernsLeft.{configuration_left_or_none, found_or_none};
-ghost use Rattle.bi_commands.specs.ConcernsLeft.{found_value};
+ghost use Rattle.bi_commands.specs.ConcernsLeft.{found_or_none};
 ghost use Rattle.bi_commands.specs.FoundConcerns.{default_property as property_of_default};
 ghost use Rattle.bi_commands.specs.FoundConcerns.{found_in_default, found_in_key};
 
@@ -94,33 +92,18 @@ impl<'a, 'b> Iterator for AllConfigurationConcerns<'a, 'b> {
     ghost remaining = { item_count configurations_left };
 
     fn next(&mut self) -> Option<Concern<'a, 'b>> {
-        if let Some(concern) = next_about(&mut self.current) {
-            return Some(concern);
-        }
-        while let Some(node) = self.nodes.next() {
+        loop {
+            if let Some(concerns) = &mut self.current {
+                if let Some(concern) = concerns.next() {
+                    return Some(concern);
+                }
+            }
             self.current = Some(ConfigurationConcerns {
                 fit: self.fit,
-                node,
+                node: self.nodes.next()?,
                 index: 0,
             });
-            if let Some(concern) = next_about(&mut self.current) {
-                return Some(concern);
-            }
         }
-        None
-    }
-}
-
-/// Takes the first concern that is left about a configuration, if there is a configuration.
-fn next_about<'a, 'b>(
-    current: &mut Option<ConfigurationConcerns<'a, 'b>>,
-) -> Option<Concern<'a, 'b>>
-    ensures { YieldsFirstBy found_value configuration_left_or_none current.old result
-        current.new }
-{
-    match current {
-        Some(concerns) => concerns.next(),
-        None => None,
     }
 }
 

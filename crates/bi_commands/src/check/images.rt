@@ -1,7 +1,6 @@
 //! The concerns about the images of a flattened image tree.
 
 ghost use Rattle.std.specs.Prelude.{◌≡◌};
-ghost use Rattle.std.specs.Iterator.{YieldsFirstBy};
 ghost use Rattle.std.specs.List.{list_any};
 ghost use Rattle.std.specs.Option.{option_map};
 ghost use Rattle.bi_fdt.specs.Views.{node_of};
@@ -10,7 +9,7 @@ ghost use Rattle.bi_fit.specs.JudgementCalls.{checked_hash_of};
 ghost use Rattle.bi_commands.specs.Checking.{is_good as is_good_hash, is_strong as is_strong_hash};
 ghost use Rattle.bi_commands.specs.Checking.{is_strong_algorithm, protection_concerns};
 ghost use Rattle.bi_commands.specs.Checking.{payload_concerns};
-ghost use Rattle.bi_commands.specs.ConcernsLeft.{found_or_none, found_value, image_left_or_none};
+ghost use Rattle.bi_commands.specs.ConcernsLeft.{found_or_none};
 ghost use Rattle.bi_commands.specs.FoundConcerns.{NodeItself, concerns_about};
 ghost use Rattle.bi_commands.specs.HashedImages.{hashes_left, image_value};
 
@@ -104,26 +103,14 @@ impl<'a, 'b> Iterator for AllImageConcerns<'a, 'b> {
     ghost remaining = { item_count images_left };
 
     fn next(&mut self) -> Option<Concern<'a, 'b>> {
-        if let Some(concern) = next_about(&mut self.current) {
-            return Some(concern);
-        }
-        while let Some(image) = self.images.next() {
-            self.current = Some(ImageConcerns::new(image));
-            if let Some(concern) = next_about(&mut self.current) {
-                return Some(concern);
+        loop {
+            if let Some(concerns) = &mut self.current {
+                if let Some(concern) = concerns.next() {
+                    return Some(concern);
+                }
             }
+            self.current = Some(ImageConcerns::new(self.images.next()?));
         }
-        None
-    }
-}
-
-/// Takes the first concern that is left about an image, if there is an image.
-fn next_about<'a, 'b>(current: &mut Option<ImageConcerns<'a, 'b>>) -> Option<Concern<'a, 'b>>
-    ensures { YieldsFirstBy found_value image_left_or_none current.old result current.new }
-{
-    match current {
-        Some(concerns) => concerns.next(),
-        None => None,
     }
 }
 

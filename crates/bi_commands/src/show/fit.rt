@@ -22,7 +22,7 @@ use super::images::image_rows;
 use super::layout::fit::fit_layout;
 use super::signatures::signature_rows;
 use super::tables::{Row, add_concerns, add_pair, add_table, words_row};
-use crate::check::concerns::Concerns;
+use crate::check::Concerns;
 use crate::check::text::put_concerns;
 use crate::fields::Field;
 use crate::payload_bounds::BoundedFit;

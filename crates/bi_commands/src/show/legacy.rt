@@ -16,7 +16,7 @@ use super::codes::{any_arch_name, any_os_name, any_type_name};
 use super::dates::time_text;
 use super::layout::legacy::legacy_layout;
 use super::tables::{Row, add_concerns, add_pair, add_table, words_row};
-use crate::check::concerns::Concerns;
+use crate::check::Concerns;
 use crate::check::text::put_concerns;
 use crate::fields::Field;
 use bi_base::{Limits, VecSink};

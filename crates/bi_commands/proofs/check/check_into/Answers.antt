@@ -1,8 +1,8 @@
-use Rattle.std.proofs.Common.{ap, sym, refl}
+use Rattle.std.proofs.Common.{refl, subst, sym}
 use Rattle.std.proofs.lemmas.Result.{err_from_is_err_and}
 use Rattle.bi_base.specs.Commands.{SinkFailed, WasRefused}
-use Rattle.bi_commands.specs.FoundConcerns.{concerns_in}
-use Rattle.bi_commands.proofs.CheckedFiles.{has_these, text_appended, text_checks}
+use Rattle.bi_commands.specs.FoundConcerns.{HasConcerns}
+use Rattle.bi_commands.proofs.CheckedFiles.{text_appended, text_checks}
 use Rattle.bi_commands.proofs.check.check_into.Goals as goal
 
 pub returns-in_err-image-clause-failed : goal.returns-in_err-image-clause-failed
@@ -13,7 +13,7 @@ returns-in_err-image-clause-failed g c =
 pub returns-in_err-clean-clause-failed : goal.returns-in_err-clean-clause-failed
 returns-in_err-clean-clause-failed g c =
     let p = err_from_is_err_and c.from_residual-in_err-clean.result c.from_residual-in_err-clean.ensures.1 in
-    let has = has_these c.args.limits c.args.file.now _ _ c.concerns.ensures c.in_ok-image.ensures.read in
+    let has = subst (HasConcerns c.args.limits c.args.file.now) (sym c.concerns.ensures) c.in_ok-image.ensures.read in
     rw (p.1, p.2) (SinkFailed _ c.in_err-clean.field-0.0
     (text_checks c.args.checker.format c.args.checker.allowed c.args.limits c.args.file.now _ has) c.in_err-clean.ensures.text refl)
 
@@ -21,5 +21,5 @@ pub returns-clause-appended : goal.returns-clause-appended
 returns-clause-appended g c =
     text_appended g.S.Sink.appends c.args.checker.format c.args.checker.allowed c.args.limits c.args.file.now _ c.args.sink.now
     c.put_concerns.new.sink c.in_ok-clean.clean
-    (has_these c.args.limits c.args.file.now _ _ c.concerns.ensures c.in_ok-image.ensures.read) c.in_ok-clean.ensures.text
+    (subst (HasConcerns c.args.limits c.args.file.now) (sym c.concerns.ensures) c.in_ok-image.ensures.read) c.in_ok-clean.ensures.text
     c.in_ok-clean.ensures.clean

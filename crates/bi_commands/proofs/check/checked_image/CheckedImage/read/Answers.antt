@@ -1,7 +1,6 @@
 use Rattle.std.proofs.Common.{rules, subst, sym}
 use Rattle.std.proofs.lemmas.Result.{err_from_is_err_and}
-use Rattle.bi_commands.specs.CheckedImages.{HasConcerns}
-use Rattle.bi_commands.specs.FoundConcerns.{concerns_in, found_in_fit}
+use Rattle.bi_commands.specs.FoundConcerns.{HasConcerns, found_in_fit}
 use Rattle.bi_commands.proofs.CheckedFiles.{check_error_of_reading, check_error_of_tree, legacy_has, tree_has}
 use Rattle.bi_commands.proofs.check.checked_image.CheckedImage.read.Goals as goal
 
@@ -21,6 +20,6 @@ returns-in_err-judged-in-Fit-clause-failed c =
 
 pub returns-in_ok-judged-in-Fit-clause-read : goal.returns-in_ok-judged-in-Fit-clause-read
 returns-in_ok-judged-in-Fit-clause-read c =
-    subst (λ content. HasConcerns c.args.limits c.args.file.now (concerns_in (found_in_fit c.args.file.now content)))
+    subst (λ content. HasConcerns c.args.limits c.args.file.now (found_in_fit c.args.file.now content))
     (sym c.in_ok-judged-in-Fit.ensures.same)
     (tree_has c.args.limits c.args.file.now c.in-Fit.image (search rules) c.in_ok-judged-in-Fit.ensures.within)
