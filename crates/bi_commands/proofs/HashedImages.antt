@@ -2,8 +2,9 @@ use Rattle.std.proofs.Common.{◌≡◌, ◌≤◌, ℕ, true, false, List, [], 
 use Rattle.std.proofs.Common.{◌∙◌, ◌-◌, arith, drop, get_or, take, take_all}
 use Rattle.std.specs.List.{flat_map}
 use Rattle.std.proofs.lemmas.List.Folds.{flat_map-map}
+use Rattle.std.proofs.lemmas.Simd.{map-map}
 use Rattle.std.specs.Option.{option_map}
-use Rattle.bi_blob.specs.Lookups.{Sibling, siblings, siblings_from}
+use Rattle.bi_blob.specs.Lookups.{Sibling, siblings}
 use Rattle.bi_blob.specs.Tree.{FileNode}
 use Rattle.bi_fdt.specs.Views.{node_of}
 use Rattle.bi_fit.specs.Content.{FitModel, ImageModel, tree_of}
@@ -13,8 +14,6 @@ use Rattle.bi_fit.specs.Names.{is_hash_name}
 use Rattle.bi_fit.proofs.FileNodes.{bare_image, image_siblings, siblings-by_name}
 use Rattle.bi_fit.proofs.FileVerdicts.{hashes_are, verdicts_are}
 use Rattle.bi_commands.specs.declared.format.Format.{Format}
-use Rattle.bi_hash.specs.Regions.{bytes_of_region}
-use Rattle.bi_commands.specs.declared.hash_nodes.HashNodes.{HashNodes}
 use Rattle.bi_commands.specs.declared.hash_nodes.HashedImage.{HashedImage as ImageValue}
 use Rattle.bi_commands.specs.Checking.{Concern, hash_concerns, hashed_concerns, hashes_of_image, image_concerns}
 use Rattle.bi_commands.specs.FoundConcerns.{HashOf, NodeItself, concerns_in, found_in_hash, found_in_image}
@@ -41,20 +40,26 @@ pub texts_of_images : (format : Format) (content : FitModel) →
 texts_of_images format content =
     texts_by_image format (siblings (file_images content.blob)) content.images ∙ ap (map (hash_text format)) (sym (verdicts_are content))
 
+-- The verdicts on the hash nodes that were found.
+pub verdicts_of_found : (image : List ℕ) (payload : Option (List ℕ)) (children : List (Sibling FileNode)) →
+    map (λ hash. hash.checked) (found_hashes image payload children) ≡ file_hashes image payload children
+verdicts_of_found image payload children =
+    map-map (λ (hash : FoundHash). hash.checked) (λ hash. record { node = hash; checked = file_hash image payload hash })
+    (filter (λ child. is_hash_name child.name) children)
+
 -- The concerns about an image that was read.
 in_image : (entry : Sibling FileNode) (image : ImageModel) →
     concerns_in (found_in_image (hashed_image entry image))
     ≡ hashed_concerns entry.name image.payload (file_hashes entry.name image.payload (siblings entry.children))
 in_image entry image =
-    let nodes : List (Sibling FileNode) = filter (λ child. is_hash_name child.name) (siblings entry.children) in
-    let found : Sibling FileNode → FoundHash = λ hash. record { node = hash; checked = file_hash entry.name image.payload hash } in
+    let found = found_hashes entry.name image.payload (siblings entry.children) in
     let about_hash : (hash : FoundHash) → concerns_in (found_in_hash entry hash) ≡ hash_concerns hash.checked =
     λ hash. only_concerns (HashOf entry hash.node) (hash_concerns hash.checked) in
-    concerns_in_both (flat_map (found_in_hash entry) (map found nodes)) _
+    concerns_in_both (flat_map (found_in_hash entry) found) _
     ∙ ap₂ (λ (a b : List Concern). a ++ b)
-    (concerns_in_each (found_in_hash entry) (λ hash. hash_concerns hash.checked) about_hash (map found nodes)
-    ∙ flat_map-map (λ (hash : FoundHash). hash_concerns hash.checked) found nodes
-    ∙ sym (flat_map-map hash_concerns (file_hash entry.name image.payload) nodes))
+    (concerns_in_each (found_in_hash entry) (λ hash. hash_concerns hash.checked) about_hash found
+    ∙ sym (flat_map-map hash_concerns (λ (hash : FoundHash). hash.checked) found)
+    ∙ ap (flat_map hash_concerns) (verdicts_of_found entry.name image.payload (siblings entry.children)))
     (only_concerns (NodeItself entry) _)
 
 -- The concerns about images.
@@ -98,30 +103,6 @@ pub first_judged : (image : List ℕ) (payload : Option (List ℕ)) (first : Sib
 first_judged image payload first left from later checked same is one judged =
     ap (map (λ hash. record { node = hash; checked = file_hash image payload hash })) (sym same ∙ hashes_from_first first from later is one)
     ∙ ap (λ hash. record { node = first; checked = hash } ∷ found_hashes image payload later) (sym judged)
-
--- The verdicts on the hash nodes that are left.
-pub verdicts_left : (hashes : HashNodes) → map (λ hash. hash.checked) (found_left hashes) ≡ hashes_left hashes
-verdicts_left hashes = of (filter (λ child. is_hash_name child.name) (siblings_from (option_map node_of hashes.next)))
-  where
-    payload : Option (List ℕ)
-    payload = option_map (bytes_of_region hashes.digests.now) hashes.payload
-
-    of : (nodes : List (Sibling FileNode)) →
-        map (λ (hash : FoundHash). hash.checked)
-        (map (λ hash. record { node = hash; checked = file_hash hashes.image.now payload hash }) nodes)
-        ≡ map (file_hash hashes.image.now payload) nodes
-    of [] = refl
-    of (first ∷ later) = ap (λ (l : List CheckedHash). file_hash hashes.image.now payload first ∷ l) (of later)
-
--- The first of them, and the others.
-pub first_verdict : (old new : HashNodes) (first : FoundHash) → found_left old ≡ first ∷ found_left new →
-    hashes_left old ≡ first.checked ∷ hashes_left new
-first_verdict old new first is =
-    sym (verdicts_left old) ∙ ap (map (λ (hash : FoundHash). hash.checked)) is
-    ∙ ap (λ (l : List CheckedHash). first.checked ∷ l) (verdicts_left new)
-
-pub no_verdict : (hashes : HashNodes) → found_left hashes ≡ [] → hashes_left hashes ≡ []
-no_verdict hashes none = sym (verdicts_left hashes) ∙ ap (map (λ (hash : FoundHash). hash.checked)) none
 
 -- The first image, and those that are left after it,
 pub first_hashed_image : (entry : Sibling FileNode) (entries later_entries : List (Sibling FileNode)) (image : ImageModel)

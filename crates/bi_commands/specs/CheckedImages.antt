@@ -1,22 +1,24 @@
-use Rattle.std.specs.Prelude.{ℕ, List}
-use Rattle.bi_base.specs.Limits.{Limits}
-use Rattle.bi_commands.specs.declared.check.checked_image.CheckedContent.{CheckedContent}
-use Rattle.bi_commands.specs.declared.check.checked_image.CheckedContent.TheVariants.{Legacy, Fit}
+use Rattle.std.specs.Prelude.{List, ◌++◌}
 use Rattle.bi_commands.specs.declared.check.checked_image.CheckedImage.{CheckedImage}
-use Rattle.bi_commands.specs.FoundConcerns.{FoundConcern, HasConcerns, found_in_fit}
-use Rattle.bi_commands.specs.FoundConcerns.{found_in_legacy}
+use Rattle.bi_commands.specs.declared.check.concerns.Concerns.{Concerns}
+use Rattle.bi_commands.specs.declared.check.concerns.KeptConcerns.{KeptConcerns}
+use Rattle.bi_commands.specs.ConcernsLeft.{configurations_left, found_in_content, images_left}
+use Rattle.bi_commands.specs.ConcernValues.{found_or_none, left_or_none}
+use Rattle.bi_commands.specs.FoundConcerns.{FoundConcern, kept_found}
 
 -- A boot image whose concerns are known.
 
--- The concerns about what was read from a file.
-abbrev pub found_of_content : List ℕ → CheckedContent → List FoundConcern
-found_of_content file (Legacy image) = found_in_legacy file image
-found_of_content file (Fit content) = found_in_fit file content
-
 -- The concerns about an image, each with what it is about.
 abbrev pub found_of : CheckedImage → List FoundConcern
-found_of image = found_of_content image.file.now image.content
+found_of image = found_in_content image.file.now image.content
 
--- The concerns about an image that was read from the file are those about the file.
-abbrev pub IsCheckedImage : Limits → List ℕ → CheckedImage → Type 0
-IsCheckedImage limits file image = HasConcerns limits file (found_of image)
+-- The concerns that are left about an image,
+abbrev pub concerns_left : Concerns → List FoundConcern
+concerns_left left =
+    left_or_none images_left left.of_images
+    ++ (left_or_none configurations_left left.of_configurations
+    ++ (found_or_none left.of_default ++ found_or_none left.of_rest))
+
+-- and those of them that are not allowed.
+abbrev pub kept_left : KeptConcerns → List FoundConcern
+kept_left left = kept_found left.allowed (concerns_left left.concerns)

@@ -65,11 +65,7 @@ found_left hashes =
 
 -- Their verdicts.
 abbrev pub hashes_left : HashNodes → List CheckedHash
-hashes_left hashes =
-    file_hashes
-    hashes.image.now
-    (option_map (bytes_of_region hashes.digests.now) hashes.payload)
-    (siblings_from (option_map node_of hashes.next))
+hashes_left hashes = map (λ hash. hash.checked) (found_left hashes)
 
 -- A hash node with its verdict, as the code has it.
 abbrev pub found_hash_of : NodeRef × Checked → FoundHash

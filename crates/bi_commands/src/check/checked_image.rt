@@ -6,8 +6,7 @@ ghost use Rattle.bi_norm.specs.Meaning.{OfFit};
 ghost use Rattle.bi_commands.specs.PayloadBounds.{IsOverPayloadBound};
 ghost use Rattle.bi_commands.specs.ReadChecking.{IsReadCheckError};
 
-use super::Allowed;
-use super::concerns::{Concerns, KeptConcerns};
+use super::concerns::Concerns;
 use crate::payload_bounds::BoundedFit;
 use crate::verdict_counts::digests_of_verdicts;
 use bi_base::{Error, Limits};
@@ -34,13 +33,12 @@ enum CheckedContent<'a> {
 
 impl<'a> CheckedImage<'a> {
     ghost use Rattle.bi_commands.specs.CheckedFiles.{IsCheckError};
-    ghost use Rattle.bi_commands.specs.CheckedImages.{IsCheckedImage, found_of};
-    ghost use Rattle.bi_commands.specs.ConcernsLeft.{concerns_left, kept_left};
-    ghost use Rattle.bi_commands.specs.FoundConcerns.{kept_found};
+    ghost use Rattle.bi_commands.specs.CheckedImages.{concerns_left, found_of};
+    ghost use Rattle.bi_commands.specs.FoundConcerns.{HasConcerns};
 
     /// Reads a boot image, and computes the digests. The errors are those of `check`.
     pub fn read(alloc: Global, file: &'a [u8], limits: Limits) -> Result<CheckedImage<'a>, Error>
-        ensures read { IfOk result (IsCheckedImage limits file.entry.now) }
+        ensures read { IfOk result (λ image. HasConcerns limits file.entry.now (found_of image)) }
         ensures failed { IfErr result (IsCheckError limits file.entry.now) }
     {
         match BootImage::read(alloc, file, limits)? {
@@ -67,13 +65,6 @@ impl<'a> CheckedImage<'a> {
             CheckedContent::Fit(judged) => judged.concerns(self.file),
         }
     }
-
-    /// Returns those of the concerns whose kind is not allowed.
-    pub fn kept_concerns<'b>(&'b self, allowed: Allowed) -> KeptConcerns<'a, 'b>
-        ensures { kept_left result ≡ kept_found allowed (found_of self.entry.now) }
-    {
-        self.concerns().kept(allowed)
-    }
 }
 
 /// A flattened image tree that was read, with each digest that a verdict needs. Contracts see the
@@ -95,7 +86,7 @@ impl<'a> Model for JudgedFit<'a> {
 }
 
 impl<'a> JudgedFit<'a> {
-    ghost use Rattle.bi_commands.specs.ConcernsLeft.{concerns_left};
+    ghost use Rattle.bi_commands.specs.CheckedImages.{concerns_left};
     ghost use Rattle.bi_commands.specs.FoundConcerns.{found_in_fit};
 
     /// Computes the digests.

@@ -1,7 +1,6 @@
 //! A concern about a boot image, and how it is printed.
 
-ghost use Rattle.std.specs.Prelude.{◌≡◌, [], ◌∷◌, ◌++◌, filter, flat_map};
-ghost use Rattle.std.specs.Option.{option_map};
+ghost use Rattle.std.specs.Prelude.{◌≡◌, [], ◌∷◌, filter, flat_map};
 ghost use Rattle.bi_base.specs.Sinks.{Wrote};
 ghost use Rattle.bi_fit.specs.JudgementCalls.{checked_hash_of};
 ghost use Rattle.bi_commands.specs.Checking.{BadHash, WeakHash, concern_line};
@@ -9,7 +8,7 @@ ghost use Rattle.bi_commands.specs.Checking.{BadDefault, BadKey, MissingImage, T
 ghost use Rattle.bi_commands.specs.Checking.{UnhashedImage, is_good as is_good_hash};
 ghost use Rattle.bi_commands.specs.Checking.{kind_of as kind_of_concern};
 ghost use Rattle.bi_commands.specs.HashedImages.{hashes_left};
-ghost use Rattle.bi_commands.specs.ConcernsLeft.{concern_value};
+ghost use Rattle.bi_commands.specs.ConcernValues.{concern_value};
 ghost use Rattle.bi_commands.specs.Formats.{in_turn};
 ghost use Rattle.bi_commands.specs.ReadChecking.{concern_text, good_algorithm};
 ghost use Rattle.bi_commands.specs.Reports.{is_verdict};

@@ -12,7 +12,7 @@ ghost use Rattle.bi_commands.specs.Checking.{is_good as is_good_hash};
 ghost use Rattle.bi_commands.specs.ConcernJson.{concern_object};
 ghost use Rattle.bi_commands.specs.Formats.{WroteInTurn, in_turn};
 ghost use Rattle.bi_commands.specs.HashedImages.{hashes_left};
-ghost use Rattle.bi_commands.specs.ConcernsLeft.{concern_value};
+ghost use Rattle.bi_commands.specs.ConcernValues.{concern_value};
 ghost use Rattle.bi_commands.specs.ReadChecking.{good_algorithm_json};
 
 use super::concern::{Concern, is_good};
@@ -59,8 +59,8 @@ fn put_bad_hash_object<S: Sink>(hash: &Checked, sink: &mut S) -> Result<(), Erro
 
 /// Appends the object of an image without a Good verdict. Fails as the sink does.
 fn put_unhashed_object<S: Sink>(image: NodeRef, sink: &mut S) -> Result<(), Error>
-    ensures { Wrote S.appends S.fails sink.old (concern_object (UnhashedImage (node_of image.entry).name)) result
-        sink.new }
+    ensures { Wrote S.appends S.fails sink.old
+        (concern_object (UnhashedImage (node_of image.entry).name)) result sink.new }
 {
     let members = [
         ("concern", JsonValue::Text(b"unhashed")),
@@ -71,8 +71,8 @@ fn put_unhashed_object<S: Sink>(image: NodeRef, sink: &mut S) -> Result<(), Erro
 
 /// Appends the object of a key of a configuration whose value is no list. Fails as the sink does.
 fn put_bad_key_object<S: Sink>(configuration: NodeRef, key: Key, sink: &mut S) -> Result<(), Error>
-    ensures { Wrote S.appends S.fails sink.old (concern_object (BadKey (node_of configuration.entry).name key))
-        result sink.new }
+    ensures { Wrote S.appends S.fails sink.old
+        (concern_object (BadKey (node_of configuration.entry).name key)) result sink.new }
 {
     let members = [
         ("concern", JsonValue::Text(b"bad-list")),
@@ -91,7 +91,8 @@ fn put_missing_object<S: Sink>(
     sink: &mut S,
 ) -> Result<(), Error>
     ensures { Wrote S.appends S.fails sink.old
-        (concern_object (MissingImage (node_of configuration.entry).name key index)) result sink.new }
+        (concern_object (MissingImage (node_of configuration.entry).name key index)) result
+        sink.new }
 {
     let members = [
         ("concern", JsonValue::Text(b"missing")),

@@ -1,7 +1,11 @@
 //! The concerns about a boot image, one at a time.
 
 ghost use Rattle.std.specs.Prelude.{◌≡◌};
+ghost use Rattle.std.specs.Iterator.{YieldsFirstBy, item_count};
 ghost use Rattle.bi_fit.specs.Content.{AreAtTheirPlaces};
+ghost use Rattle.bi_commands.specs.CheckedImages.{concerns_left, kept_left};
+ghost use Rattle.bi_commands.specs.ConcernValues.{found_value};
+ghost use Rattle.bi_commands.specs.FoundConcerns.{found_in_fit, found_in_legacy, kept_found};
 
 use super::Allowed;
 use super::concern::Concern;
@@ -12,56 +16,28 @@ use bi_fit::Fit;
 use bi_hash::RegionDigests;
 use bi_legacy::Legacy;
 
-/// The concerns that are left about a flattened image tree: about its images, its configurations
-/// and its default.
-#[derive(Drop)]
-struct TreeConcerns<'a, 'b> {
-    images: AllImageConcerns<'a, 'b>,
-    configurations: AllConfigurationConcerns<'a, 'b>,
-    of_default: Option<Concern<'a, 'b>>,
-}
-
-impl<'a, 'b> Iterator for TreeConcerns<'a, 'b> {
-    ghost use Rattle.std.specs.Iterator.{YieldsFirstBy, item_count};
-    ghost use Rattle.bi_commands.specs.ConcernsLeft.{found_value, tree_left};
-
-    type Item = Concern<'a, 'b>;
-
-    ghost next_gives = { YieldsFirstBy found_value tree_left };
-
-    ghost remaining = { item_count tree_left };
-
-    fn next(&mut self) -> Option<Concern<'a, 'b>> {
-        if let Some(concern) = self.images.next() {
-            return Some(concern);
-        }
-        if let Some(concern) = self.configurations.next() {
-            return Some(concern);
-        }
-        self.of_default.take()
-    }
-}
-
 /// The concerns that are left about a boot image, in their order: about each image of a flattened
 /// image tree, each of its configurations and its default, and then about the bytes of the file
 /// after the image. No list of them is made in memory.
 #[derive(Drop)]
 pub struct Concerns<'a, 'b> {
     /// None for a legacy image.
-    of_tree: Option<TreeConcerns<'a, 'b>>,
+    of_images: Option<AllImageConcerns<'a, 'b>>,
+    /// None for a legacy image.
+    of_configurations: Option<AllConfigurationConcerns<'a, 'b>>,
+    of_default: Option<Concern<'a, 'b>>,
     of_rest: Option<Concern<'a, 'b>>,
 }
 
 impl<'a, 'b> Concerns<'a, 'b> {
-    ghost use Rattle.bi_commands.specs.ConcernsLeft.{concerns_left, kept_left};
-    ghost use Rattle.bi_commands.specs.FoundConcerns.{found_in_fit, found_in_legacy, kept_found};
-
     /// Returns the concern about a legacy image that was read from this file, if there is one.
     pub(crate) fn of_legacy(file: &[u8], image: &'b Legacy<'a>) -> Concerns<'a, 'b>
         ensures { concerns_left result ≡ found_in_legacy file.now image.now }
     {
         Concerns {
-            of_tree: None,
+            of_images: None,
+            of_configurations: None,
+            of_default: None,
             of_rest: rest_concern(bytes_after_legacy(file, image)),
         }
     }
@@ -77,11 +53,9 @@ impl<'a, 'b> Concerns<'a, 'b> {
         ensures { concerns_left result ≡ found_in_fit file.now fit.entry.now }
     {
         Concerns {
-            of_tree: Some(TreeConcerns {
-                images: AllImageConcerns::new(fit, digests),
-                configurations: AllConfigurationConcerns::new(fit),
-                of_default: default_concern(fit),
-            }),
+            of_images: Some(AllImageConcerns::new(fit, digests)),
+            of_configurations: Some(AllConfigurationConcerns::new(fit)),
+            of_default: default_concern(fit),
             of_rest: rest_concern(bytes_after_fit(file, fit)),
         }
     }
@@ -98,9 +72,6 @@ impl<'a, 'b> Concerns<'a, 'b> {
 }
 
 impl<'a, 'b> Iterator for Concerns<'a, 'b> {
-    ghost use Rattle.std.specs.Iterator.{YieldsFirstBy, item_count};
-    ghost use Rattle.bi_commands.specs.ConcernsLeft.{concerns_left, found_value};
-
     type Item = Concern<'a, 'b>;
 
     ghost next_gives = { YieldsFirstBy found_value concerns_left };
@@ -108,10 +79,18 @@ impl<'a, 'b> Iterator for Concerns<'a, 'b> {
     ghost remaining = { item_count concerns_left };
 
     fn next(&mut self) -> Option<Concern<'a, 'b>> {
-        if let Some(concerns) = &mut self.of_tree {
+        if let Some(concerns) = &mut self.of_images {
             if let Some(concern) = concerns.next() {
                 return Some(concern);
             }
+        }
+        if let Some(concerns) = &mut self.of_configurations {
+            if let Some(concern) = concerns.next() {
+                return Some(concern);
+            }
+        }
+        if let Some(concern) = self.of_default.take() {
+            return Some(concern);
         }
         self.of_rest.take()
     }
@@ -125,9 +104,6 @@ pub struct KeptConcerns<'a, 'b> {
 }
 
 impl<'a, 'b> Iterator for KeptConcerns<'a, 'b> {
-    ghost use Rattle.std.specs.Iterator.{YieldsFirstBy, item_count};
-    ghost use Rattle.bi_commands.specs.ConcernsLeft.{found_value, kept_left};
-
     type Item = Concern<'a, 'b>;
 
     ghost next_gives = { YieldsFirstBy found_value kept_left };

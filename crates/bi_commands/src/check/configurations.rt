@@ -1,6 +1,7 @@
 //! The concerns about the configurations of a flattened image tree.
 
-ghost use Rattle.std.specs.Prelude.{◌≡◌};
+ghost use Rattle.std.specs.Prelude.{◌≡◌, flat_map};
+ghost use Rattle.std.specs.Iterator.{YieldsFirstBy, item_count};
 ghost use Rattle.std.specs.Option.{option_map};
 ghost use Rattle.bi_blob.specs.Lookups.{siblings};
 ghost use Rattle.bi_blob.specs.Tree.{names};
@@ -10,9 +11,11 @@ ghost use Rattle.bi_fit.specs.Content.{tree_of};
 ghost use Rattle.bi_fit.specs.HashNodes.{file_configurations};
 ghost use Rattle.bi_fit.specs.Judgement.{configuration_nodes as nodes_of_configurations};
 ghost use Rattle.bi_commands.specs.Checking.{names_one_of};
-ghost use Rattle.bi_commands.specs.ConcernsLeft.{found_or_none};
+ghost use Rattle.bi_commands.specs.ConcernValues.{found_or_none, found_value};
+ghost use Rattle.bi_commands.specs.ConcernsLeft.{configuration_left, configurations_left};
 ghost use Rattle.bi_commands.specs.FoundConcerns.{default_property as property_of_default};
-ghost use Rattle.bi_commands.specs.FoundConcerns.{found_in_default, found_in_key};
+ghost use Rattle.bi_commands.specs.FoundConcerns.{found_in_configuration, found_in_default};
+ghost use Rattle.bi_commands.specs.FoundConcerns.{found_in_key};
 
 use super::concern::Concern;
 use crate::children::Children;
@@ -31,9 +34,6 @@ pub(super) struct ConfigurationConcerns<'a, 'b> {
 }
 
 impl<'a, 'b> Iterator for ConfigurationConcerns<'a, 'b> {
-    ghost use Rattle.std.specs.Iterator.{YieldsFirstBy, item_count};
-    ghost use Rattle.bi_commands.specs.ConcernsLeft.{configuration_left, found_value};
-
     type Item = Concern<'a, 'b>;
 
     ghost next_gives = { YieldsFirstBy found_value configuration_left };
@@ -63,10 +63,6 @@ pub(super) struct AllConfigurationConcerns<'a, 'b> {
 }
 
 impl<'a, 'b> AllConfigurationConcerns<'a, 'b> {
-    ghost use Rattle.std.specs.Prelude.{flat_map};
-    ghost use Rattle.bi_commands.specs.ConcernsLeft.{configurations_left};
-    ghost use Rattle.bi_commands.specs.FoundConcerns.{found_in_configuration};
-
     /// Returns the concerns about the configurations of a flattened image tree.
     pub(super) fn new(fit: &'b Fit<'a>) -> AllConfigurationConcerns<'a, 'b>
         ensures { configurations_left result ≡ flat_map
@@ -82,9 +78,6 @@ impl<'a, 'b> AllConfigurationConcerns<'a, 'b> {
 }
 
 impl<'a, 'b> Iterator for AllConfigurationConcerns<'a, 'b> {
-    ghost use Rattle.std.specs.Iterator.{YieldsFirstBy, item_count};
-    ghost use Rattle.bi_commands.specs.ConcernsLeft.{configurations_left, found_value};
-
     type Item = Concern<'a, 'b>;
 
     ghost next_gives = { YieldsFirstBy found_value configurations_left };

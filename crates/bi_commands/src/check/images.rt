@@ -1,6 +1,7 @@
 //! The concerns about the images of a flattened image tree.
 
-ghost use Rattle.std.specs.Prelude.{◌≡◌};
+ghost use Rattle.std.specs.Prelude.{◌≡◌, flat_map};
+ghost use Rattle.std.specs.Iterator.{YieldsFirstBy, item_count};
 ghost use Rattle.std.specs.List.{list_any};
 ghost use Rattle.std.specs.Option.{option_map};
 ghost use Rattle.bi_fdt.specs.Views.{node_of};
@@ -9,9 +10,10 @@ ghost use Rattle.bi_fit.specs.JudgementCalls.{checked_hash_of};
 ghost use Rattle.bi_commands.specs.Checking.{is_good as is_good_hash, is_strong as is_strong_hash};
 ghost use Rattle.bi_commands.specs.Checking.{is_strong_algorithm, protection_concerns};
 ghost use Rattle.bi_commands.specs.Checking.{payload_concerns};
-ghost use Rattle.bi_commands.specs.ConcernsLeft.{found_or_none};
-ghost use Rattle.bi_commands.specs.FoundConcerns.{NodeItself, concerns_about};
-ghost use Rattle.bi_commands.specs.HashedImages.{hashes_left, image_value};
+ghost use Rattle.bi_commands.specs.ConcernValues.{found_or_none, found_value};
+ghost use Rattle.bi_commands.specs.ConcernsLeft.{image_left, images_left};
+ghost use Rattle.bi_commands.specs.FoundConcerns.{NodeItself, concerns_about, found_in_image};
+ghost use Rattle.bi_commands.specs.HashedImages.{hashes_left, image_value, images_of_blob};
 
 use super::concern::{Concern, is_good};
 use crate::hash_nodes::{HashNodes, HashedImage, HashedImages};
@@ -29,9 +31,6 @@ pub(super) struct ImageConcerns<'a, 'b> {
 }
 
 impl<'a, 'b> ImageConcerns<'a, 'b> {
-    ghost use Rattle.bi_commands.specs.ConcernsLeft.{image_left};
-    ghost use Rattle.bi_commands.specs.FoundConcerns.{found_in_image};
-
     /// Returns the concerns about an image.
     fn new(image: HashedImage<'a, 'b>) -> ImageConcerns<'a, 'b>
         ensures { image_left result ≡ found_in_image (image_value image.entry) }
@@ -45,9 +44,6 @@ impl<'a, 'b> ImageConcerns<'a, 'b> {
 }
 
 impl<'a, 'b> Iterator for ImageConcerns<'a, 'b> {
-    ghost use Rattle.std.specs.Iterator.{YieldsFirstBy, item_count};
-    ghost use Rattle.bi_commands.specs.ConcernsLeft.{found_value, image_left};
-
     type Item = Concern<'a, 'b>;
 
     ghost next_gives = { YieldsFirstBy found_value image_left };
@@ -74,11 +70,6 @@ pub(super) struct AllImageConcerns<'a, 'b> {
 }
 
 impl<'a, 'b> AllImageConcerns<'a, 'b> {
-    ghost use Rattle.std.specs.Prelude.{flat_map};
-    ghost use Rattle.bi_commands.specs.ConcernsLeft.{images_left};
-    ghost use Rattle.bi_commands.specs.FoundConcerns.{found_in_image};
-    ghost use Rattle.bi_commands.specs.HashedImages.{images_of_blob};
-
     /// Returns the concerns about the images of a flattened image tree, whose hash nodes are judged
     /// by these digests.
     pub(super) fn new(fit: &'b Fit<'a>, digests: &'b RegionDigests<'a>) -> AllImageConcerns<'a, 'b>
@@ -93,9 +84,6 @@ impl<'a, 'b> AllImageConcerns<'a, 'b> {
 }
 
 impl<'a, 'b> Iterator for AllImageConcerns<'a, 'b> {
-    ghost use Rattle.std.specs.Iterator.{YieldsFirstBy, item_count};
-    ghost use Rattle.bi_commands.specs.ConcernsLeft.{found_value, images_left};
-
     type Item = Concern<'a, 'b>;
 
     ghost next_gives = { YieldsFirstBy found_value images_left };

@@ -4,7 +4,7 @@ ghost use Rattle.std.specs.Prelude.{◌≡◌, ◌↔◌, [], IfOk, IsTrue, fals
 ghost use Rattle.bi_base.specs.Sinks.{Wrote};
 ghost use Rattle.bi_commands.specs.CheckedFiles.{concerns_text};
 ghost use Rattle.bi_commands.specs.Checking.{kept_concerns};
-ghost use Rattle.bi_commands.specs.ConcernsLeft.{concerns_left, kept_left};
+ghost use Rattle.bi_commands.specs.CheckedImages.{concerns_left, kept_left};
 ghost use Rattle.bi_commands.specs.Formats.{WroteInTurn};
 ghost use Rattle.bi_commands.specs.FoundConcerns.{concerns_in};
 ghost use Rattle.bi_commands.specs.ReadChecking.{after_concerns, before_concerns, concern_text};

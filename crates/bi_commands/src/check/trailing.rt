@@ -3,7 +3,7 @@
 ghost use Rattle.std.specs.Prelude.{◌≡◌, ◌==◌, ◌-◌, drop, length};
 ghost use Rattle.std.specs.List.{list_all};
 ghost use Rattle.bi_fit.specs.Content.{image_model};
-ghost use Rattle.bi_commands.specs.ConcernsLeft.{found_or_none};
+ghost use Rattle.bi_commands.specs.ConcernValues.{found_or_none};
 ghost use Rattle.bi_commands.specs.FoundConcerns.{found_in_rest};
 ghost use Rattle.bi_commands.specs.ReadChecking.{end_at, offset_at};
 ghost use Rattle.bi_commands.specs.ReadChecking.{end_of_read_payloads};

@@ -2,7 +2,7 @@ use Rattle.std.proofs.Common.{filter, sym, subst}
 use Rattle.bi_base.specs.Sinks.{Wrote}
 use Rattle.bi_commands.specs.Checking.{WeakHash, is_good}
 use Rattle.bi_commands.specs.ConcernJson.{concern_object}
-use Rattle.bi_commands.specs.ConcernsLeft.{concern_value}
+use Rattle.bi_commands.specs.ConcernValues.{concern_value}
 use Rattle.bi_commands.specs.HashedImages.{hashes_left}
 use Rattle.bi_commands.proofs.check.concern_json.put_concern_object.Goals as goal
 

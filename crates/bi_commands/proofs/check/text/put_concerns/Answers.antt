@@ -1,8 +1,8 @@
-use Rattle.std.proofs.Common.{◌≡◌, ℕ, List, ◌++◌, false, map, ap, sym, subst, ◌∙◌}
+use Rattle.std.proofs.Common.{◌≡◌, ℕ, List, ◌++◌, false, map, ap, sym, ◌∙◌}
 use Rattle.bi_base.proofs.SinkLaws.{passed_on}
 use Rattle.bi_commands.specs.CheckedFiles.{concerns_text}
 use Rattle.bi_commands.specs.Checking.{kept_concerns}
-use Rattle.bi_commands.specs.ConcernsLeft.{concerns_left, kept_left}
+use Rattle.bi_commands.specs.CheckedImages.{concerns_left, kept_left}
 use Rattle.bi_commands.specs.Formats.{in_turn, is_later_after}
 use Rattle.bi_commands.specs.FoundConcerns.{concerns_in}
 use Rattle.bi_commands.specs.ReadChecking.{after_concerns, before_concerns, concern_text}

@@ -1,5 +1,6 @@
 use Rattle.std.proofs.Common.{true, false, List, [], ◌∷◌, ℕ, map, ap, refl}
-use Rattle.bi_commands.specs.ConcernsLeft.{concern_value, kept_left}
+use Rattle.bi_commands.specs.CheckedImages.{kept_left}
+use Rattle.bi_commands.specs.ConcernValues.{concern_value}
 use Rattle.bi_commands.specs.FoundConcerns.{FoundConcern, concerns_in}
 use Rattle.bi_commands.specs.ReadChecking.{concern_text}
 use Rattle.bi_commands.proofs.TextsInTurn.{turn_begins, turn_ends, turn_fails, turn_goes_on, turn_passed}

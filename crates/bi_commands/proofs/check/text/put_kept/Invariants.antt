@@ -1,5 +1,5 @@
 use Rattle.std.proofs.Common.{false, map}
-use Rattle.bi_commands.specs.ConcernsLeft.{kept_left}
+use Rattle.bi_commands.specs.CheckedImages.{kept_left}
 use Rattle.bi_commands.specs.FoundConcerns.{concerns_in}
 use Rattle.bi_commands.specs.ReadChecking.{concern_text}
 use Rattle.bi_commands.proofs.TextsInTurn.{AreInTurn}

@@ -1,5 +1,5 @@
 use Rattle.std.proofs.Common.{◌≡◌, length}
-use Rattle.bi_commands.specs.ConcernsLeft.{concerns_left, kept_left}
+use Rattle.bi_commands.specs.CheckedImages.{concerns_left, kept_left}
 use Rattle.bi_commands.proofs.check.concerns.KeptConcernsIterator.next.Given as goal
 
 -- The concerns that are left are all.
