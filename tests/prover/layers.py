@@ -158,7 +158,8 @@ def verdict(output, crate, name, function):
     """Returns whether a function is refused, and why. It is not refused for an answer that names a part that the weaker clause does not
     have."""
     goals, why = goals_of(output, crate, name, function)
-    telling = [goal.name for goal in goals if "projects from a record" not in goal.name]
+    telling = re.findall("`search` did not prove `([^`]*)`", why)
+    telling += [goal.name for goal in goals if "projects from a record" not in goal.name]
     return (True, telling[0]) if telling else (False, why)
 
 
