@@ -1,6 +1,6 @@
 //! Small boot images with what the commands write of them. Each function does nothing: what it
-//! ensures is a fact about the definitions. Two of them call the function of a law, from which their
-//! facts follow.
+//! ensures is a fact about the definitions. Two of them call the function of a law, from which
+//! their facts follow.
 
 ghost use Rattle.bi_commands.specs.KnownConcerns.{ConcernsAreKnown, StrongAlgorithmsAreKnown};
 ghost use Rattle.bi_commands.specs.KnownConcerns.{TrailingBytesAreKnown, LegacyConcernsAreKnown};
