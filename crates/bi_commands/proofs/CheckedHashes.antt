@@ -1,21 +1,18 @@
 use Rattle.std.proofs.Common.{◌≡◌, ℕ, Bool, true, false, List, [], ◌∷◌, ◌++◌, map, codes, flat_map, filter, refl, sym, ap, ◌∙◌}
 use Rattle.std.proofs.Common.{append_assoc}
-use Rattle.std.proofs.Common.{Option}
 use Rattle.std.specs.Option.{option_map}
 use Rattle.std.specs.List.{join_with_byte, list_any}
 use Rattle.bi_fit.specs.Judgement.{CheckedHash}
 use Rattle.bi_commands.specs.declared.check.Allowed.{Allowed}
-use Rattle.bi_commands.specs.Checking.{BadHash, UnhashedImage, WeakHash, concern_line, concern_lines, hash_concerns, hashed_concerns}
+use Rattle.bi_commands.specs.Checking.{UnhashedImage, WeakHash, concern_line, concern_lines}
 use Rattle.bi_commands.specs.Checking.{is_good}
-use Rattle.bi_commands.specs.Checking.{is_strong, payload_concerns, protection_concerns}
-use Rattle.bi_commands.specs.declared.check.Checker.{Checker}
+use Rattle.bi_commands.specs.Checking.{is_strong, protection_concerns}
 use Rattle.bi_commands.specs.ConcernJson.{concern_object}
 use Rattle.bi_commands.specs.Json.{json_string, member_text, with_commas, string_or_null}
-use Rattle.bi_commands.specs.ReadChecking.{concern_texts, good_algorithm, good_algorithm_json}
+use Rattle.bi_commands.specs.ReadChecking.{good_algorithm, good_algorithm_json}
 use Rattle.bi_commands.specs.Reports.{shown_or_none}
 use Rattle.bi_commands.specs.Shown.{shown_text}
 use Rattle.bi_commands.proofs.ConcernLines.{lines_allowed}
-use Rattle.bi_commands.proofs.ConcernTexts.{texts_append}
 use Rattle.bi_commands.proofs.FitLines.{joined_after}
 use Rattle.bi_commands.proofs.JsonTexts.{commas_between}
 
@@ -63,19 +60,6 @@ weak_only image hashes some none = rw (some, none) refl
 pub strong_only : (image : List ℕ) (hashes : List CheckedHash) → list_any is_good hashes ≡ true → list_any is_strong hashes ≡ true →
     protection_concerns image hashes ≡ []
 strong_only image hashes some strong = rw (some, strong) refl
-
--- A hash node with the verdict Good has no concern, and any other one has one.
-pub good_hash_concerns : (hash : CheckedHash) → is_good hash ≡ true → hash_concerns hash ≡ []
-good_hash_concerns hash is = rw is refl
-
-pub bad_hash_concerns : (hash : CheckedHash) → is_good hash ≡ false → hash_concerns hash ≡ BadHash hash ∷ []
-bad_hash_concerns hash is = rw is refl
-
--- The texts of the concerns about an image: those of its hash nodes, and then that of its payload.
-pub image_texts : (checker : Checker) (image : List ℕ) (payload : Option (List ℕ)) (hashes : List CheckedHash) →
-    concern_texts checker (hashed_concerns image payload hashes)
-    ≡ concern_texts checker (flat_map hash_concerns hashes) ++ concern_texts checker (payload_concerns image payload hashes)
-image_texts checker image payload hashes = texts_append checker (flat_map hash_concerns hashes) (payload_concerns image payload hashes)
 
 -- The same for a string of JSON.
 pub good_string : (hash : CheckedHash) → is_good hash ≡ true →

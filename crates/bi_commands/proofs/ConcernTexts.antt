@@ -1,46 +1,18 @@
-use Rattle.std.proofs.Common.{◌≡◌, ◌↔◌, ℕ, Bool, true, false, not, IsTrue, List, [], ◌∷◌, ◌++◌, flat_map, map, filter, refl, sym, ap, ◌∙◌}
+use Rattle.std.proofs.Common.{◌≡◌, ◌↔◌, ℕ, Bool, true, false, not, IsTrue, List, [], ◌∷◌, ◌++◌, flat_map, map, refl, sym, ap, ◌∙◌}
 use Rattle.std.proofs.Common.{append-nil, append_assoc, true≢false}
 use Rattle.std.specs.List.{join_with_byte}
-use Rattle.std.proofs.lemmas.List.Elements.{filter-append}
 use Rattle.std.proofs.lemmas.List.Folds.{flat_map-map}
 use Rattle.bi_commands.specs.declared.check.Allowed.{Allowed}
-use Rattle.bi_commands.specs.declared.check.Checker.{Checker}
 use Rattle.bi_commands.specs.declared.format.Format.{Format}
 use Rattle.bi_commands.specs.declared.format.Format.TheVariants.{Lines, Json}
 use Rattle.bi_commands.specs.CheckedFiles.{concerns_text}
-use Rattle.bi_commands.specs.Checking.{Concern, allows, concern_line, kept_concerns, kind_of}
+use Rattle.bi_commands.specs.Checking.{Concern, concern_line, kept_concerns}
 use Rattle.bi_commands.specs.ConcernJson.{concern_object}
 use Rattle.bi_commands.specs.Formats.{in_turn, is_later_after}
-use Rattle.bi_commands.specs.ReadChecking.{after_concerns, before_concerns, concern_text, concern_texts}
+use Rattle.bi_commands.specs.ReadChecking.{after_concerns, before_concerns, concern_text}
 use Rattle.bi_commands.proofs.JsonTexts.{commas_between}
-use Rattle.bi_commands.proofs.TextsInTurn.{map_append}
 
--- The texts of concerns: a concern that is allowed has none, and those of several concerns are those of each in turn.
-
--- A concern that is allowed has no text.
-pub texts_allowed : (checker : Checker) (concern : Concern) → allows checker.allowed (kind_of concern) ≡ true →
-    concern_texts checker (concern ∷ []) ≡ []
-texts_allowed checker concern is = rw is refl
-
--- A concern that is not allowed has its text.
-pub texts_one : (checker : Checker) (concern : Concern) → allows checker.allowed (kind_of concern) ≡ false →
-    concern_texts checker (concern ∷ []) ≡ concern_text checker.format concern ∷ []
-texts_one checker concern is = rw is refl
-
--- The texts of two lists of concerns.
-pub texts_append : (checker : Checker) (one later : List Concern) →
-    concern_texts checker (one ++ later) ≡ concern_texts checker one ++ concern_texts checker later
-texts_append checker one later =
-    let kept : Concern → Bool = λ concern. not (allows checker.allowed (kind_of concern)) in
-    ap (map (concern_text checker.format)) (filter-append kept one later)
-    ∙ map_append (concern_text checker.format) (filter kept one) (filter kept later)
-
--- Those of the concerns about each element of a list.
-pub texts_flat_map : {X : Type 0} (checker : Checker) (f : X → List Concern) (xs : List X) →
-    concern_texts checker (flat_map f xs) ≡ flat_map (λ x. concern_texts checker (f x)) xs
-texts_flat_map checker f [] = refl
-texts_flat_map checker f (x ∷ xs) =
-    texts_append checker (f x) (flat_map f xs) ∙ ap (λ (l : List (List ℕ)). concern_texts checker (f x) ++ l) (texts_flat_map checker f xs)
+-- The texts of concerns.
 
 -- The end of an object with one list.
 end_of_list : (values : List ℕ) → ((values ++ 93 ∷ []) ++ 125 ∷ []) ++ 10 ∷ [] ≡ values ++ 93 ∷ 125 ∷ 10 ∷ []

@@ -51,6 +51,7 @@ pub mod AsciiTexts
 pub mod AsciiDescriptions
 pub mod AsciiDifferences
 pub mod AsciiListings
+pub mod FoundConcerns
 pub mod HashedImages
 pub mod VerdictCounts
 pub mod AsciiReports

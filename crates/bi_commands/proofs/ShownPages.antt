@@ -1,5 +1,5 @@
-use Rattle.std.proofs.Common.{◌≡◌, ◌∷◌, ◌++◌, ℕ, ◌-◌, List, [], inl, inr, String, Vec, Result, Ok, Err, IfErr, ap, ap₂, append-nil}
-use Rattle.std.proofs.Common.{append_assoc, drop, length, map, refl, subst, sym, ◌∙◌}
+use Rattle.std.proofs.Common.{◌≡◌, ◌∷◌, ◌++◌, ℕ, ◌-◌, List, [], String, Vec, Result, Ok, Err, IfErr, ap, ap₂, append-nil}
+use Rattle.std.proofs.Common.{append_assoc, map, refl, subst, sym, ◌∙◌}
 use Rattle.std.specs.Prelude.{IsAscii}
 use Rattle.std.specs.declared.alloc.Global.{Global}
 use Rattle.std.specs.List.{AllZip}
@@ -14,23 +14,19 @@ use Rattle.bi_fit.specs.Content.{FitModel, ImageModel, IsReadImage, offset_of_pl
 use Rattle.bi_fit.specs.HashNodes.{file_configurations, file_images}
 use Rattle.bi_fit.specs.Payloads.{PayloadSource, NoSource, Data, DataOffset, DataPosition, payload_place, source_of}
 use Rattle.bi_fit.specs.Reading.{IsReadFit}
-use Rattle.bi_legacy.specs.Reading.{LegacyModel, IsReadLegacy}
-use Rattle.bi_norm.specs.Meaning.{OfFit}
 use Rattle.bi_commands.specs.CheckedFiles.{IsCheckError, concerns_text}
-use Rattle.bi_commands.specs.Checking.{nothing_allowed, trailing_concerns}
-use Rattle.bi_commands.specs.declared.check.Checker.{Checker}
+use Rattle.bi_commands.specs.Checking.{nothing_allowed}
 use Rattle.bi_commands.specs.declared.format.Format.TheVariants.{Lines}
 use Rattle.bi_commands.specs.FitPages.{configurations_table, fit_head, fit_tables, image_heading, image_row, image_rows, reservations_table}
 use Rattle.bi_commands.specs.FitPages.{signatures_table}
 use Rattle.bi_commands.specs.Pages.{Table, table_text}
-use Rattle.bi_commands.specs.PayloadBounds.{IsOverPayloadBound}
-use Rattle.bi_commands.specs.ReadChecking.{IsReadCheckError, read_concerns}
+use Rattle.bi_commands.specs.FoundConcerns.{FoundConcern, HasConcerns, concerns_in}
+use Rattle.bi_commands.specs.ReadChecking.{IsReadCheckError}
 use Rattle.bi_commands.specs.ReadPages.{read_image_rows}
 use Rattle.bi_commands.specs.Rows.{cells_of_rows}
 use Rattle.bi_commands.specs.ShownFiles.{AreConcernLines}
 use Rattle.bi_commands.proofs.AsciiReports.{checked_is_ascii}
-use Rattle.bi_commands.proofs.CheckedFiles.{legacy_checked, tree_checked}
-use Rattle.bi_commands.proofs.ImageCalls.{tree_needs_memory}
+use Rattle.bi_commands.proofs.CheckedFiles.{check_error_of_tree, text_checks}
 
 -- These lemmas put the parts of a page together.
 
@@ -50,20 +46,11 @@ pub ascii_lines_in_memory : (limits : Limits) (file old new lines : List ℕ) �
 ascii_lines_in_memory limits file old new lines are empty grown =
     checked_is_ascii Lines nothing_allowed limits file new (lines_in_memory limits file old new lines are empty grown)
 
--- The lines of concerns about a legacy image are ASCII.
-abbrev checker : Checker
-checker = record { allowed = nothing_allowed; format = Lines }
-
-pub lines_of_legacy_image : (limits : Limits) (file : List ℕ) (parsed : LegacyModel) → IsReadLegacy limits file parsed →
-    AreConcernLines limits file (concerns_text Lines nothing_allowed (trailing_concerns (drop (length file - parsed.unused) file)))
-lines_of_legacy_image limits file parsed is = legacy_checked checker limits file parsed is
-
--- The lines of concerns about a FIT are ASCII.
-pub tree_lines_of_concerns : (limits : Limits) (file : List ℕ) (content : FitModel) → IsReadFit limits file content →
-    ¬ (IsOverPayloadBound limits (OfFit (tree_of content))) →
-    AreConcernLines limits file (concerns_text Lines nothing_allowed (read_concerns file content))
-tree_lines_of_concerns limits file content is within =
-    tree_checked checker limits file _ content is (record { within = within; is_text = refl })
+-- The lines of the concerns about a file are ASCII.
+pub lines_of_concerns : (limits : Limits) (file : List ℕ) (found all : List FoundConcern) → found ≡ all →
+    HasConcerns limits file all → AreConcernLines limits file (concerns_text Lines nothing_allowed (concerns_in found))
+lines_of_concerns limits file found all same has =
+    text_checks Lines nothing_allowed limits file found (subst (HasConcerns limits file) (sym same) has)
 
 -- The offset of a payload depends on its source.
 pub offset_found : (file : List ℕ) (source : PayloadSource) (place : Place) → place ≡ place_of file source →
@@ -153,16 +140,8 @@ six_tables first second third fourth fifth sixth lines start one two three four 
     regroup a b c d e f = simp (append_assoc, append-nil)
 
 -- An error of showing what was read from a file is one of showing the file.
-pub error_of_tree : (limits : Limits) (file : List ℕ) (content : FitModel) (error : Error) → IsReadFit limits file content →
-    IsReadCheckError limits content error → IsCheckError limits file error
-error_of_tree limits file content error is (inl refused) =
-    subst (IsCheckError limits file) (sym refused.0)
-    (inr (record { meaning = OfFit (tree_of content); means = is.means; is_over = refused.1 }, refl))
-error_of_tree limits file content error is (inr short) =
-    subst (IsCheckError limits file) (sym short) (tree_needs_memory limits file content is)
-
 pub tree_not_shown : {V : Type 0} (limits : Limits) (file : List ℕ) (content : FitModel) (result : Result V Error) →
     IsReadFit limits file content →
     IfErr result (IsReadCheckError limits content) → IfErr result (IsCheckError limits file)
 tree_not_shown limits file content (Ok value) is failed = tt
-tree_not_shown limits file content (Err error) is failed = error_of_tree limits file content error is failed
+tree_not_shown limits file content (Err error) is failed = check_error_of_tree limits file content error is failed

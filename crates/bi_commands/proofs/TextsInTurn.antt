@@ -124,45 +124,9 @@ pub nothing_in_turn : {S : Type 0} (appends : S → List ℕ → S → Type 0) (
 nothing_in_turn appends nothing old format first all none =
     turn_ends appends old old format first first all all (turn_begins appends nothing old format first all all refl) none
 
--- one text,
+-- or one text.
 pub one_in_turn : {S : Type 0} (appends : S → List ℕ → S → Type 0) (old new : S) (format : Format) (first : Bool) (text : List ℕ)
     (all : List (List ℕ)) → all ≡ text ∷ [] → appends old (in_turn format first (text ∷ [])) new →
     appends old (in_turn format first all) new × (true ≡ is_later_after first all)
 one_in_turn appends old new format first text all is wrote =
     (subst (λ (texts : List (List ℕ)). appends old (in_turn format first texts) new) (sym is) wrote, ap (is_later_after first) (sym is))
-
--- or two parts, the first of which
-abbrev two_parts : (format : Format) (first now : Bool) (some later all : List (List ℕ)) → all ≡ some ++ later →
-    now ≡ is_later_after first some → in_turn format first all ≡ in_turn format first some ++ in_turn format now later
-two_parts format first now some later all is then =
-    ap (in_turn format first) is
-    ∙ in_two_parts format first some later
-    ∙ ap (λ (b : Bool). in_turn format first some ++ in_turn format b later) (sym then)
-
--- fails,
-pub first_part_fails : {S : Type 0} (appends : S → List ℕ → S → Type 0) (fails : S → List ℕ → S → Error → Type 0)
-    (before : FailsBefore fails) (old new : S) (format : Format) (first : Bool) (some later all : List (List ℕ)) (error : Error)
-    (result : Result Bool Error) → all ≡ some ++ later → IsErrAnd result (λ e. e ≡ error) →
-    fails old (in_turn format first some) new error → WroteInTurn appends fails old format first all result new
-first_part_fails appends fails before old new format first some later all error result is passed failed =
-    turn_passed appends fails old format first all error result new passed
-    (subst (λ (bytes : List ℕ). fails old bytes new error) (sym (two_parts format first _ some later all is refl))
-    (before old new (in_turn format first some) (in_turn format (is_later_after first some) later) error failed))
-
--- or is followed by the second.
-pub next_part : {S : Type 0} (appends : S → List ℕ → S → Type 0) (fails : S → List ℕ → S → Error → Type 0)
-    (together : AppendsInTurn appends) (after : FailsAfter appends fails) (old mid new : S) (format : Format) (first now : Bool)
-    (some later all : List (List ℕ)) (result : Result Bool Error) → all ≡ some ++ later →
-    appends old (in_turn format first some) mid × (now ≡ is_later_after first some) →
-    WroteInTurn appends fails mid format now later result new → WroteInTurn appends fails old format first all result new
-next_part appends fails together after old mid new format first now some later all (Ok value) is so_far wrote = (
-  subst (λ (bytes : List ℕ). appends old bytes new) (sym (two_parts format first now some later all is so_far.1))
-      (together old mid new (in_turn format first some) (in_turn format now later) so_far.0 wrote.0),
-  wrote.1
-      ∙ ap (λ (b : Bool). is_later_after b later) so_far.1
-      ∙ sym (later_after_both first some later)
-      ∙ ap (is_later_after first) (sym is),
-)
-next_part appends fails together after old mid new format first now some later all (Err error) is so_far wrote =
-    subst (λ (bytes : List ℕ). fails old bytes new error) (sym (two_parts format first now some later all is so_far.1))
-    (after old mid new (in_turn format first some) (in_turn format now later) error so_far.0 wrote)

@@ -21,6 +21,10 @@ pub mod Shown
 pub mod Unshown
 pub mod FitListing
 pub mod ReadChecking
+pub mod FoundConcerns
+pub mod ConcernValues
+pub mod ConcernsLeft
+pub mod CheckedImages
 pub mod ReadDescription
 pub mod ReadListing
 pub mod Reports

@@ -8,20 +8,23 @@ ghost use Rattle.bi_commands.specs.CheckedFiles.{IsChecked, IsCheckError, IsChec
 ghost use Rattle.bi_commands.specs.CheckedFiles.{check_promise, check_laws};
 ghost use Rattle.bi_commands.specs.Checking.{kind_word, allows as allows_kind};
 
-pub(crate) mod concern;
+mod checked_image;
+mod concern;
 mod concern_json;
+mod concerns;
 mod configurations;
-pub(crate) mod fit;
 mod images;
+pub(crate) mod text;
 pub(crate) mod trailing;
 
 use crate::format::Format;
 use bi_base::{Command, Error, Limits, Sink, VecSink, pipe_to};
-use bi_norm::BootImage;
-use fit::check_fit;
+pub use checked_image::CheckedImage;
+pub use concern::Concern;
+pub use concerns::{Concerns, KeptConcerns};
 use std::alloc::Global;
 use std::io::{Read, Write};
-use trailing::check_legacy;
+use text::put_concerns;
 
 /// The kind of a concern.
 #[derive(Clone, Copy, Debug, PartialEq, Eq)]
@@ -173,10 +176,9 @@ pub fn check_into<S: Sink>(
         (IsChecked checker.format checker.allowed limits file.now)
         (IsCheckError limits file.now) sink.old sink.new) }
 {
-    match BootImage::read(alloc, file, limits)? {
-        BootImage::Legacy(image) => check_legacy(file, &image, checker, sink),
-        BootImage::Fit(image) => check_fit(alloc, file, &image, checker, limits, sink),
-    }
+    let image = CheckedImage::read(alloc, file, limits)?;
+    let clean = put_concerns(image.concerns(), checker, sink)?;
+    Ok(clean)
 }
 
 /// Checking, as a command: `check`, or `check_json`. Its value is whether no concern is left after

@@ -21,7 +21,7 @@ use std::marker::Model;
 /// The hash nodes that are left of an image, with the verdicts on them, in their order in the file.
 /// Each verdict is found when the iterator comes to it, by digests that are kept.
 #[derive(Clone, Copy)]
-pub(crate) struct HashNodes<'a, 'b> {
+pub struct HashNodes<'a, 'b> {
     /// The name of the image node.
     image: &'a [u8],
     /// The payload of the image.
@@ -34,6 +34,8 @@ pub(crate) struct HashNodes<'a, 'b> {
 }
 
 impl<'a, 'b> HashNodes<'a, 'b> {
+    ghost use Rattle.std.specs.Iterator.{YieldsFirstBy};
+    ghost use Rattle.bi_commands.specs.HashedImages.{found_hash_of, found_hashes, found_left};
     ghost use Rattle.bi_commands.specs.HashedImages.{hashes_left};
 
     /// Returns the hash nodes of the image of a node.
@@ -43,7 +45,9 @@ impl<'a, 'b> HashNodes<'a, 'b> {
         digests: &'b RegionDigests<'a>,
     ) -> HashNodes<'a, 'b>
         requires placed { IsAtItsPlace digests.now (image_model image.now) }
-        ensures { hashes_left result ≡ file_hashes (node_of node.entry).name
+        ensures hashes { hashes_left result ≡ file_hashes (node_of node.entry).name
+            (image_model image.now).payload (siblings (node_of node.entry).children) }
+        ensures found { found_left result ≡ found_hashes (node_of node.entry).name
             (image_model image.now).payload (siblings (node_of node.entry).children) }
     {
         HashNodes {
@@ -51,6 +55,19 @@ impl<'a, 'b> HashNodes<'a, 'b> {
             payload: image.region(),
             next: node.first_child(),
             digests,
+        }
+    }
+
+    /// Takes the first hash node that is left, with the verdict on it.
+    pub(crate) fn next_node(&mut self) -> Option<(NodeRef<'a, 'b>, Checked<'a>)>
+        ensures { YieldsFirstBy found_hash_of found_left self.old result self.new }
+    {
+        match first_hash_node(self.next) {
+            Some(node) => {
+                self.next = node.next_sibling();
+                Some((node, judge(self.image, node, self.payload, self.digests)))
+            }
+            None => None,
         }
     }
 }
@@ -66,11 +83,8 @@ impl<'a, 'b> Iterator for HashNodes<'a, 'b> {
     ghost remaining = { item_count hashes_left };
 
     fn next(&mut self) -> Option<Checked<'a>> {
-        match first_hash_node(self.next) {
-            Some(node) => {
-                self.next = node.next_sibling();
-                Some(judge(self.image, node, self.payload, self.digests))
-            }
+        match self.next_node() {
+            Some((_node, hash)) => Some(hash),
             None => None,
         }
     }
@@ -126,78 +140,99 @@ fn judge<'a>(
 /// An image with its hash nodes.
 #[derive(Clone, Copy)]
 pub(crate) struct HashedImage<'a, 'b> {
-    /// The name of the image node.
-    pub(crate) name: &'a [u8],
+    /// The image node.
+    pub(crate) node: NodeRef<'a, 'b>,
     /// The payload, if there is one.
     pub(crate) payload: Option<&'a [u8]>,
     /// The hash nodes.
     pub(crate) hashes: HashNodes<'a, 'b>,
 }
 
-/// The images that are left of a flattened image tree, in their order in the file. Contracts see
-/// them as a list of images.
+/// Images whose payloads are regions of the file of these digests. Contracts see them as a list of
+/// images.
 #[derive(Drop)]
-pub(crate) struct HashedImages<'a, 'b> {
-    next: Option<NodeRef<'a, 'b>>,
+struct PlacedImages<'a, 'b> {
     images: &'b [Image<'a>],
     digests: &'b RegionDigests<'a>,
 }
 
-impl<'a, 'b> Model for HashedImages<'a, 'b> {
+impl<'a, 'b> Model for PlacedImages<'a, 'b> {
     ghost use Rattle.std.specs.Prelude.{List, map};
-    ghost use Rattle.std.specs.Option.{option_map};
-    ghost use Rattle.bi_blob.specs.Lookups.{siblings_from};
-    ghost use Rattle.bi_fdt.specs.Views.{node_of};
-    ghost use Rattle.bi_fit.specs.Content.{AreAtTheirPlaces, image_model};
-    ghost use Rattle.bi_commands.specs.HashedImages.{HashedImage as ImageValue, hashed_images};
+    ghost use Rattle.bi_fit.specs.Content.{AreAtTheirPlaces, ImageModel, image_model};
 
-    ghost Value = { List ImageValue };
+    ghost Value = { List ImageModel };
 
-    ghost view = { λ images. hashed_images (siblings_from (option_map node_of images.next))
-        (map image_model images.images.now) };
+    ghost view = { λ placed. map image_model placed.images.now };
 
-    ghost invariant = { λ images. AreAtTheirPlaces images.digests.now
-        (map image_model images.images.now) };
+    ghost invariant = { λ placed. AreAtTheirPlaces placed.digests.now
+        (map image_model placed.images.now) };
+}
+
+impl<'a, 'b> PlacedImages<'a, 'b> {
+    ghost use Rattle.std.specs.Prelude.{◌∷◌, [], MatchOption};
+    ghost use Rattle.bi_fit.specs.Content.{ImageModel};
+    ghost use Rattle.bi_commands.specs.HashedImages.{hashed_image, image_value};
+
+    /// Takes the first image, which is that of this node. Returns None if none is left.
+    fn next_at(&mut self, node: NodeRef<'a, 'b>) -> Option<HashedImage<'a, 'b>>
+        ensures { MatchOption result ((self.old ≡ []) × (self.new ≡ []))
+            (λ first. (image : ImageModel) × (self.old ≡ image ∷ self.new)
+            × (image_value first ≡ hashed_image (node_of node.entry) image)) }
+    {
+        let [image, later @ ..] = self.images else {
+            return None;
+        };
+        self.images = later;
+        Some(HashedImage {
+            node,
+            payload: image.payload,
+            hashes: HashNodes::new(node, image, self.digests),
+        })
+    }
+}
+
+/// The images that are left of a flattened image tree, in their order in the file.
+#[derive(Drop)]
+pub(crate) struct HashedImages<'a, 'b> {
+    next: Option<NodeRef<'a, 'b>>,
+    images: PlacedImages<'a, 'b>,
 }
 
 impl<'a, 'b> HashedImages<'a, 'b> {
-    ghost use Rattle.bi_commands.specs.HashedImages.{images_of_blob};
+    ghost use Rattle.bi_commands.specs.HashedImages.{hashed_left, images_of_blob};
 
     /// Returns the images of a flattened image tree, whose hash nodes are judged by these digests
     /// of regions of its file.
     pub(crate) fn new(fit: &'b Fit<'a>, digests: &'b RegionDigests<'a>) -> HashedImages<'a, 'b>
         requires placed { AreAtTheirPlaces digests.now fit.now.images }
-        ensures { result ≡ images_of_blob fit.entry.now }
+        ensures { hashed_left result ≡ images_of_blob fit.entry.now }
     {
         HashedImages {
             next: fit.images_node().first_child(),
-            images: fit.images(),
-            digests,
+            images: PlacedImages {
+                images: fit.images(),
+                digests,
+            },
         }
     }
 }
 
 impl<'a, 'b> Iterator for HashedImages<'a, 'b> {
     ghost use Rattle.std.specs.Iterator.{YieldsFirstBy, item_count};
-    ghost use Rattle.bi_commands.specs.HashedImages.{image_value};
+    ghost use Rattle.bi_commands.specs.HashedImages.{hashed_left, image_value};
 
     type Item = HashedImage<'a, 'b>;
 
-    ghost next_gives = { YieldsFirstBy image_value (λ images. images) };
+    ghost next_gives = { YieldsFirstBy image_value hashed_left };
 
-    ghost remaining = { item_count (λ images. images) };
+    ghost remaining = { item_count hashed_left };
 
     fn next(&mut self) -> Option<HashedImage<'a, 'b>> {
         let node = self.next?;
-        let [image, later @ ..] = self.images else {
-            return None;
-        };
         self.next = node.next_sibling();
-        self.images = later;
-        Some(HashedImage {
-            name: node.name(),
-            payload: image.payload,
-            hashes: HashNodes::new(node, image, self.digests),
-        })
+        match self.images.next_at(node) {
+            Some(image) => Some(image),
+            None => None,
+        }
     }
 }

@@ -1,7 +1,6 @@
 //! A concern about a boot image, and how it is printed.
 
-ghost use Rattle.std.specs.Prelude.{◌≡◌, [], ◌∷◌, ◌++◌, filter, flat_map};
-ghost use Rattle.std.specs.Option.{option_map};
+ghost use Rattle.std.specs.Prelude.{◌≡◌, [], ◌∷◌, filter, flat_map};
 ghost use Rattle.bi_base.specs.Sinks.{Wrote};
 ghost use Rattle.bi_fit.specs.JudgementCalls.{checked_hash_of};
 ghost use Rattle.bi_commands.specs.Checking.{BadHash, WeakHash, concern_line};
@@ -9,81 +8,64 @@ ghost use Rattle.bi_commands.specs.Checking.{BadDefault, BadKey, MissingImage, T
 ghost use Rattle.bi_commands.specs.Checking.{UnhashedImage, is_good as is_good_hash};
 ghost use Rattle.bi_commands.specs.Checking.{kind_of as kind_of_concern};
 ghost use Rattle.bi_commands.specs.HashedImages.{hashes_left};
-ghost use Rattle.bi_commands.specs.LineValues.{concern_value};
-ghost use Rattle.bi_commands.specs.Formats.{WroteInTurn, in_turn};
-ghost use Rattle.bi_commands.specs.ReadChecking.{concern_text, concern_texts, good_algorithm};
+ghost use Rattle.bi_commands.specs.ConcernValues.{concern_value};
+ghost use Rattle.bi_commands.specs.Formats.{in_turn};
+ghost use Rattle.bi_commands.specs.ReadChecking.{concern_text, good_algorithm};
 ghost use Rattle.bi_commands.specs.Reports.{is_verdict};
 ghost use Rattle.bi_hash.specs.declared.verdicts.Verdict.TheVariants.{Good};
 
+use super::ConcernKind;
 use super::concern_json::put_concern_object;
-use super::{Checker, ConcernKind};
 use crate::fields::{Field, name_or_none, put_fields, put_later_field, put_line};
 use crate::format::Format;
 use crate::hash_nodes::HashNodes;
 use crate::json::put_comma;
 use crate::verify::report_line::verdict_word;
 use bi_base::{Error, Sink};
+use bi_fdt::{NodeRef, Property};
 use bi_fit::{Checked, Key};
 use bi_hash::Verdict;
 
 /// A concern about a boot image.
 #[derive(Clone, Copy)]
-pub(crate) enum Concern<'a, 'b> {
-    /// A hash node whose verdict is not Good.
-    BadHash(Checked<'a>),
-    /// The image of this name has a payload and no Good verdict.
-    UnhashedImage(&'a [u8]),
-    /// The image of this name has a payload and Good verdicts, and none of these is of a strong
+pub enum Concern<'a, 'b> {
+    /// The verdict on a hash node is not Good. The nodes are those of the image and of the hash.
+    BadHash(NodeRef<'a, 'b>, NodeRef<'a, 'b>, Checked<'a>),
+    /// The image of this node has a payload and no Good verdict.
+    UnhashedImage(NodeRef<'a, 'b>),
+    /// The image of this node has a payload and Good verdicts, and none of these is of a strong
     /// algorithm. These are all of its hash nodes.
-    WeakHash(&'a [u8], HashNodes<'a, 'b>),
-    /// The value of this key of the configuration of this name is not a list of names.
-    BadKey(&'a [u8], Key),
-    /// The configuration of this name lists, under this key and at this index, a name that no image
+    WeakHash(NodeRef<'a, 'b>, HashNodes<'a, 'b>),
+    /// The value of this key of the configuration of this node is not a list of names.
+    BadKey(NodeRef<'a, 'b>, Key),
+    /// The configuration of this node lists, under this key and at this index, a name that no image
     /// has. It is the first such name.
-    MissingImage(&'a [u8], Key, usize),
-    /// The default names no configuration, or is not there.
-    BadDefault(Option<&'a [u8]>),
+    MissingImage(NodeRef<'a, 'b>, Key, usize),
+    /// The default names no configuration, or is not there. It is the name in this property.
+    BadDefault(Option<&'a [u8]>, Option<Property<'a>>),
     /// This many bytes follow the image, and one of them is not zero.
     TrailingBytes(usize),
 }
 
 impl Concern<'_, '_> {
     /// Returns the kind of the concern.
-    pub(crate) fn kind(self) -> ConcernKind
+    pub fn kind(self) -> ConcernKind
         ensures { result ≡ kind_of_concern (concern_value self.entry) }
     {
         match self {
-            Concern::BadHash(_) => ConcernKind::BadHash,
+            Concern::BadHash(..) => ConcernKind::BadHash,
             Concern::UnhashedImage(_) => ConcernKind::Unhashed,
             Concern::WeakHash(..) => ConcernKind::WeakHash,
             Concern::BadKey(..) => ConcernKind::BadList,
             Concern::MissingImage(..) => ConcernKind::Missing,
-            Concern::BadDefault(_) => ConcernKind::BadDefault,
+            Concern::BadDefault(..) => ConcernKind::BadDefault,
             Concern::TrailingBytes(_) => ConcernKind::Trailing,
         }
     }
 }
 
-/// Appends a concern, if its kind is not allowed, and returns whether it did or there is a concern
-/// before it. Fails as the sink does.
-pub(super) fn put_concern<S: Sink>(
-    concern: Concern,
-    checker: Checker,
-    is_later: bool,
-    sink: &mut S,
-) -> Result<bool, Error>
-    ensures { WroteInTurn S.appends S.fails sink.old checker.format is_later
-        (concern_texts checker (concern_value concern.entry ∷ [])) result sink.new }
-{
-    if checker.allowed.allows(concern.kind()) {
-        return Ok(is_later);
-    }
-    put_text_of(concern, checker.format, is_later, sink)?;
-    Ok(true)
-}
-
 /// Appends the text of a concern. Fails as the sink does.
-fn put_text_of<S: Sink>(
+pub(super) fn put_concern<S: Sink>(
     concern: Concern,
     format: Format,
     is_later: bool,
@@ -109,7 +91,7 @@ fn put_line_of<S: Sink>(concern: Concern, sink: &mut S) -> Result<(), Error>
 {
     let kind = concern.kind().word().as_bytes();
     match concern {
-        Concern::BadHash(hash) => {
+        Concern::BadHash(_, _, hash) => {
             let fields = [
                 Field::Text(kind),
                 Field::Shown(hash.image),
@@ -119,12 +101,15 @@ fn put_line_of<S: Sink>(concern: Concern, sink: &mut S) -> Result<(), Error>
             ];
             put_line(&fields, sink)
         }
-        Concern::UnhashedImage(image) => put_line(&[Field::Text(kind), Field::Shown(image)], sink),
-        Concern::WeakHash(image, hashes) => put_weak_hash(image, hashes, sink),
+        Concern::UnhashedImage(image) => put_line(
+            &[Field::Text(kind), Field::Shown(image.name())],
+            sink,
+        ),
+        Concern::WeakHash(image, hashes) => put_weak_hash(image.name(), hashes, sink),
         Concern::BadKey(configuration, key) => {
             let fields = [
                 Field::Text(kind),
-                Field::Shown(configuration),
+                Field::Shown(configuration.name()),
                 Field::Text(key.name().as_bytes()),
             ];
             put_line(&fields, sink)
@@ -132,13 +117,16 @@ fn put_line_of<S: Sink>(concern: Concern, sink: &mut S) -> Result<(), Error>
         Concern::MissingImage(configuration, key, index) => {
             let fields = [
                 Field::Text(kind),
-                Field::Shown(configuration),
+                Field::Shown(configuration.name()),
                 Field::Text(key.name().as_bytes()),
                 Field::Decimal(index as u64),
             ];
             put_line(&fields, sink)
         }
-        Concern::BadDefault(default) => put_line(&[Field::Text(kind), name_or_none(default)], sink),
+        Concern::BadDefault(default, _) => put_line(
+            &[Field::Text(kind), name_or_none(default)],
+            sink,
+        ),
         Concern::TrailingBytes(count) => put_line(
             &[Field::Text(kind), Field::Decimal(count as u64)],
             sink,

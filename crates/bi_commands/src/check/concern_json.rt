@@ -3,6 +3,7 @@
 ghost use Rattle.std.specs.Prelude.{false, filter, flat_map};
 ghost use Rattle.std.specs.Option.{option_map};
 ghost use Rattle.bi_base.specs.Sinks.{Wrote};
+ghost use Rattle.bi_fdt.specs.Views.{node_of};
 ghost use Rattle.bi_fit.specs.JudgementCalls.{checked_hash_of};
 ghost use Rattle.bi_commands.specs.declared.format.Format.TheVariants.{Json};
 ghost use Rattle.bi_commands.specs.Checking.{BadDefault, BadHash, BadKey, MissingImage};
@@ -11,7 +12,7 @@ ghost use Rattle.bi_commands.specs.Checking.{is_good as is_good_hash};
 ghost use Rattle.bi_commands.specs.ConcernJson.{concern_object};
 ghost use Rattle.bi_commands.specs.Formats.{WroteInTurn, in_turn};
 ghost use Rattle.bi_commands.specs.HashedImages.{hashes_left};
-ghost use Rattle.bi_commands.specs.LineValues.{concern_value};
+ghost use Rattle.bi_commands.specs.ConcernValues.{concern_value};
 ghost use Rattle.bi_commands.specs.ReadChecking.{good_algorithm_json};
 
 use super::concern::{Concern, is_good};
@@ -19,6 +20,7 @@ use crate::hash_nodes::HashNodes;
 use crate::json::{JsonValue, put_members, put_next, put_object, shown_or_null};
 use crate::verify::report_line::verdict_word;
 use bi_base::{Error, Sink};
+use bi_fdt::NodeRef;
 use bi_fit::{Checked, Key};
 
 /// Appends the object of a concern. Fails as the sink does.
@@ -27,14 +29,14 @@ pub(super) fn put_concern_object<S: Sink>(concern: Concern, sink: &mut S) -> Res
         sink.new }
 {
     match concern {
-        Concern::BadHash(hash) => put_bad_hash_object(&hash, sink),
+        Concern::BadHash(_, _, hash) => put_bad_hash_object(&hash, sink),
         Concern::UnhashedImage(image) => put_unhashed_object(image, sink),
-        Concern::WeakHash(image, hashes) => put_weak_hash_object(image, hashes, sink),
+        Concern::WeakHash(image, hashes) => put_weak_hash_object(image.name(), hashes, sink),
         Concern::BadKey(configuration, key) => put_bad_key_object(configuration, key, sink),
         Concern::MissingImage(configuration, key, index) => {
             put_missing_object(configuration, key, index, sink)
         }
-        Concern::BadDefault(default) => put_bad_default_object(default, sink),
+        Concern::BadDefault(default, _) => put_bad_default_object(default, sink),
         Concern::TrailingBytes(count) => put_trailing_object(count, sink),
     }
 }
@@ -56,25 +58,25 @@ fn put_bad_hash_object<S: Sink>(hash: &Checked, sink: &mut S) -> Result<(), Erro
 }
 
 /// Appends the object of an image without a Good verdict. Fails as the sink does.
-fn put_unhashed_object<S: Sink>(image: &[u8], sink: &mut S) -> Result<(), Error>
-    ensures { Wrote S.appends S.fails sink.old (concern_object (UnhashedImage image.now)) result
-        sink.new }
+fn put_unhashed_object<S: Sink>(image: NodeRef, sink: &mut S) -> Result<(), Error>
+    ensures { Wrote S.appends S.fails sink.old
+        (concern_object (UnhashedImage (node_of image.entry).name)) result sink.new }
 {
     let members = [
         ("concern", JsonValue::Text(b"unhashed")),
-        ("image", JsonValue::Shown(image)),
+        ("image", JsonValue::Shown(image.name())),
     ];
     put_object(&members, sink)
 }
 
 /// Appends the object of a key of a configuration whose value is no list. Fails as the sink does.
-fn put_bad_key_object<S: Sink>(configuration: &[u8], key: Key, sink: &mut S) -> Result<(), Error>
-    ensures { Wrote S.appends S.fails sink.old (concern_object (BadKey configuration.now key))
-        result sink.new }
+fn put_bad_key_object<S: Sink>(configuration: NodeRef, key: Key, sink: &mut S) -> Result<(), Error>
+    ensures { Wrote S.appends S.fails sink.old
+        (concern_object (BadKey (node_of configuration.entry).name key)) result sink.new }
 {
     let members = [
         ("concern", JsonValue::Text(b"bad-list")),
-        ("configuration", JsonValue::Shown(configuration)),
+        ("configuration", JsonValue::Shown(configuration.name())),
         ("key", JsonValue::Text(key.name().as_bytes())),
     ];
     put_object(&members, sink)
@@ -83,17 +85,18 @@ fn put_bad_key_object<S: Sink>(configuration: &[u8], key: Key, sink: &mut S) -> 
 /// Appends the object of a key of a configuration that lists an image that is not there. Fails as
 /// the sink does.
 fn put_missing_object<S: Sink>(
-    configuration: &[u8],
+    configuration: NodeRef,
     key: Key,
     index: usize,
     sink: &mut S,
 ) -> Result<(), Error>
     ensures { Wrote S.appends S.fails sink.old
-        (concern_object (MissingImage configuration.now key index)) result sink.new }
+        (concern_object (MissingImage (node_of configuration.entry).name key index)) result
+        sink.new }
 {
     let members = [
         ("concern", JsonValue::Text(b"missing")),
-        ("configuration", JsonValue::Shown(configuration)),
+        ("configuration", JsonValue::Shown(configuration.name())),
         ("key", JsonValue::Text(key.name().as_bytes())),
         ("index", JsonValue::Number(index as u64)),
     ];

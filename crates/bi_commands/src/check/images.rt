@@ -1,120 +1,136 @@
-//! The concerns about the images of a flattened image tree: about their hash nodes, and about their
-//! payloads.
+//! The concerns about the images of a flattened image tree.
 
-ghost use Rattle.std.specs.Prelude.{◌≡◌, ◌∷◌, [], flat_map};
+ghost use Rattle.std.specs.Prelude.{◌≡◌, flat_map};
+ghost use Rattle.std.specs.Iterator.{YieldsFirstBy, item_count};
 ghost use Rattle.std.specs.List.{list_any};
 ghost use Rattle.std.specs.Option.{option_map};
+ghost use Rattle.bi_fdt.specs.Views.{node_of};
 ghost use Rattle.bi_fit.specs.Content.{AreAtTheirPlaces};
 ghost use Rattle.bi_fit.specs.JudgementCalls.{checked_hash_of};
-ghost use Rattle.bi_commands.specs.Checking.{hash_concerns};
 ghost use Rattle.bi_commands.specs.Checking.{is_good as is_good_hash, is_strong as is_strong_hash};
 ghost use Rattle.bi_commands.specs.Checking.{is_strong_algorithm, protection_concerns};
-ghost use Rattle.bi_commands.specs.Formats.{WroteInTurn};
+ghost use Rattle.bi_commands.specs.Checking.{payload_concerns};
+ghost use Rattle.bi_commands.specs.ConcernValues.{found_or_none, found_value};
+ghost use Rattle.bi_commands.specs.ConcernsLeft.{image_left, images_left};
+ghost use Rattle.bi_commands.specs.FoundConcerns.{NodeItself, concerns_about, found_in_image};
 ghost use Rattle.bi_commands.specs.HashedImages.{hashes_left, image_value, images_of_blob};
-ghost use Rattle.bi_commands.specs.ReadChecking.{concern_texts, image_concern_texts};
-ghost use Rattle.bi_commands.specs.ReadChecking.{images_concerns};
 
-use super::Checker;
-use super::concern::{Concern, is_good, put_concern};
+use super::concern::{Concern, is_good};
 use crate::hash_nodes::{HashNodes, HashedImage, HashedImages};
-use bi_base::{Error, Sink};
+use bi_fdt::NodeRef;
 use bi_fit::{Checked, Fit};
 use bi_hash::RegionDigests;
 
-/// Appends the concerns about the images, and returns whether there is one, or there are any before
-/// them. Fails as the sink does.
-pub(super) fn put_images<'a, S: Sink>(
-    fit: &Fit<'a>,
-    digests: &RegionDigests<'a>,
-    checker: Checker,
-    is_later: bool,
-    sink: &mut S,
-) -> Result<bool, Error>
-    requires placed { AreAtTheirPlaces digests.now fit.now.images }
-    ensures { WroteInTurn S.appends S.fails sink.old checker.format is_later
-        (concern_texts checker (images_concerns (images_of_blob fit.now))) result sink.new }
-{
-    let mut later = is_later;
-    for image in HashedImages::new(fit, digests) {
-        later = put_image(image, checker, later, sink)?;
-    }
-    Ok(later)
+/// The concerns that are left about an image: about its hash nodes, and then about its payload.
+#[derive(Clone, Copy)]
+pub(super) struct ImageConcerns<'a, 'b> {
+    image: NodeRef<'a, 'b>,
+    /// The hash nodes that are left.
+    hashes: HashNodes<'a, 'b>,
+    of_payload: Option<Concern<'a, 'b>>,
 }
 
-/// Appends the concerns about an image, and returns whether there is one, or there are any before
-/// them. Fails as the sink does.
-fn put_image<S: Sink>(
-    image: HashedImage,
-    checker: Checker,
-    is_later: bool,
-    sink: &mut S,
-) -> Result<bool, Error>
-    ensures { WroteInTurn S.appends S.fails sink.old checker.format is_later
-        (image_concern_texts checker (image_value image.entry)) result sink.new }
+impl<'a, 'b> ImageConcerns<'a, 'b> {
+    /// Returns the concerns about an image.
+    fn new(image: HashedImage<'a, 'b>) -> ImageConcerns<'a, 'b>
+        ensures { image_left result ≡ found_in_image (image_value image.entry) }
+    {
+        ImageConcerns {
+            image: image.node,
+            hashes: image.hashes,
+            of_payload: payload_concern(image),
+        }
+    }
+}
+
+impl<'a, 'b> Iterator for ImageConcerns<'a, 'b> {
+    type Item = Concern<'a, 'b>;
+
+    ghost next_gives = { YieldsFirstBy found_value image_left };
+
+    ghost remaining = { item_count image_left };
+
+    fn next(&mut self) -> Option<Concern<'a, 'b>> {
+        while let Some((node, hash)) = self.hashes.next_node() {
+            if !is_good(hash.verdict) {
+                return Some(Concern::BadHash(self.image, node, hash));
+            }
+        }
+        self.of_payload.take()
+    }
+}
+
+/// The concerns that are left about the images of a flattened image tree.
+#[derive(Drop)]
+pub(super) struct AllImageConcerns<'a, 'b> {
+    /// Those about the image that the iterator has come to.
+    current: Option<ImageConcerns<'a, 'b>>,
+    /// The images after it.
+    images: HashedImages<'a, 'b>,
+}
+
+impl<'a, 'b> AllImageConcerns<'a, 'b> {
+    /// Returns the concerns about the images of a flattened image tree, whose hash nodes are judged
+    /// by these digests.
+    pub(super) fn new(fit: &'b Fit<'a>, digests: &'b RegionDigests<'a>) -> AllImageConcerns<'a, 'b>
+        requires placed { AreAtTheirPlaces digests.now fit.now.images }
+        ensures { images_left result ≡ flat_map found_in_image (images_of_blob fit.entry.now) }
+    {
+        AllImageConcerns {
+            current: None,
+            images: HashedImages::new(fit, digests),
+        }
+    }
+}
+
+impl<'a, 'b> Iterator for AllImageConcerns<'a, 'b> {
+    type Item = Concern<'a, 'b>;
+
+    ghost next_gives = { YieldsFirstBy found_value images_left };
+
+    ghost remaining = { item_count images_left };
+
+    fn next(&mut self) -> Option<Concern<'a, 'b>> {
+        loop {
+            if let Some(concerns) = &mut self.current {
+                if let Some(concern) = concerns.next() {
+                    return Some(concern);
+                }
+            }
+            self.current = Some(ImageConcerns::new(self.images.next()?));
+        }
+    }
+}
+
+/// Returns the concern about the payload of an image, if there is one.
+fn payload_concern<'a, 'b>(image: HashedImage<'a, 'b>) -> Option<Concern<'a, 'b>>
+    ensures { let entry = node_of image.entry.node in
+        found_or_none result ≡ concerns_about (NodeItself entry) (payload_concerns entry.name
+        (option_map (λ payload. payload.now) image.entry.payload)
+        (hashes_left image.entry.hashes)) }
 {
-    let later = put_hashes(image.hashes, checker, is_later, sink)?;
     match image.payload {
-        Some(_) => put_protection(image.name, image.hashes, checker, later, sink),
-        None => Ok(later),
+        Some(_) => protection_concern(image.node, image.hashes),
+        None => None,
     }
 }
 
-/// Appends the concerns about the hash nodes of an image, and returns whether there is one, or
-/// there are any before them. Fails as the sink does.
-fn put_hashes<S: Sink>(
-    hashes: HashNodes,
-    checker: Checker,
-    is_later: bool,
-    sink: &mut S,
-) -> Result<bool, Error>
-    ensures { WroteInTurn S.appends S.fails sink.old checker.format is_later
-        (concern_texts checker (flat_map hash_concerns (hashes_left hashes.entry))) result
-        sink.new }
-{
-    let mut later = is_later;
-    for hash in hashes {
-        later = put_hash(hash, checker, later, sink)?;
-    }
-    Ok(later)
-}
-
-/// Appends the concern about a hash node, if its verdict is not Good, and returns whether it did or
-/// there are any before it. Fails as the sink does.
-fn put_hash<S: Sink>(
-    hash: Checked,
-    checker: Checker,
-    is_later: bool,
-    sink: &mut S,
-) -> Result<bool, Error>
-    ensures { WroteInTurn S.appends S.fails sink.old checker.format is_later
-        (concern_texts checker (hash_concerns (checked_hash_of hash.entry))) result sink.new }
-{
-    if is_good(hash.verdict) {
-        Ok(is_later)
-    } else {
-        put_concern(Concern::BadHash(hash), checker, is_later, sink)
-    }
-}
-
-/// Appends the concern about an image of this name with a payload and these hash nodes, and returns
-/// whether there is one, or there are any before it. Fails as the sink does.
-fn put_protection<S: Sink>(
-    image: &[u8],
-    hashes: HashNodes,
-    checker: Checker,
-    is_later: bool,
-    sink: &mut S,
-) -> Result<bool, Error>
-    ensures { WroteInTurn S.appends S.fails sink.old checker.format is_later
-        (concern_texts checker (protection_concerns image.now (hashes_left hashes.entry))) result
-        sink.new }
+/// Returns the concern about the image of a node with a payload and these hash nodes, if there is
+/// one.
+fn protection_concern<'a, 'b>(
+    image: NodeRef<'a, 'b>,
+    hashes: HashNodes<'a, 'b>,
+) -> Option<Concern<'a, 'b>>
+    ensures { let entry = node_of image.entry in
+        found_or_none result ≡ concerns_about (NodeItself entry)
+        (protection_concerns entry.name (hashes_left hashes.entry)) }
 {
     if !has_good(hashes) {
-        put_concern(Concern::UnhashedImage(image), checker, is_later, sink)
+        Some(Concern::UnhashedImage(image))
     } else if !has_strong(hashes) {
-        put_concern(Concern::WeakHash(image, hashes), checker, is_later, sink)
+        Some(Concern::WeakHash(image, hashes))
     } else {
-        Ok(is_later)
+        None
     }
 }
 

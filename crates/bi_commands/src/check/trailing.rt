@@ -1,92 +1,26 @@
 //! The concern about the bytes of a file after its image.
 
-ghost use Rattle.std.specs.Prelude.{◌≡◌, ◌↔◌, ◌==◌, ◌-◌, [], IfOk, IsTrue, drop, length};
+ghost use Rattle.std.specs.Prelude.{◌≡◌, ◌==◌, ◌-◌, drop, length};
 ghost use Rattle.std.specs.List.{list_all};
-ghost use Rattle.bi_base.specs.Sinks.{Wrote};
 ghost use Rattle.bi_fit.specs.Content.{image_model};
-ghost use Rattle.bi_commands.specs.CheckedFiles.{concerns_text};
-ghost use Rattle.bi_commands.specs.Checking.{kept_concerns, trailing_concerns};
-ghost use Rattle.bi_commands.specs.Formats.{WroteInTurn};
-ghost use Rattle.bi_commands.specs.ReadChecking.{after_concerns, before_concerns, concern_texts};
+ghost use Rattle.bi_commands.specs.ConcernValues.{found_or_none};
+ghost use Rattle.bi_commands.specs.FoundConcerns.{found_in_rest};
 ghost use Rattle.bi_commands.specs.ReadChecking.{end_at, offset_at};
 ghost use Rattle.bi_commands.specs.ReadChecking.{end_of_read_payloads};
 
-use super::Checker;
-use super::concern::{Concern, put_concern};
-use crate::format::Format;
+use super::concern::Concern;
 use crate::payload_bounds::length_of;
-use bi_base::{Error, Sink};
 use bi_fit::{Fit, Image, Place};
 use bi_legacy::Legacy;
 
-/// Appends the text of the concern about a legacy image that was read from this file, and returns
-/// whether there is none. Fails as the sink does.
-pub(crate) fn check_legacy<S: Sink>(
-    file: &[u8],
-    image: &Legacy,
-    checker: Checker,
-    sink: &mut S,
-) -> Result<bool, Error>
-    ensures text { Wrote S.appends S.fails sink.old (concerns_text checker.format checker.allowed
-        (trailing_concerns (drop (length file.now - image.now.unused) file.now))) result
-        sink.new }
-    ensures clean { IfOk result (λ clean. IsTrue clean ↔ (kept_concerns checker.allowed
-        (trailing_concerns (drop (length file.now - image.now.unused) file.now)) ≡ [])) }
-{
-    let bytes = &file[file.len().saturating_sub(image.unused() as usize)..];
-    put_trailing_text(bytes, checker, sink)
-}
-
-/// Appends the text of the concern about these bytes after an image, and returns whether there is
-/// none. Fails as the sink does.
-fn put_trailing_text<S: Sink>(bytes: &[u8], checker: Checker, sink: &mut S) -> Result<bool, Error>
-    ensures text { Wrote S.appends S.fails sink.old
-        (concerns_text checker.format checker.allowed (trailing_concerns bytes.now)) result
-        sink.new }
-    ensures clean { IfOk result (λ clean. IsTrue clean
-        ↔ (kept_concerns checker.allowed (trailing_concerns bytes.now) ≡ [])) }
-{
-    put_before_concerns(checker.format, sink)?;
-    let any = put_trailing(bytes, checker, false, sink)?;
-    put_after_concerns(checker.format, sink)?;
-    Ok(!any)
-}
-
-/// Appends what comes before the concerns. Fails as the sink does.
-pub(super) fn put_before_concerns<S: Sink>(format: Format, sink: &mut S) -> Result<(), Error>
-    ensures { Wrote S.appends S.fails sink.old (before_concerns format) result sink.new }
-{
-    match format {
-        Format::Lines => Ok(()),
-        Format::Json => sink.put(b"{\"concerns\":["),
-    }
-}
-
-/// Appends what comes after the concerns. Fails as the sink does.
-pub(super) fn put_after_concerns<S: Sink>(format: Format, sink: &mut S) -> Result<(), Error>
-    ensures { Wrote S.appends S.fails sink.old (after_concerns format) result sink.new }
-{
-    match format {
-        Format::Lines => Ok(()),
-        Format::Json => sink.put(b"]}\n"),
-    }
-}
-
-/// Appends the concern about these bytes after an image, and returns whether there is one, or there
-/// are any before it. Fails as the sink does.
-pub(super) fn put_trailing<S: Sink>(
-    bytes: &[u8],
-    checker: Checker,
-    is_later: bool,
-    sink: &mut S,
-) -> Result<bool, Error>
-    ensures { WroteInTurn S.appends S.fails sink.old checker.format is_later
-        (concern_texts checker (trailing_concerns bytes.now)) result sink.new }
+/// Returns the concern about these bytes after an image, if there is one.
+pub(super) fn rest_concern<'a, 'b>(bytes: &[u8]) -> Option<Concern<'a, 'b>>
+    ensures { found_or_none result ≡ found_in_rest bytes.now }
 {
     if are_zeros(bytes) {
-        Ok(is_later)
+        None
     } else {
-        put_concern(Concern::TrailingBytes(bytes.len()), checker, is_later, sink)
+        Some(Concern::TrailingBytes(bytes.len()))
     }
 }
 
@@ -123,4 +57,19 @@ fn offset_of(place: Place) -> u32
         Place::Absent => 0,
         Place::Data(offset) | Place::DataOffset(offset) | Place::DataPosition(offset) => offset,
     }
+}
+
+/// Returns the bytes of a file after the last of the blob and the payloads.
+pub(super) fn bytes_after_fit<'a>(file: &'a [u8], fit: &Fit) -> &'a [u8]
+    ensures { result.now
+        ≡ drop (end_of_read_payloads fit.now.blob.total_size fit.now.images) file.entry.now }
+{
+    &file[content_end(fit).min(file.len())..]
+}
+
+/// Returns the bytes of a file after the legacy image that was read from it.
+pub(super) fn bytes_after_legacy<'a>(file: &'a [u8], image: &Legacy) -> &'a [u8]
+    ensures { result.now ≡ drop (length file.now - image.now.unused) file.entry.now }
+{
+    &file[file.len().saturating_sub(image.unused() as usize)..]
 }

@@ -22,7 +22,8 @@ use super::images::image_rows;
 use super::layout::fit::fit_layout;
 use super::signatures::signature_rows;
 use super::tables::{Row, add_concerns, add_pair, add_table, words_row};
-use crate::check::fit::put_text;
+use crate::check::Concerns;
+use crate::check::text::put_concerns;
 use crate::fields::Field;
 use crate::payload_bounds::BoundedFit;
 use crate::verdict_counts::digests_of_verdicts;
@@ -97,7 +98,8 @@ fn concern_lines<'a>(
     ensures { IfOk result (λ lines. AreConcernLines limits file.now (string_bytes lines)) }
 {
     let mut sink = VecSink::new(alloc);
-    match put_text(file, fit, digests, CHECKER, &mut sink) {
+    let concerns = Concerns::of_fit(file, fit, digests);
+    match put_concerns(concerns, CHECKER, &mut sink) {
         Ok(_clean) => Ok(text_of(sink)),
         Err(_) => Err(AllocError),
     }

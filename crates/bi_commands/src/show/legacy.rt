@@ -16,7 +16,8 @@ use super::codes::{any_arch_name, any_os_name, any_type_name};
 use super::dates::time_text;
 use super::layout::legacy::legacy_layout;
 use super::tables::{Row, add_concerns, add_pair, add_table, words_row};
-use crate::check::trailing::check_legacy;
+use crate::check::Concerns;
+use crate::check::text::put_concerns;
 use crate::fields::Field;
 use bi_base::{Limits, VecSink};
 use bi_legacy::codes::compression_name;
@@ -58,7 +59,8 @@ fn concern_lines(
     ensures { IfOk result (λ lines. AreConcernLines limits file.now (string_bytes lines)) }
 {
     let mut sink = VecSink::new(alloc);
-    match check_legacy(file, image, CHECKER, &mut sink) {
+    let concerns = Concerns::of_legacy(file, image);
+    match put_concerns(concerns, CHECKER, &mut sink) {
         Ok(_clean) => Ok(text_of(sink)),
         Err(_) => Err(AllocError),
     }

@@ -1,36 +1,25 @@
-use Rattle.std.proofs.Common.{refl, rules}
+use Rattle.std.proofs.Common.{refl, subst, sym}
 use Rattle.std.proofs.lemmas.Result.{err_from_is_err_and}
-use Rattle.bi_base.specs.Commands.{WasRefused}
-use Rattle.bi_fit.proofs.AppendedTexts.{wrote_none_of_kind}
-use Rattle.bi_commands.specs.CheckedFiles.{IsChecked, IsCheckError}
-use Rattle.bi_commands.proofs.CheckedFiles.{check_error_of_reading, fit_appended, fit_not_checked, legacy_appended, legacy_checked}
+use Rattle.bi_base.specs.Commands.{SinkFailed, WasRefused}
+use Rattle.bi_commands.specs.FoundConcerns.{HasConcerns}
+use Rattle.bi_commands.proofs.CheckedFiles.{text_appended, text_checks}
 use Rattle.bi_commands.proofs.check.check_into.Goals as goal
 
 pub returns-in_err-image-clause-failed : goal.returns-in_err-image-clause-failed
 returns-in_err-image-clause-failed g c =
     let p = err_from_is_err_and c.from_residual.result c.from_residual.ensures.1 in
-    rw (p.1, p.2) (WasRefused (check_error_of_reading c.args.limits c.args.file.now c.in_err-image.field-0.0 c.in_err-image.ensures.failed)
-    refl)
+    rw (p.1, p.2) (WasRefused c.in_err-image.ensures.failed refl)
 
-pub returns-in-Legacy-clause-appended : goal.returns-in-Legacy-clause-appended
-returns-in-Legacy-clause-appended g c =
-    legacy_appended g.S.Sink.appends g.S.Sink.fails c.args.checker c.args.limits c.args.file.now c.in-Legacy.image c.args.sink.now
-    c.check_legacy.new.sink c.check_legacy.result (search rules)
-    c.check_legacy.ensures.text c.check_legacy.ensures.clean
+pub returns-in_err-clean-clause-failed : goal.returns-in_err-clean-clause-failed
+returns-in_err-clean-clause-failed g c =
+    let p = err_from_is_err_and c.from_residual-in_err-clean.result c.from_residual-in_err-clean.ensures.1 in
+    let has = subst (HasConcerns c.args.limits c.args.file.now) (sym c.concerns.ensures) c.in_ok-image.ensures.read in
+    rw (p.1, p.2) (SinkFailed _ c.in_err-clean.field-0.0
+    (text_checks c.args.checker.format c.args.checker.allowed c.args.limits c.args.file.now _ has) c.in_err-clean.ensures.text refl)
 
-pub returns-in-Legacy-clause-failed : goal.returns-in-Legacy-clause-failed
-returns-in-Legacy-clause-failed g c =
-    wrote_none_of_kind g.S.Sink.appends g.S.Sink.fails (IsChecked c.args.checker.format c.args.checker.allowed c.args.limits
-    c.args.file.now) (IsCheckError c.args.limits c.args.file.now) c.args.sink.now _ c.check_legacy.result c.check_legacy.new.sink
-    (legacy_checked c.args.checker c.args.limits c.args.file.now c.in-Legacy.image (search rules)) c.check_legacy.ensures.text
-
-pub returns-in-Fit-clause-appended : goal.returns-in-Fit-clause-appended
-returns-in-Fit-clause-appended g c =
-    fit_appended g.S.Sink.appends c.args.checker c.args.limits c.args.file.now c.in-Fit.image c.args.sink.now c.check_fit.new.sink
-    c.check_fit.result (search rules)
-    c.check_fit.ensures.appended c.check_fit.ensures.clean c.check_fit.ensures.within
-
-pub returns-in-Fit-clause-failed : goal.returns-in-Fit-clause-failed
-returns-in-Fit-clause-failed g c =
-    fit_not_checked g.S.Sink.fails c.args.checker c.args.limits c.args.file.now c.in-Fit.image c.args.sink.now c.check_fit.new.sink
-    c.check_fit.result (search rules) c.check_fit.ensures.failed
+pub returns-clause-appended : goal.returns-clause-appended
+returns-clause-appended g c =
+    text_appended g.S.Sink.appends c.args.checker.format c.args.checker.allowed c.args.limits c.args.file.now _ c.args.sink.now
+    c.put_concerns.new.sink c.in_ok-clean.clean
+    (subst (HasConcerns c.args.limits c.args.file.now) (sym c.concerns.ensures) c.in_ok-image.ensures.read) c.in_ok-clean.ensures.text
+    c.in_ok-clean.ensures.clean

@@ -1,5 +1,5 @@
 use Rattle.std.proofs.Common.{false}
-use Rattle.bi_commands.specs.HashedImages.{images_of_blob}
+use Rattle.bi_commands.specs.HashedImages.{hashed_left, images_of_blob}
 use Rattle.bi_commands.specs.ReadReports.{hash_texts}
 use Rattle.bi_commands.proofs.TextsInTurn.{AreInTurn}
 use Rattle.bi_commands.proofs.verify.put_images.Given as goal
@@ -7,5 +7,5 @@ use Rattle.bi_commands.proofs.verify.put_images.Given as goal
 -- The hash nodes of the images that are left follow those that were appended.
 abbrev pub invariant-loop-image : goal.invariant-loop-image
 invariant-loop-image g l =
-    AreInTurn g.S.Sink.appends l.initial.sink l.sink l.fn.format false l.is_later (hash_texts l.fn.format l.image-iterator)
+    AreInTurn g.S.Sink.appends l.initial.sink l.sink l.fn.format false l.is_later (hash_texts l.fn.format (hashed_left l.image-iterator))
     (hash_texts l.fn.format (images_of_blob l.fn.fit))

@@ -1,7 +1,9 @@
-use Rattle.std.proofs.Common.{sym, subst}
+use Rattle.std.proofs.Common.{filter, sym, subst}
 use Rattle.bi_base.specs.Sinks.{Wrote}
+use Rattle.bi_commands.specs.Checking.{WeakHash, is_good}
 use Rattle.bi_commands.specs.ConcernJson.{concern_object}
-use Rattle.bi_commands.specs.LineValues.{concern_value}
+use Rattle.bi_commands.specs.ConcernValues.{concern_value}
+use Rattle.bi_commands.specs.HashedImages.{hashes_left}
 use Rattle.bi_commands.proofs.check.concern_json.put_concern_object.Goals as goal
 
 pub returns-in-BadHash : goal.returns-in-BadHash
@@ -20,7 +22,10 @@ pub returns-in-WeakHash : goal.returns-in-WeakHash
 returns-in-WeakHash g c =
     subst (λ concern. Wrote g.S.Sink.appends g.S.Sink.fails c.args.sink.now (concern_object (concern_value concern))
     c.put_weak_hash_object.result c.put_weak_hash_object.new.sink)
-    (sym c.in-WeakHash.is) c.put_weak_hash_object.ensures
+    (sym c.in-WeakHash.is)
+    (subst (λ name. Wrote g.S.Sink.appends g.S.Sink.fails c.args.sink.now
+    (concern_object (WeakHash name (filter is_good (hashes_left c.in-WeakHash.hashes))))
+    c.put_weak_hash_object.result c.put_weak_hash_object.new.sink) c.name.ensures c.put_weak_hash_object.ensures)
 
 pub returns-in-BadKey : goal.returns-in-BadKey
 returns-in-BadKey g c =

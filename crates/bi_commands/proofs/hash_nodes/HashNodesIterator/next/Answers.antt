@@ -1,19 +1,14 @@
-use Rattle.std.proofs.Common.{length, ap, rules}
-use Rattle.std.specs.Option.{option_map}
-use Rattle.bi_blob.specs.Lookups.{siblings_from}
-use Rattle.bi_fdt.specs.Views.{node_of}
-use Rattle.bi_fit.proofs.Siblings.{from_next}
-use Rattle.bi_hash.specs.Regions.{bytes_of_region}
-use Rattle.bi_commands.proofs.HashedImages.{first_judged}
+use Rattle.std.proofs.Common.{length, ap, map, rules}
+use Rattle.bi_commands.specs.HashedImages.{FoundHash}
 use Rattle.bi_commands.proofs.hash_nodes.HashNodesIterator.next.Goals as goal
 
 pub returns-in-Some-clause-steps : goal.returns-in-Some-clause-steps
-returns-in-Some-clause-steps c =
-    let hashes = c.args.self.now in
-    first_judged hashes.image.now (option_map (bytes_of_region hashes.digests.now) hashes.payload) (node_of c.in-Some.node)
-    (siblings_from (option_map node_of hashes.next)) (siblings_from (option_map node_of c.first_hash_node.result)) _ _
-    c.first_hash_node.ensures.left (from_next c.first_hash_node.result c.next_sibling-self.result c.in-Some.node c.in-Some.is
-    c.next_sibling-self.ensures.sibling) c.in-Some.ensures.hash c.judge.ensures
+returns-in-Some-clause-steps c = ap (map (λ (hash : FoundHash). hash.checked)) c.in-Some.ensures
 
 pub returns-in-Some-clause-goes : goal.returns-in-Some-clause-goes
 returns-in-Some-clause-goes c = let fewer = ap length (returns-in-Some-clause-steps c) in search rules
+
+pub returns-in-None-clause-steps : goal.returns-in-None-clause-steps
+returns-in-None-clause-steps c =
+    let checked : FoundHash → _ = λ hash. hash.checked in
+    (ap (map checked) c.in-None.ensures.0, ap (map checked) c.in-None.ensures.1)
