@@ -1,5 +1,6 @@
 #!/bin/sh
-# Runs the program with -o in a directory. The output file is written as a whole or is as it was, and no other file is left.
+# Runs the program with -o in a directory. The output file is written as a whole or is as it was, and no other file is left. With --all
+# a new directory has all files or is not there.
 set -u
 
 root=$(cd "$(dirname "$0")/../.." && pwd)
@@ -100,6 +101,86 @@ for call in fchmod write fsync rename; do
     check "the file is as it was if $call fails" holds ../old out
 done
 chmod 644 out
+
+# With --all a new directory has all files, or is not there.
+two_parts=$root/examples/two-parts.uimage
+for part in 0 1; do
+    "$bootimg" extract --part $part "$two_parts" > "../part-$part"
+done
+mkdir ../there
+cd ../there || exit
+
+# is_left NAME..: nothing else but these names is in the directory.
+is_left() {
+    [ "$(ls -A | LC_ALL=C sort | tr '\n' ' ')" = "$*${*:+ }" ]
+}
+
+# has_parts DIRECTORY: the directory has the two parts, and nothing else.
+has_parts() {
+    cmp ../part-0 "$1/part-0" && cmp ../part-1 "$1/part-1" && [ "$(ls -A "$1" | tr '\n' ' ')" = "part-0 part-1 " ]
+}
+
+check "all parts are written" ends 0 "" extract --all -o out "$two_parts"
+check "each has its file" has_parts out
+check "nothing else is there" is_left out
+check "a directory that is there" ends 2 "bootimg: out: write failed" extract --all -o out "$two_parts"
+check "with a slash after it" ends 2 "bootimg: out/: write failed" extract --all -o out/ "$two_parts"
+check "it is as it was" has_parts out
+ln -s nowhere link
+check "a link that leads nowhere" ends 2 "bootimg: link: write failed" extract --all -o link "$two_parts"
+check "the link is left" is_left link out
+mkdir empty
+check "an empty directory" ends 2 "bootimg: empty: write failed" extract --all -o empty "$two_parts"
+check "it is empty then" rmdir empty
+rm -r out link
+check "slashes at the end do not count" ends 0 "" extract --all -o out// "$two_parts"
+check "each part has its file there" has_parts out
+rm -r out
+check "a refusal makes nothing" ends 2 "bootimg: ../old: BadMagic at 0" extract --all -o out ../old
+check "a directory in one that is not there" ends 2 "bootimg: none/out: write failed" extract --all -o none/out "$two_parts"
+check "the root" ends 2 "bootimg: /: write failed" extract --all -o / "$two_parts"
+check "no name" ends 2 "bootimg: -: write failed" extract --all -o "" "$two_parts"
+check "no directory is named" ends 2 "bootimg: usage: bad value" extract --all "$two_parts"
+check "nothing was made" is_left
+mkdir .bootimg-0
+check "a name of a new directory that is taken" ends 0 "" extract --all -o out "$two_parts"
+check "is left, too" is_left .bootimg-0 out
+rm -r .bootimg-0 out
+check "a hyphen is a name" ends 0 "" extract --all -o - "$two_parts"
+check "it has the parts" has_parts ./-
+rm -r ./-
+check "a full disk" sh -c 'trap "" XFSZ; ulimit -f 0; "$1" extract --all -o out "$2" > ../output 2> ../errors; [ $? = 2 ]' sh \
+    "$bootimg" "$two_parts"
+check "leaves nothing" is_left
+
+# stops_unpacking CALL COUNT: the program fails if this call does after so many that succeed.
+stops_unpacking() {
+    FAILING_CALL=$1 SUCCEEDING_CALLS=$2 LD_PRELOAD=../failing_call.so "$program" extract --all -o out "$two_parts" > ../output 2> ../errors
+    [ $? = 2 ] && [ ! -s ../output ] && [ "$(cat ../errors)" = "bootimg: out: write failed" ]
+}
+
+for failing in "mkdir 0" "mkdir 1" "write 0" "write 1" "fsync 0" "fsync 1" "rename 0"; do
+    # shellcheck disable=SC2086
+    check "if $failing fails, so does the program" stops_unpacking $failing
+    check "nothing is left if $failing fails" is_left
+done
+
+# is_whole_or_missing: the directory has the parts, or is empty for a moment, or is not there.
+is_whole_or_missing() {
+    [ ! -e out ] || [ -z "$(ls -A out)" ] || has_parts out
+}
+
+# A program that is killed leaves a directory with all files, or none with its name. Its new directory can be left.
+for moment in 0 1 2 3 4 5 6 7 8 9; do
+    "$program" extract --all -o out "$two_parts" &
+    sleep "0.00$moment"
+    kill -KILL $! 2> ../errors
+    wait $! 2> ../errors
+    check "killed after 0.00$moment seconds" is_whole_or_missing
+    rm -rf out .bootimg-0
+done
+check "nothing else is left by a kill" is_left
+cd ../here || exit
 
 # A Makefile builds, checks, compares and installs an image. Neither a refusal nor a full disk changes a file.
 need make make

@@ -1,4 +1,5 @@
-/* Loaded before the C library: the call that the environment variable FAILING_CALL names fails, as on a file system that is full. */
+/* Loaded before the C library: the call that the environment variable FAILING_CALL names fails, as on a file system that is full. With
+ * SUCCEEDING_CALLS this many calls of the name succeed first, and one fails after them. */
 #define _GNU_SOURCE
 #include <dlfcn.h>
 #include <errno.h>
@@ -13,6 +14,11 @@ static int fails(const char *name)
 {
     const char *failing = getenv("FAILING_CALL");
     if (failing == NULL || strcmp(failing, name) != 0) {
+        return 0;
+    }
+    static int calls = 0;
+    const char *succeeding = getenv("SUCCEEDING_CALLS");
+    if (succeeding != NULL && calls++ != atoi(succeeding)) {
         return 0;
     }
     errno = ENOSPC;
@@ -39,3 +45,5 @@ CALL(int, fchmod, (int file, mode_t mode), (file, mode))
 CALL(int, rename, (const char *name, const char *new_name), (name, new_name))
 CALL(int, renameat, (int from, const char *name, int to, const char *new_name), (from, name, to, new_name))
 CALL(int, unlink, (const char *name), (name))
+CALL(int, mkdir, (const char *name, mode_t mode), (name, mode))
+CALL(int, mkdirat, (int at, const char *name, mode_t mode), (at, name, mode))
