@@ -1,6 +1,5 @@
 use Rattle.std.specs.Prelude.{◌≡◌, ℕ, ◌≤◌, List, [], Option, option_map}
 use Rattle.std.specs.FinMap.{entries}
-use Rattle.bi_base.specs.Cells.{up4}
 use Rattle.bi_blob.specs.Tree.{Nodes, none, node, Property, PropertyMap, EachOwn}
 use Rattle.bi_blob.specs.Events.{events}
 use Rattle.bi_blob.specs.Layout.{longest_text}
@@ -12,12 +11,13 @@ use Rattle.bi_fit.specs.declared.document.image_node.ImageNode.{ImageNode}
 use Rattle.bi_fit.specs.declared.form.Form.{Form}
 use Rattle.bi_fit.specs.declared.payload_area.PayloadArea.{PayloadArea}
 use Rattle.bi_fit.specs.ImageTree.{without_payload}
-use Rattle.bi_fit.specs.NormalNodes.{MayAdd, HasDistinctNames, HasCellSize, nodes_by_name}
+use Rattle.bi_fit.specs.NormalNodes.{MayAdd, HasDistinctNames, HasCellSize, next_begin}
+use Rattle.bi_fit.specs.NormalNodes.{nodes_by_name}
 use Rattle.bi_fit.specs.NormalNodes.{sorted_image_children, leaf}
 use Rattle.bi_fit.specs.Building.{hash_node_name}
 use Rattle.bi_fit.specs.NameOrders.{HasOrder}
 use Rattle.bi_fit.specs.TakenDigests.{HaveDigests, after_digests}
-use Rattle.bi_fit.specs.Text.{with_payload}
+use Rattle.bi_fit.specs.Text.{alignment_of, with_payload}
 
 -- Image nodes that are added to a document, from a file or from a specification.
 
@@ -51,7 +51,8 @@ AreAddable names (Hash properties) = names ≡ properties.now.names
 -- external payload from the end of the blob.
 abbrev pub added_properties : Form → (begin : ℕ) → ImageNode → PropertyMap
 added_properties form begin image =
-    with_payload form begin (added_payload image) (without_payload image.properties.by_name)
+    with_payload (alignment_of form) begin (added_payload image)
+    (without_payload image.properties.by_name)
 
 -- The image node that is added, without its siblings.
 abbrev pub added_image : Form → (begin : ℕ) → ImageNode → Nodes (List Property)
@@ -65,4 +66,5 @@ pub record IsAddable (document : Doc) (area : PayloadArea) (image : ImageNode) :
   pub small : area.end ≤ longest_text
   pub sized : HasCellSize area.form (added_payload image)
   pub children : AreAddable document.names image.children
-  pub may : MayAdd document (events (added_image area.form (up4 area.end) image))
+  pub may : MayAdd document
+      (events (added_image area.form (next_begin area.form area.end) image))

@@ -15,7 +15,7 @@ use Rattle.bi_fit.specs.Building.{sha256_properties, hash_node_name, configurati
 use Rattle.bi_fit.specs.Building.{text_value}
 use Rattle.bi_fit.specs.Building.{built_images, names_under, built_configuration_properties}
 use Rattle.bi_fit.specs.Names.{images_name, configurations_name, default_name}
-use Rattle.bi_fit.specs.Text.{with_payloads}
+use Rattle.bi_fit.specs.Text.{alignment_of, with_payloads}
 use Rattle.bi_fit.specs.declared.building.document.BuiltParts.{BuiltParts}
 use Rattle.bi_fit.specs.declared.building.lists.KeyLists.{KeyLists}
 use Rattle.bi_fit.specs.NamedImages.{head_model, named_models}
@@ -48,7 +48,8 @@ hash_node_with digest = node hash_node_name (in_order (sha256_properties digest)
 abbrev pub built_image_nodes : Form → (end : ℕ) → HeadModel → List ImageSpecModel
     → Nodes (List Property)
 built_image_nodes form end head images =
-    with_each entries (with_payloads form end (built_payloads images) (built_images head images))
+    with_each entries
+    (with_payloads (alignment_of form) end (built_payloads images) (built_images head images))
 
 -- The node `images`, without its siblings.
 abbrev pub built_images_node : Form → HeadModel → List ImageSpecModel → Nodes (List Property)

@@ -22,7 +22,7 @@ tree_with_images images = record { own = []; children = node images_name [] imag
 -- A file with this tree, boot processor 0 and no memory reservations, and with these bytes after
 -- its blob.
 abbrev pub file_of_images : Nodes (List Property) → List ℕ → List ℕ
-file_of_images images rest = text_of_tree 0 [] (tree_with_images images) ++ rest
+file_of_images images rest = text_of_tree 4 0 [] (tree_with_images images) ++ rest
 
 -- Image nodes with these names, without properties.
 abbrev pub plain_images : List (List ℕ) → Nodes PropertyMap
@@ -165,7 +165,7 @@ pub record ThreeImagesHaveTexts : Type 0 where
   pub embedded_length : length three_embedded ≡ 180
   pub external_blob : length (blob_of External three_tree) ≡ 244
   pub external_length : length three_external ≡ 253
-  pub places : payload_places 244 0 three_tree.payloads ≡ Some 244 ∷ Some 252 ∷ Some 252 ∷ []
+  pub places : payload_places 4 244 0 three_tree.payloads ≡ Some 244 ∷ Some 252 ∷ Some 252 ∷ []
 
 -- Three images with the payload `x`, an empty one, and `y`, in the form External: the offsets are
 -- 0, 4 and 4, and three zeros follow `x`.
@@ -190,8 +190,9 @@ pub record PayloadsAreAligned : Type 0 where
   pub means : IsFitFile aligned_external aligned_tree
   pub external : fit_text External aligned_tree ≡ aligned_external
   pub external_length : length aligned_external ≡ 249
-  pub places : payload_places 244 0 aligned_tree.payloads ≡ Some 244 ∷ Some 248 ∷ Some 248 ∷ []
-  pub areas : map (payload_area 0)
+  pub places : payload_places 4 244 0 aligned_tree.payloads
+      ≡ Some 244 ∷ Some 248 ∷ Some 248 ∷ []
+  pub areas : map (payload_area 4 0)
       ((Some (codes "x") ∷ Some (codes "y") ∷ [])
       ∷ (Some (codes "x") ∷ Some [] ∷ [])
       ∷ (Some (codes "x") ∷ None ∷ [])
@@ -271,7 +272,7 @@ nested_tree = record {
 
 -- A file with this tree.
 abbrev pub nested_file : List ℕ
-nested_file = text_of_tree 0 [] nested_tree ++ []
+nested_file = text_of_tree 4 0 [] nested_tree ++ []
 
 -- One property by its name.
 abbrev pub only_data : List ℕ → PropertyMap

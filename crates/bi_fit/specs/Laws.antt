@@ -1,7 +1,10 @@
 use Rattle.std.specs.Prelude.{◌≡◌, ◌⊎◌, ◌↔◌, ℕ, ◌+◌, ◌%◌, ◌≤◌, List, ◌++◌, Option, Some, length}
-use Rattle.std.specs.Prelude.{map, [], ◌∷◌, nat_eq, IsTrue, filter}
+use Rattle.std.specs.Prelude.{map, [], ◌∷◌, nat_eq, IsTrue, IfSome, filter}
 use Rattle.std.specs.List.{AllByRecursion, AllZip, ends_with}
+use Rattle.bi_base.specs.declared.align.Align.{Align}
 use Rattle.bi_base.specs.declared.fault.Fault.{Fault}
+use Rattle.bi_base.specs.Aligns.{align_bytes}
+use Rattle.bi_base.specs.Alignments.{IsAlignment}
 use Rattle.bi_base.specs.Cells.{AreBytes}
 use Rattle.bi_base.specs.Limits.{Limits}
 use Rattle.bi_hash.specs.declared.algo.Algo.TheVariants.{Sha256}
@@ -13,12 +16,12 @@ use Rattle.bi_blob.specs.Blob.{magic, blob_magic}
 use Rattle.bi_blob.specs.Layout.{strings_of, longest_text}
 use Rattle.bi_fit.specs.declared.key.Key.{Key}
 use Rattle.bi_fit.specs.declared.form.Form.{Form}
-use Rattle.bi_fit.specs.declared.form.Form.TheVariants.{External}
+use Rattle.bi_fit.specs.declared.form.Form.TheVariants.{External, Aligned}
 use Rattle.bi_fit.specs.ImageTree.{ImageTree, IsImageTree, each_own}
 use Rattle.bi_fit.specs.Payloads.{source_of, payload_place, IsAtPlace}
 use Rattle.bi_fit.specs.File.{IsFitFile, FitMeans}
 use Rattle.bi_fit.specs.Faults.{IsFitFault}
-use Rattle.bi_fit.specs.Text.{blob_of, payloads_end, payload_places, fit_text}
+use Rattle.bi_fit.specs.Text.{alignment_of, blob_of, payloads_end, payload_places, fit_text}
 use Rattle.bi_fit.specs.Judgement.{judgement, CheckedHash, verdicts_of, ListResult, NoKey}
 use Rattle.bi_fit.specs.Judgement.{ListedImages, listed_names, listed_of, default_of}
 use Rattle.bi_fit.specs.Building.{HeadModel, ImageSpecModel, CanBeBuilt, hash_node_name, built_tree}
@@ -121,33 +124,45 @@ SameTextSameJudgement =
     → length (fit_text form tree) ≤ longest_text → fit_text form tree ≡ fit_text form other
     → judgement tree ≡ judgement other
 
--- The length of an external text follows from the length of its blob and the sizes of its
--- payloads. The blob ends at a multiple of four.
-pub record HasExternalLength (tree : ImageTree) : Type 0 where
-  pub is_length : length (fit_text External tree)
-      ≡ length (blob_of External tree) + payloads_end 0 tree.payloads
-  pub blob_is_whole : length (blob_of External tree) % 4 ≡ 0
+-- The form with the alignment 4 is the form External.
+abbrev pub AlignedByFourIsExternal : Type 0
+AlignedByFourIsExternal =
+    (align : Align) (tree : ImageTree) → align_bytes align ≡ 4
+    → fit_text (Aligned align) tree ≡ fit_text External tree
 
--- Each external text is that long.
+-- The length of a text in a form with this alignment follows from the length of its blob and the
+-- sizes of its payloads. The length of the blob is a multiple of the alignment.
+pub record HasExternalLength (form : Form) (align : ℕ) (tree : ImageTree) : Type 0 where
+  pub is_length : length (fit_text form tree)
+      ≡ length (blob_of form tree) + payloads_end align 0 tree.payloads
+  pub blob_is_whole : length (blob_of form tree) % align ≡ 0
+
+-- Each text with external payloads is that long.
 abbrev pub EachExternalTextHasItsLength : Type 0
-EachExternalTextHasItsLength = (tree : ImageTree) → HasExternalLength tree
+EachExternalTextHasItsLength =
+    (form : Form) (align : ℕ) (tree : ImageTree) → alignment_of form ≡ Some align
+    → HasExternalLength form align tree
 
 -- Payloads end no earlier than the first few of them: a text is too long as soon as the first few
 -- of its payloads are.
 abbrev pub PayloadsEndLater : Type 0
 PayloadsEndLater =
-    (first later : List (Option (List ℕ))) → payloads_end 0 first ≤ payloads_end 0 (first ++ later)
+    (align : ℕ) (first later : List (Option (List ℕ))) → IsAlignment align
+    → payloads_end align 0 first ≤ payloads_end align 0 (first ++ later)
 
--- The payloads of an external text are where the layout has them.
+-- The payloads of an external text are where the layout has them, and each begins at a multiple of
+-- the alignment.
 abbrev pub ExternalPayloadsArePlaced : Type 0
 ExternalPayloadsArePlaced =
-    (tree : ImageTree) → length (fit_text External tree) ≤ longest_text
-    → (is : IsFitFile (fit_text External tree) tree)
+    (form : Form) (align : ℕ) (tree : ImageTree) → alignment_of form ≡ Some align
+    → length (fit_text form tree) ≤ longest_text
+    → (is : IsFitFile (fit_text form tree) tree)
     → AllZip
-    (λ own place. payload_place (fit_text External tree) (source_of own) ≡ place)
-    (each_own is.images) (payload_places (length (blob_of External tree)) 0 tree.payloads)
+    (λ own place. (payload_place (fit_text form tree) (source_of own) ≡ place)
+    × IfSome place (λ offset. offset % align ≡ 0))
+    (each_own is.images) (payload_places align (length (blob_of form tree)) 0 tree.payloads)
 
--- The text of a built tree, in either form, is accepted under limits that hold it and four open
+-- The text of a built tree, in any form, is accepted under limits that hold it and four open
 -- nodes, and means the tree.
 abbrev pub BuiltIsAccepted : Type 0
 BuiltIsAccepted =

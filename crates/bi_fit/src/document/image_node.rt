@@ -1,9 +1,8 @@
 //! Adding an image node to a document, from a file or from a specification.
 
 ghost use Rattle.std.specs.Prelude.{◌≡◌, ◌-◌, ◌^◌, min, OnOk, IfOk};
-ghost use Rattle.bi_base.specs.Cells.{up4 as up4_of};
 ghost use Rattle.bi_blob.specs.Events.{events};
-ghost use Rattle.bi_fit.specs.NormalNodes.{MayAdd, with_events, next_end};
+ghost use Rattle.bi_fit.specs.NormalNodes.{MayAdd, with_events, next_begin, next_end};
 ghost use Rattle.bi_fit.specs.AddedImages.{IsAddable, added_image, added_payload};
 ghost use Rattle.bi_fit.specs.AddedImages.{AreAddable, added_children, digests_left};
 
@@ -64,7 +63,8 @@ pub(crate) fn add_image_node<'a>(
 ) -> Result<&'a [u8], AllocError>
     requires { IsAddable doc.old area.old image }
     ensures left { IfOk result (λ left. left.now ≡ digests_left image.entry.children) }
-    ensures added { let image = added_image area.old.form (up4_of area.old.end) image.entry in
+    ensures added { let begin = next_begin area.old.form area.old.end in
+        let image = added_image area.old.form begin image.entry in
         OnOk result (doc.new ≡ with_events doc.old (events image)) }
     ensures form { area.new.form ≡ area.old.form }
     ensures end { let end = next_end area.old.form area.old.end (added_payload image.entry) in
