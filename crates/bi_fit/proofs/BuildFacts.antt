@@ -56,7 +56,7 @@ known_is_tree =
 
 -- The text of the tree with these digests.
 abbrev text_with : List ℕ → List ℕ → List ℕ
-text_with kernel_digest ramdisk_digest = text_of_tree 0 [] (known_tree kernel_digest ramdisk_digest) ++ []
+text_with kernel_digest ramdisk_digest = text_of_tree 4 0 [] (known_tree kernel_digest ramdisk_digest) ++ []
 
 -- As many elements of a list, from an index on.
 abbrev elements : List ℕ → ℕ → ℕ → List ℕ
@@ -79,7 +79,7 @@ all_elements (suc n) (byte ∷ bytes) e =
 -- The text, with the elements of the digests.
 known_is_text : known_text ≡ text_with (elements hello_digest 0 32) (elements abc_digest 0 32)
 known_is_text =
-    ap (λ root. text_of_tree 0 [] root ++ []) known_is_tree
+    ap (λ root. text_of_tree 4 0 [] root ++ []) known_is_tree
     ∙ ap₂ text_with (all_elements 32 hello_digest (length-digest_of Sha256 (codes "hello")))
     (all_elements 32 abc_digest (length-digest_of Sha256 (codes "abc")))
 

@@ -3,7 +3,6 @@ use Rattle.std.proofs.Common.{arith}
 use Rattle.std.specs.Cmp.Lexicographic.{slice_cmp}
 use Rattle.std.specs.FinMap.{from_entries, entries, get-from_entries}
 use Rattle.std.proofs.lemmas.Cmp.{nat_list_cmp_total}
-use Rattle.bi_base.specs.Cells.{up4}
 use Rattle.bi_blob.specs.Tree.{Nodes, none, node, Property, PropertyMap}
 use Rattle.bi_blob.specs.Events.{Event, events, events_of, NodeEnd}
 use Rattle.bi_blob.specs.Following.{AreClosedEvents, MayFollowInText, MayEnd, stage_of_events}
@@ -15,15 +14,15 @@ use Rattle.bi_hash.specs.declared.algo.Algo.TheVariants.{Sha256}
 use Rattle.bi_hash.specs.Digests.{digest_of}
 use Rattle.bi_lay.specs.Contents.{Doc, empty_with_names, with_event, HaveSameContent}
 use Rattle.bi_fit.specs.declared.form.Form.{Form}
-use Rattle.bi_fit.specs.declared.form.Form.TheVariants.{Embedded, External}
-use Rattle.bi_fit.specs.NormalNodes.{MayAdd, with_events, begin_events, next_end, leaf}
+use Rattle.bi_fit.specs.declared.form.Form.TheVariants.{Embedded}
+use Rattle.bi_fit.specs.NormalNodes.{MayAdd, with_events, begin_events, next_begin, next_end, leaf}
 use Rattle.bi_fit.specs.PropertyMapModels.{PropertyMapModel, among}
 use Rattle.bi_fit.specs.Building.{HeadModel, ImageSpecModel, CanBeBuilt, built_tree, cell_property, built_image_properties}
 use Rattle.bi_fit.specs.Building.{built_root_properties, sha256_properties, hash_node_name}
 use Rattle.bi_fit.specs.Documents.{document_of}
 use Rattle.bi_fit.specs.ImageTree.{with_image_nodes, without_payload}
 use Rattle.bi_fit.specs.Names.{is_payload_name}
-use Rattle.bi_fit.specs.Text.{normal_tree, with_payload, with_payloads, end_after}
+use Rattle.bi_fit.specs.Text.{alignment_of, blob_alignment, normal_tree, with_payload, with_payloads, end_after}
 use Rattle.bi_fit.proofs.BuiltTrees.{built_is_image_tree, depth-built, none_found, load_is_no_payload, entry_is_no_payload}
 use Rattle.bi_fit.proofs.TreeContents.{content-normal_tree}
 use Rattle.bi_fit.proofs.PayloadProperties.{taken_out}
@@ -46,7 +45,7 @@ built_hash_node payload = hash_node_with (digest_of Sha256 payload)
 -- The properties of an image node, with those that give its payload.
 abbrev pub placed_properties : Form → (begin : ℕ) → HeadModel → ImageSpecModel → PropertyMap
 placed_properties form begin head image =
-    with_payload form begin (Some image.payload) (from_entries (built_image_properties head image))
+    with_payload (alignment_of form) begin (Some image.payload) (from_entries (built_image_properties head image))
 
 -- An image node without its siblings.
 abbrev pub built_image_node : Form → (begin : ℕ) → HeadModel → ImageSpecModel
@@ -89,45 +88,47 @@ properties_apart head image =
 
 -- With those that give its payload they are these.
 pub properties_placed : (form : Form) (begin : ℕ) (head : HeadModel) (image : ImageSpecModel) (made set : PropertyMap) →
-    made ≡ from_entries (built_image_properties head image) → set ≡ with_payload form begin (Some image.payload) (without_payload made) →
+    made ≡ from_entries (built_image_properties head image) →
+    set ≡ with_payload (alignment_of form) begin (Some image.payload) (without_payload made) →
     set ≡ placed_properties form begin head image
 properties_placed form begin head image made set is_made is_set =
     is_set
-    ∙ ap (λ properties. with_payload form begin (Some image.payload) (without_payload properties)) is_made
-    ∙ ap (with_payload form begin (Some image.payload)) (properties_apart head image)
+    ∙ ap (λ properties. with_payload (alignment_of form) begin (Some image.payload) (without_payload properties)) is_made
+    ∙ ap (with_payload (alignment_of form) begin (Some image.payload)) (properties_apart head image)
 
 -- An image node of a specification that is added is that of the text.
-pub same_built_image : (one form : Form) (begin : ℕ) (head : HeadModel) (image : ImageSpecModel)
+pub same_built_image : (one form : Form) (end : ℕ) (head : HeadModel) (image : ImageSpecModel)
     (made hash : PropertyMapModel) (digest : List ℕ) →
     one ≡ form → made ≡ among built_names (from_entries (built_image_properties head image)) →
     hash ≡ among built_names (from_entries (sha256_properties digest)) → digest ≡ digest_of Sha256 image.payload →
-    node image.name (entries (with_payload one begin (Some image.payload) (without_payload made.by_name)))
+    node image.name
+    (entries (with_payload (alignment_of one) (next_begin one end) (Some image.payload) (without_payload made.by_name)))
     (leaf hash_node_name hash.by_name) none
-    ≡ built_image_node form begin head image
-same_built_image one form begin head image made hash digest same_form is_made is_hash is_digest =
-    ap (λ (hash : PropertyMapModel). node image.name (entries (with_payload one begin (Some image.payload) (without_payload made.by_name)))
-    (leaf hash_node_name hash.by_name) none) is_hash
-    ∙ ap (λ one. node image.name (entries (with_payload one begin (Some image.payload) (without_payload made.by_name)))
-    (hash_node_with digest) none) same_form
+    ≡ built_image_node form (next_begin form end) head image
+same_built_image one form end head image made hash digest same_form is_made is_hash is_digest =
+    ap (λ (hash : PropertyMapModel). node image.name (entries (placed one)) (leaf hash_node_name hash.by_name) none) is_hash
+    ∙ ap (λ one. node image.name (entries (placed one)) (hash_node_with digest) none) same_form
     ∙ ap (λ own. node image.name (entries own) (hash_node_with digest) none)
-    (properties_placed form begin head image made.by_name (with_payload form begin (Some image.payload) (without_payload made.by_name))
-    (ap (λ properties. properties.by_name) is_made) refl)
-    ∙ ap (λ digest. node image.name (entries (placed_properties form begin head image)) (hash_node_with digest) none) is_digest
+    (properties_placed form (next_begin form end) head image made.by_name (placed form) (ap (λ properties. properties.by_name) is_made) refl)
+    ∙ ap (λ digest. node image.name (entries (placed_properties form (next_begin form end) head image)) (hash_node_with digest) none) is_digest
+  where
+    placed : Form → PropertyMap
+    placed one = with_payload (alignment_of one) (next_begin one end) (Some image.payload) (without_payload made.by_name)
 
 -- Embedded payloads have no offsets.
 embedded_anywhere : (one other : ℕ) (head : HeadModel) (images : List ImageSpecModel) →
     built_image_nodes Embedded one head images ≡ built_image_nodes Embedded other head images
 embedded_anywhere one other head [] = refl
 embedded_anywhere one other head (image ∷ later) =
-    ap (node image.name (entries (placed_properties Embedded (up4 one) head image)) (built_hash_node image.payload))
-    (embedded_anywhere (end_after one (Some image.payload)) (end_after other (Some image.payload)) head later)
+    ap (node image.name (entries (placed_properties Embedded (next_begin Embedded one) head image)) (built_hash_node image.payload))
+    (embedded_anywhere (end_after 4 one (Some image.payload)) (end_after 4 other (Some image.payload)) head later)
 
 -- The image nodes after the first.
 pub nodes_later : (form : Form) (end : ℕ) (payload : List ℕ) (head : HeadModel) (images : List ImageSpecModel) →
-    built_image_nodes form (end_after end (Some payload)) head images
+    built_image_nodes form (end_after (blob_alignment (alignment_of form)) end (Some payload)) head images
     ≡ built_image_nodes form (next_end form end (Some payload)) head images
-nodes_later Embedded end payload head images = embedded_anywhere (end_after end (Some payload)) end head images
-nodes_later External end payload head images = refl
+nodes_later Embedded end payload head images = embedded_anywhere (end_after 4 end (Some payload)) end head images
+nodes_later form end payload head images = refl
 
 -- The image nodes from one on are it and those after it.
 pub nodes_at : (form : Form) (end : ℕ) (head : HeadModel) (images : List NamedImage) (index : ℕ) (d : NamedImage) → index < length images →
@@ -146,7 +147,7 @@ module _ (form : Form) (head : HeadModel) (images : List ImageSpecModel) where
       is_tree = (content-normal_tree form (built_tree head images) (built_is_image_tree head images can)).is_tree;
       shallow = omega (arith, depth-normal_tree form (built_tree head images), depth-built head images);
     };
-    is_normal = (has_one_order (with_image_nodes (with_payloads form 0 (built_payloads images)) (built_tree head images).root)).is_normal;
+    is_normal = (has_one_order (with_image_nodes (with_payloads (alignment_of form) 0 (built_payloads images)) (built_tree head images).root)).is_normal;
   })
 
   -- The root begins with these events, and its children are these.

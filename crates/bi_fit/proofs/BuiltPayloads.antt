@@ -5,7 +5,7 @@ use Rattle.bi_hash.specs.declared.algo.Algo.TheVariants.{Sha256}
 use Rattle.bi_hash.specs.Digests.{digest_of}
 use Rattle.bi_fit.specs.declared.building.NamedImage.{NamedImage}
 use Rattle.bi_fit.specs.declared.form.Form.{Form}
-use Rattle.bi_fit.specs.declared.form.Form.TheVariants.{Embedded, External}
+use Rattle.bi_fit.specs.declared.form.Form.TheVariants.{Embedded}
 use Rattle.bi_fit.specs.declared.key.Key.TheVariants.{Kernel}
 use Rattle.bi_fit.specs.declared.image.Image.{Image}
 use Rattle.bi_fit.specs.NormalNodes.{AreWithin, payloads_of}
@@ -38,7 +38,7 @@ built_payloads_from images index d within = at_drop_more (λ l. built_payloads (
 pub are_within : (form : Form) (payloads : List (Option (List ℕ))) → length_after_blob form payloads ≤ longest_text →
     AreWithin form 0 payloads
 are_within Embedded payloads short = tt
-are_within External payloads short = short
+are_within form payloads short = short
 
 -- The images whose payloads are placed have the payloads of those that are built.
 placed_payloads : (images : List NamedImage) → payloads_of (map image_to_place images) ≡ built_payloads (named_models images)

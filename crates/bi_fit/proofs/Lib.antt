@@ -2,6 +2,7 @@ pub mod Meanings
 pub mod Faults
 pub mod Trees
 pub mod PayloadProperties
+pub mod FormAlignments
 pub mod PayloadSources
 pub mod PayloadAreas
 pub mod TreeShapes

@@ -1,12 +1,15 @@
-use Rattle.std.specs.Prelude.{◌≡◌, ℕ, List, [], ◌∷◌, ◌++◌, length, map, replicate, codes}
+use Rattle.std.specs.Prelude.{◌≡◌, ℕ, ◌+◌, ◌-◌, List, [], ◌∷◌, ◌++◌, length, map, replicate, codes}
 use Rattle.std.specs.Prelude.{Option, Some, None}
 use Rattle.std.specs.FinMap.{empty, insert}
+use Rattle.bi_base.specs.declared.align.Align.{Align}
+use Rattle.bi_base.specs.Aligns.{align_bytes}
 use Rattle.bi_base.specs.Cells.{cell}
 use Rattle.bi_blob.specs.Tree.{Nodes, none, node, Root, Property, PropertyMap}
+use Rattle.bi_blob.specs.Blob.{totalsize}
 use Rattle.bi_blob.specs.Layout.{text_of_tree}
 use Rattle.bi_blob.specs.KnownTexts.{smallest_text}
 use Rattle.bi_blob.specs.KnownFaults.{with_cell}
-use Rattle.bi_fit.specs.declared.form.Form.TheVariants.{Embedded, External}
+use Rattle.bi_fit.specs.declared.form.Form.TheVariants.{Embedded, External, Aligned}
 use Rattle.bi_fit.specs.Names.{images_name, data_name, data_offset_name, data_position_name}
 use Rattle.bi_fit.specs.Names.{data_size_name}
 use Rattle.bi_fit.specs.ImageTree.{ImageTree}
@@ -139,15 +142,19 @@ three_embedded =
     (node (codes "c") ((data_name, codes "x") ∷ []) none none)))
     []
 
+-- Image nodes of three external payloads, of 5, 0 and 1 bytes. The second and the third begin at
+-- this offset.
+abbrev pub three_external_nodes : (offset : ℕ) → Nodes (List Property)
+three_external_nodes offset =
+    node (codes "a") ((data_offset_name, cell 0) ∷ (data_size_name, cell 5) ∷ []) none
+    (node (codes "b") ((data_offset_name, cell offset) ∷ (data_size_name, cell 0) ∷ []) none
+    (node (codes "c") ((data_offset_name, cell offset) ∷ (data_size_name, cell 1) ∷ []) none none))
+
 -- Three images, with the payload `hello`, an empty one, and `x`, in the form External: the offsets
 -- are 0, 8 and 8, and three zeros follow `hello`.
 abbrev pub three_external : List ℕ
 three_external =
-    file_of_images
-    (node (codes "a") ((data_offset_name, cell 0) ∷ (data_size_name, cell 5) ∷ []) none
-    (node (codes "b") ((data_offset_name, cell 8) ∷ (data_size_name, cell 0) ∷ []) none
-    (node (codes "c") ((data_offset_name, cell 8) ∷ (data_size_name, cell 1) ∷ []) none none)))
-    (codes "hello" ++ 0 ∷ 0 ∷ 0 ∷ codes "x")
+    file_of_images (three_external_nodes 8) (codes "hello" ++ 0 ∷ 0 ∷ 0 ∷ codes "x")
 
 -- What both mean.
 abbrev pub three_tree : ImageTree
@@ -166,6 +173,31 @@ pub record ThreeImagesHaveTexts : Type 0 where
   pub external_blob : length (blob_of External three_tree) ≡ 244
   pub external_length : length three_external ≡ 253
   pub places : payload_places 4 244 0 three_tree.payloads ≡ Some 244 ∷ Some 252 ∷ Some 252 ∷ []
+
+-- The text of these images with this alignment. The second and the third payload begin at this
+-- offset from the end of the blob.
+abbrev pub three_aligned : (align offset : ℕ) → List ℕ
+three_aligned align offset =
+    text_of_tree align 0 [] (tree_with_images (three_external_nodes offset))
+    ++ (codes "hello" ++ (replicate (offset - 5) 0 ++ codes "x"))
+
+-- It is their text in the form with this alignment. The blob has `total` bytes, and the text has
+-- `size` bytes.
+pub record AreAlignedTo (align offset total size : ℕ) : Type 0 where
+  pub is_text : (form : Align) → align_bytes form ≡ align
+      → fit_text (Aligned form) three_tree ≡ three_aligned align offset
+  pub is_total : totalsize (three_aligned align offset) ≡ total
+  pub is_length : length (three_aligned align offset) ≡ size
+  pub places : payload_places align total 0 three_tree.payloads
+      ≡ Some total ∷ Some (total + offset) ∷ Some (total + offset) ∷ []
+
+-- With the alignments 4, 8, 16 and 4096.
+pub record ThreeImagesAreAligned : Type 0 where
+  pub by_4 : AreAlignedTo 4 8 244 253
+  pub by_8 : AreAlignedTo 8 8 248 257
+  pub by_16 : AreAlignedTo 16 16 256 273
+  pub by_4096 : AreAlignedTo 4096 4096 4096 8193
+  pub same : three_aligned 4 8 ≡ three_external
 
 -- Three images with the payload `x`, an empty one, and `y`, in the form External: the offsets are
 -- 0, 4 and 4, and three zeros follow `x`.

@@ -5,7 +5,7 @@ ghost use Rattle.bi_fit.specs.KnownFiles.{SmallestIsFit, OffsetIsFromAlignedEnd}
 ghost use Rattle.bi_fit.specs.KnownFiles.{PositionIsBeforeData, OffsetIsBeforeData};
 ghost use Rattle.bi_fit.specs.KnownFiles.{PositionIsBeforeOffset, NoneIsNotEmpty};
 ghost use Rattle.bi_fit.specs.KnownFiles.{ThreeImagesHaveTexts, SharedRegionIsRepeated};
-ghost use Rattle.bi_fit.specs.KnownFiles.{PayloadsAreAligned};
+ghost use Rattle.bi_fit.specs.KnownFiles.{ThreeImagesAreAligned, PayloadsAreAligned};
 ghost use Rattle.bi_fit.specs.KnownFiles.{ChildrenKeepOrder, OnlyImagesHavePayloads};
 ghost use Rattle.bi_fit.specs.KnownFiles.{UnusedHaveNoMeaning};
 ghost use Rattle.bi_fit.specs.KnownFaults.{WithoutImages, RegionsHaveFaults, FirstFaultCounts};
@@ -49,6 +49,13 @@ pub fn none_is_not_empty()
 /// one the payloads are at offsets 0, 8 and 8 from the end of the blob.
 pub fn three_images_have_texts()
     ensures three { ThreeImagesHaveTexts }
+{}
+
+/// With the alignment 8 the texts of the same three images have a blob of 248 bytes and payloads at
+/// offsets 0, 8 and 8 from its end: 257 bytes. With the alignment 4 they are those in the form
+/// External.
+pub fn three_images_are_aligned()
+    ensures aligned { ThreeImagesAreAligned }
 {}
 
 /// External payloads begin at multiples of four: those of 1, 0 and 1 bytes are at offsets 0, 4 and

@@ -1,10 +1,9 @@
 use Rattle.std.proofs.Common.{◌≡◌, ℕ, ◌+◌, ◌≤◌, List, [], ◌∷◌, drop, get_or, Option, Some, sym, ap, subst, ◌∙◌, arith}
 use Rattle.std.specs.FinMap.{entries, from_entries}
-use Rattle.bi_base.specs.Cells.{up4}
 use Rattle.bi_blob.specs.Events.{events}
 use Rattle.bi_blob.specs.Layout.{longest_text}
-use Rattle.bi_fit.specs.NormalNodes.{MayAdd, with_events, next_end, AreWithin, HasCellSize}
-use Rattle.bi_fit.specs.Text.{end_after}
+use Rattle.bi_fit.specs.NormalNodes.{MayAdd, with_events, next_begin, next_end, AreWithin, HasCellSize}
+use Rattle.bi_fit.specs.Text.{alignment_of, blob_alignment, end_after}
 use Rattle.bi_fit.proofs.ImageNodes.{within_sized, within_first, within_later}
 use Rattle.bi_fit.proofs.NodeEvents.{IsAdding, may_add_first, adding_later}
 use Rattle.bi_fit.specs.Building.{built_image_properties, sha256_properties}
@@ -23,9 +22,10 @@ add_image_node-requires c =
     let image = named_model (get_or images index no_named_image) in
     let end = c.loop-index.area.end in
     let target = with_events c.args.doc.now (events (built_image_nodes c.args.form 0 head (named_models images))) in
-    let later = built_image_nodes c.args.form (end_after end (Some image.payload)) head (named_models (drop (index + 1) images)) in
+    let later = built_image_nodes c.args.form (end_after (blob_alignment (alignment_of c.args.form)) end (Some image.payload)) head
+    (named_models (drop (index + 1) images)) in
     let digest = digest_at images c.args.parts.digests.now index c.loop-index-test.true c.requires.prepared.digests in
-    let same = same_built_image c.loop-index.area.form c.args.form (up4 end) head image c.in_ok-image_properties.field-0 c.in_ok-hash.hash
+    let same = same_built_image c.loop-index.area.form c.args.form end head image c.in_ok-image_properties.field-0 c.in_ok-hash.hash
     (get_or c.args.parts.digests.now index [])
     c.loop-index.invariant.form c.in_ok-image_properties.ensures c.in_ok-hash.ensures digest in
     let sized : HasCellSize c.args.form (Some image.payload) =
@@ -40,7 +40,8 @@ add_image_node-requires c =
       children = same_built_names c.loop-index.doc.names c.in_ok-hash.hash
           (from_entries (sha256_properties (get_or c.args.parts.digests.now index []))) c.loop-index.invariant.names c.in_ok-hash.ensures;
       may = subst (λ nodes. MayAdd c.loop-index.doc (events nodes)) (sym same)
-          (may_add_first c.loop-index.doc target image.name (entries (placed_properties c.args.form (up4 end) head image))
+          (may_add_first c.loop-index.doc target image.name
+          (entries (placed_properties c.args.form (next_begin c.args.form end) head image))
           (built_hash_node image.payload) later
           (subst (IsAdding c.loop-index.doc target)
           (nodes_at c.args.form end head images index no_named_image c.loop-index-test.true) c.loop-index.invariant.adding));
@@ -55,7 +56,8 @@ loop-index-preserved c =
     let payload : Option (List ℕ) = Some image.payload in
     let target = with_events c.args.doc.now (events (built_image_nodes c.args.form 0 head (named_models images))) in
     let rest = named_models (drop (index + 1) images) in
-    let later = built_image_nodes c.args.form (end_after c.loop-index.area.end payload) head rest in
+    let later = built_image_nodes c.args.form (end_after (blob_alignment (alignment_of c.args.form)) c.loop-index.area.end payload) head
+    rest in
     let adding : IsAdding c.loop-index.doc target (built_image_nodes c.args.form c.loop-index.area.end head (image ∷ rest)) =
     subst (IsAdding c.loop-index.doc target)
     (nodes_at c.args.form c.loop-index.area.end head images index no_named_image c.loop-index-test.true) c.loop-index.invariant.adding in
@@ -71,14 +73,15 @@ loop-index-preserved c =
     omega (arith, c.in_ok-add_image_node.ensures.end) in
     let digest = digest_at images c.args.parts.digests.now index c.loop-index-test.true c.requires.prepared.digests in
     let same = same_built_image c.loop-index.area.form c.args.form
-    (up4 c.loop-index.area.end) head image c.in_ok-image_properties.field-0 c.in_ok-hash.hash (get_or c.args.parts.digests.now index [])
+    c.loop-index.area.end head image c.in_ok-image_properties.field-0 c.in_ok-hash.hash (get_or c.args.parts.digests.now index [])
     c.loop-index.invariant.form c.in_ok-image_properties.ensures c.in_ok-hash.ensures digest in
     let added : c.add_image_node.new.doc
-    ≡ with_events c.loop-index.doc (events (built_image_node c.args.form (up4 c.loop-index.area.end) head image)) =
+    ≡ with_events c.loop-index.doc (events (built_image_node c.args.form (next_begin c.args.form c.loop-index.area.end) head image)) =
     c.in_ok-add_image_node.ensures.added ∙ ap (λ nodes. with_events c.loop-index.doc (events nodes)) same in
     rw at (record {
       adding = subst (IsAdding c.add_image_node.new.doc target) (nodes_later c.args.form c.loop-index.area.end image.payload head rest)
-          (adding_later c.loop-index.doc target image.name (entries (placed_properties c.args.form (up4 c.loop-index.area.end) head image))
+          (adding_later c.loop-index.doc target image.name
+          (entries (placed_properties c.args.form (next_begin c.args.form c.loop-index.area.end) head image))
           (built_hash_node image.payload) later adding c.add_image_node.new.doc added);
       within = within_later c.args.form c.loop-index.area.end payload (built_payloads rest) within;
       small = small;

@@ -6,14 +6,14 @@ use Rattle.bi_base.specs.Cells.{cell}
 use Rattle.bi_fdt.specs.Numbers.{IsNumberOf}
 use Rattle.bi_fit.specs.ImageTree.{without_payload}
 use Rattle.bi_fit.specs.Names.{data_name, data_offset_name, data_size_name}
-use Rattle.bi_fit.specs.Text.{with_payload}
+use Rattle.bi_fit.specs.Text.{alignment_of, with_payload}
 use Rattle.bi_fit.proofs.document.property_map.PropertyMap.set_payload.Goals as goal
 
 pub returns-in-Embedded-clause-set : goal.returns-in-Embedded-clause-set
 returns-in-Embedded-clause-set c =
     let ranks = c.ranks-ranks.result in
     let shown : insert (without_payload c.args.self.now.by_name) data_name c.in-Some.payload.now
-    ≡ with_payload c.args.form c.args.begin (option_map (λ (payload : Bor (List ℕ)). payload.now) c.args.payload)
+    ≡ with_payload (alignment_of c.args.form) c.args.begin (option_map (λ (payload : Bor (List ℕ)). payload.now) c.args.payload)
     (without_payload c.args.self.now.by_name) =
     rw (c.in-Embedded.is, c.in-Some.is) refl in
     on_ok_weaker c.insert.result (λ is.
@@ -28,7 +28,7 @@ returns-in_ok-insert-in-External-clause-set c =
     let ranks = c.ranks-ranks.result in
     let size = cell (length c.in-Some.payload.now) in
     let shown : insert (insert (without_payload c.args.self.now.by_name) data_offset_name (cell c.args.begin)) data_size_name size
-    ≡ with_payload c.args.form c.args.begin (option_map (λ (payload : Bor (List ℕ)). payload.now) c.args.payload)
+    ≡ with_payload (alignment_of c.args.form) c.args.begin (option_map (λ (payload : Bor (List ℕ)). payload.now) c.args.payload)
     (without_payload c.args.self.now.by_name) =
     rw (c.in-External.is, c.in-Some.is) refl in
     let first = c.in_ok-insert-in-External.ensures.inserted data_offset_name
