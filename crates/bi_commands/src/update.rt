@@ -3,6 +3,7 @@
 ghost use Rattle.std.specs.Prelude.{⊤, ℕ, List, IfOk, IfErr};
 ghost use Rattle.bi_base.specs.Commands.{Appended, AppendFailed};
 ghost use Rattle.bi_base.specs.Pipes.{IsPiped};
+ghost use Rattle.bi_fit.specs.declared.form.Form.TheVariants.{Aligned};
 ghost use Rattle.bi_fit.specs.Content.{tree_of};
 ghost use Rattle.bi_fit.specs.Reading.{IsReadFit};
 ghost use Rattle.bi_legacy.specs.Reading.{IsReadLegacy};
@@ -11,7 +12,7 @@ ghost use Rattle.bi_commands.specs.UpdatedFiles.{HasNewDigests, IsDigestsError};
 ghost use Rattle.bi_commands.specs.UpdatedFiles.{update_promise, update_laws};
 
 use crate::payload_bounds::BoundedFit;
-use bi_base::{Command, Error, Limits, Sink, VecSink, pipe_to};
+use bi_base::{Align, Command, Error, Limits, Sink, VecSink, pipe_to};
 pub use bi_fit::Changes;
 use bi_fit::{Fit, Form};
 use bi_legacy::Legacy;
@@ -55,6 +56,26 @@ pub fn update(
     let mut sink = VecSink::new(alloc);
     update_into(alloc, file, changes, form, limits, &mut sink)?;
     Ok(sink.into_vec())
+}
+
+/// Returns the text that `update` returns in the form External, but with this alignment instead of
+/// four: the length of the blob is a multiple of it, and each payload, even an empty one, begins at
+/// a multiple of it in the text. With the alignment 4 it is the text in the form External. `align`
+/// has no effect on a legacy image.
+///
+/// The errors are those of `update`, for this text.
+pub fn update_aligned(
+    alloc: Global,
+    file: &[u8],
+    changes: Changes,
+    align: Align,
+    limits: Limits,
+) -> Result<Vec<u8>, Error>
+    ensures updated { IfOk result (λ text.
+        IsUpdated changes limits (Aligned align) file.now text.items) }
+    ensures failed { IfErr result (IsUpdateError changes limits (Aligned align) file.now) }
+{
+    update(alloc, file, changes, Form::Aligned(align), limits)
 }
 
 /// Appends the normal text of a boot image with these changes to a sink. Returns the number of

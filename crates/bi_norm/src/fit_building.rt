@@ -2,11 +2,12 @@
 
 ghost use Rattle.std.specs.Prelude.{OnOk, IfOk, IfErr};
 ghost use Rattle.bi_base.specs.Commands.{Appended, AppendFailed};
+ghost use Rattle.bi_fit.specs.declared.form.Form.TheVariants.{Aligned};
 ghost use Rattle.bi_norm.specs.FitBuilding.{IsBuilt, IsBuildError};
 
 mod checks;
 
-use bi_base::{Error, Limits, Sink, VecSink};
+use bi_base::{Align, Error, Limits, Sink, VecSink};
 use bi_fit::{Form, Head, append_built};
 use checks::check;
 use std::alloc::Global;
@@ -59,6 +60,27 @@ pub fn build_fit(
     let mut sink = VecSink::new(alloc);
     build_fit_into(alloc, head, images, form, limits, &mut sink)?;
     Ok(sink.into_vec())
+}
+
+/// Returns the flattened image tree that `build_fit` returns in the form External, but with this
+/// alignment instead of four: the length of the blob is a multiple of it, and each payload, even an
+/// empty one, begins at a multiple of it in the text. With the alignment 4 it is the text in the
+/// form External.
+///
+/// The errors are those of `build_fit`, for this text.
+pub fn build_fit_aligned(
+    alloc: Global,
+    head: Head<'_>,
+    images: &[ImageSpec<'_>],
+    align: Align,
+    limits: Limits,
+) -> Result<Vec<u8>, Error>
+    ensures built { IfOk result (λ text.
+        IsBuilt limits (Aligned align) head.entry images.now text.items) }
+    ensures failed { IfErr result
+        (IsBuildError limits (Aligned align) head.entry images.now) }
+{
+    build_fit(alloc, head, images, Form::Aligned(align), limits)
 }
 
 /// Appends the flattened image tree that `build_fit` returns to a sink.

@@ -4,6 +4,7 @@ ghost use Rattle.std.specs.Prelude.{ℕ, List, ⊤, IfOk, IfErr};
 ghost use Rattle.bi_base.specs.Commands.{Appended, AppendFailed};
 ghost use Rattle.bi_base.specs.Pipes.{IsPiped};
 ghost use Rattle.bi_fit.specs.declared.form.Form.{Form};
+ghost use Rattle.bi_fit.specs.declared.form.Form.TheVariants.{Aligned};
 ghost use Rattle.bi_fit.specs.Reading.{IsReadFit};
 ghost use Rattle.bi_legacy.specs.Reading.{IsReadLegacy};
 ghost use Rattle.bi_norm.specs.NormalForm.{IsNormalForm, IsNormaliseError, IsNormaliseOutput};
@@ -11,7 +12,7 @@ ghost use Rattle.bi_norm.specs.NormalForm.{normalise_promise, normalise_laws};
 
 use crate::image::BootImage;
 use crate::legacy_text::append_legacy;
-use bi_base::{Command, Error, Limits, Sink, VecSink, pipe_to};
+use bi_base::{Align, Command, Error, Limits, Sink, VecSink, pipe_to};
 use bi_fit::{Fit, Form};
 use bi_legacy::Legacy;
 use std::alloc::Global;
@@ -51,6 +52,25 @@ pub fn normalise(alloc: Global, file: &[u8], form: Form, limits: Limits) -> Resu
     let mut sink = VecSink::new(alloc);
     normalise_into(alloc, file, form, limits, &mut sink)?;
     Ok(sink.into_vec())
+}
+
+/// Returns the text that `normalise` returns in the form External, but with this alignment instead
+/// of four: the length of the blob is a multiple of it, and each payload, even an empty one, begins
+/// at a multiple of it in the text. With the alignment 4 it is the text in the form External; with
+/// any other it is not a normal form. `align` has no effect on a legacy image.
+///
+/// The errors are those of `normalise`, for this text.
+pub fn normalise_aligned(
+    alloc: Global,
+    file: &[u8],
+    align: Align,
+    limits: Limits,
+) -> Result<Vec<u8>, Error>
+    ensures text { IfOk result (λ text.
+        IsNormalForm limits (Aligned align) file.now text.items) }
+    ensures failed { IfErr result (IsNormaliseError limits (Aligned align) file.now) }
+{
+    normalise(alloc, file, Form::Aligned(align), limits)
 }
 
 /// Appends the normal form of a boot image to a sink. Returns the number of signature nodes, which

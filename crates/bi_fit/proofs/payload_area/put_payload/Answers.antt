@@ -1,4 +1,4 @@
-use Rattle.std.proofs.Common.{◌≡◌, ◌-◌, ◌++◌, replicate, ap, subst}
+use Rattle.std.proofs.Common.{◌≡◌, ◌-◌, ◌++◌, replicate, ap, subst, ◌∙◌}
 use Rattle.bi_base.specs.Aligns.{align_bytes}
 use Rattle.bi_base.specs.Sinks.{Wrote}
 use Rattle.bi_base.proofs.SinkLaws.{passed_on, wrote_after}
