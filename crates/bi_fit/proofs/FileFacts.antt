@@ -437,7 +437,7 @@ nested_nodes own =
 
 -- One property in byte order.
 entries_data : (value : List ℕ) → entries (only_data value) ≡ (data_name, value) ∷ []
-entries_data value = entries_listed Embedded 0 (Some value)
+entries_data value = entries_listed None 0 (Some value)
 
 -- The tree of the text is that of the file.
 nested_normal : normal_tree Embedded nested_image_tree ≡ nested_tree
