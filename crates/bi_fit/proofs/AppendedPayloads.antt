@@ -67,7 +67,8 @@ area_with_payload align images i d payload within is =
     ∙ ap (λ l. payload_area align 0 first ++ (padding_to align (payloads_end align 0 first) ++ l)) (append-nil payload.now)
 
 pub end_with_payload : (align : ℕ) (images : List Image) (i : ℕ) (d : Image) (payload : Bor (List ℕ)) → i < length images →
-    (get_or images i d).payload ≡ Some payload → end_before align images (i + 1) ≡ up_to align (end_before align images i) + length payload.now
+    (get_or images i d).payload ≡ Some payload →
+    end_before align images (i + 1) ≡ up_to align (end_before align images i) + length payload.now
 end_with_payload align images i d payload within is =
     ap (payloads_end align 0) (payload_more images i d payload within is)
     ∙ payloads_end-append align 0 (payloads_of (take i images)) (Some payload.now ∷ [])

@@ -73,8 +73,12 @@ pub within_sized : (form : Form) (end : ℕ) (payload : Option (List ℕ)) (payl
 within_sized Embedded end payload payloads within = tt
 within_sized form end None payloads within = tt
 within_sized form end (Some payload) payloads within =
-    omega (arith, within, payloads_end-le (blob_alignment (alignment_of form)) (next_begin form end + length payload) payloads
-    (form-positive form))
+    omega (
+      arith,
+      within,
+      payloads_end-le (blob_alignment (alignment_of form)) (next_begin form end + length payload) payloads
+          (form-positive form),
+    )
 
 -- the first ends within it,
 pub within_first : (form : Form) (end : ℕ) (payload : Option (List ℕ)) (payloads : List (Option (List ℕ))) →

@@ -20,8 +20,8 @@ use Rattle.bi_fit.proofs.TextLaws.{each_external_text_has_its_length}
 -- The image nodes of an external text place their payloads where these begin.
 
 -- An image node places its payload here, at a multiple of the alignment.
-abbrev pub IsPlaced : (align : ℕ) → List ℕ → FileNode → Option ℕ → Type 0
-IsPlaced align file own place = (payload_place file (source_of own) ≡ place) × IfSome place (λ offset. offset % align ≡ 0)
+abbrev pub IsAlignedPlace : (align : ℕ) → List ℕ → FileNode → Option ℕ → Type 0
+IsAlignedPlace align file own place = (payload_place file (source_of own) ≡ place) × IfSome place (λ offset. offset % align ≡ 0)
 
 -- What begins at a multiple after a multiple is at one.
 sum-whole : (align base end : ℕ) → base % align ≡ 0 → (base + up_to align end) % align ≡ 0
@@ -30,7 +30,7 @@ sum-whole align base end whole = add-mul-mod_self_left base align ((end + (align
 -- The image nodes of an external text place their payloads.
 pub place_payloads : (align : ℕ) (file : List ℕ) (at end : ℕ) (payloads : List (Option (List ℕ))) (nodes : Nodes PropertyMap) →
     AllZip IsApart (each_own nodes) payloads → AreThere (Some align) file end payloads → external_base file % align ≡ 0 →
-    AllZip (IsPlaced align file)
+    AllZip (IsAlignedPlace align file)
     (each_own (with_places at (with_each entries (with_payloads (Some align) end payloads nodes))))
     (payload_places align (external_base file) end payloads)
 place_payloads align file at end [] none apart there whole = tt
@@ -62,11 +62,11 @@ external_payloads_are_placed form align tree aligned short is =
     let images = same_in_some _ is.images (sym found.1 ∙ ap image_nodes root ∙ is.has_images) in
     let base = text_base form tree tree_is short in
     let whole = ap (λ n. n % align) base ∙ (each_external_text_has_its_length form align tree aligned).blob_is_whole in
-    subst (λ nodes. AllZip (IsPlaced align text) (each_own nodes) (payload_places align (length (blob_of form tree)) 0 tree.payloads)) images
-    (subst (λ base. AllZip (IsPlaced align text)
+    subst (λ nodes. AllZip (IsAlignedPlace align text) (each_own nodes) (payload_places align (length (blob_of form tree)) 0 tree.payloads)) images
+    (subst (λ base. AllZip (IsAlignedPlace align text)
     (each_own (with_places found.0 (with_each entries (with_payloads (alignment_of form) 0 tree.payloads tree_is.images))))
     (payload_places align base 0 tree.payloads)) base
-    (subst (λ alignment. AllZip (IsPlaced align text)
+    (subst (λ alignment. AllZip (IsAlignedPlace align text)
     (each_own (with_places found.0 (with_each entries (with_payloads alignment 0 tree.payloads tree_is.images))))
     (payload_places align (external_base text) 0 tree.payloads)) (sym aligned)
     (place_payloads align text found.0 0 tree.payloads tree_is.images tree_is.apart

@@ -70,8 +70,8 @@ get-with_payload (Some align) begin (Some payload) properties name is =
     get-put_payload _ data_size_name _ name refl is ∙ get-put_payload properties data_offset_name _ name refl is
 
 -- Put in and taken out again, they leave the properties as they were.
-pub without-with_payload : (alignment : Option ℕ) (begin : ℕ) (payload : Option (List ℕ)) (properties : PropertyMap) → IsApart properties payload →
-    without_payload (with_payload alignment begin payload properties) ≡ properties
+pub without-with_payload : (alignment : Option ℕ) (begin : ℕ) (payload : Option (List ℕ)) (properties : PropertyMap) →
+    IsApart properties payload → without_payload (with_payload alignment begin payload properties) ≡ properties
 without-with_payload alignment begin payload properties apart =
     taken_out (with_payload alignment begin payload properties) properties apart.no_payload_name
     (λ name is. get-with_payload alignment begin payload properties name is)

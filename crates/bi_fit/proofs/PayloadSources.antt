@@ -120,7 +120,8 @@ module _ (file : List ℕ) (place at begin : ℕ) where
       (ap Some (sym found.2))
 
   -- The payload is a region.
-  external_payload : (align : ℕ) (properties : PropertyMap) (payload : List ℕ) → IsApart properties (Some payload) → IsPayloadAt file begin payload →
+  external_payload : (align : ℕ) (properties : PropertyMap) (payload : List ℕ) → IsApart properties (Some payload) →
+      IsPayloadAt file begin payload →
       HasPayload file (node_with (with_payload (Some align) begin (Some payload) properties)) (Some payload)
   external_payload align properties payload apart there =
       let new = with_payload (Some align) begin (Some payload) properties in

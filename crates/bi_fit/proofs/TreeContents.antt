@@ -68,8 +68,8 @@ properties-put properties name value are is other found there = by_name (bytes_e
     by_name false differ = are other found (sym (get-put_other properties name value other differ) ∙ there)
 
 -- Properties that give a payload.
-pub properties-with_payload : (alignment : Option ℕ) (begin : ℕ) (payload : Option (List ℕ)) (properties : PropertyMap) → IfSome payload AreBytes →
-    ArePropertiesByName properties → ArePropertiesByName (with_payload alignment begin payload properties)
+pub properties-with_payload : (alignment : Option ℕ) (begin : ℕ) (payload : Option (List ℕ)) (properties : PropertyMap) →
+    IfSome payload AreBytes → ArePropertiesByName properties → ArePropertiesByName (with_payload alignment begin payload properties)
 properties-with_payload alignment begin None properties bytes are = are
 properties-with_payload None begin (Some payload) properties bytes are =
     properties-put properties data_name payload are (tested_property _ _ payload refl bytes)

@@ -179,8 +179,8 @@ measured_length-long align doc count items strings kept are long = where_counted
 pub same_text : (align : Align) (doc : Fields) (pairs : List (ℕ × ℕ)) (items : List Item) (names : List (List ℕ)) →
     IsConsistentDocument doc → pairs ≡ doc.reservations.items → items ≡ doc.items.items → names ≡ doc.names.in_block →
     length (text_of (align_bytes align) (doc_model doc)) ≤ longest_text →
-    text_of_blocks (align_bytes align) doc.boot_cpu (reservation_block (reservations_of pairs)) (structure_of_items items) (strings_of names)
-    ≡ text_of (align_bytes align) (doc_model doc)
+    text_of_blocks (align_bytes align) doc.boot_cpu (reservation_block (reservations_of pairs)) (structure_of_items items)
+    (strings_of names) ≡ text_of (align_bytes align) (doc_model doc)
 unfolding text_of_events
 same_text align doc pairs items names kept are_pairs are_items are_names short =
     λ j. text_of_blocks (align_bytes align) doc.boot_cpu (reservation_block (reservations_of (are_pairs j)))

@@ -51,8 +51,13 @@ returns-in_err-check_length-clause-failed c =
     c.from_residual-in_err-check_length.ensures.1
     (too_long_text c.args.form tree payloads (ap (map (λ image. image.payload)) c.images.ensures)
     c.args.limits c.file-limit.result c.file-limit.ensures.value c.in_err-check_length.field-0.0 refused.0 document content
-    (omega (arith, length-whole_text c.args.form document payloads, c.in_ok-after.ensures.length, refused.1,
-    ap (λ n. length (text_of n document)) c.align.ensures)))
+    (omega (
+      arith,
+      length-whole_text c.args.form document payloads,
+      c.in_ok-after.ensures.length,
+      refused.1,
+      ap (λ n. length (text_of n document)) c.align.ensures,
+    )))
 
 pub returns-clause-short : goal.returns-clause-short
 returns-clause-short c =
