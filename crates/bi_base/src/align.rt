@@ -12,6 +12,8 @@ pub struct Align {
 }
 
 impl Align {
+    ghost use Rattle.bi_base.specs.Aligns.{align_bytes};
+
     /// Returns the alignment of this many bytes. Returns None unless `bytes` is a power of two from
     /// 4 to 1048576.
     ///
@@ -25,7 +27,7 @@ impl Align {
     /// ```
     pub fn new(bytes: u32) -> Option<Align>
         ensures in_range { IsSome result ↔ IsAlignment bytes }
-        ensures value { IfSome result (λ align. align.bytes ≡ bytes) }
+        ensures value { IfSome result (λ align. align_bytes align ≡ bytes) }
     {
         for exponent in 2..21_u32 {
             if bytes == 1 << exponent {
@@ -37,14 +39,14 @@ impl Align {
 
     /// Returns the alignment of a cell: four bytes.
     pub fn four() -> Align
-        ensures { result.bytes ≡ 4 }
+        ensures { align_bytes result ≡ 4 }
     {
         Align { bytes: 4 }
     }
 
     /// Returns the number of bytes: a power of two from 4 to 1048576.
     pub fn get(self) -> u32
-        ensures value { result ≡ self.bytes }
+        ensures value { result ≡ align_bytes self }
         ensures in_range { IsAlignment result }
     {
         self.bytes
@@ -54,7 +56,7 @@ impl Align {
     /// `usize::MAX - 0xfffff`.
     pub fn up_to(self, n: usize) -> usize
         requires { n + 0xfffff < 2 ^ 64 }
-        ensures { result ≡ up_to_of self.bytes n }
+        ensures { result ≡ up_to_of (align_bytes self) n }
     {
         let align = self.bytes as usize;
         (n + (align - 1)) / align * align

@@ -1,4 +1,4 @@
-use Rattle.std.proofs.Common.{◌≡◌, ◌*◌, ◌/◌, replicate}
+use Rattle.std.proofs.Common.{◌*◌, replicate}
 use Rattle.bi_base.proofs.zeros.put_zeros.Given as goal
 
 -- The zeros of the chunks before this one were appended.
