@@ -184,8 +184,8 @@ three_aligned align offset =
 -- It is their text in the form with this alignment. The blob has `total` bytes, and the text has
 -- `size` bytes.
 pub record AreAlignedTo (align offset total size : ℕ) : Type 0 where
-  pub is_text : (form : Align) → align_bytes form ≡ align
-      → fit_text (Aligned form) three_tree ≡ three_aligned align offset
+  pub is_text : (chosen : Align) → align_bytes chosen ≡ align
+      → fit_text (Aligned chosen) three_tree ≡ three_aligned align offset
   pub is_total : totalsize (three_aligned align offset) ≡ total
   pub is_length : length (three_aligned align offset) ≡ size
   pub places : payload_places align total 0 three_tree.payloads
