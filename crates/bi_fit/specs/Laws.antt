@@ -1,14 +1,15 @@
-use Rattle.std.specs.Prelude.{◌≡◌, ◌⊎◌, ◌↔◌, ℕ, ◌+◌, ◌%◌, ◌≤◌, List, ◌++◌, Option, Some, length}
-use Rattle.std.specs.Prelude.{map, [], ◌∷◌, nat_eq, IsTrue, filter}
-use Rattle.std.specs.List.{AllByRecursion, AllZip, ends_with}
+use Rattle.std.specs.Prelude.{◌≡◌, ◌⊎◌, ◌↔◌, ℕ, ◌+◌, ◌%◌, ◌≤◌, List, ◌++◌, Option, Some}
+use Rattle.std.specs.Prelude.{map, flat_map, [], ◌∷◌, nat_eq, bytes_eq, IsTrue, filter, length}
+use Rattle.std.specs.List.{AllByRecursion, AllZip, ends_with, find}
+use Rattle.std.specs.Option.{option_map}
 use Rattle.bi_base.specs.declared.fault.Fault.{Fault}
 use Rattle.bi_base.specs.Cells.{AreBytes}
 use Rattle.bi_base.specs.Limits.{Limits}
-use Rattle.bi_hash.specs.declared.algo.Algo.TheVariants.{Sha256}
+use Rattle.bi_hash.specs.declared.algo.Algo.{Algo}
 use Rattle.bi_hash.specs.declared.verdicts.Verdict.TheVariants.{Good}
 use Rattle.bi_hash.specs.Algos.{algorithm_name}
 use Rattle.bi_hash.specs.Digests.{digest_of}
-use Rattle.bi_blob.specs.Tree.{HasNoZero, depth_of}
+use Rattle.bi_blob.specs.Tree.{HasNoZero, names, depth_of}
 use Rattle.bi_blob.specs.Blob.{magic, blob_magic}
 use Rattle.bi_blob.specs.Layout.{strings_of, longest_text}
 use Rattle.bi_fit.specs.declared.key.Key.{Key}
@@ -20,9 +21,11 @@ use Rattle.bi_fit.specs.File.{IsFitFile, FitMeans}
 use Rattle.bi_fit.specs.Faults.{IsFitFault}
 use Rattle.bi_fit.specs.Text.{blob_of, payloads_end, payload_places, fit_text}
 use Rattle.bi_fit.specs.Judgement.{judgement, CheckedHash, verdicts_of, ListResult, NoKey}
-use Rattle.bi_fit.specs.Judgement.{ListedImages, listed_names, listed_of, default_of}
-use Rattle.bi_fit.specs.Building.{HeadModel, ImageSpecModel, CanBeBuilt, hash_node_name, built_tree}
-use Rattle.bi_fit.specs.Building.{configuration_name, key_eq}
+use Rattle.bi_fit.specs.Judgement.{ListedImage, ListedImages, listed_names, listed_of, default_of}
+use Rattle.bi_fit.specs.Judgement.{configuration_nodes}
+use Rattle.bi_fit.specs.Building.{HeadModel, ImageSpecModel, PlanModel, CanBeBuilt, IsPlanFor}
+use Rattle.bi_fit.specs.Building.{hash_node_name, built_tree, configuration_names, type_name}
+use Rattle.bi_fit.specs.Building.{configuration_name, plan_by_types, names_of_images}
 
 -- Laws of what a flattened image tree is (Flattened Image Tree Specification), and of its faults
 -- and texts (profile of this project). Each is the contract of a function in `laws`.
@@ -151,32 +154,40 @@ ExternalPayloadsArePlaced =
 -- nodes, and means the tree.
 abbrev pub BuiltIsAccepted : Type 0
 BuiltIsAccepted =
-    (bounds : Limits) (form : Form) (head : HeadModel) (images : List ImageSpecModel)
-    → CanBeBuilt head images
-    → 4 ≤ bounds.depth → length (fit_text form (built_tree head images)) ≤ bounds.file
+    (bounds : Limits) (form : Form) (head : HeadModel) (plan : PlanModel)
+    (images : List ImageSpecModel)
+    → CanBeBuilt head images → IsPlanFor (names_of_images images) plan
+    → 4 ≤ bounds.depth → length (fit_text form (built_tree head plan images)) ≤ bounds.file
     → bounds.file ≤ longest_text
-    → IsAcceptedAs bounds (fit_text form (built_tree head images)) (built_tree head images)
+    → IsAcceptedAs bounds (fit_text form (built_tree head plan images))
+    (built_tree head plan images)
 
--- The hash node of a built image: it has the SHA-256 of the payload, and its verdict is Good.
-abbrev pub good_hash : ImageSpecModel → CheckedHash
-good_hash image = record {
-  image = image.name;
-  node_name = hash_node_name;
-  algo = Some (algorithm_name Sha256);
-  value = Some (digest_of Sha256 image.payload);
-  verdict = Good;
-}
+-- The hash nodes of a built image with these algorithms, the first of which has this number: each
+-- has the digest of the payload, and its verdict is Good.
+abbrev pub good_hashes : (number : ℕ) → List Algo → ImageSpecModel → List CheckedHash
+good_hashes number [] image = []
+good_hashes number (algo ∷ later) image =
+    record {
+      image = image.name;
+      node_name = hash_node_name number;
+      algo = Some (algorithm_name algo);
+      value = Some (digest_of algo image.payload);
+      verdict = Good;
+    }
+    ∷ good_hashes (number + 1) later image
 
 -- The payloads of a built tree are those of its images in their order, and each image has one hash
--- node, with the verdict Good.
-pub record HasGoodPayloads (head : HeadModel) (images : List ImageSpecModel) : Type 0 where
-  pub payloads : (built_tree head images).payloads ≡ map (λ image. Some image.payload) images
-  pub verdicts : verdicts_of (built_tree head images) ≡ map good_hash images
+-- node with each algorithm of the plan, in their order, with the verdict Good.
+pub record HasGoodPayloads (head : HeadModel) (plan : PlanModel) (images : List ImageSpecModel)
+    : Type 0 where
+  pub payloads : (built_tree head plan images).payloads ≡ map (λ image. Some image.payload) images
+  pub verdicts : verdicts_of (built_tree head plan images)
+      ≡ flat_map (good_hashes 1 plan.algorithms) images
 
 -- Each built tree does.
 abbrev pub BuiltHasGoodPayloads : Type 0
-BuiltHasGoodPayloads = (head : HeadModel) (images : List ImageSpecModel)
-    → HasGoodPayloads head images
+BuiltHasGoodPayloads = (head : HeadModel) (plan : PlanModel) (images : List ImageSpecModel)
+    → HasGoodPayloads head plan images
 
 -- How a value lists names: each name is followed by a zero. If the last byte of a value is a zero,
 -- all of it is names.
@@ -187,6 +198,36 @@ pub record ReadsNames : Type 0 where
       → strings_of (listed_names value) ≡ value
   pub no_zero : (value : List ℕ) → AllByRecursion HasNoZero (listed_names value)
 
+-- The image with this name, with its payload, as a configuration lists it.
+abbrev pub listed_by_name : List ImageSpecModel → List ℕ → ListedImage
+listed_by_name images name = record {
+  name = name;
+  payload = option_map (λ image. image.payload) (find (λ image. bytes_eq image.name name) images);
+}
+
+-- What a list of these names is: none if there is no name.
+abbrev pub list_by_names : List ImageSpecModel → List (List ℕ) → ListResult
+list_by_names images [] = NoKey
+list_by_names images (name ∷ later) = ListedImages (map (listed_by_name images) (name ∷ later))
+
+-- A built tree has the configurations of the plan, in their order. Each lists the images with the
+-- names under each key in their order, and the default is that of the plan.
+pub record HasConfigurations (head : HeadModel) (plan : PlanModel) (images : List ImageSpecModel)
+    : Type 0 where
+  pub are_all : names (configuration_nodes (built_tree head plan images))
+      ≡ configuration_names plan.configurations
+  pub listed : AllByRecursion
+      (λ configuration. (key : Key) → listed_of (built_tree head plan images) configuration.name key
+      ≡ list_by_names images (configuration.lists key))
+      plan.configurations
+  pub default : default_of (built_tree head plan images) ≡ Some plan.default
+
+-- Each tree that can be built has.
+abbrev pub BuiltHasConfigurations : Type 0
+BuiltHasConfigurations =
+    (head : HeadModel) (plan : PlanModel) (images : List ImageSpecModel) → CanBeBuilt head images
+    → IsPlanFor (names_of_images images) plan → HasConfigurations head plan images
+
 -- What a list of these images is: none if there is no image.
 abbrev pub list_of_built : List ImageSpecModel → ListResult
 list_of_built [] = NoKey
@@ -194,15 +235,18 @@ list_of_built (image ∷ later) =
     ListedImages
     (map (λ image. record { name = image.name; payload = Some image.payload }) (image ∷ later))
 
--- The configuration of a built tree lists the images of each key in their order, and it is the
--- default.
-pub record HasConfiguration (head : HeadModel) (images : List ImageSpecModel) : Type 0 where
-  pub listed : (key : Key) → listed_of (built_tree head images) configuration_name key
-      ≡ list_of_built (filter (λ image. key_eq key image.key) images)
-  pub default : default_of (built_tree head images) ≡ Some configuration_name
+-- The configuration of a tree that is built by types lists the images of each type under its key,
+-- in their order, and it is the default.
+pub record HasConfiguration (head : HeadModel) (algorithms : List Algo)
+    (images : List ImageSpecModel) : Type 0 where
+  pub listed : (key : Key)
+      → listed_of (built_tree head (plan_by_types algorithms images) images) configuration_name key
+      ≡ list_of_built (filter (λ image. bytes_eq image.image_type (type_name key)) images)
+  pub default : default_of (built_tree head (plan_by_types algorithms images) images)
+      ≡ Some configuration_name
 
--- Each tree that can be built has.
+-- Each tree that can be built by types has.
 abbrev pub BuiltHasConfiguration : Type 0
 BuiltHasConfiguration =
-    (head : HeadModel) (images : List ImageSpecModel) → CanBeBuilt head images
-    → HasConfiguration head images
+    (head : HeadModel) (algorithms : List Algo) (images : List ImageSpecModel)
+    → CanBeBuilt head images → HasConfiguration head algorithms images

@@ -34,6 +34,7 @@ pub mod PropertyMaps
 pub mod ChangedNames
 pub mod NameOrders
 pub mod TextNodes
+pub mod Leaves
 pub mod AddedImages
 pub mod Laws
 pub mod KnownFiles

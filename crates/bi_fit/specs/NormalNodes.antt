@@ -1,4 +1,4 @@
-use Rattle.std.specs.Prelude.{◌≡◌, ℕ, ◌<◌, ◌≤◌, ◌^◌, ⊤, Bool, List, ◌∷◌, ◌++◌, map, length}
+use Rattle.std.specs.Prelude.{◌≡◌, ℕ, ◌<◌, ◌≤◌, ◌^◌, ⊤, Bool, List, [], ◌∷◌, ◌++◌, map, length}
 use Rattle.std.specs.Prelude.{Option, Some, bytes_eq, if◌then◌else◌}
 use Rattle.std.specs.FinMap.{from_entries, entries}
 use Rattle.bi_blob.specs.Tree.{Nodes, none, node, Property, PropertyMap, FileNode, AreDistinct}
@@ -58,6 +58,11 @@ begin_events name properties = NodeStart name ∷ map NodeProperty (entries prop
 -- A node with the given name, these properties and no children, without its siblings.
 abbrev pub leaf : List ℕ → PropertyMap → Nodes (List Property)
 leaf name properties = node name (entries properties) none none
+
+-- Nodes without children: the name and the properties of each.
+abbrev pub leaf_nodes : List (List ℕ × PropertyMap) → Nodes (List Property)
+leaf_nodes [] = none
+leaf_nodes (first ∷ later) = node first.0 (entries first.1) none (leaf_nodes later)
 
 -- The payload of each of these images, if it has one.
 abbrev pub payloads_of : List Image → List (Option (List ℕ))

@@ -26,7 +26,7 @@ mod tree;
 
 use crate::changes::Changes;
 pub(crate) use crate::document::image_node::{ImageChildren, ImageNode, add_image_node};
-pub(crate) use crate::document::nodes::{add_leaf, begin_with};
+pub(crate) use crate::document::nodes::{Leaf, add_leaves, begin_with};
 pub(crate) use crate::document::property_map::PropertyMap;
 use crate::document::text_parts::TextParts;
 use crate::document::tree::add_tree;

@@ -10,7 +10,8 @@ ghost use Rattle.bi_fit.specs.KnownFiles.{ChildrenKeepOrder, OnlyImagesHavePaylo
 ghost use Rattle.bi_fit.specs.KnownFiles.{UnusedHaveNoMeaning};
 ghost use Rattle.bi_fit.specs.KnownFaults.{WithoutImages, RegionsHaveFaults, FirstFaultCounts};
 ghost use Rattle.bi_fit.specs.KnownJudgements.{ListsAreRead, HashesAreJudged};
-ghost use Rattle.bi_fit.specs.KnownBuilds.{BuiltIsKnown, EachKeyIsKnown};
+ghost use Rattle.bi_fit.specs.KnownBuilds.{BuiltIsKnown, EachKeyIsKnown, BoardsAreKnown};
+ghost use Rattle.bi_fit.specs.KnownBuilds.{HashNodesAreKnown};
 ghost use Rattle.bi_fit.specs.KnownUpdates.{UpdatesAreKnown};
 
 /// A file of 88 bytes with a root and its child `images` is a flattened image tree, and is its own
@@ -112,10 +113,21 @@ pub fn built_is_known()
     ensures built { BuiltIsKnown }
 {}
 
-/// The keys have known names, types of images and an order, and the configuration of a built tree
-/// lists the images of each of them in this order.
+/// The keys have known names, types of images and an order, and the configuration of a tree that is
+/// built by types lists the images of each of them in this order.
 pub fn each_key_is_known()
     ensures keys { EachKeyIsKnown }
+{}
+
+/// The tree of two boards that share a kernel has known nodes and properties. Each configuration
+/// lists the images that it names, and the second is the default.
+pub fn boards_are_known()
+    ensures boards { BoardsAreKnown }
+{}
+
+/// An image has as many hash nodes as there are algorithms, with known names.
+pub fn hash_nodes_are_known()
+    ensures hashes { HashNodesAreKnown }
 {}
 
 /// A small tree has known nodes and properties after an update of the time, of the digests and of

@@ -7,7 +7,7 @@ ghost use Rattle.bi_fit.specs.Laws.{TextKeepsJudgement, SameTextSameJudgement};
 ghost use Rattle.bi_fit.specs.Laws.{EachExternalTextHasItsLength, PayloadsEndLater};
 ghost use Rattle.bi_fit.specs.Laws.{ExternalPayloadsArePlaced, PayloadsAreAtPlaces};
 ghost use Rattle.bi_fit.specs.Laws.{BuiltIsAccepted, BuiltHasGoodPayloads, ReadsNames};
-ghost use Rattle.bi_fit.specs.Laws.{BuiltHasConfiguration};
+ghost use Rattle.bi_fit.specs.Laws.{BuiltHasConfigurations, BuiltHasConfiguration};
 
 /// As a flattened image tree, a file has at most one meaning.
 pub fn one_meaning()
@@ -112,8 +112,9 @@ pub fn built_is_accepted()
     ensures { BuiltIsAccepted }
 {}
 
-/// The payloads of a built tree are those of its images in their order. Each image has one hash
-/// node, with the SHA-256 of its payload, and the verdict on it is Good.
+/// The payloads of a built tree are those of its images in their order. Each image has a hash node
+/// with each algorithm of the plan, which has the digest of its payload, and the verdict on it is
+/// Good.
 pub fn built_has_good_payloads()
     ensures { BuiltHasGoodPayloads }
 {}
@@ -124,8 +125,15 @@ pub fn reads_names()
     ensures names { ReadsNames }
 {}
 
-/// The configuration of a built tree lists, under each key, the images of that key in their order.
-/// It is the default.
+/// A built tree has the configurations of the plan in their order. Each of them lists, under each
+/// key, the images with the names that the plan has there, in their order. The default is that of
+/// the plan.
+pub fn built_has_configurations()
+    ensures { BuiltHasConfigurations }
+{}
+
+/// The configuration of a tree that is built by types lists, under each key, the images with the
+/// type of that key in their order. It is the default.
 pub fn built_has_configuration()
     ensures { BuiltHasConfiguration }
 {}

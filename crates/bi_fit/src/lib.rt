@@ -28,7 +28,9 @@ mod signatures;
 mod text;
 pub mod update_laws;
 
-pub use building::{Head, NamedImage, append_built};
+pub use building::{
+    ConfigurationSpec, Head, NamedImage, Plan, append_built, append_built_by_types,
+};
 pub use changes::Changes;
 pub use configurations::{ConfigError, Configuration, Configurations, Named};
 pub use fit::Fit;

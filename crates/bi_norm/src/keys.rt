@@ -6,8 +6,7 @@ ghost use Rattle.bi_norm.specs.Converting.{keys_of_type as keys_for};
 use bi_fit::Key;
 
 /// Returns the keys of the images that the parts of a legacy image of this type become, in their
-/// order. An image of this type in a flattened image tree is listed under the first key. Returns no
-/// keys if the type cannot be converted.
+/// order. Returns no keys if the type cannot be converted.
 pub(crate) fn keys_of_type(image_type: u8) -> &'static [Key]
     ensures { result.now ≡ keys_for image_type }
 {

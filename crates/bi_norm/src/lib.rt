@@ -15,11 +15,13 @@ mod legacy;
 mod legacy_text;
 mod normal_form;
 
-pub use bi_fit::{Form, Head};
+pub use bi_fit::{ConfigurationSpec, Form, Head};
 pub use comparing::same_meaning;
 pub use converting::{convert, convert_into};
 pub use cutting::cut;
-pub use fit_building::{ImageSpec, build_fit, build_fit_into};
+pub use fit_building::{
+    ImageSpec, ImageTexts, PlanSpec, build_fit, build_fit_as, build_fit_as_into, build_fit_into,
+};
 pub use image::BootImage;
 pub use kind::{Kind, kind_of};
 pub use legacy::build_legacy;

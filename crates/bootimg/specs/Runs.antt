@@ -14,6 +14,7 @@ use Rattle.bi_base.specs.Traces.{ReadTrace, WriteTrace, ReadsWell, WritesWell}
 use Rattle.bi_base.specs.Writing.{WroteAll, WriteStopped, WroteAndFlushed, WriteOrFlushStopped}
 use Rattle.bi_base.specs.Commands.{CommandPromise}
 use Rattle.bi_commands.specs.BuildCommands.{build_legacy_promise, build_fit_promise}
+use Rattle.bi_norm.specs.FitBuilding.{plain_plan}
 use Rattle.bi_commands.specs.ExtractingAll.{AreAllPayloads, IsExtractAllError, PayloadFile}
 use Rattle.bi_commands.specs.Offsets.{input_from, promise_at}
 use Rattle.bi_commands.specs.declared.compare.CompareError.{CompareError}
@@ -287,7 +288,7 @@ pub record AreFirstRead (files : KnownFiles) (limits : Limits) (sources : List P
 abbrev pub build_promise : BuildPlan → List Part → Limits → CommandPromise (Unit {0}) Error
 build_promise (Legacy plan) parts = build_legacy_promise plan.fields parts
 build_promise (Fit plan) parts =
-    build_fit_promise plan.form plan.head plan.images.items parts
+    build_fit_promise plan.form plan.head plain_plan plan.images.items parts
 
 -- The image of these parts was built, from `input` to its output, or that failed.
 pub data IsBuiltWork (plan : BuildPlan) (parts : List Part) (limits : Limits) (work : Work) : Type 0

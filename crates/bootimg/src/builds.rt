@@ -22,6 +22,7 @@ use bi_base::{Error, Limits, TracedRead, TracedWrite, pipe};
 use bi_commands::build_fit::FitBuilder;
 use bi_commands::build_legacy::LegacyBuilder;
 use bi_commands::parts::Part;
+use bi_norm::PlanSpec;
 use std::alloc::Global;
 
 /// A part of an image to be built, whose file was read if it has one.
@@ -212,6 +213,7 @@ fn run_builder<S: TracedRead, T: TracedWrite>(
             let builder = FitBuilder {
                 head: plan.head,
                 images: &plan.images,
+                plan: PlanSpec::new(),
                 payloads: parts,
                 form: plan.form,
             };

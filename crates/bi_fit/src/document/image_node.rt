@@ -8,7 +8,7 @@ ghost use Rattle.bi_fit.specs.AddedImages.{IsAddable, added_image, added_payload
 ghost use Rattle.bi_fit.specs.AddedImages.{AreAddable, added_children, digests_left};
 
 use crate::document::hash_nodes::add_children_with_digests;
-use crate::document::nodes::{add_leaf, begin_with};
+use crate::document::nodes::{Leaf, add_leaves, begin_with};
 use crate::document::property_map::PropertyMap;
 use crate::name_order::NameOrder;
 use crate::payload_area::PayloadArea;
@@ -34,8 +34,8 @@ pub(crate) struct ImageNode<'a, 'b> {
 pub(crate) enum ImageChildren<'a, 'b> {
     /// The children of a node of a file.
     OfNode(NodeChildren<'a, 'b>),
-    /// One hash node, `hash-1`, with these properties.
-    Hash(&'b PropertyMap<'a, 'b>),
+    /// These nodes, which have no children.
+    Leaves(&'b [Leaf<'a, 'b>]),
 }
 
 /// The children of an image node of a file, with the digests for its hash nodes.
@@ -53,7 +53,7 @@ pub(crate) struct NodeChildren<'a, 'b> {
 
 /// Adds an image node, with all nodes below it, as a child of the innermost open node. Its payload
 /// follows those of the area, and the node has the properties that give the payload. Returns the
-/// digests after those of its hash nodes, or no digests if the hash node is given.
+/// digests after those of its hash nodes, or no digests if the children are given.
 ///
 /// Fails if memory runs out. What the document then has is not specified. The area has the payload.
 pub(crate) fn add_image_node<'a>(
@@ -107,8 +107,8 @@ fn add_image_children<'a>(
                 digests,
             },
         ) => add_children_with_digests(alloc, doc, node, order, hashed, digests),
-        ImageChildren::Hash(properties) => {
-            add_leaf(doc, b"hash-1", properties)?;
+        ImageChildren::Leaves(leaves) => {
+            add_leaves(doc, leaves)?;
             Ok(&[])
         }
     }
