@@ -11,6 +11,7 @@ pub mod Texts
 pub mod TextLaws
 pub mod PayloadPlaces
 pub mod FilePayloads
+pub mod HashNames
 pub mod BuiltTrees
 pub mod BuiltVerdicts
 pub mod TestedTrees
@@ -59,7 +60,6 @@ pub mod UpdateChanges
 pub mod AppendedTexts
 pub mod WholeTexts
 pub mod AppendedPayloads
-pub mod ListedNames
 pub mod PassedResults
 pub mod BuiltPayloads
 pub mod BuiltProperties

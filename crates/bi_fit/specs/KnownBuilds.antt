@@ -12,7 +12,8 @@ use Rattle.bi_fit.specs.Names.{key_name, all_keys}
 use Rattle.bi_fit.specs.Text.{normal_tree, fit_text}
 use Rattle.bi_fit.specs.ImageTree.{ImageTree}
 use Rattle.bi_fit.specs.Judgement.{ListedImage, ListedImages, NoKey, listed_of, default_of}
-use Rattle.bi_fit.specs.Building.{HeadModel, ImageSpecModel, PlanModel, text_value, type_name}
+use Rattle.bi_fit.specs.Building.{HeadModel, ImageSpecModel, ConfigurationSpecModel, PlanModel}
+use Rattle.bi_fit.specs.Building.{text_value, type_name}
 use Rattle.bi_fit.specs.Building.{built_hash_nodes, hash_node_name, built_tree, plan_by_types}
 use Rattle.bi_fit.specs.Building.{built_configuration_properties, configuration_by_types}
 
@@ -166,10 +167,18 @@ board_devicetree name payload = record known_ramdisk {
   payload = payload;
 }
 
--- A kernel and two devicetrees.
+-- The kernel of both boards.
+abbrev pub kernel_of_boards : ImageSpecModel
+kernel_of_boards = record known_kernel {
+  name = codes "k";
+  entry = Some 0x8000;
+  payload = codes "x";
+}
+
+-- The kernel and two devicetrees.
 abbrev pub images_of_boards : List ImageSpecModel
 images_of_boards =
-    record known_kernel { name = codes "k"; entry = Some 0x8000; payload = codes "x" }
+    kernel_of_boards
     ∷ board_devicetree (codes "d") (codes "y")
     ∷ board_devicetree (codes "e") (codes "z")
     ∷ []
@@ -185,14 +194,18 @@ lists_of_second Kernel = codes "k" ∷ []
 lists_of_second Fdt = codes "e" ∷ codes "d" ∷ []
 lists_of_second key = []
 
+-- Both configurations.
+abbrev pub first_board : ConfigurationSpecModel
+first_board = record { name = codes "a"; lists = lists_of_first }
+
+abbrev pub second_board : ConfigurationSpecModel
+second_board = record { name = codes "b"; lists = lists_of_second }
+
 -- Two boards with the same kernel, of which the second is the default. Each image has a CRC-32 and
 -- a SHA-256.
 abbrev pub plan_of_boards : PlanModel
 plan_of_boards = record {
-  configurations =
-      record { name = codes "a"; lists = lists_of_first }
-      ∷ record { name = codes "b"; lists = lists_of_second }
-      ∷ [];
+  configurations = first_board ∷ second_board ∷ [];
   default = codes "b";
   algorithms = Crc32 ∷ Sha256 ∷ [];
 }
