@@ -61,6 +61,8 @@ pub mod AppendedTexts
 pub mod WholeTexts
 pub mod AppendedPayloads
 pub mod PassedResults
+pub mod Zips
+pub mod BuiltLeaves
 pub mod BuiltPayloads
 pub mod BuiltProperties
 pub mod BuiltNames

@@ -1,6 +1,6 @@
 //! The configuration that lists images by their types.
 
-ghost use Rattle.std.specs.Prelude.{◌≡◌, IfOk};
+ghost use Rattle.std.specs.Prelude.{◌≡◌, List, IfOk};
 ghost use Rattle.bi_base.specs.Slices.{bytes_of};
 ghost use Rattle.bi_fit.specs.Building.{ImageSpecModel, configuration_by_types, type_name};
 ghost use Rattle.bi_fit.specs.Building.{names_of_type as names_with_type};
