@@ -1,5 +1,5 @@
-use Rattle.std.proofs.Common.{◌≡◌, ℕ, ◌+◌, ◌<◌, ◌≤◌, List, ◌∷◌, [], map, drop, get_or, length, Option, Some, None, refl, ap, ◌∙◌}
-use Rattle.std.proofs.lemmas.List.{at_drop_more, get_or-map}
+use Rattle.std.proofs.Common.{◌≡◌, ℕ, ◌+◌, ◌<◌, ◌≤◌, List, ◌∷◌, [], map, drop, get_or, length, Option, Some, None, refl, sym, ap, ◌∙◌, arith}
+use Rattle.std.proofs.lemmas.List.{at_drop_more, length-map, get_or-map}
 use Rattle.bi_blob.specs.Layout.{longest_text}
 use Rattle.bi_hash.specs.declared.algo.Algo.{Algo}
 use Rattle.bi_fit.specs.declared.building.ConfigurationSpec.{ConfigurationSpec}
@@ -59,10 +59,23 @@ pub payloads_to_place : (list : List Image) (images : List NamedImage) → list 
     payloads_of list ≡ built_payloads (named_models images)
 payloads_to_place list images is = ap payloads_of is ∙ placed_payloads images
 
--- The digests at the index of an image are those of its payload.
-pub digests_at : (algorithms : List Algo) (images : List NamedImage) (digests : List (List ℕ)) (index : ℕ) → index < length images →
-    digests ≡ map (λ image. built_digests algorithms image.payload.now) images →
-    get_or digests index [] ≡ built_digests algorithms (get_or images index no_named_image).payload.now
-digests_at algorithms images digests index within is =
-    ap (λ digests. get_or digests index []) is
+-- There are as many digests as images, and those at the index of an image are those of its payload.
+pub digests_within : {V : Type 0} (bytes : V → List ℕ) (all : List V) (algorithms : List Algo) (images : List NamedImage) (index : ℕ) →
+    map bytes all ≡ map (λ image. built_digests algorithms image.payload.now) images → index < length images → index < length all
+digests_within bytes all algorithms images index same within =
+    omega (
+      arith,
+      within,
+      ap length same,
+      length-map all bytes,
+      length-map images (λ (image : NamedImage). built_digests algorithms image.payload.now),
+    )
+
+pub digests_at : {V : Type 0} (bytes : V → List ℕ) (all : List V) (algorithms : List Algo) (images : List NamedImage) (index : ℕ) (one : V) →
+    map bytes all ≡ map (λ image. built_digests algorithms image.payload.now) images → index < length images → one ≡ get_or all index one →
+    bytes one ≡ built_digests algorithms (get_or images index no_named_image).payload.now
+digests_at bytes all algorithms images index one same within is =
+    ap bytes is
+    ∙ sym (get_or-map bytes all index one [] (digests_within bytes all algorithms images index same within))
+    ∙ ap (λ digests. get_or digests index []) same
     ∙ get_or-map (λ image. built_digests algorithms image.payload.now) images index no_named_image [] within

@@ -21,6 +21,7 @@ mod properties;
 use crate::building::by_types::TypeLists;
 use crate::building::digests::digest_payloads;
 use crate::building::document::{BuiltParts, build_doc};
+pub use crate::building::hash_nodes::few_algorithms;
 use crate::building::hash_nodes::hash_node_names;
 use crate::building::lists::lists_of;
 use crate::building::payloads::images_of;
@@ -173,6 +174,7 @@ pub fn append_built_by_types<S: Sink>(
         IfErr result (AppendFailed S.fails (IsTextOfTree limits form tree)
         (IsFaultOrNoMemory (IsTextFault limits form tree)) sink.old sink.new) }
 {
+    few_algorithms(algorithms);
     let lists = TypeLists::new(alloc, images)?;
     let configurations = [lists.configuration()];
     let plan = Plan {

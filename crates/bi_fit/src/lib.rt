@@ -29,7 +29,7 @@ mod text;
 pub mod update_laws;
 
 pub use building::{
-    ConfigurationSpec, Head, NamedImage, Plan, append_built, append_built_by_types,
+    ConfigurationSpec, Head, NamedImage, Plan, append_built, append_built_by_types, few_algorithms,
 };
 pub use changes::Changes;
 pub use configurations::{ConfigError, Configuration, Configurations, Named};

@@ -1,6 +1,6 @@
 //! The hash nodes of images to be built.
 
-ghost use Rattle.std.specs.Prelude.{◌≡◌, ℕ, List, map, string_bytes, IfOk};
+ghost use Rattle.std.specs.Prelude.{◌≡◌, ◌^◌, ◌<◌, ℕ, List, length, map, string_bytes, IfOk};
 ghost use Rattle.std.specs.List.{AllByRecursion};
 ghost use Rattle.bi_fit.specs.Building.{hash_node_name};
 ghost use Rattle.bi_fit.specs.BuiltNames.{built_names};
@@ -13,6 +13,14 @@ use crate::document::Leaf;
 use crate::property_names::PropertyNames;
 use bi_hash::Algo;
 use std::alloc::{AllocError, Global};
+
+/// Does nothing. Its contract states that a slice of algorithms has fewer than 2^64 elements, so
+/// each hash node has a number of its own.
+pub fn few_algorithms(algorithms: &[Algo])
+    ensures { length algorithms.now < 2 ^ 64 }
+{
+    let _count = algorithms.len();
+}
 
 /// Returns the names of the hash nodes with these algorithms: `hash-1`, `hash-2`, and so on. Fails
 /// if memory runs out.

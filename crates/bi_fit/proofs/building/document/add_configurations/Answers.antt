@@ -4,6 +4,7 @@ use Rattle.std.specs.List.{AllByRecursion}
 use Rattle.bi_base.proofs.ListMembers.{each-weaker}
 use Rattle.bi_blob.specs.Events.{Event, events}
 use Rattle.bi_blob.specs.Tree.{PropertyMap}
+use Rattle.bi_lay.specs.Contents.{Doc}
 use Rattle.bi_fit.specs.NormalNodes.{MayAdd, with_events, begin_events, leaf_nodes}
 use Rattle.bi_fit.specs.Building.{text_value}
 use Rattle.bi_fit.specs.BuiltNames.{built_names}
@@ -65,3 +66,26 @@ add_leaves-requires-clause-may c =
     subst (λ (leaves : List Leaf). MayAdd c.begin_with.new.doc (events (leaf_nodes (map leaf_model leaves)))) (sym c.deref.ensures.value)
     (subst (MayAdd c.begin_with.new.doc) (sym (leaf_events at))
     (may_have_children c.args.doc.now (begin c.args.parts) (children c.args.parts) c.begin_with.new.doc (begun at) c.requires.may))
+
+-- The node gets its children.
+filled : (parts : BuiltParts) (begun more : Doc) (leaves added : List Leaf) → events (leaf_nodes (map leaf_model leaves)) ≡ children parts →
+    added ≡ leaves → more ≡ with_events begun (events (leaf_nodes (map leaf_model added))) → more ≡ with_events begun (children parts)
+filled parts begun more leaves added are same is =
+    is ∙ ap (λ (leaves : List Leaf). with_events begun (events (leaf_nodes (map leaf_model leaves)))) same ∙ ap (with_events begun) are
+
+pub end-requires : goal.end-requires
+end-requires c =
+    let at = (goal.at.end-requires c).In_ok-leaves in
+    may_end c.args.doc.now (begin c.args.parts) (children c.args.parts) c.begin_with.new.doc c.add_leaves.new.doc (begun at)
+    (filled c.args.parts c.begin_with.new.doc c.add_leaves.new.doc c.in_ok-leaves.leaves.items c.deref.result.now (leaf_events at)
+    c.deref.ensures.value c.in_ok-add_leaves.ensures.added) c.requires.may
+
+pub returns : goal.returns
+returns c =
+    let at = (goal.at.returns c).In_ok-leaves in
+    record {
+      added = c.end.ensures
+          ∙ whole_added c.args.doc.now (begin c.args.parts) (children c.args.parts) c.begin_with.new.doc c.add_leaves.new.doc (begun at)
+          (filled c.args.parts c.begin_with.new.doc c.add_leaves.new.doc c.in_ok-leaves.leaves.items c.deref.result.now (leaf_events at)
+          c.deref.ensures.value c.in_ok-add_leaves.ensures.added);
+    }
