@@ -7,7 +7,9 @@ pub mod BuiltLegacy
 pub mod ConvertedParts
 pub mod Conversions
 pub mod Comparisons
+pub mod LeftChecks
 pub mod ImageChecks
+pub mod ConfigurationChecks
 pub mod BuildFaultFacts
 pub mod ComparisonFacts
 pub mod TextBoundFacts

@@ -1,5 +1,10 @@
-use Rattle.std.specs.Prelude.{ℕ, List, [], ◌∷◌, Option}
+use Rattle.std.specs.Prelude.{ℕ, Bool, List, [], ◌∷◌, Option}
+use Rattle.std.specs.Borrow.{Bor}
+use Rattle.std.specs.BTreeSet.{BTreeSet, contains}
+use Rattle.std.specs.Cmp.Lexicographic.{slice_cmp}
+use Rattle.std.specs.List.{list_all}
 use Rattle.std.specs.Option.{option_map}
+use Rattle.std.specs.Ordering.{nat_cmp}
 use Rattle.bi_base.specs.Errors.{FailsWith}
 use Rattle.bi_base.specs.declared.fault.Fault.{Fault}
 use Rattle.bi_base.specs.declared.fault.Error.{Error}
@@ -7,6 +12,7 @@ use Rattle.bi_base.specs.Cells.{AreBytes}
 use Rattle.bi_base.specs.Checks.{IsFirstFault, HasNoFault}
 use Rattle.bi_base.specs.Limits.{Limits}
 use Rattle.bi_fit.specs.declared.form.Form.{Form}
+use Rattle.bi_fit.specs.declared.building.ConfigurationSpec.{ConfigurationSpec}
 use Rattle.bi_fit.specs.declared.building.Head.{Head}
 use Rattle.bi_norm.specs.declared.fit_building.ImageSpec.{ImageSpec}
 use Rattle.bi_norm.specs.declared.fit_building.ImageTexts.{ImageTexts}
@@ -48,6 +54,17 @@ fields_and_names index image =
 -- An image with its texts, if there are any.
 abbrev pub given_image : ImageSpec → Option ImageTexts → GivenImage
 given_image spec texts = record { spec = spec; texts = option_map image_texts_model texts }
+
+-- Whether a set has a name.
+abbrev pub has_name : BTreeSet (Bor (List ℕ)) → Bor (List ℕ) → Bool
+has_name set name = contains (λ x y. slice_cmp nat_cmp x.now y.now) set name
+
+-- Whether a set has each name that a configuration lists.
+abbrev pub lists_only : BTreeSet (Bor (List ℕ)) → ConfigurationSpec → Bool
+lists_only set configuration =
+    list_all (λ names. list_all (has_name set) names.now)
+    (configuration.kernel ∷ configuration.fdt ∷ configuration.ramdisk ∷ configuration.firmware
+    ∷ configuration.loadables ∷ configuration.script ∷ [])
 
 -- Texts are bytes.
 pub record HaveBytes (texts : ImageTextsModel) : Type 0 where

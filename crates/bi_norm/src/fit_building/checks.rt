@@ -14,7 +14,7 @@ use crate::fit_building::configurations::{check_configurations, check_default};
 use crate::fit_building::images::check_images;
 use crate::fit_building::{ImageSpec, PlanSpec};
 use bi_base::{Cause, Error, Fault, Limits, refuse};
-use bi_fit::{Head, NamedImage};
+use bi_fit::{Head, NamedImage, few_algorithms};
 use std::alloc::Global;
 
 /// Makes all checks of what is to be built, except the last: that the text is within the limit.
@@ -49,6 +49,7 @@ pub(super) fn check<'a>(
     let checked = check_images(alloc, images, plan.texts)?;
     check_configurations(alloc, plan.configurations, &checked.names)?;
     check_default(plan.configurations, plan.default)?;
+    few_algorithms(plan.algorithms);
     Ok(checked.named)
 }
 

@@ -1,19 +1,17 @@
 //! The checks of configurations to be built.
 
-ghost use Rattle.std.specs.Prelude.{◌≡◌, ◌↔◌, ◌^◌, ◌<◌, ℕ, List, [], length, Option};
-ghost use Rattle.std.specs.Prelude.{OnOk, IfErr, IsTrue};
-ghost use Rattle.std.specs.List.{AllByRecursion};
+ghost use Rattle.std.specs.Prelude.{◌≡◌, ◌^◌, ◌<◌, ℕ, List, [], length, bytes_eq, OnOk, IfErr};
+ghost use Rattle.std.specs.List.{AllByRecursion, list_all, list_any};
 ghost use Rattle.std.specs.Option.{option_map};
 ghost use Rattle.bi_base.specs.declared.fault.Cause.TheVariants.{BadField};
 ghost use Rattle.bi_base.specs.Errors.{IsFaultOrNoMemory};
-ghost use Rattle.bi_base.specs.Slices.{bytes_of};
-ghost use Rattle.bi_blob.specs.Layout.{is_among};
 ghost use Rattle.bi_blob.specs.NameSets.{HoldsNames};
-ghost use Rattle.bi_blob.specs.Tree.{AreDistinct, IsChildName};
+ghost use Rattle.bi_blob.specs.Tree.{AreDistinct};
 ghost use Rattle.bi_fit.specs.Building.{IsConfigurationSpec, configuration_names};
-ghost use Rattle.bi_fit.specs.NamedImages.{configuration_spec_model, configuration_spec_models};
-ghost use Rattle.bi_norm.specs.FitBuilding.{configuration_checks, ListsOnly, HasKnownDefault};
-ghost use Rattle.bi_norm.specs.BuildChecks.{AllPass, IsFirstFailure};
+ghost use Rattle.bi_fit.specs.NamedImages.{configuration_spec_models};
+ghost use Rattle.bi_norm.specs.FitBuilding.{configuration_checks, HasKnownDefault};
+ghost use Rattle.bi_norm.specs.BuildChecks.{AllPass, IsFirstFailure, has_name};
+ghost use Rattle.bi_norm.specs.BuildChecks.{lists_only as lists_only_of};
 
 use bi_base::{Cause, Error, Fault, are_bytes, refuse};
 use bi_blob::is_child_name;
@@ -38,6 +36,8 @@ pub(super) fn check_configurations(
     ensures can { let models = configuration_spec_models configurations.now in
         (held : List (List ℕ)) → HoldsNames image_names.now held →
         OnOk result (AllByRecursion (IsConfigurationSpec held) models) }
+    ensures distinct { let models = configuration_spec_models configurations.now in
+        OnOk result (AreDistinct (configuration_names models)) }
     ensures failed { let models = configuration_spec_models configurations.now in
         (held : List (List ℕ)) → HoldsNames image_names.now held →
         IfErr result (IsFaultOrNoMemory (IsFirstFailure (configuration_checks held 0 [] models))) }
@@ -45,7 +45,8 @@ pub(super) fn check_configurations(
     let mut names = BTreeSet::new(alloc);
     for (index, configuration) in configurations.iter().enumerate() {
         let offset = index as u32;
-        if !can_be_built(configuration, image_names) {
+        are_bytes(configuration.name);
+        if !is_child_name(configuration.name) || !lists_only(configuration, image_names) {
             return refuse(Cause::BadField, offset).map_err(Error::from);
         }
         if !names.insert(configuration.name)? {
@@ -55,31 +56,24 @@ pub(super) fn check_configurations(
     Ok(())
 }
 
-/// Returns whether a node may have the name of a configuration, and images have all names that it
-/// lists.
-fn can_be_built(configuration: &ConfigurationSpec<'_>, image_names: &BTreeSet<&[u8]>) -> bool
-    ensures is { let model = configuration_spec_model configuration.now in
-        (held : List (List ℕ)) → HoldsNames image_names.now held →
-        (IsTrue result ↔ (IsChildName model.name × ListsOnly held model)) }
-    ensures can { let model = configuration_spec_model configuration.now in
-        (held : List (List ℕ)) → HoldsNames image_names.now held →
-        IsTrue result → IsConfigurationSpec held model }
+/// Returns whether each name that a configuration lists is in a set.
+fn lists_only(configuration: &ConfigurationSpec<'_>, image_names: &BTreeSet<&[u8]>) -> bool
+    ensures { result ≡ lists_only_of image_names.now configuration.now }
 {
-    are_bytes(configuration.name);
-    is_child_name(configuration.name)
-        && are_among(configuration.kernel, image_names)
-        && are_among(configuration.fdt, image_names)
-        && are_among(configuration.ramdisk, image_names)
-        && are_among(configuration.firmware, image_names)
-        && are_among(configuration.loadables, image_names)
-        && are_among(configuration.script, image_names)
+    let lists = [
+        configuration.kernel,
+        configuration.fdt,
+        configuration.ramdisk,
+        configuration.firmware,
+        configuration.loadables,
+        configuration.script,
+    ];
+    lists.iter().all(|names| are_among(names, image_names))
 }
 
 /// Returns whether all names are in a set.
 fn are_among(names: &[&[u8]], set: &BTreeSet<&[u8]>) -> bool
-    ensures { (held : List (List ℕ)) → HoldsNames set.now held →
-        (IsTrue result
-        ↔ AllByRecursion (λ name. IsTrue (is_among name held)) (bytes_of names.now)) }
+    ensures { result ≡ list_all (has_name set.now) names.now }
 {
     names.iter().all(|name| set.contains(*name))
 }
@@ -92,10 +86,10 @@ pub(super) fn check_default(
 ) -> Result<(), Fault>
     requires { length configurations.now < 2 ^ 32 }
     ensures ok { let models = configuration_spec_models configurations.now in
-        OnOk result (HasKnownDefault models (option_map (λ name. name.now) default)) }
+        OnOk result (HasKnownDefault models (option_map (λ name. name.now) default.entry)) }
     ensures fault { let models = configuration_spec_models configurations.now in
         IfErr result (λ fault.
-        ¬ (HasKnownDefault models (option_map (λ name. name.now) default))
+        ¬ (HasKnownDefault models (option_map (λ name. name.now) default.entry))
         × (fault ≡ record { cause = BadField; offset = length configurations.now })) }
 {
     let Some(name) = default else {
@@ -109,8 +103,8 @@ pub(super) fn check_default(
 
 /// Returns whether one of these configurations has the given name.
 fn is_name_of_one(configurations: &[ConfigurationSpec<'_>], name: &[u8]) -> bool
-    ensures { result ≡ is_among name.now
-        (configuration_names (configuration_spec_models configurations.now)) }
+    ensures { result ≡ list_any
+        (λ configuration. bytes_eq configuration.name.now name.now) configurations.now }
 {
     configurations
         .iter()

@@ -5,7 +5,7 @@ ghost use Rattle.std.specs.Prelude.{slice_get, OnOk, IfOk, IfErr, IsTrue, MatchO
 ghost use Rattle.std.specs.List.{AllByRecursion};
 ghost use Rattle.std.specs.Option.{option_map};
 ghost use Rattle.bi_blob.specs.NameSets.{HoldsNames};
-ghost use Rattle.bi_blob.specs.Tree.{HasNoZero};
+ghost use Rattle.bi_blob.specs.Tree.{HasNoZero, AreDistinct};
 ghost use Rattle.bi_fit.specs.Building.{IsImageSpec};
 ghost use Rattle.bi_fit.specs.NamedImages.{named_model, named_models};
 ghost use Rattle.bi_norm.specs.FitBuilding.{ImageTextsModel, image_texts_model, texts_models};
@@ -45,6 +45,7 @@ pub(super) fn check_images<'a>(
         OnOk result (AllPass (spec_checks 0 [] given)) }
     ensures can { let given = given_images (texts_models texts.now) images.now in
         OnOk result (AllByRecursion IsImageSpec (map spec_model given)) }
+    ensures distinct { OnOk result (AreDistinct (names_of_specs images.now)) }
     ensures named { let given = given_images (texts_models texts.now) images.now in
         IfOk result (λ checked. named_models checked.named.items ≡ map spec_model given) }
     ensures names { IfOk result (λ checked.
