@@ -30,6 +30,16 @@ both_true one other is also = rw (is, also) refl
 abbrev pub no_configuration_model : ConfigurationSpecModel
 no_configuration_model = record { name = []; lists = λ key. [] }
 
+-- The names before the next configuration.
+pub configuration_names_more : (configurations : List ConfigurationSpecModel) (index : ℕ) (d : ConfigurationSpecModel) →
+    index < length configurations →
+    configuration_names (take (index + 1) configurations)
+    ≡ configuration_names (take index configurations) ++ (get_or configurations index d).name ∷ []
+configuration_names_more configurations index d within =
+    ap configuration_names (take_more configurations index d within)
+    ∙ map-append (λ (configuration : ConfigurationSpecModel). configuration.name) (take index configurations)
+    (get_or configurations index d ∷ [])
+
 module _ (image_names : List (List ℕ)) (configurations : List ConfigurationSpecModel) where
   -- All checks, and those of the configurations from one on.
   abbrev all : List BuildCheck
@@ -53,13 +63,6 @@ module _ (image_names : List (List ℕ)) (configurations : List ConfigurationSpe
     abbrev configuration : ConfigurationSpecModel
     configuration = get_or configurations index d
 
-    -- The names before the next configuration.
-    pub configuration_names_more :
-        configuration_names (take (index + 1) configurations) ≡ configuration_names (take index configurations) ++ configuration.name ∷ []
-    configuration_names_more =
-        ap configuration_names (take_more configurations index d within)
-        ∙ map-append (λ (configuration : ConfigurationSpecModel). configuration.name) (take index configurations) (configuration ∷ [])
-
     -- The checks of this configuration come first.
     abbrev own_checks : List BuildCheck
     own_checks =
@@ -76,7 +79,7 @@ module _ (image_names : List (List ℕ)) (configurations : List ConfigurationSpe
         ap (configuration_checks image_names index (configuration_names (take index configurations)))
         (drop_more configurations index d within)
         ∙ ap (λ names. own_checks ++ configuration_checks image_names (index + 1) names (drop (index + 1) configurations))
-        (sym configuration_names_more)
+        (sym (configuration_names_more configurations index d within))
 
     left : AreLeft all (own_checks ++ from_index (index + 1))
     left = subst (AreLeft all) first_checks passed.left
