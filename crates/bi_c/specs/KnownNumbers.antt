@@ -3,12 +3,12 @@ use Rattle.bi_base.specs.declared.fault.Cause.TheVariants.{BadCell}
 use Rattle.bi_base.specs.declared.fault.Error.TheVariants as error
 use Rattle.bi_base.specs.declared.fault.Fault.{Fault}
 use Rattle.bi_base.specs.Limits.{Limits}
-use Rattle.bi_commands.specs.declared.compare.CompareError.TheVariants as compare
+use Rattle.bi_report.specs.KnownConcerns.{allowed_words}
+use Rattle.bi_describe.specs.declared.compare.CompareError.TheVariants as compare
 use Rattle.bi_commands.specs.declared.extract.ExtractError.TheVariants as extract
 use Rattle.bi_commands.specs.Extracting.{Choice, OfOtherKind, NoSuchPart, NoSuchImage}
 use Rattle.bi_commands.specs.Extracting.{NoSuchConfiguration, NoSuchKey, HasBadList}
 use Rattle.bi_commands.specs.Extracting.{HasMissingImage, NoSuchEntry, HasNoPayload}
-use Rattle.bi_commands.specs.KnownConcerns.{allowed_words}
 use Rattle.bi_fit.specs.Names.{key_name}
 use Rattle.bi_fit.specs.declared.configurations.ConfigError.TheVariants as list
 use Rattle.bi_fit.specs.declared.form.Form.TheVariants.{Embedded, External}

@@ -4,8 +4,8 @@ ghost use Rattle.std.specs.Prelude.{◌≡◌, ◌<◌, ◌↔◌, IsSome, IfSom
 ghost use Rattle.bi_c.specs.Answers.{Fills, IsFailure, IsFailureBy};
 ghost use Rattle.bi_c.specs.Arguments.{allowed_of as allowed_of_number, bounds};
 ghost use Rattle.bi_c.specs.Calls.{IsCheckText, IsConcernsText, HasKinds};
-ghost use Rattle.bi_commands.specs.CheckedFiles.{IsCheckError};
-ghost use Rattle.bi_commands.specs.declared.format.Format.TheVariants.{Lines, Json};
+ghost use Rattle.bi_common.specs.declared.format.Format.TheVariants.{Lines, Json};
+ghost use Rattle.bi_report.specs.CheckedFiles.{IsCheckError};
 
 use crate::answer::{Answer, fail, fill};
 use crate::arguments::{has_bit, limits_of};

@@ -1,7 +1,7 @@
 use Rattle.std.proofs.Common.{◌≡◌, ◌∙◌, ℕ, List, Option, Result, Ok, Err, ap, map, subst, sym}
 use Rattle.bi_base.specs.declared.fault.Error.{Error}
+use Rattle.bi_common.specs.Offsets.{input_from}
 use Rattle.bi_commands.specs.ExtractingAll.{AreAllPayloads, IsExtractAllError, PayloadFile}
-use Rattle.bi_commands.specs.Offsets.{input_from}
 use Rattle.bootimg.specs.declared.command_line.extract.AllRequest.{AllRequest}
 use Rattle.bootimg.specs.declared.command_line.source.ImageSource.TheVariants.{File}
 use Rattle.bootimg.specs.declared.failure.Failure.{Failure}

@@ -1,5 +1,5 @@
-use Rattle.std.proofs.Common.{◌≡◌, ◌≢◌, ◌⊎◌, ◌++◌, ◌∷◌, [], ◌∙◌, ◌<◌, ◌≤◌, ◌+◌, ◌-◌, ℕ, Bool, true, false, List, Option, Some, None, map, length}
-use Rattle.std.proofs.Common.{take, get_or, ap, arith, inl, inr, subst, sym, refl}
+use Rattle.std.proofs.Common.{◌≡◌, ◌≢◌, ◌⊎◌, ◌++◌, ◌∷◌, [], ◌∙◌, ◌<◌, ◌≤◌, ◌+◌, ◌-◌, ℕ, Bool, true, false, List, Option, Some, None, map}
+use Rattle.std.proofs.Common.{length, take, get_or, ap, arith, inl, inr, subst, sym, refl}
 use Rattle.std.specs.Borrow.{Bor}
 use Rattle.std.specs.Prelude.{IfSome, IsFalse, IsTrue, bytes_eq, if◌then◌else◌}
 use Rattle.std.proofs.lemmas.List.{map_push, take_all, take_more}
@@ -13,8 +13,8 @@ use Rattle.bootimg.specs.declared.memory_files.StepKind.{StepKind}
 use Rattle.bootimg.specs.declared.memory_files.StepKind.TheVariants as kind
 use Rattle.bootimg.specs.declared.memory_files.WrittenFile.{WrittenFile}
 use Rattle.bootimg.specs.Files.{Directory, Entry, FileStep, Names, NoFile, OtherFile, RegularFile, TookSteps, Unusable}
-use Rattle.bootimg.specs.FilesAfter.{no_names, after_renaming, after_step, after_steps, HasContents, HaveContents, with_entry_at}
-use Rattle.bootimg.specs.FilesAfter.{with_file, with_files, with_files_in, without_file, written_bytes}
+use Rattle.bootimg.specs.FilesAfter.{no_names, after_renaming, after_step, after_steps, HasContents, HaveContents, with_entry_at, with_file}
+use Rattle.bootimg.specs.FilesAfter.{with_files, with_files_in, without_file, written_bytes}
 use Rattle.bootimg.specs.LeftFiles.{LeavesFiles}
 use Rattle.bootimg.specs.MemoryFiles.{AreLookedUp, IsOccupant, IsOccupantToo, recorded_names, recorded_steps, recorded_step, named_step}
 use Rattle.bootimg.specs.MemoryFiles.{writing_trace}

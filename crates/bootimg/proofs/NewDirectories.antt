@@ -1,5 +1,5 @@
-use Rattle.std.proofs.Common.{◌≡◌, ◌≢◌, ◌++◌, ◌∷◌, [], ◌∙◌, ◌<◌, ◌≤◌, ◌+◌, ◌⊎◌, ℕ, zero, suc, List, Option, Result, Ok, Err, map, take, length}
-use Rattle.std.proofs.Common.{ap, arith, get_or, refl, string_bytes, subst, sym}
+use Rattle.std.proofs.Common.{◌≡◌, ◌≢◌, ◌++◌, ◌∷◌, [], ◌∙◌, ◌<◌, ◌≤◌, ◌+◌, ◌⊎◌, ℕ, zero, suc, List, Option, Result, Ok, Err, map, take}
+use Rattle.std.proofs.Common.{length, ap, arith, get_or, refl, string_bytes, subst, sym}
 use Rattle.std.specs.Prelude.{OnOk, OnErr}
 use Rattle.std.proofs.lemmas.List.{map_more, take_all}
 use Rattle.bi_base.specs.Sinks.{Wrote}
@@ -13,8 +13,9 @@ use Rattle.bootimg.specs.declared.failure.Failure.TheVariants.{NotWritten}
 use Rattle.bootimg.specs.Directories.{AreFilesNotPut, AreFilesPut, AreFilesRemoved, ClosingFilledFailed, FillingStopped, IsDirectoryMade}
 use Rattle.bootimg.specs.Directories.{IsDirectoryNotInPlace, IsDirectoryNotSaved, IsFileFilled, IsFileNotFilled, IsFileNotPut, IsFilePut}
 use Rattle.bootimg.specs.Directories.{IsDirectoryRemoved, NewDirectoryFailed, NextNotFilled, NextNotMade, SavesNoDirectory}
-use Rattle.bootimg.specs.Files.{AreNamesTaken, ClosedIn, DirectoryMade, FileStep, IsBeside, IsNewFile, IsNoFile, KnownFiles, MadeIn, NameHas}
-use Rattle.bootimg.specs.Files.{DirectoryNotRemoved, DirectoryRemoved, NotClosedIn, NotMadeIn, NotRemovedIn, RemovedIn, TookSteps, no_files}
+use Rattle.bootimg.specs.Files.{AreNamesTaken, ClosedIn, DirectoryMade, FileStep, IsBeside, IsNewFile, IsNoFile, KnownFiles, MadeIn}
+use Rattle.bootimg.specs.Files.{NameHas, DirectoryNotRemoved, DirectoryRemoved, NotClosedIn, NotMadeIn, NotRemovedIn, RemovedIn, TookSteps}
+use Rattle.bootimg.specs.Files.{no_files}
 use Rattle.bootimg.proofs.NewFiles.{either}
 
 -- A new directory gets its files one after another, and loses those that were made after a failure.

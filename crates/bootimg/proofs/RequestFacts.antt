@@ -5,13 +5,13 @@ use Rattle.std.specs.Option.{option_map_or}
 use Rattle.std.specs.Prelude.{bytes_eq, count_by}
 use Rattle.std.proofs.lemmas.Slice.Eq.{bytes_eq-Decides}
 use Rattle.bi_base.proofs.EqualBytes.{other_bytes, same_bytes}
-use Rattle.bi_commands.specs.Checking.{allows, kind_word}
-use Rattle.bi_commands.specs.Differences.{words_of_line}
-use Rattle.bi_commands.specs.KnownConcerns.{each_kind}
-use Rattle.bi_commands.specs.declared.check.Allowed.{Allowed}
-use Rattle.bi_commands.specs.declared.check.ConcernKind.{ConcernKind}
-use Rattle.bi_commands.specs.declared.check.ConcernKind.TheVariants as kind
-use Rattle.bi_commands.proofs.CleanLaws.NoLines.{any_is_found, passes_any}
+use Rattle.bi_report.specs.Checking.{allows, kind_word}
+use Rattle.bi_report.specs.KnownConcerns.{each_kind}
+use Rattle.bi_report.specs.declared.check.Allowed.{Allowed}
+use Rattle.bi_report.specs.declared.check.ConcernKind.{ConcernKind}
+use Rattle.bi_report.specs.declared.check.ConcernKind.TheVariants as kind
+use Rattle.bi_report.proofs.CleanLaws.NoLines.{any_is_found, passes_any}
+use Rattle.bi_describe.specs.Differences.{words_of_line}
 use Rattle.bi_fit.specs.Names.{key_name}
 use Rattle.bi_fit.specs.declared.key.Key.{Key}
 use Rattle.bi_fit.specs.declared.key.Key.TheVariants.{Kernel, Fdt, Ramdisk, Firmware, Loadables, Script}

@@ -1,5 +1,5 @@
-use Rattle.std.proofs.Common.{◌≡◌, ◌≢◌, ◌++◌, ◌∷◌, [], ◌∙◌, ◌<◌, ℕ, zero, suc, List, Option, Some, map, length, codes, get_or, ap, refl, sym}
-use Rattle.std.proofs.Common.{inl, inr, arith, subst}
+use Rattle.std.proofs.Common.{◌≡◌, ◌≢◌, ◌++◌, ◌∷◌, [], ◌∙◌, ◌<◌, ℕ, zero, suc, List, Option, Some, map, length, codes, get_or, ap, refl}
+use Rattle.std.proofs.Common.{sym, inl, inr, arith, subst}
 use Rattle.std.specs.Fmt.{decimal, digits}
 use Rattle.std.proofs.lemmas.List.{append_assoc}
 use Rattle.bi_commands.specs.ExtractingAll.{PayloadFile}

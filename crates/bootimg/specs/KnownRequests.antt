@@ -1,10 +1,10 @@
 use Rattle.std.specs.Prelude.{◌≡◌, ◌++◌, ℕ, true, false, List, [], ◌∷◌}
 use Rattle.std.specs.Prelude.{None, Some, codes}
-use Rattle.bi_commands.specs.Differences.{words_of_line}
-use Rattle.bi_commands.specs.KnownConcerns.{allowed_words}
-use Rattle.bi_commands.specs.KnownTexts.{lent}
-use Rattle.bi_commands.specs.declared.check.Allowed.{Allowed}
-use Rattle.bi_commands.specs.declared.format.Format.TheVariants.{Lines, Json}
+use Rattle.bi_common.specs.declared.format.Format.TheVariants.{Lines, Json}
+use Rattle.bi_report.specs.KnownConcerns.{allowed_words}
+use Rattle.bi_report.specs.declared.check.Allowed.{Allowed}
+use Rattle.bi_describe.specs.Differences.{words_of_line}
+use Rattle.bi_commands.specs.KnownChoices.{lent}
 use Rattle.bi_fit.specs.declared.form.Form.TheVariants.{Embedded, External}
 use Rattle.bi_fit.specs.declared.key.Key.{Key}
 use Rattle.bi_fit.specs.declared.key.Key.TheVariants.{Fdt}

@@ -13,10 +13,10 @@ use Rattle.bi_base.specs.Reading.{IsInputRead, IsInputNotRead}
 use Rattle.bi_base.specs.Traces.{ReadTrace, WriteTrace, ReadsWell, WritesWell}
 use Rattle.bi_base.specs.Writing.{WroteAll, WriteStopped, WroteAndFlushed, WriteOrFlushStopped}
 use Rattle.bi_base.specs.Commands.{CommandPromise}
+use Rattle.bi_common.specs.Offsets.{input_from, promise_at}
+use Rattle.bi_describe.specs.declared.compare.CompareError.{CompareError}
 use Rattle.bi_commands.specs.BuildCommands.{build_legacy_promise, build_fit_promise}
 use Rattle.bi_commands.specs.ExtractingAll.{AreAllPayloads, IsExtractAllError, PayloadFile}
-use Rattle.bi_commands.specs.Offsets.{input_from, promise_at}
-use Rattle.bi_commands.specs.declared.compare.CompareError.{CompareError}
 use Rattle.bi_commands.specs.declared.parts.Part.{Part}
 use Rattle.bi_commands.specs.declared.parts.Part.TheVariants.{Bytes, Length}
 use Rattle.clap.specs.declared.error.kind.ErrorKind.{ErrorKind}

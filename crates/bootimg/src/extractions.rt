@@ -2,8 +2,8 @@
 
 ghost use Rattle.std.specs.Prelude.{◌≡◌, map, IfOk, IfErr};
 ghost use Rattle.bi_base.specs.Limits.{Limits};
+ghost use Rattle.bi_common.specs.Offsets.{input_from};
 ghost use Rattle.bi_commands.specs.ExtractingAll.{AreAllPayloads, IsExtractAllError};
-ghost use Rattle.bi_commands.specs.Offsets.{input_from};
 ghost use Rattle.bi_commands.specs.Payloads.{payloads_model};
 ghost use Rattle.bootimg.specs.Runs.{IsAllWork};
 
