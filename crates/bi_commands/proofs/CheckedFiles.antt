@@ -26,7 +26,7 @@ use Rattle.bi_commands.specs.Checking.{trailing_concerns}
 use Rattle.bi_commands.specs.FoundConcerns.{Default, FoundConcern, HasConcerns, InImageTree, InLegacyImage, Rest, concerns_in}
 use Rattle.bi_commands.specs.FoundConcerns.{default_property, found_in_configuration, found_in_default, found_in_fit, found_in_image}
 use Rattle.bi_commands.specs.FoundConcerns.{found_in_legacy, found_in_rest}
-use Rattle.bi_commands.specs.HashedImages.{images_of_blob}
+use Rattle.bi_commands.specs.FoundHashes.{images_of_blob}
 use Rattle.bi_commands.specs.PayloadBounds.{IsOverPayloadBound}
 use Rattle.bi_commands.specs.ReadChecking.{IsReadCheckError, end_at, end_of_read_payloads}
 use Rattle.bi_commands.proofs.FoundConcerns.{concerns_in_both, only_concerns}

@@ -17,8 +17,10 @@ use Rattle.bi_commands.specs.declared.format.Format.{Format}
 use Rattle.bi_commands.specs.declared.hash_nodes.HashedImage.{HashedImage as ImageValue}
 use Rattle.bi_commands.specs.Checking.{Concern, hash_concerns, hashed_concerns, hashes_of_image, image_concerns}
 use Rattle.bi_commands.specs.FoundConcerns.{HashOf, NodeItself, concerns_in, found_in_hash, found_in_image}
-use Rattle.bi_commands.specs.HashedImages.{FoundHash, HashedImage, found_hashes, found_left, hashed_image, hashed_images, hashes_left}
-use Rattle.bi_commands.specs.HashedImages.{image_value, images_of_blob}
+use Rattle.bi_commands.specs.FoundHashes.{FoundHash, HashedImage, found_hashes, hashed_image, hashed_images}
+use Rattle.bi_commands.specs.HashedImages.{found_left, hashes_left}
+use Rattle.bi_commands.specs.FoundHashes.{images_of_blob}
+use Rattle.bi_commands.specs.HashedImages.{image_value}
 use Rattle.bi_commands.specs.ReadReports.{hash_text, hash_texts}
 use Rattle.bi_commands.proofs.FoundConcerns.{concerns_in_both, concerns_in_each, only_concerns}
 use Rattle.bi_commands.proofs.TextsInTurn.{map_append}

@@ -24,7 +24,7 @@ use Rattle.hex.specs.Hex.{encode_lower, encode_with, lower_digits}
 use Rattle.bi_commands.specs.declared.format.Format.{Format}
 use Rattle.bi_commands.specs.declared.format.Format.TheVariants.{Lines, Json}
 use Rattle.bi_commands.specs.declared.verdict_counts.Counts.{Counts}
-use Rattle.bi_commands.specs.HashedImages.{images_of_blob}
+use Rattle.bi_commands.specs.FoundHashes.{images_of_blob}
 use Rattle.bi_commands.specs.Formats.{in_turn}
 use Rattle.bi_commands.specs.Json.{with_commas}
 use Rattle.bi_commands.specs.ReadReports.{after_hashes, before_hashes, hash_texts, legacy_report_text}

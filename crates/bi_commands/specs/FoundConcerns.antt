@@ -18,7 +18,7 @@ use Rattle.bi_commands.specs.declared.check.Allowed.{Allowed}
 use Rattle.bi_commands.specs.Checking.{AreConcerns, Concern, allows, default_concerns}
 use Rattle.bi_commands.specs.Checking.{hash_concerns, kind_of, list_concerns, payload_concerns}
 use Rattle.bi_commands.specs.Checking.{trailing_concerns}
-use Rattle.bi_commands.specs.HashedImages.{FoundHash, HashedImage, images_of_blob}
+use Rattle.bi_commands.specs.FoundHashes.{FoundHash, HashedImage, images_of_blob}
 use Rattle.bi_commands.specs.PayloadBounds.{IsOverPayloadBound}
 use Rattle.bi_commands.specs.ReadChecking.{end_of_read_payloads}
 

@@ -22,6 +22,7 @@ pub mod Unshown
 pub mod FitListing
 pub mod ReadChecking
 pub mod FoundConcerns
+pub mod FoundHashes
 pub mod ConcernValues
 pub mod ConcernsLeft
 pub mod CheckedImages

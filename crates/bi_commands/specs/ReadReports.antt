@@ -2,7 +2,7 @@ use Rattle.std.specs.Prelude.{ℕ, List, [], ◌++◌, codes, flat_map, map}
 use Rattle.bi_fit.specs.Judgement.{CheckedHash}
 use Rattle.bi_commands.specs.declared.format.Format.{Format}
 use Rattle.bi_commands.specs.declared.format.Format.TheVariants.{Lines, Json}
-use Rattle.bi_commands.specs.HashedImages.{HashedImage}
+use Rattle.bi_commands.specs.FoundHashes.{HashedImage}
 use Rattle.bi_commands.specs.Json.{json_line}
 use Rattle.bi_commands.specs.ReportJson.{hash_object, legacy_report_object, summary_object}
 use Rattle.bi_commands.specs.Reports.{CountsModel, Summary, hash_line, legacy_report, report_line}

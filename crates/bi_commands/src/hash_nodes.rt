@@ -35,7 +35,8 @@ pub struct HashNodes<'a, 'b> {
 
 impl<'a, 'b> HashNodes<'a, 'b> {
     ghost use Rattle.std.specs.Iterator.{YieldsFirstBy};
-    ghost use Rattle.bi_commands.specs.HashedImages.{found_hash_of, found_hashes, found_left};
+    ghost use Rattle.bi_commands.specs.FoundHashes.{found_hashes};
+    ghost use Rattle.bi_commands.specs.HashedImages.{found_hash_of, found_left};
     ghost use Rattle.bi_commands.specs.HashedImages.{hashes_left};
 
     /// Returns the hash nodes of the image of a node.
@@ -171,7 +172,8 @@ impl<'a, 'b> Model for PlacedImages<'a, 'b> {
 impl<'a, 'b> PlacedImages<'a, 'b> {
     ghost use Rattle.std.specs.Prelude.{◌∷◌, [], MatchOption};
     ghost use Rattle.bi_fit.specs.Content.{ImageModel};
-    ghost use Rattle.bi_commands.specs.HashedImages.{hashed_image, image_value};
+    ghost use Rattle.bi_commands.specs.FoundHashes.{hashed_image};
+    ghost use Rattle.bi_commands.specs.HashedImages.{image_value};
 
     /// Takes the first image, which is that of this node. Returns None if none is left.
     fn next_at(&mut self, node: NodeRef<'a, 'b>) -> Option<HashedImage<'a, 'b>>
@@ -199,7 +201,8 @@ pub(crate) struct HashedImages<'a, 'b> {
 }
 
 impl<'a, 'b> HashedImages<'a, 'b> {
-    ghost use Rattle.bi_commands.specs.HashedImages.{hashed_left, images_of_blob};
+    ghost use Rattle.bi_commands.specs.FoundHashes.{images_of_blob};
+    ghost use Rattle.bi_commands.specs.HashedImages.{hashed_left};
 
     /// Returns the images of a flattened image tree, whose hash nodes are judged by these digests
     /// of regions of its file.

@@ -13,7 +13,8 @@ ghost use Rattle.bi_commands.specs.Checking.{payload_concerns};
 ghost use Rattle.bi_commands.specs.ConcernValues.{found_or_none, found_value};
 ghost use Rattle.bi_commands.specs.ConcernsLeft.{image_left, images_left};
 ghost use Rattle.bi_commands.specs.FoundConcerns.{NodeItself, concerns_about, found_in_image};
-ghost use Rattle.bi_commands.specs.HashedImages.{hashes_left, image_value, images_of_blob};
+ghost use Rattle.bi_commands.specs.FoundHashes.{images_of_blob};
+ghost use Rattle.bi_commands.specs.HashedImages.{hashes_left, image_value};
 
 use super::concern::{Concern, is_good};
 use crate::hash_nodes::{HashNodes, HashedImage, HashedImages};

@@ -1,5 +1,6 @@
 use Rattle.std.proofs.Common.{false}
-use Rattle.bi_commands.specs.HashedImages.{hashed_left, images_of_blob}
+use Rattle.bi_commands.specs.FoundHashes.{images_of_blob}
+use Rattle.bi_commands.specs.HashedImages.{hashed_left}
 use Rattle.bi_commands.specs.ReadReports.{hash_texts}
 use Rattle.bi_commands.proofs.TextsInTurn.{AreInTurn}
 use Rattle.bi_commands.proofs.verify.put_images.Given as goal

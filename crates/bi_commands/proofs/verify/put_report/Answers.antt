@@ -1,6 +1,6 @@
 use Rattle.std.proofs.Common.{ℕ, List, ◌++◌, false}
 use Rattle.bi_commands.specs.Formats.{in_turn}
-use Rattle.bi_commands.specs.HashedImages.{images_of_blob}
+use Rattle.bi_commands.specs.FoundHashes.{images_of_blob}
 use Rattle.bi_commands.specs.ReadReports.{after_hashes, before_hashes, hash_texts}
 use Rattle.bi_commands.specs.VerdictCounts.{counts_model}
 use Rattle.bi_commands.proofs.ImageReports.{report_in_parts}

@@ -5,7 +5,7 @@ use Rattle.bi_fdt.specs.Views.{node_of}
 use Rattle.bi_fit.specs.Content.{image_model}
 use Rattle.bi_fit.proofs.Siblings.{from_first}
 use Rattle.bi_hash.specs.Regions.{bytes_of_region}
-use Rattle.bi_commands.specs.HashedImages.{FoundHash, found_hashes}
+use Rattle.bi_commands.specs.FoundHashes.{FoundHash, found_hashes}
 use Rattle.bi_commands.proofs.HashedImages.{verdicts_of_found}
 use Rattle.bi_commands.proofs.hash_nodes.HashNodes.new.Goals as goal
 

@@ -1,5 +1,5 @@
 use Rattle.std.proofs.Common.{length, ap, map, rules}
-use Rattle.bi_commands.specs.HashedImages.{FoundHash}
+use Rattle.bi_commands.specs.FoundHashes.{FoundHash}
 use Rattle.bi_commands.proofs.hash_nodes.HashNodesIterator.next.Goals as goal
 
 pub returns-in-Some-clause-steps : goal.returns-in-Some-clause-steps

@@ -4,7 +4,7 @@ use Rattle.bi_blob.specs.Lookups.{siblings}
 use Rattle.bi_fdt.specs.Views.{node_of}
 use Rattle.bi_fit.specs.ImageTree.{nodes_or_none}
 use Rattle.bi_fit.proofs.Siblings.{from_first}
-use Rattle.bi_commands.specs.HashedImages.{hashed_images}
+use Rattle.bi_commands.specs.FoundHashes.{hashed_images}
 use Rattle.bi_commands.proofs.hash_nodes.HashedImages.new.Goals as goal
 
 pub returns : goal.returns

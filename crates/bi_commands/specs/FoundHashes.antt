@@ -1,0 +1,48 @@
+use Rattle.std.specs.Prelude.{ℕ, List, [], ◌∷◌, Option, filter, map}
+use Rattle.bi_blob.specs.Lookups.{Sibling, siblings}
+use Rattle.bi_blob.specs.Tree.{FileNode}
+use Rattle.bi_fit.specs.Content.{FitModel, ImageModel}
+use Rattle.bi_fit.specs.HashNodes.{file_hash, file_hashes, file_images}
+use Rattle.bi_fit.specs.Judgement.{CheckedHash}
+use Rattle.bi_fit.specs.Names.{is_hash_name}
+
+-- The images of a flattened image tree that was read, with the verdicts on their hash nodes.
+
+-- A hash node with its verdict, and the node.
+pub record FoundHash : Type 0 where
+  pub node : Sibling FileNode
+  pub checked : CheckedHash
+
+-- The hash nodes among children of an image node with this name, of an image with this payload.
+abbrev pub found_hashes : (image : List ℕ) → (payload : Option (List ℕ))
+    → List (Sibling FileNode) → List FoundHash
+found_hashes image payload children =
+    map (λ hash. record { node = hash; checked = file_hash image payload hash })
+    (filter (λ child. is_hash_name child.name) children)
+
+-- An image: its node, its payload, if it has one, and its hash nodes, with their verdicts.
+pub record HashedImage : Type 0 where
+  pub node : Sibling FileNode
+  pub payload : Option (List ℕ)
+  pub hashes : List CheckedHash
+  pub found : List FoundHash
+
+-- The image of an image node that was read.
+abbrev pub hashed_image : Sibling FileNode → ImageModel → HashedImage
+hashed_image entry image = record {
+  node = entry;
+  payload = image.payload;
+  hashes = file_hashes entry.name image.payload (siblings entry.children);
+  found = found_hashes entry.name image.payload (siblings entry.children);
+}
+
+-- The images of these image nodes.
+abbrev pub hashed_images : List (Sibling FileNode) → List ImageModel → List HashedImage
+hashed_images [] images = []
+hashed_images (entry ∷ entries) [] = []
+hashed_images (entry ∷ entries) (image ∷ images) =
+    hashed_image entry image ∷ hashed_images entries images
+
+-- The images of a flattened image tree that was read.
+abbrev pub images_of_blob : FitModel → List HashedImage
+images_of_blob content = hashed_images (siblings (file_images content.blob)) content.images
