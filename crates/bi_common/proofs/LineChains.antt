@@ -1,7 +1,5 @@
-use Rattle.std.proofs.Common.{◌≡◌, ◌<◌, ◌+◌, ℕ, List, [], ◌∷◌, ◌++◌, length, take, get_or, flat_map, append-nil, ap, ◌∙◌, subst, sym}
-use Rattle.std.proofs.Common.{Result, IsErrAnd, append_assoc}
-use Rattle.std.proofs.lemmas.Grind.{flat_map-append}
-use Rattle.std.proofs.lemmas.List.{take_more}
+use Rattle.std.proofs.Common.{◌≡◌, ◌+◌, ℕ, List, ◌++◌, subst, sym}
+use Rattle.std.proofs.Common.{Result, IsErrAnd}
 use Rattle.bi_base.proofs.SinkLaws.{passed_on, wrote_after}
 use Rattle.bi_base.specs.Sinks.{AppendsInTurn, FailsAfter, FailsBefore, Wrote}
 use Rattle.bi_base.specs.declared.fault.Error.{Error}
@@ -41,20 +39,3 @@ pub one_more_appended : {S : Type 0} (appends : S → List ℕ → S → Type 0)
     → whole ≡ first ++ second → appends old first mid → appends mid second new → appends old whole new
 one_more_appended appends in_turn old mid new first second whole is done more = subst (λ bytes. appends old bytes new) (sym is)
     (in_turn old mid new first second done more)
-
--- One more piece of a list of pieces is appended.
-pub next_piece_appended : {S A : Type 0} (appends : S → List ℕ → S → Type 0) (in_turn : AppendsInTurn appends) (old mid new : S)
-    (f : A → List ℕ) (xs : List A) (i : ℕ) (d : A)
-    → i < length xs → appends old (flat_map f (take i xs)) mid → appends mid (f (get_or xs i d)) new →
-    appends old (flat_map f (take (i + 1) xs)) new
-next_piece_appended appends in_turn old mid new f xs i d within done more =
-    let piece = f (get_or xs i d) in
-    one_more_appended appends in_turn old mid new (flat_map f (take i xs)) piece _
-    (ap (flat_map f) (take_more xs i d within)
-    ∙ flat_map-append f (take i xs) (get_or xs i d ∷ [])
-    ∙ ap (λ l. flat_map f (take i xs) ++ l) (append-nil piece))
-    done more
-
--- One more piece of a text.
-pub one_more_piece : (first second later whole : List ℕ) → whole ≡ first ++ (second ++ later) → whole ≡ (first ++ second) ++ later
-one_more_piece first second later whole is = is ∙ sym (append_assoc first second later)

@@ -2,8 +2,7 @@ use Rattle.std.proofs.Common.{◌≡◌, ◌≢◌, ◌⊎◌, ℕ, suc, zero, �
 use Rattle.std.proofs.Common.{take, drop, inl, inr, refl, sym, ap, ap₂, subst, append_assoc, ◌∙◌, arith, codes, true≢false, ◌==◌, IfNone}
 use Rattle.std.proofs.Common.{IfSome, Option, None, Some}
 use Rattle.std.proofs.lemmas.Bool.{cases_lt, eqb-true}
-use Rattle.std.proofs.lemmas.List.{append-nil, take_all}
-use Rattle.std.proofs.lemmas.Grind.{flat_map-append}
+use Rattle.std.proofs.lemmas.List.{take_all}
 use Rattle.std.proofs.Math.Seq.{get_or-append_seam}
 use Rattle.std.specs.Fmt.{digit_glyph}
 use Rattle.std.specs.List.{flat_map}
@@ -52,14 +51,6 @@ no_more_bytes text name rest begins some none other are same =
     where_more ([], is, goes_on) = some goes_on
     where_more (byte ∷ later, is, goes_on) = none byte (flat_map shown_byte later)
         (byte_after name later byte (subst AreBytes is are)) goes_on
-
--- One more byte of a name, from the text that follows the others.
-pub one_more_byte : (text name rest later : List ℕ) (byte : ℕ) → flat_map shown_byte name ++ rest ≡ text → rest ≡ shown_byte byte ++ later →
-    flat_map shown_byte (name ++ byte ∷ []) ++ later ≡ text
-one_more_byte text name rest later byte begins is =
-    ap (λ bytes. bytes ++ later) (flat_map-append shown_byte name (byte ∷ [])
-    ∙ ap (λ bytes. flat_map shown_byte name ++ bytes) (append-nil (shown_byte byte)))
-    ∙ append_assoc (flat_map shown_byte name) (shown_byte byte) later ∙ ap (λ bytes. flat_map shown_byte name ++ bytes) (sym is) ∙ begins
 
 -- A text that is not empty, as its first byte and what follows it.
 pub first_and_rest : (text : List ℕ) (byte : ℕ) → 1 ≤ length text → get_or text 0 0 ≡ byte →

@@ -22,12 +22,6 @@ use Rattle.bi_describe.specs.MadeEntries.{images_entries, root_children_entries}
 -- The entries of nodes are those of the first node and then those of the nodes after it, and the entries of a node begin it, are those of
 -- its children, and end it.
 
--- Entries after two others.
-pub appended_twice : (start first second begun ended : List EntryModel) → begun ≡ start ++ first → ended ≡ begun ++ second →
-    ended ≡ start ++ (first ++ second)
-appended_twice start first second begun ended is_begun is_ended =
-    is_ended ∙ ap (λ l. l ++ second) is_begun ∙ append_assoc start first second
-
 -- One more entry that the code made.
 pub entries-push : (entries : List Entry) (entry : Entry) →
     map as_entry (entries ++ entry ∷ []) ≡ map as_entry entries ++ as_entry entry ∷ []

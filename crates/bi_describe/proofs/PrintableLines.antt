@@ -1,9 +1,9 @@
-use Rattle.std.proofs.Common.{◌≡◌, ◌≢◌, ℕ, ◌+◌, ◌≤◌, ◌==◌, not, Bool, true, false, cond, List, [], ◌∷◌, ◌++◌, flat_map, map, codes, nat_le}
+use Rattle.std.proofs.Common.{◌≡◌, ℕ, ◌+◌, ◌≤◌, ◌==◌, not, Bool, true, false, cond, List, [], ◌∷◌, ◌++◌, flat_map, map, codes, nat_le}
 use Rattle.std.proofs.Common.{bytes_eq, refl, arith, Some, None}
 use Rattle.std.specs.FinMap.{entries}
 use Rattle.std.specs.List.{AllByRecursion, join_with_byte, list_all}
 use Rattle.std.proofs.lemmas.Bool.{and_parts, leb-true}
-use Rattle.bi_base.proofs.ListMembers.{each-append, each-weaker}
+use Rattle.bi_base.proofs.ListMembers.{each-append}
 use Rattle.bi_blob.specs.Blob.{Reservation}
 use Rattle.bi_blob.specs.Tree.{Nodes, none, node, Property}
 use Rattle.bi_fit.specs.ImageTree.{ImageTree}
@@ -199,11 +199,3 @@ texts_of (words ∷ later) are = (joined_is_printable words are.0, texts_of late
 -- No line of a description has a byte below a space.
 pub texts_shown : (meaning : Meaning) → AllByRecursion NoneBelow (description_texts meaning)
 texts_shown meaning = texts_of (description_lines meaning) (lines_shown meaning)
-
--- So none has a newline.
-pub lines_have_no_newline : (meaning : Meaning) →
-    AllByRecursion (λ text. AllByRecursion (λ byte. byte ≢ 10) text) (description_texts meaning)
-lines_have_no_newline meaning =
-    each-weaker NoneBelow (λ text. AllByRecursion (λ byte. byte ≢ 10) text)
-    (λ text above. each-weaker (λ byte. 32 ≤ byte) (λ byte. byte ≢ 10) (λ byte is newline. omega (arith, is, newline)) text above)
-    (description_texts meaning) (texts_shown meaning)

@@ -12,12 +12,10 @@ use Rattle.bi_fit.specs.Names.{key_name}
 use Rattle.bi_fit.specs.HashNodes.{file_list, file_listed_in, listed_payload}
 use Rattle.bi_fit.proofs.FileLists.{payload_found, payload_named-missing}
 use Rattle.bi_common.specs.declared.format.Format.{Format}
-use Rattle.bi_common.specs.declared.format.Format.TheVariants.{Lines, Json}
+use Rattle.bi_common.specs.declared.format.Format.TheVariants.{Lines}
 use Rattle.bi_common.specs.Formats.{in_turn, is_later_after}
-use Rattle.bi_common.specs.Json.{comma}
 use Rattle.bi_common.specs.Shown.{line, shown_text}
 use Rattle.bi_common.proofs.FitLines.{joined_more}
-use Rattle.bi_common.proofs.JsonTexts.{one_value}
 use Rattle.bi_report.specs.FitListing.{key_line}
 use Rattle.bi_report.specs.declared.listed.KeyList.{KeyList}
 use Rattle.bi_report.specs.declared.listed.KeyList.TheVariants as listed
@@ -109,25 +107,6 @@ key_as_line format is_later configuration key result found lines is some =
     by listed.BadList is some = rw is refl
     by (listed.Missing index) is some = rw is refl
     by (listed.Images value) is some = rw is.is_listed refl
-
--- or one object.
-pub key_as_object : (format : Format) (is_later : Bool) (configuration : List ℕ) (key : Key) (result : ListResult) (found : KeyList) →
-    format ≡ Json → IsListed result found → ¬ (found ≡ listed.NoKey) →
-    (in_turn format is_later (key_texts format configuration key result)
-    ≡ comma is_later ++ flat_map (λ text. text) (key_objects key result))
-    × (true ≡ is_later_after is_later (key_texts format configuration key result))
-key_as_object format is_later configuration key result found json is some =
-    let object : List ℕ = flat_map (λ text. text) (key_objects key result) in
-    subst (λ (form : Format). (in_turn form is_later (key_texts form configuration key result) ≡ comma is_later ++ object)
-    × (true ≡ is_later_after is_later (key_texts form configuration key result))) (sym json)
-    (ap (in_turn Json is_later) (by found is some) ∙ one_value is_later object, ap (is_later_after is_later) (sym (by found is some)))
-  where
-    by : (other : KeyList) → IsListed result other → ¬ (other ≡ listed.NoKey) →
-        key_objects key result ≡ flat_map (λ text. text) (key_objects key result) ∷ []
-    by listed.NoKey is some = absurd (some refl)
-    by listed.BadList is some = rw is (ap (λ (text : List ℕ). text ∷ []) (sym (append-nil _)))
-    by (listed.Missing index) is some = rw is (ap (λ (text : List ℕ). text ∷ []) (sym (append-nil _)))
-    by (listed.Images value) is some = rw is.is_listed (ap (λ (text : List ℕ). text ∷ []) (sym (append-nil _)))
 
 -- The line of a key that lists names: its first words, where the name of the key is given as a word, the names, and a newline.
 pub line_of_names : (configuration : List ℕ) (key : Key) (word : List ℕ) (names : List (List ℕ)) → word ≡ key_name key →

@@ -5,10 +5,8 @@ use Rattle.std.specs.declared.alloc.Global.{Global}
 use Rattle.std.specs.List.{slice_get}
 use Rattle.std.proofs.lemmas.List.{drop_more, map-append}
 use Rattle.bi_blob.specs.Blob.{Reservation, end_pair}
-use Rattle.bi_legacy.specs.PlacedParts.{PartModel}
 use Rattle.bi_common.proofs.FitLines.{numbers_of, reservation_found, reservation_of}
 use Rattle.bi_show.specs.FitPages.{reservation_row}
-use Rattle.bi_show.specs.LegacyPages.{part_row, part_rows}
 use Rattle.bi_show.specs.Pages.{Table}
 use Rattle.bi_show.specs.Rows.{cells_of_rows, cells_of_row}
 
@@ -24,14 +22,6 @@ one_more_row rows new row cells later all is same whole =
     ∙ append_assoc (cells_of_rows rows) (cells_of_row row.items ∷ []) later
     ∙ ap (λ (c : List (List ℕ)). cells_of_rows rows ++ c ∷ later) same
     ∙ whole
-
--- The rows from a part on are its row and those of the later parts.
-pub rows_from_part : (count next index : ℕ) (source left : List PartModel) (part : PartModel) → source ≡ part ∷ left → index ≡ count →
-    next ≡ count + 1 → part_row index part ∷ part_rows next left ≡ part_rows count source
-rows_from_part count next index source left part first same more =
-    ap (λ (n : ℕ). part_row n part ∷ part_rows next left) same
-    ∙ ap (λ (n : ℕ). part_row count part ∷ part_rows n left) more
-    ∙ ap (part_rows count) (sym first)
 
 -- A row of a word and a cell is added.
 pub next_pair : (base done before after : Table) (word cell shown : List ℕ) → before ≡ base ++ done →

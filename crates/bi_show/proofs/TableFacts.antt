@@ -1,10 +1,10 @@
-use Rattle.std.proofs.Common.{◌≡◌, ◌⊎◌, inl, inr, ℕ, ◌+◌, ◌<◌, ◌≤◌, ◌==◌, max, false, List, [], ◌∷◌, ◌++◌, codes, flat_map, length}
+use Rattle.std.proofs.Common.{◌≡◌, ◌⊎◌, inl, inr, ℕ, ◌+◌, ◌<◌, ◌≤◌, ◌==◌, max, false, List, [], ◌∷◌, ◌++◌, codes, length}
 use Rattle.std.proofs.Common.{map, take, set, get_or}
-use Rattle.std.proofs.Common.{String, string_bytes, Vec, refl, sym, ap, ◌∙◌, subst, arith}
+use Rattle.std.proofs.Common.{String, string_bytes, refl, sym, ap, ◌∙◌, subst, arith}
 use Rattle.std.specs.declared.alloc.Global.{Global}
 use Rattle.std.proofs.lemmas.List.{length-map, length-take, map-append, take_more}
-use Rattle.bi_show.specs.Pages.{column_widths, concerns_text_of_page, later_cells, row_text, table_text, wider, with_row}
-use Rattle.bi_show.specs.Rows.{cells_of_rows, cells_of_row}
+use Rattle.bi_show.specs.Pages.{concerns_text_of_page, later_cells, wider, with_row}
+use Rattle.bi_show.specs.Rows.{cells_of_row}
 
 -- A table is written cell by cell and row by row.
 
@@ -81,18 +81,6 @@ no_more_cells left [] cells none = refl
 no_more_cells left (width ∷ widths) [] none = refl
 no_more_cells left (width ∷ widths) (cell ∷ cells) (inl none) = absurd cc
 no_more_cells left (width ∷ widths) (cell ∷ cells) (inr none) = absurd cc
-
--- A table is shown if and only if it has at least two rows.
-pub some_rows : (rows : List (Vec (String Global) Global)) → 2 ≤ length rows →
-    table_text (cells_of_rows rows) ≡ flat_map (row_text (column_widths (cells_of_rows rows))) (cells_of_rows rows) ++ 10 ∷ []
-some_rows [] many = absurd (omega (arith, many))
-some_rows (row ∷ []) many = absurd (omega (arith, many))
-some_rows (first ∷ next ∷ later) many = refl
-
-pub few_rows : (rows : List (Vec (String Global) Global)) → length rows < 2 → table_text (cells_of_rows rows) ≡ []
-few_rows [] few = refl
-few_rows (row ∷ []) few = refl
-few_rows (first ∷ next ∷ later) few = absurd (omega (arith, few))
 
 -- The lines of concerns come after a heading.
 pub some_concerns : (lines : List ℕ) → (length lines == 0) ≡ false → concerns_text_of_page lines ≡ codes "concerns\n" ++ lines

@@ -332,14 +332,6 @@ pub none_is_given : (options : ArgMatches) → AreGiven options None None None f
 none_is_given options given =
     record { default = false; default_is = given.default_is; none = count_given options None None None false given }
 
-pub one_is_given : (options : ArgMatches) (part image config : Option (List ℕ)) (default : Bool) →
-    AreGiven options part image config default → number_given part image config default ≢ 0 → IsAllFailure options NoSelection
-one_is_given options part image config default given other = record {
-  default = default;
-  default_is = given.default_is;
-  some = λ none. other (sym (count_given options part image config default given) ∙ none);
-}
-
 -- A bad value of `extract --all`.
 pub bad_all_request : {T : Type 0} (options : ArgMatches) (result : Result T Failure) → IsNoneGiven options →
     IfErr result (IsBadValue (IsAllRequest options)) → IfErr result (IsAllFailure options)

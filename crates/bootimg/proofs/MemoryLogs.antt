@@ -1,7 +1,7 @@
 use Rattle.std.proofs.Common.{◌≡◌, ◌≢◌, ◌⊎◌, ◌++◌, ◌∷◌, [], ◌∙◌, ◌<◌, ◌≤◌, ◌+◌, ◌-◌, ℕ, Bool, true, false, List, Option, Some, None, map}
 use Rattle.std.proofs.Common.{length, take, get_or, ap, arith, inl, inr, subst, sym, refl}
 use Rattle.std.specs.Borrow.{Bor}
-use Rattle.std.specs.Prelude.{IfSome, IsFalse, IsTrue, bytes_eq, if◌then◌else◌}
+use Rattle.std.specs.Prelude.{IfSome, IsFalse, bytes_eq, if◌then◌else◌}
 use Rattle.std.proofs.lemmas.List.{map_push, take_all, take_more}
 use Rattle.bi_base.proofs.EqualBytes.{same_bytes}
 use Rattle.bi_commands.specs.ExtractingAll.{PayloadFile}
@@ -12,7 +12,7 @@ use Rattle.bootimg.specs.declared.memory_files.Occupant.TheVariants as occupant
 use Rattle.bootimg.specs.declared.memory_files.StepKind.{StepKind}
 use Rattle.bootimg.specs.declared.memory_files.StepKind.TheVariants as kind
 use Rattle.bootimg.specs.declared.memory_files.WrittenFile.{WrittenFile}
-use Rattle.bootimg.specs.Files.{Directory, Entry, FileStep, Names, NoFile, OtherFile, RegularFile, TookSteps, Unusable}
+use Rattle.bootimg.specs.Files.{Directory, Entry, FileStep, Names, NoFile, OtherFile, RegularFile, Unusable}
 use Rattle.bootimg.specs.FilesAfter.{no_names, after_renaming, after_step, after_steps, HasContents, HaveContents, with_entry_at, with_file}
 use Rattle.bootimg.specs.FilesAfter.{with_files, with_files_in, without_file, written_bytes}
 use Rattle.bootimg.specs.LeftFiles.{LeavesFiles}
@@ -25,27 +25,6 @@ use Rattle.bootimg.proofs.LeftFiles.{run_leaves}
 -- What files in memory recorded.
 
 -- ---- one more step
-
-pub step_recorded : (was_lost is_lost : Bool) (old new : List MemoryStep) (step : MemoryStep) (name : List ℕ) → is_lost ≡ was_lost
-    → new ≡ old ++ step ∷ [] → step.name.now ≡ name
-    → TookSteps (recorded_steps was_lost old) (recorded_steps is_lost new) (named_step name step.kind ∷ [])
-step_recorded was_lost true old new step name same is named = tt
-step_recorded true false old new step name same is named = absurd (let no : false ≡ true = same in cc)
-step_recorded false false old new step name same is named = (
-  map recorded_step old,
-  refl,
-  ap (map recorded_step) is ∙ map_push recorded_step old step
-      ∙ ap (λ n. map recorded_step old ++ named_step n step.kind ∷ []) named,
-)
-
-pub step_lost : (old : Option (List FileStep)) (is_lost : Bool) (log : List MemoryStep) (steps : List FileStep) → IsTrue is_lost
-    → TookSteps old (recorded_steps is_lost log) steps
-step_lost old true log steps is = tt
-step_lost old false log steps is = absurd (let no : false ≡ true = is in cc)
-
-pub lost_steps : (is_lost : Bool) (log : List MemoryStep) → IsTrue is_lost → recorded_steps is_lost log ≡ None
-lost_steps true log is = refl
-lost_steps false log is = absurd (let no : false ≡ true = is in cc)
 
 names_after_one : (log : List MemoryStep) (step : MemoryStep)
     → recorded_names (log ++ step ∷ []) ≡ after_step (recorded_names log) (recorded_step step)

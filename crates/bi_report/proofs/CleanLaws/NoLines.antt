@@ -1,15 +1,12 @@
-use Rattle.std.proofs.Common.{◌≡◌, ◌↔◌, ℕ, Bool, true, false, ◌||◌, List, [], ◌∷◌, ◌++◌, flat_map, Contains, IsFalse, ◌⊎◌, inl, inr, refl}
+use Rattle.std.proofs.Common.{◌≡◌, ℕ, Bool, true, false, ◌||◌, List, [], ◌∷◌, ◌++◌, flat_map, Contains, IsFalse, ◌⊎◌, inl, inr, refl}
 use Rattle.std.proofs.Common.{sym}
 use Rattle.std.proofs.Common.{ap, ap₂, ◌∙◌, true≢false}
 use Rattle.std.specs.Prelude.{if◌then◌else◌}
 use Rattle.std.specs.List.{AllByRecursion, list_any}
 use Rattle.std.proofs.Math.Bool.{or-true}
-use Rattle.bi_base.specs.Limits.{Limits}
 use Rattle.bi_base.proofs.ListMembers.{Contains-none, Contains-cases, Contains-first, Contains-others}
-use Rattle.bi_common.specs.declared.format.Format.TheVariants.{Lines}
 use Rattle.bi_report.specs.declared.check.Allowed.{Allowed}
-use Rattle.bi_report.specs.CheckedFiles.{IsChecked}
-use Rattle.bi_report.specs.Checking.{Concern, allows, concern_line, concern_lines, kept_concerns, kind_of}
+use Rattle.bi_report.specs.Checking.{Concern, allows, concern_lines, kind_of}
 use Rattle.bi_report.proofs.ConcernLines.{lines_allowed, lines_append, lines_one}
 
 -- Concerns have no line if and only if each of them has none, and a concern that comes from a test has none if and only if it is allowed or
@@ -28,19 +25,6 @@ both_empty (x ∷ xs) ys e = absurd cc
 line_is_not_empty : (words : List ℕ) → ¬ (words ++ 10 ∷ [] ≡ [])
 line_is_not_empty [] e = absurd cc
 line_is_not_empty (x ∷ xs) e = absurd cc
-
--- There is no line if and only if there is no concern.
-no_concern_left : (kept : List Concern) → (flat_map concern_line kept ≡ []) ↔ (kept ≡ [])
-no_concern_left [] = (λ _. refl, λ _. refl)
-no_concern_left (first ∷ later) =
-    (λ none. absurd (line_is_not_empty _ (both_empty (concern_line first) (flat_map concern_line later) none).0), λ none. absurd cc)
-
--- So a text of lines is empty if and only if no concern is left.
-pub empty_if_none_left : (allowed : Allowed) (limits : Limits) (file text : List ℕ) (checked : IsChecked Lines allowed limits file text) →
-    (text ≡ []) ↔ (kept_concerns allowed checked.concerns ≡ [])
-empty_if_none_left allowed limits file text checked =
-    let lines = no_concern_left (kept_concerns allowed checked.concerns) in
-    (λ empty. lines.0 (sym checked.is_text ∙ empty), λ none. checked.is_text ∙ lines.1 none)
 
 -- The concerns of two lists.
 pub parts_have_none : (allowed : Allowed) (one later : List Concern) → HaveNoLine allowed (one ++ later) →
