@@ -12,13 +12,13 @@ use Rattle.bi_report.specs.FoundConcerns.{FoundConcern, kept_found}
 abbrev pub found_of : CheckedImage → List FoundConcern
 found_of image = found_in_content image.file.now image.content
 
--- The concerns that are left about an image,
+-- The concerns that are left about an image.
 abbrev pub concerns_left : Concerns → List FoundConcern
 concerns_left left =
     left_or_none images_left left.of_images
     ++ (left_or_none configurations_left left.of_configurations
     ++ (found_or_none left.of_default ++ found_or_none left.of_rest))
 
--- and those of them that are not allowed.
+-- Those of them that are not allowed.
 abbrev pub kept_left : KeptConcerns → List FoundConcern
 kept_left left = kept_found left.allowed (concerns_left left.concerns)

@@ -12,7 +12,7 @@ use Rattle.bi_report.specs.FoundConcerns.{Default, Rest}
 
 -- Concerns as the code has them.
 
--- A concern as the code has it,
+-- The concern of a value of the code.
 abbrev pub concern_value : ConcernValue → Concern
 concern_value (concern.BadHash image node hash) = BadHash (checked_hash_of hash)
 concern_value (concern.UnhashedImage image) = UnhashedImage (node_of image).name
@@ -23,7 +23,7 @@ concern_value (concern.MissingImage node key index) = MissingImage (node_of node
 concern_value (concern.BadDefault name property) = BadDefault (option_map (λ name. name.now) name)
 concern_value (concern.TrailingBytes count) = TrailingBytes count
 
--- what it is about,
+-- What that concern is about.
 abbrev pub subject_value : ConcernValue → Subject
 subject_value (concern.BadHash image node hash) = HashOf (node_of image) (node_of node)
 subject_value (concern.UnhashedImage image) = NodeItself (node_of image)
@@ -33,7 +33,7 @@ subject_value (concern.MissingImage node key index) = NodeItself (node_of node)
 subject_value (concern.BadDefault name property) = Default (option_map file_property_of property)
 subject_value (concern.TrailingBytes count) = Rest
 
--- and both.
+-- The concern and what it is about.
 abbrev pub found_value : ConcernValue → FoundConcern
 found_value value = record { concern = concern_value value; subject = subject_value value }
 
