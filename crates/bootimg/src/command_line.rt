@@ -176,10 +176,10 @@ pub fn parse_arguments<'a>(alloc: Global, arguments: &'a [&'a str]) -> Result<Or
         unreachable!()
     };
     if extracts_all(name, options) {
-        return match all_request(options) {
-            Ok(request) => Ok(Order::ExtractAll(request)),
-            Err(failure) => Err(Outcome::Failure(failure)),
-        };
+        match all_request(options) {
+            Ok(request) => return Ok(Order::ExtractAll(request)),
+            Err(failure) => return Err(Outcome::Failure(failure)),
+        }
     }
     let job = parse_job(alloc, name, options)?;
     let limits = limits(options)?;

@@ -1,9 +1,10 @@
 /* Loaded before the C library: the call that the environment variable FAILING_CALL names fails, as on a file system that is full. With
- * SUCCEEDING_CALLS this many calls of the name succeed first, and one fails after them. */
+ * SUCCEEDING_CALLS this many calls of the name succeed first, and one fails after them. With KILLED the program is killed there. */
 #define _GNU_SOURCE
 #include <dlfcn.h>
 #include <errno.h>
 #include <fcntl.h>
+#include <signal.h>
 #include <stdlib.h>
 #include <string.h>
 #include <sys/stat.h>
@@ -20,6 +21,9 @@ static int fails(const char *name)
     const char *succeeding = getenv("SUCCEEDING_CALLS");
     if (succeeding != NULL && calls++ != atoi(succeeding)) {
         return 0;
+    }
+    if (getenv("KILLED") != NULL) {
+        raise(SIGKILL);
     }
     errno = ENOSPC;
     return 1;

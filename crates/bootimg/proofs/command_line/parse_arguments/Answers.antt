@@ -17,8 +17,8 @@ unreachable-requires c =
     let bad : false ≡ true = c.in_default.ensures.variant ∙ there in
     cc
 
-pub parse_job-requires-command : goal.parse_job-requires-command
-parse_job-requires-command c =
+pub parse_job-requires-clause-command : goal.parse_job-requires-clause-command
+parse_job-requires-clause-command c =
     given_is_command (texts_of c.args.arguments.now) c.in-Some.name.now c.in-Some.options.now
     (arguments_give (app_of c.in_ok-program.field-0)
     (texts_of c.args.arguments.now) c.in_ok-matches.matches c.subcommand.result c.in-Some.name
