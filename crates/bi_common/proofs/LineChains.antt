@@ -1,5 +1,5 @@
 use Rattle.std.proofs.Common.{◌≡◌, ◌+◌, ℕ, List, ◌++◌, subst, sym}
-use Rattle.std.proofs.Common.{Result, IsErrAnd}
+use Rattle.std.proofs.Common.{Result, IsErrAnd, append_assoc, ◌∙◌}
 use Rattle.bi_base.proofs.SinkLaws.{passed_on, wrote_after}
 use Rattle.bi_base.specs.Sinks.{AppendsInTurn, FailsAfter, FailsBefore, Wrote}
 use Rattle.bi_base.specs.declared.fault.Error.{Error}
@@ -39,3 +39,7 @@ pub one_more_appended : {S : Type 0} (appends : S → List ℕ → S → Type 0)
     → whole ≡ first ++ second → appends old first mid → appends mid second new → appends old whole new
 one_more_appended appends in_turn old mid new first second whole is done more = subst (λ bytes. appends old bytes new) (sym is)
     (in_turn old mid new first second done more)
+
+-- One more piece of a text.
+pub one_more_piece : (first second later whole : List ℕ) → whole ≡ first ++ (second ++ later) → whole ≡ (first ++ second) ++ later
+one_more_piece first second later whole is = is ∙ sym (append_assoc first second later)
