@@ -414,9 +414,16 @@ def test_of(number, expression, pattern):
     return ["", *lines, f"    assert!(rt; matches!({expression}, {pattern}));", "}"]
 
 
-def call_of(edit):
-    """Returns the pattern of the name of the function of an edit in a call of it."""
-    return re.compile(rf"\b{edit.function.rpartition('::')[2]}(?=\(|::<)")
+def call_of(copy):
+    """Returns the pattern of the name of the function of a copy in a call of it. A method is called by its type, as `Type::name(`, or, if
+    it takes `self`, as `.name(`, of whatever type the value before the dot is. Functions of the same name of other types are not called."""
+    path, _, name = copy.edit.function.rpartition("::")
+    before = r"(?<![\w.:])"
+    if copy.text.startswith(" "):
+        by_type = rf"(?<=\b{path.rpartition('::')[2]}::)"
+        takes_self = re.search(r"\bfn \w+(?:<.*?>)?\(\s*(?:&(?:'\w+ )?)?(?:mut )?self\b", copy.text)
+        before = rf"(?:{by_type}|(?<=\.))" if takes_self else by_type
+    return re.compile(rf"{before}{name}(?=\(|::<)")
 
 
 def failed_tests(crate, texts, tests, call):
@@ -445,13 +452,13 @@ def differ(crate, edits, texts, call):
     edits = [edit for edit in edits if edit.differs]
     functions = functions_of(texts)
     copies = [copy for copy in (copy_of(edit, number, texts, functions) for number, edit in enumerate(edits, 1)) if copy]
-    copies = [copy for copy in copies if call_of(copy.edit).search(copy.edit.differs[0])]
+    copies = [copy for copy in copies if call_of(copy).search(copy.edit.differs[0])]
     rounds = [(texts, [(functions[edit.function].file, 2 * at, test_of(2 * at, *edit.differs[:2])) for at, edit in enumerate(edits)])]
     copied = add_copies(copies, texts)
     tests = []
     for copy in copies:
         number = 2 * edits.index(copy.edit) + 1
-        expression = call_of(copy.edit).sub(copy.function.rpartition("::")[2], copy.edit.differs[0])
+        expression = call_of(copy).sub(copy.function.rpartition("::")[2], copy.edit.differs[0])
         tests.append((copy.original.file, number, test_of(number, expression, copy.edit.differs[2])))
     rounds[0] = (copied, rounds[0][1] + tests)
     waiting = [edit for edit in edits if all(copy.edit != edit for copy in copies)]
