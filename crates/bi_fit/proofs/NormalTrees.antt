@@ -2,7 +2,6 @@ use Rattle.std.proofs.Common.{◌≡◌, ℕ, ◌+◌, ◌≤◌, Bool, true, fa
 use Rattle.std.proofs.Common.{subst, ◌∙◌, true≢false, arith, length-append}
 use Rattle.std.proofs.lemmas.List.{length-map}
 use Rattle.std.specs.Prelude.{IsSome}
-use Rattle.std.specs.List.{AllByRecursion}
 use Rattle.std.specs.FinMap.{entries}
 use Rattle.std.proofs.lemmas.Slice.Eq.{bytes_eq-Decides}
 use Rattle.std.proofs.lemmas.Slice.Zip.{AllZip-long}
@@ -11,7 +10,6 @@ use Rattle.bi_blob.specs.Tree.{AreNodes, EachOwn}
 use Rattle.bi_blob.specs.Lookups.{siblings, root_node}
 use Rattle.bi_blob.specs.Events.{events, events_of}
 use Rattle.bi_blob.specs.Following.{most_open_nodes, AreClosedEvents, MayFollowInText}
-use Rattle.bi_blob.specs.Blob.{IsReservation}
 use Rattle.bi_blob.proofs.Texts.TextContent.{blob_has_content}
 use Rattle.bi_blob.proofs.Blobs.EventTrees.{same_events}
 use Rattle.bi_blob.proofs.Texts.NormalEvents.{normal_events_have_one_tree}
@@ -189,10 +187,6 @@ module _ (content : FitModel) (held : IsHeld content) where
         (root_of content.blob).children held_nodes,
     tt,
   )
-
-  -- The memory reservations are reservations.
-  pub held_reservations : AllByRecursion IsReservation content.blob.reservations
-  held_reservations = (is_image_tree content.blob.file (tree_of content) held_means).are_reservations
 
   module _ (changes : Changes) (digests : List ℕ) (is_digests : digests ≡ new_digests changes (tree_of content)) where
     -- The image nodes are those of the images, and the bytes hold their digests.

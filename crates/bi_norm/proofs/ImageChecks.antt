@@ -45,15 +45,6 @@ pub record ArePassedTo (images : List ImageSpec) (index : ℕ) : Type 0 where
   pub bytes : AllByRecursion HasBytes (drop index images) → AllByRecursion HasBytes images
   pub first : 0 < index → AllPass (first_image_checks images)
 
--- None was made.
-pub passed_none : (images : List ImageSpec) → ArePassedTo images 0
-passed_none images = record {
-  passes = λ all. all;
-  fails = λ fault first. first;
-  bytes = λ all. all;
-  first = λ some. absurd (omega (arith, some));
-}
-
 -- The checks of an image that look at no other, if it is the first.
 first_fine : (images : List ImageSpec) (index : ℕ) (d : ImageSpec) → index < length images → index ≡ 0 →
     AllPass (fields_and_names index (get_or images index d)) → AllPass (first_image_checks images)
