@@ -355,7 +355,7 @@ class Image:
             node, algorithm = map(self._optional_text, (element.node, element.algorithm))
             return Concern(kind, name, node, algorithm, bootimg.VERDICTS[element.verdict])
         if kind == "weak-hash":
-            return Concern(kind, name, algorithms=self._good_algorithms(name))
+            return Concern(kind, name, algorithms=tuple(self._good_algorithms[name]))
         if kind == "bad-list":
             return Concern(kind, configuration=name, key=bootimg.KEYS[element.key])
         if kind == "missing":
@@ -365,10 +365,14 @@ class Image:
             return Concern(kind, default=name)
         return Concern(kind, size=element.size) if kind == "trailing" else Concern(kind, name)
 
-    def _good_algorithms(self, image: str | None) -> tuple[str, ...]:
-        """The algorithms of the hash nodes of an image whose verdict is good."""
-        hashes = [one for one in self.verify().hashes if one.image == image]
-        return tuple(one.algorithm or "" for one in hashes if one.verdict == "good")
+    @functools.cached_property
+    def _good_algorithms(self) -> dict[str | None, list[str]]:
+        """The algorithms of the hash nodes whose verdict is good, by the name of their image."""
+        algorithms: dict[str | None, list[str]] = {}
+        for one in self.verify().hashes:
+            if one.verdict == "good":
+                algorithms.setdefault(one.image, []).append(one.algorithm or "")
+        return algorithms
 
     def normalise(self, external: bool = False) -> bytes:
         """Returns the normal form of the file, as `bootimg.normalise` does."""

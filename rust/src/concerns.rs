@@ -2,6 +2,7 @@
 
 use crate::calls::{bytes_of, fill_of, fill_with_number, found};
 use crate::{sys, Concerns, Error, Key, Limits, Verdict};
+use std::collections::BTreeMap;
 
 /// A concern about a file: a thing in it that is not protected.
 #[derive(Clone, Debug, PartialEq, Eq)]
@@ -77,17 +78,25 @@ pub fn concerns(file: &[u8], allowed: Concerns, limits: Limits) -> Result<Vec<Co
     let (call, bits) = (sys::bootimg_concerns, allowed.bits());
     let (elements, _) = fill_with_number(call, bits, 16, file, limits)?;
     let is_weak = |one: &sys::Concern| one.kind == sys::CONCERN_WEAK_HASH;
-    let hashes = if elements.iter().any(is_weak) {
-        fill_of(sys::bootimg_verdicts, 16, file, limits)?.0
+    let mut algorithms = if elements.iter().any(is_weak) {
+        good_algorithms(file, &fill_of(sys::bootimg_verdicts, 16, file, limits)?.0)
     } else {
-        Vec::new()
+        BTreeMap::new()
     };
-    let concern = |element: &sys::Concern| concern_of(file, element, &hashes);
+    let concern = |element: &sys::Concern| concern_of(file, element, &mut algorithms);
     Ok(elements.iter().map(concern).collect())
 }
 
-/// Returns a concern about a file with these hash nodes.
-fn concern_of<'a>(file: &'a [u8], element: &sys::Concern, hashes: &[sys::Hash]) -> Concern<'a> {
+/// The algorithms of the good verdicts on the hash nodes of images, by the offset of the image's
+/// name.
+type Algorithms<'a> = BTreeMap<usize, Vec<&'a [u8]>>;
+
+/// Returns a concern about a file. One about weak hashes takes the algorithms of its image.
+fn concern_of<'a>(
+    file: &'a [u8],
+    element: &sys::Concern,
+    algorithms: &mut Algorithms<'a>,
+) -> Concern<'a> {
     let name = bytes_of(file, element.name);
     let key = Key::ALL.get(element.key as usize).copied();
     match (element.kind, key) {
@@ -100,7 +109,7 @@ fn concern_of<'a>(file: &'a [u8], element: &sys::Concern, hashes: &[sys::Hash]) 
         (sys::CONCERN_UNHASHED, _) => Concern::Unhashed { image: name },
         (sys::CONCERN_WEAK_HASH, _) => Concern::WeakHash {
             image: name,
-            algorithms: good_algorithms(file, element.name, hashes),
+            algorithms: algorithms.remove(&element.name.offset).unwrap_or_default(),
         },
         (sys::CONCERN_BAD_LIST, Some(key)) => Concern::BadList {
             configuration: name,
@@ -119,12 +128,14 @@ fn concern_of<'a>(file: &'a [u8], element: &sys::Concern, hashes: &[sys::Hash]) 
     }
 }
 
-/// Returns the algorithms of the good ones of these hash nodes that are of the image whose name is
-/// in a region.
-fn good_algorithms<'a>(file: &'a [u8], image: sys::Region, hashes: &[sys::Hash]) -> Vec<&'a [u8]> {
-    hashes
-        .iter()
-        .filter(|hash| hash.image == image && Verdict::from_number(hash.verdict) == Verdict::Good)
-        .map(|hash| bytes_of(file, hash.algorithm))
-        .collect()
+/// Returns the algorithms of the good ones of these hash nodes.
+fn good_algorithms<'a>(file: &'a [u8], hashes: &[sys::Hash]) -> Algorithms<'a> {
+    let mut algorithms = Algorithms::new();
+    for hash in hashes {
+        if Verdict::from_number(hash.verdict) == Verdict::Good {
+            let of_image = algorithms.entry(hash.image.offset).or_default();
+            of_image.push(bytes_of(file, hash.algorithm));
+        }
+    }
+    algorithms
 }
