@@ -44,7 +44,7 @@ _bootimg() {
             compare | diff) words="--quiet --json --limit -o --output" ;;
             check) words="--allow --json --offset --limit -o --output" ;;
             update) words="--time --hashes --external --offset --limit -o --output" ;;
-            extract) words="--part --image --config --default --key --index --escaped --offset --limit -o --output" ;;
+            extract) words="--part --image --config --default --all --key --index --escaped --offset --limit -o --output" ;;
             build-legacy) files= words="--os --arch --type --compression --name --time --load --entry --limit -o --output" ;;
             build-fit) files= words="--external --description --time --limit -o --output" ;;
             explain)

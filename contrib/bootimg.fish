@@ -59,6 +59,7 @@ complete -c bootimg -n '__bootimg_is extract' -l part -x -d 'The part of this in
 complete -c bootimg -n '__bootimg_is extract' -l image -x -d 'The payload of this image'
 complete -c bootimg -n '__bootimg_is extract' -l config -x -d 'A payload that this configuration lists'
 complete -c bootimg -n '__bootimg_is extract' -l default -d 'A payload that the default configuration lists'
+complete -c bootimg -n '__bootimg_is extract' -l all -d 'All payloads, each to a file of its own in a new directory'
 complete -c bootimg -n '__bootimg_is extract' -l key -x -d 'The list of the configuration' \
     -a 'kernel fdt ramdisk firmware loadables script'
 complete -c bootimg -n '__bootimg_is extract' -l index -x -d 'The index in the list'

@@ -152,7 +152,26 @@ enum bootimg_cause {
 #define BOOTIMG_VERDICT_NO_PAYLOAD 3u
 #define BOOTIMG_VERDICT_MALFORMED 4u
 
-/* `kinds` of bootimg_check: the lines that are left out. */
+/* `kind` of a concern: a thing in a file that is not protected. */
+enum bootimg_concern_kind {
+    /* The verdict on a hash node is not good. */
+    BOOTIMG_CONCERN_BAD_HASH = 1,
+    /* An image has a payload and no good verdict. */
+    BOOTIMG_CONCERN_UNHASHED = 2,
+    /* An image has a payload and good verdicts, but none of SHA-256, SHA-384 or SHA-512. */
+    BOOTIMG_CONCERN_WEAK_HASH = 4,
+    /* The value of a key of a configuration is not a list of names. */
+    BOOTIMG_CONCERN_BAD_LIST = 8,
+    /* A key of a configuration lists a name that no image has. */
+    BOOTIMG_CONCERN_MISSING = 16,
+    /* There are configurations, and the default names none of them. */
+    BOOTIMG_CONCERN_BAD_DEFAULT = 32,
+    /* A byte after the image is not zero. */
+    BOOTIMG_CONCERN_TRAILING = 64
+};
+
+/* `kinds` of bootimg_check and bootimg_concerns: the concerns that are left out. The numbers are
+ * those of enum bootimg_concern_kind. */
 #define BOOTIMG_ALLOW_BAD_HASH 1u
 #define BOOTIMG_ALLOW_UNHASHED 2u
 #define BOOTIMG_ALLOW_WEAK_HASH 4u
@@ -227,6 +246,33 @@ typedef struct bootimg_hash {
     bootimg_region value;
     uint32_t verdict;
 } bootimg_hash;
+
+/* A concern about a boot image. `kind` is one of BOOTIMG_CONCERN_*. Each kind has these members:
+ *
+ *   BOOTIMG_CONCERN_BAD_HASH     `name` of the image, `node`, `algorithm` and `verdict`.
+ *   BOOTIMG_CONCERN_UNHASHED     `name` of the image.
+ *   BOOTIMG_CONCERN_WEAK_HASH    `name` of the image. Its algorithms are those of the elements of
+ *                                bootimg_verdicts with this region as `image` and with
+ *                                BOOTIMG_VERDICT_GOOD.
+ *   BOOTIMG_CONCERN_BAD_LIST     `name` of the configuration, and `key`.
+ *   BOOTIMG_CONCERN_MISSING      `name` of the configuration, `key`, and `index`: that of the first
+ *                                listed name that no image has, counted from 0.
+ *   BOOTIMG_CONCERN_BAD_DEFAULT  `name`, which is the default.
+ *   BOOTIMG_CONCERN_TRAILING     `size`: the number of bytes after the image.
+ *
+ * `node` is the name of the hash node. `verdict` is one of BOOTIMG_VERDICT_BAD to
+ * BOOTIMG_VERDICT_MALFORMED, and `key` one of BOOTIMG_KERNEL to BOOTIMG_SCRIPT. The numbers of a
+ * region are 0 if it is not there. Members that the kind does not have are 0. */
+typedef struct bootimg_concern {
+    bootimg_region name;
+    bootimg_region node;
+    bootimg_region algorithm;
+    size_t index;
+    size_t size;
+    uint32_t kind;
+    uint32_t verdict;
+    uint32_t key;
+} bootimg_concern;
 
 /* An image of a FIT to be built. The name and the payload are regions of the input. `addresses` is
  * a sum of BOOTIMG_HAS_*, or 0. The codes are those of a legacy header. */
@@ -354,6 +400,13 @@ uint32_t bootimg_listed(const uint8_t *file, size_t file_size, const uint8_t *na
  * region of the file is read once for each algorithm that its hash nodes name. */
 uint32_t bootimg_verdicts(const uint8_t *file, size_t file_size, uint32_t limit, uint32_t depth,
                           bootimg_hash *hashes, size_t hashes_count, bootimg_result *answer);
+
+/* Writes the concerns about a file of either kind, in the order of the lines of bootimg_check.
+ * `kinds` is a sum of BOOTIMG_ALLOW_*, or 0: concerns of these kinds are left out. The call fails
+ * as bootimg_check does. */
+uint32_t bootimg_concerns(const uint8_t *file, size_t file_size, uint32_t kinds, uint32_t limit,
+                          uint32_t depth, bootimg_concern *concerns, size_t concerns_count,
+                          bootimg_result *answer);
 
 /* The calls that look at a node of a FIT take its path: `/` for the root, and else a `/` before the
  * name of each node from a child of the root down to it, for example `/images/kernel-1`. The names

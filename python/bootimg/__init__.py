@@ -225,6 +225,19 @@ class _HashElement(ctypes.Structure):
     ]
 
 
+class _ConcernElement(ctypes.Structure):
+    _fields_ = [
+        ("name", _Region),
+        ("node", _Region),
+        ("algorithm", _Region),
+        ("index", ctypes.c_size_t),
+        ("size", ctypes.c_size_t),
+        ("kind", ctypes.c_uint32),
+        ("verdict", ctypes.c_uint32),
+        ("key", ctypes.c_uint32),
+    ]
+
+
 class _PropertyElement(ctypes.Structure):
     _fields_ = [("name", _Region), ("value", _Region)]
 
@@ -248,6 +261,7 @@ _CALLS = {
     "describe_json": _FILE + _NUMBER * 2 + _BUFFER,
     "show": _FILE + _NUMBER * 3 + _BUFFER,
     "verdicts": _FILE + _NUMBER * 2 + _BUFFER,
+    "concerns": _FILE + _NUMBER * 3 + _BUFFER,
     "children": _FILE * 2 + _NUMBER * 2 + _BUFFER,
     "properties": _FILE * 2 + _NUMBER * 2 + _BUFFER,
     "property_value": _FILE * 3 + _NUMBER * 2,

@@ -322,11 +322,10 @@ class Image:
         return Verification(hashes, all(one.verdict == "good" for one in hashes))
 
     def _hash(self, element: bootimg._HashElement) -> Hash:
-        algorithm = self._optional_bytes(element.algorithm)
         return Hash(
             _decoded(self._bytes(element.image)),
             _decoded(self._bytes(element.node)),
-            None if algorithm is None else _decoded(algorithm),
+            self._optional_text(element.algorithm),
             bootimg.VERDICTS[element.verdict],
             self._optional_bytes(element.value),
         )
@@ -337,12 +336,43 @@ class Image:
     def _optional_bytes(self, region: bootimg._Region) -> bytes | None:
         return self._bytes(region) if region.offset else None
 
+    def _optional_text(self, region: bootimg._Region) -> str | None:
+        text = self._optional_bytes(region)
+        return None if text is None else _decoded(text)
+
     def check(self, allow: Iterable[str] = ()) -> tuple[Concern, ...]:
         """Returns the concerns about the file, except those of the kinds in `allow`, of
         CONCERNS. Raises Refused with TooLarge if the payloads together are longer than the
         limit."""
-        text = bootimg.check_json(self.file, allow, *self._bounds)
-        return tuple(map(_concern_of, json.loads(text)["concerns"]))
+        numbers = (bootimg._kinds_of(allow), *self._bounds)
+        elements = bootimg._elements("concerns", bootimg._ConcernElement, (self.file,), *numbers)
+        return tuple(map(self._concern, elements))
+
+    def _concern(self, element: bootimg._ConcernElement) -> Concern:
+        kind = bootimg.CONCERNS[element.kind.bit_length() - 1]
+        name = self._optional_text(element.name)
+        if kind == "bad-hash":
+            node, algorithm = map(self._optional_text, (element.node, element.algorithm))
+            return Concern(kind, name, node, algorithm, bootimg.VERDICTS[element.verdict])
+        if kind == "weak-hash":
+            return Concern(kind, name, algorithms=tuple(self._good_algorithms[name]))
+        if kind == "bad-list":
+            return Concern(kind, configuration=name, key=bootimg.KEYS[element.key])
+        if kind == "missing":
+            key = bootimg.KEYS[element.key]
+            return Concern(kind, configuration=name, key=key, index=element.index)
+        if kind == "bad-default":
+            return Concern(kind, default=name)
+        return Concern(kind, size=element.size) if kind == "trailing" else Concern(kind, name)
+
+    @functools.cached_property
+    def _good_algorithms(self) -> dict[str | None, list[str]]:
+        """The algorithms of the hash nodes whose verdict is good, by the name of their image."""
+        algorithms: dict[str | None, list[str]] = {}
+        for one in self.verify().hashes:
+            if one.verdict == "good":
+                algorithms.setdefault(one.image, []).append(one.algorithm or "")
+        return algorithms
 
     def normalise(self, external: bool = False) -> bytes:
         """Returns the normal form of the file, as `bootimg.normalise` does."""
@@ -442,14 +472,3 @@ def _header_of(listed: dict[str, Any]) -> LegacyHeader | FitHeader:
         for pair in listed["reservations"]
     ]
     return FitHeader(listed["boot_cpu"], listed["total_size"], tuple(reservations))
-
-
-def _concern_of(concern: dict[str, Any]) -> Concern:
-    members = dict(concern)
-    kind = members.pop("concern")
-    for member in ("image", "node", "algorithm", "configuration", "default"):
-        if member in members:
-            members[member] = _optional_name(members[member])
-    if "algorithms" in members:
-        members["algorithms"] = tuple(map(_name_of, members["algorithms"]))
-    return Concern(kind, **members)

@@ -1,7 +1,9 @@
 //! Takes images apart, and prints what they have: a line for each element, with names as hexadecimal
 //! digits. `tests/tools/c_library/structure.py` compares the lines.
 
-use bootimg::{Error, Fit, FitImage, Key, Legacy, Limits, Place, Verdict};
+use bootimg::{
+    concerns, Concern, Concerns, Error, Fit, FitImage, Key, Legacy, Limits, Place, Verdict,
+};
 
 /// The calls that refuse a file that is not a FIT.
 const FIT_CALLS: [&str; 7] = [
@@ -29,6 +31,10 @@ fn main() -> Result<(), Box<dyn std::error::Error>> {
                 print_node(&fit, b"/")?;
             }
             Err(error) => print_error(&FIT_CALLS, error),
+        }
+        match concerns(&file, Concerns::default(), Limits::default()) {
+            Ok(concerns) => concerns.iter().for_each(print_concern),
+            Err(error) => print_error(&["concerns"], error),
         }
     }
     Ok(())
@@ -97,24 +103,80 @@ fn print_fit(fit: &Fit) {
 
 fn print_verdicts(fit: &Fit) -> Result<(), Error> {
     for hash in fit.verdicts()? {
-        let or_none = |field: Option<&[u8]>| field.map_or("none".to_owned(), digits);
-        let verdict = match hash.verdict {
-            Verdict::Good => 0,
-            Verdict::Bad => 1,
-            Verdict::UnknownAlgorithm => 2,
-            Verdict::NoPayload => 3,
-            Verdict::Malformed => 4,
-            other => panic!("{other:?}"),
-        };
         println!(
-            "hash {} {} {} {} {verdict}",
+            "hash {} {} {} {} {}",
             digits(hash.image),
             digits(hash.node),
             or_none(hash.algorithm),
-            or_none(hash.value)
+            or_none(hash.value),
+            number_of(hash.verdict)
         );
     }
     Ok(())
+}
+
+fn or_none(field: Option<&[u8]>) -> String {
+    field.map_or("none".to_owned(), digits)
+}
+
+fn number_of(verdict: Verdict) -> u32 {
+    match verdict {
+        Verdict::Good => 0,
+        Verdict::Bad => 1,
+        Verdict::UnknownAlgorithm => 2,
+        Verdict::NoPayload => 3,
+        Verdict::Malformed => 4,
+        other => panic!("{other:?}"),
+    }
+}
+
+/// Prints the number of the kind of a concern, the names that it has, its numbers, and the
+/// algorithms of a weak hash.
+fn print_concern(concern: &Concern) {
+    let words = match concern {
+        Concern::BadHash {
+            image,
+            node,
+            algorithm,
+            verdict,
+            ..
+        } => {
+            let (image, node, algorithm) = (digits(image), digits(node), or_none(*algorithm));
+            format!("1 {image} {node} {algorithm} 0 0 {} 0", number_of(*verdict))
+        }
+        Concern::Unhashed { image, .. } => format!("2 {} none none 0 0 0 0", digits(image)),
+        Concern::WeakHash {
+            image, algorithms, ..
+        } => {
+            let algorithms: String = algorithms
+                .iter()
+                .map(|one| " ".to_owned() + &digits(one))
+                .collect();
+            format!("4 {} none none 0 0 0 0{algorithms}", digits(image))
+        }
+        Concern::BadList {
+            configuration, key, ..
+        } => format!(
+            "8 {} none none 0 0 0 {}",
+            digits(configuration),
+            *key as u32
+        ),
+        Concern::Missing {
+            configuration,
+            key,
+            index,
+            ..
+        } => {
+            let configuration = digits(configuration);
+            format!("16 {configuration} none none {index} 0 0 {}", *key as u32)
+        }
+        Concern::BadDefault { default, .. } => {
+            format!("32 {} none none 0 0 0 0", or_none(*default))
+        }
+        Concern::Trailing { size, .. } => format!("64 none none none 0 {size} 0 0"),
+        other => panic!("{other:?}"),
+    };
+    println!("concern {words}");
 }
 
 /// Prints the node at a path, and the nodes below it.

@@ -51,8 +51,8 @@ pub fn build_legacy(
         .iter()
         .map(|part| add_piece(&mut input, part))
         .collect();
-    let call = |buffer: *mut u8, room, answer: *mut _| {
-        // Safety: the input and the regions are as long as their lengths, and `fill` passes a
+    build_of(&input, |buffer, room, answer| {
+        // Safety: the input and the regions are as long as their lengths, and `build_of` passes a
         // buffer and its length.
         unsafe {
             sys::bootimg_build_legacy(
@@ -68,8 +68,7 @@ pub fn build_legacy(
                 answer,
             )
         }
-    };
-    Ok(fill(input.len() + 4096, call)?.0)
+    })
 }
 
 /// Returns a FIT with these images, each with the SHA-256 of its payload, and one configuration,
@@ -117,9 +116,9 @@ pub fn build_fit(
         .iter()
         .map(|image| element_of(image, &mut input))
         .collect();
-    let call = |buffer: *mut u8, room, answer: *mut _| {
+    build_of(&input, |buffer, room, answer| {
         // Safety: the input, the description and the elements are as long as their lengths, and
-        // `fill` passes a buffer and its length.
+        // `build_of` passes a buffer and its length.
         unsafe {
             sys::bootimg_build_fit(
                 input.as_ptr(),
@@ -137,7 +136,15 @@ pub fn build_fit(
                 answer,
             )
         }
-    };
+    })
+}
+
+/// Makes a call that builds an image of these bytes, and returns the image. There is room for the
+/// bytes and 4,096 more, for headers, nodes and digests, or for what the library asks for.
+fn build_of(
+    input: &[u8],
+    call: impl Fn(*mut u8, usize, *mut sys::Answer) -> u32,
+) -> Result<Vec<u8>, Error> {
     Ok(fill(input.len() + 4096, call)?.0)
 }
 

@@ -47,17 +47,17 @@ pub fn fill_of<T: Clone + Default>(
 }
 
 /// Makes a call on one file with a number, as `fill` does.
-pub fn fill_with_number(
-    call: sys::OnFileWithNumber,
+pub fn fill_with_number<T: Clone + Default>(
+    call: sys::OnFileWithNumber<T>,
     number: u32,
     room: usize,
     file: &[u8],
     Limits { limit, depth }: Limits,
-) -> Result<(Vec<u8>, usize), Error> {
+) -> Result<(Vec<T>, usize), Error> {
     let (bytes, size) = (file.as_ptr(), file.len());
-    fill(room, |buffer, room, answer| {
-        // Safety: the file is as long as its length, and `fill` passes a buffer and its length.
-        unsafe { call(bytes, size, number, limit, depth, buffer, room, answer) }
+    fill(room, |array, room, answer| {
+        // Safety: the file is as long as its length, and `fill` passes an array and its length.
+        unsafe { call(bytes, size, number, limit, depth, array, room, answer) }
     })
 }
 
@@ -95,6 +95,11 @@ pub fn fields_of<T: Default>(
 /// Returns the bytes of a file in a region that the library returned for it.
 pub fn bytes_of(file: &[u8], region: sys::Region) -> &[u8] {
     &file[region.offset..][..region.size]
+}
+
+/// Returns the bytes of a file in a region that the library returned for it, if there is one.
+pub fn found(file: &[u8], region: sys::Region) -> Option<&[u8]> {
+    (region.offset != 0).then(|| bytes_of(file, region))
 }
 
 /// Returns a text of the library, which is ASCII.

@@ -1,6 +1,6 @@
 //! The hash nodes of a FIT.
 
-use crate::calls::{bytes_of, fill_of};
+use crate::calls::{bytes_of, fill_of, found};
 use crate::{sys, Error, Fit};
 
 /// The verdict on a hash node.
@@ -23,7 +23,7 @@ pub enum Verdict {
 
 impl Verdict {
     /// Returns the verdict with a number of the library.
-    fn from_number(number: u32) -> Verdict {
+    pub(crate) fn from_number(number: u32) -> Verdict {
         match number {
             0 => Verdict::Good,
             1 => Verdict::Bad,
@@ -68,14 +68,9 @@ impl<'a> Fit<'a> {
         Hash {
             image: bytes_of(self.file, hash.image),
             node: bytes_of(self.file, hash.node),
-            algorithm: self.found(hash.algorithm),
-            value: self.found(hash.value),
+            algorithm: found(self.file, hash.algorithm),
+            value: found(self.file, hash.value),
             verdict: Verdict::from_number(hash.verdict),
         }
-    }
-
-    /// Returns the bytes of a region, if there is one.
-    fn found(&self, region: sys::Region) -> Option<&'a [u8]> {
-        (region.offset != 0).then(|| bytes_of(self.file, region))
     }
 }

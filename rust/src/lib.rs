@@ -19,6 +19,7 @@
 
 mod building;
 mod calls;
+mod concerns;
 mod error;
 mod fit;
 mod hashes;
@@ -28,6 +29,7 @@ mod sys;
 mod texts;
 
 pub use building::{build_fit, build_legacy, BuildImage};
+pub use concerns::{concerns, Concern};
 pub use error::{Cause, Error, Refusal};
 pub use fit::{Configuration, Fit, FitImage, Place, Reservation};
 pub use hashes::{Hash, Verdict};

@@ -14,7 +14,7 @@ pub struct Answer {
 
 /// Where bytes of a file are.
 #[repr(C)]
-#[derive(Clone, Copy, Debug, Default)]
+#[derive(Clone, Copy, Debug, Default, PartialEq, Eq)]
 pub struct Region {
     pub offset: usize,
     pub size: usize,
@@ -72,6 +72,20 @@ pub struct Hash {
     pub verdict: u32,
 }
 
+/// A concern about a file.
+#[repr(C)]
+#[derive(Clone, Copy, Debug, Default)]
+pub struct Concern {
+    pub name: Region,
+    pub node: Region,
+    pub algorithm: Region,
+    pub index: usize,
+    pub size: usize,
+    pub kind: u32,
+    pub verdict: u32,
+    pub key: u32,
+}
+
 /// A property of a node of a FIT.
 #[repr(C)]
 #[derive(Clone, Copy, Debug, Default)]
@@ -101,6 +115,14 @@ pub const OUT_OF_MEMORY: u32 = 2;
 pub const NO_ROOM: u32 = 3;
 pub const WRONG_ARGUMENT: u32 = 4;
 
+pub const CONCERN_BAD_HASH: u32 = 1;
+pub const CONCERN_UNHASHED: u32 = 2;
+pub const CONCERN_WEAK_HASH: u32 = 4;
+pub const CONCERN_BAD_LIST: u32 = 8;
+pub const CONCERN_MISSING: u32 = 16;
+pub const CONCERN_BAD_DEFAULT: u32 = 32;
+pub const CONCERN_TRAILING: u32 = 64;
+
 /// The first byte of a file, a name or a path.
 pub type Bytes = *const u8;
 
@@ -108,9 +130,9 @@ pub type Bytes = *const u8;
 pub type OnFile<T> =
     unsafe extern "C" fn(Bytes, usize, u32, u32, *mut T, usize, *mut Answer) -> u32;
 
-/// A call on one file that has a number and a buffer.
-pub type OnFileWithNumber =
-    unsafe extern "C" fn(Bytes, usize, u32, u32, u32, *mut u8, usize, *mut Answer) -> u32;
+/// A call on one file that has a number and an array.
+pub type OnFileWithNumber<T> =
+    unsafe extern "C" fn(Bytes, usize, u32, u32, u32, *mut T, usize, *mut Answer) -> u32;
 
 /// A call on two files, or on a file and a path, that has an array.
 pub type OnTwo<T> =
@@ -140,6 +162,7 @@ declare! {
     bootimg_configurations(Bytes, usize, u32, u32, *mut Region, usize);
     bootimg_listed(Bytes, usize, Bytes, usize, u32, u32, u32, *mut usize, usize);
     bootimg_verdicts(Bytes, usize, u32, u32, *mut Hash, usize);
+    bootimg_concerns(Bytes, usize, u32, u32, u32, *mut Concern, usize);
     bootimg_children(Bytes, usize, Bytes, usize, u32, u32, *mut Region, usize);
     bootimg_properties(Bytes, usize, Bytes, usize, u32, u32, *mut Property, usize);
     bootimg_property_value(Bytes, usize, Bytes, usize, Bytes, usize, u32, u32);

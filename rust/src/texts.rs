@@ -64,7 +64,7 @@ pub struct Concerns {
 
 impl Concerns {
     /// Returns a bit for each kind that is left out.
-    fn bits(self) -> u32 {
+    pub(crate) fn bits(self) -> u32 {
         [
             self.bad_hash,
             self.unhashed,
@@ -201,7 +201,7 @@ pub fn verify_json(file: &[u8], limits: Limits) -> Result<Report, Error> {
 
 /// Makes a call on one file with a number, that returns a text.
 fn text_with_number(
-    call: sys::OnFileWithNumber,
+    call: sys::OnFileWithNumber<u8>,
     file: &[u8],
     number: u32,
     limits: Limits,

@@ -1,10 +1,10 @@
 //! Calls on the images in `examples/`.
 
 use bootimg::{
-    build_fit, build_legacy, check, check_json, compare, compare_json, convert, describe,
+    build_fit, build_legacy, check, check_json, compare, compare_json, concerns, convert, describe,
     describe_json, kind, listing, listing_json, normalise, same_meaning, show, update, verify,
-    verify_json, version, BuildImage, Cause, Changes, Concerns, Error, Fit, Form, Header, Key,
-    Kind, Legacy, Limits, Place, Refusal, Verdict,
+    verify_json, version, BuildImage, Cause, Changes, Concern, Concerns, Error, Fit, Form, Header,
+    Key, Kind, Legacy, Limits, Place, Refusal, Verdict,
 };
 
 const ALL: Limits = Limits {
@@ -248,6 +248,56 @@ fn texts() {
     assert_eq!(
         check_json(&board, allowed, ALL).unwrap(),
         "{\"concerns\":[]}\n"
+    );
+}
+
+#[test]
+fn concerns_about_files() {
+    let (mut board, mut kernel) = (example("board.itb"), example("kernel.uimage"));
+    let found = concerns(&board, Concerns::default(), ALL).unwrap();
+    let [Concern::WeakHash {
+        image, algorithms, ..
+    }] = &found[..]
+    else {
+        panic!("{found:?}");
+    };
+    assert_eq!(
+        (*image, &algorithms[..]),
+        (&b"ramdisk-1"[..], &[&b"crc32"[..]][..])
+    );
+    let allowed = Concerns {
+        weak_hash: true,
+        ..Concerns::default()
+    };
+    assert_eq!(concerns(&board, allowed, ALL), Ok(Vec::new()));
+    let offset = Fit::read(&board, ALL)
+        .unwrap()
+        .image(b"fdt-1")
+        .unwrap()
+        .offset;
+    board[offset] ^= 1;
+    let found = concerns(&board, allowed, ALL).unwrap();
+    let [Concern::BadHash {
+        image,
+        node,
+        algorithm: Some(b"sha256"),
+        verdict: Verdict::Bad,
+        ..
+    }, Concern::Unhashed { image: other, .. }] = &found[..]
+    else {
+        panic!("{found:?}");
+    };
+    assert_eq!(
+        (*image, *node, *other),
+        (&b"fdt-1"[..], &b"hash-1"[..], &b"fdt-1"[..])
+    );
+    assert_eq!(concerns(&kernel, Concerns::default(), ALL), Ok(Vec::new()));
+    kernel.extend(b"\0\0x");
+    let found = concerns(&kernel, Concerns::default(), ALL).unwrap();
+    assert!(matches!(found[..], [Concern::Trailing { size: 3, .. }]));
+    assert_eq!(
+        concerns(b"", Concerns::default(), ALL),
+        Err(refusal(Cause::Truncated, 0, 1))
     );
 }
 

@@ -1,6 +1,6 @@
 #!/bin/sh
-# Runs the tests of bi_norm and bi_commands, which are in tests/calls/commands. They make the calls of these crates on small images, and
-# over readers and writers that fail. They are built and run without a proof.
+# Runs the tests of bi_norm, and of bi_commands and the crates whose commands it exports, which are in tests/calls/commands. They make the
+# calls of these crates on small images, and over readers and writers that fail. They are built and run without a proof.
 set -u
 
 root=$(cd "$(dirname "$0")/../.." && pwd)

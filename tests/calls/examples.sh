@@ -57,15 +57,15 @@ cd ..
 # Each of these calls has an example, and each example is one of them, so that none is left out.
 cat > calls << END
 bi_base_new
-bi_commands_compare
-bi_commands_describe
 bi_commands_extract
-bi_commands_listing
 bi_commands_update
-bi_commands_verify
+bi_describe_compare
+bi_describe_describe
 bi_fit_read
 bi_norm_build_legacy
 bi_norm_normalise
+bi_report_listing
+bi_report_verify
 END
 check "these calls have an example" diff calls found
 check "each example is there as often as its heading" test "$(grep -Rh '^ */// # Example$' "$root"/crates/*/src | wc -l)" = "$(wc -l < found)"

@@ -55,7 +55,7 @@ check "a clause that says less is found" \
     is_found crates/bi_norm/src/normal_form.rt 'ensures normal_form { IfOk result (λ text. IsNormalForm limits form file.now text.items) }' \
     'ensures normal_form { ⊤ }' 'the clauses do not cite `NormalForm.IsNormalForm`'
 check "a definition that says less is found" \
-    is_found crates/bi_commands/specs/CheckedFiles.antt 'pub are_concerns : AreConcerns limits file concerns' 'pub are_concerns : ⊤' \
+    is_found crates/bi_report/specs/CheckedFiles.antt 'pub are_concerns : AreConcerns limits file concerns' 'pub are_concerns : ⊤' \
     'the clauses do not cite `Checking.AreConcerns`'
 check "a field that is not there is found" \
     is_found crates/bi_norm/specs/NormalForm.antt 'pub distinguishes :' 'pub tells :' \

@@ -72,11 +72,12 @@ check "one script" starts wanted tests/tools/claims.sh
 of_crate() {
     run 0 crate "$1" && printf '%s\n' "rt check" "$2" "tests/prover/wrong_bodies.sh $1" | diff - started
 }
-for crate in bi_base bi_commands bi_c bootimg; do
+for crate in bi_base bi_report bi_commands bi_c bootimg; do
     mkdir -p "crates/$crate/src"
 done
 check "the tests of a crate of the formats" of_crate bi_base tests/calls/library.sh
 check "those of the commands" of_crate bi_commands tests/calls/commands.sh
+check "those of a crate that bi_commands exports" of_crate bi_report tests/calls/commands.sh
 check "those of the library for C" of_crate bi_c tests/tools/c_library.sh
 check "those of the program" of_crate bootimg tests/calls/program.sh
 

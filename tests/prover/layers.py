@@ -151,7 +151,9 @@ def check(crates, lower, upper, texts, functions, command):
     why = unread[0] if unread else fault(output, lambda name: name in functions)
     if why:
         return {function: (None, "\n".join([why, *output.splitlines()[-20:]])) for function in functions}
-    return {function: verdict(output, upper, function, functions_of(above)[function]) for function in functions}
+    # The lines that rattle names are those of the copy.
+    places = functions_of(remove_bodies(above, functions)[0])
+    return {function: verdict(output, upper, function, places[function]) for function in functions}
 
 
 def verdict(output, crate, name, function):

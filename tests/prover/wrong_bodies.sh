@@ -65,7 +65,7 @@ try='
     here=$1/tests/prover
     python3 "$here/wrong_bodies.py" $mode "$1/crates/$2" "$here/wrong_bodies/$2.edits" "$here/wrong_bodies.sh" "$2" > "$2.log" 2>&1'
 # The crates that take longest are the first.
-[ $# != 0 ] || set -- bootimg bi_commands bi_c bi_fit $(basename -s .edits "$here"/wrong_bodies/*)
+[ $# != 0 ] || set -- bootimg bi_report bi_c bi_fit $(basename -s .edits "$here"/wrong_bodies/*)
 printf '%s\n' "$@" | awk '!seen[$0]++' | xargs -n 1 -P "$(nproc)" sh -c "$try" sh "$root"
 for log in *.log; do
     [ -e "$log" ] || continue

@@ -75,6 +75,8 @@ check "another number of a place is found" is_found "PLACE_DATA_OFFSET 2u" "PLAC
 check "another number of a key is found" is_found "BOOTIMG_FDT 1u" "BOOTIMG_FDT 2u"
 check "another number of a change is found" is_found "BOOTIMG_CHANGE_HASHES 2u" "BOOTIMG_CHANGE_HASHES 4u"
 check "another number of a reason is found" is_found "BOOTIMG_NO_INDEX 8u" "BOOTIMG_NO_INDEX 9u"
+check "another number of a kind of concerns is found" is_found "CONCERN_MISSING = 16" "CONCERN_MISSING = 8"
+check "exchanged fields of a concern are found" is_found "size_t index;" "size_t size_, index;"
 check "another bit of a concern is found" is_found "ALLOW_WEAK_HASH 4u" "ALLOW_WEAK_HASH 2u"
 check "another limit is found" is_found "BOOTIMG_LIMIT 0x7fffffffu" "BOOTIMG_LIMIT 0xffffffffu"
 check "a constant that the library has not is found" is_found "#define BOOTIMG_FDT 1u" "&\\n#define BOOTIMG_TEE 6u"

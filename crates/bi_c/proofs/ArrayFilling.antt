@@ -1,6 +1,6 @@
 use Rattle.std.proofs.Common.{◌≡◌, ◌+◌, ◌<◌, ◌≤◌, ◌++◌, ℕ, List, [], ◌∷◌, length, take, drop, refl, sym, ap, ap₂, ◌∙◌}
 use Rattle.std.proofs.Common.{arith, append_assoc}
-use Rattle.std.proofs.Common.{append-nil, add-one, zero, suc, Some, None}
+use Rattle.std.proofs.Common.{append-nil, add-one, zero, suc, Some}
 use Rattle.std.specs.Prelude.{slice_get}
 use Rattle.std.proofs.Math.ListN.{set, length-set}
 use Rattle.std.proofs.lemmas.List.{take_more_set, drop-set-lt, take-append-drop}
@@ -75,10 +75,3 @@ found_at all index value is = rw add-one (by all index is)
     by [] index is = absurd cc
     by (first ∷ later) zero is = ap (λ it. it ∷ later) (same_in_some first _ is)
     by (first ∷ later) (suc index) is = by later index is
-
--- If the list has no element at an index, it has none from that index on.
-pub none_at : {T : Type 0} (all : List T) (index : ℕ) → slice_get all index ≡ None → drop index all ≡ []
-none_at [] zero is = refl
-none_at [] (suc index) is = refl
-none_at (first ∷ later) zero is = absurd cc
-none_at (first ∷ later) (suc index) is = none_at later index is

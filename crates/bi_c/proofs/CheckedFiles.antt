@@ -1,8 +1,8 @@
 use Rattle.std.proofs.Common.{◌≡◌, List, ℕ, subst}
 use Rattle.bi_base.specs.Limits.{Limits}
-use Rattle.bi_commands.specs.declared.check.Allowed.{Allowed}
-use Rattle.bi_commands.specs.declared.format.Format.{Format}
-use Rattle.bi_commands.specs.CheckedFiles.{IsCheckError}
+use Rattle.bi_common.specs.declared.format.Format.{Format}
+use Rattle.bi_report.specs.declared.check.Allowed.{Allowed}
+use Rattle.bi_report.specs.CheckedFiles.{IsCheckError}
 use Rattle.bi_c.specs.declared.failure.Failure.{Failure}
 use Rattle.bi_c.specs.Answers.{IsFailure, IsFailureBy}
 use Rattle.bi_c.specs.Arguments.{bounds, allowed_of}

@@ -1,7 +1,7 @@
 use Rattle.std.proofs.Common.{◌≡◌, ℕ, Bool, List, Result, IfOk, IfErr, inl, inr, refl, subst, sym}
 use Rattle.bi_base.specs.Limits.{Limits, IsInRange}
-use Rattle.bi_commands.specs.declared.compare.CompareError.{CompareError}
-use Rattle.bi_commands.specs.declared.compare.CompareError.TheVariants as compare
+use Rattle.bi_describe.specs.declared.compare.CompareError.{CompareError}
+use Rattle.bi_describe.specs.declared.compare.CompareError.TheVariants as compare
 use Rattle.bi_c.specs.declared.answer.Answer.{Answer}
 use Rattle.bi_c.specs.declared.failure.Failure.{Failure}
 use Rattle.bi_c.specs.Answers.{Fills, IsTextOf, IsFailureOf}

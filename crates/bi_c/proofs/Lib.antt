@@ -2,6 +2,7 @@ pub mod ArrayFilling
 pub mod CallAnswers
 pub mod CheckedFiles
 pub mod ComparedFiles
+pub mod ConcernFiles
 pub mod ExtractedFiles
 pub mod FitElements
 pub mod FitFiles

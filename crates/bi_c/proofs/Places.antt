@@ -1,11 +1,10 @@
 use Rattle.std.proofs.Common.{◌≡◌, ◌≤◌, ◌+◌, ℕ, zero, suc, Bool, true, false, List, [], ◌∷◌, length, map, slice_get, Option, Some}
-use Rattle.std.proofs.Common.{None, Bor, Result, Ok, Err, IfOk, IfErr, IfSome, refl, sym, ap, subst, ◌∙◌, arith, if◌then◌else◌, MatchOption}
-use Rattle.std.specs.Option.{option_map, option_and_then, ok_or}
+use Rattle.std.proofs.Common.{None, Result, Ok, Err, IfOk, IfErr, IfSome, refl, sym, ap, subst, ◌∙◌, arith, if◌then◌else◌, MatchOption}
+use Rattle.std.specs.Option.{option_and_then, ok_or}
 use Rattle.std.specs.List.{AllByRecursion}
 use Rattle.bi_base.specs.Limits.{Limits}
 use Rattle.bi_base.specs.Cells.{up4}
-use Rattle.bi_fit.specs.declared.image.Place.{Place}
-use Rattle.bi_fit.specs.Content.{FitModel, ImageModel, IsHeld, index_of, tree_of, place_or_absent, offset_of_place, ArePlaced}
+use Rattle.bi_fit.specs.Content.{FitModel, ImageModel, IsHeld, index_of, tree_of, place_or_absent, offset_of_place}
 use Rattle.bi_fit.specs.Judgement.{ListedImage, ListedImages, default_of, listed_of}
 use Rattle.bi_fit.specs.Payloads.{IsAt, IsAtPlace}
 use Rattle.bi_fit.specs.declared.key.Key.{Key}
@@ -33,20 +32,6 @@ placed_at : (file : List ℕ) (images : List ImageModel) (index : ℕ) →
 placed_at file [] index placed = tt
 placed_at file (image ∷ later) zero placed = placed.0
 placed_at file (image ∷ later) (suc index) placed = placed_at file later index placed.1
-
--- The same of the payload and the offset that were read.
-pub payload_placed : (content : FitModel) (index : ℕ) (payload : Option (Bor (List ℕ))) (place : Place) (offset : Option ℕ) →
-    ArePlaced content
-    → option_map (λ (bytes : Bor (List ℕ)). bytes.now) payload
-    ≡ option_and_then (λ (image : ImageModel). image.payload) (slice_get content.images index)
-    → place ≡ place_or_absent (slice_get content.images index) → offset ≡ offset_of_place place
-    → IsAtPlace content.blob.file offset (option_map (λ (bytes : Bor (List ℕ)). bytes.now) payload)
-payload_placed content index payload place offset placed is_payload is_place is_offset =
-    subst (λ (at : Option ℕ). IsAtPlace content.blob.file at (option_map (λ (bytes : Bor (List ℕ)). bytes.now) payload))
-    (sym (is_offset ∙ ap (λ (other : Place). offset_of_place other) is_place))
-    (subst (λ (bytes : Option (List ℕ)). IsAtPlace content.blob.file
-    (offset_of_place (place_or_absent (slice_get content.images index))) bytes) (sym is_payload)
-    (placed_at content.blob.file content.images index placed))
 
 -- The image of a name that was found has its payload there,
 pub named_payload_found : (content : FitModel) (name : List ℕ) (index : ℕ) (result : Option Region) → IsHeld content →

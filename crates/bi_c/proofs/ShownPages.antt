@@ -1,8 +1,8 @@
 use Rattle.std.proofs.Common.{◌≡◌, Bool, List, ℕ, refl, subst}
 use Rattle.bi_base.specs.declared.fault.Error.{Error}
 use Rattle.bi_base.specs.Limits.{Limits}
-use Rattle.bi_commands.specs.CheckedFiles.{IsCheckError}
-use Rattle.bi_commands.specs.ShownFiles.{IsPage}
+use Rattle.bi_report.specs.CheckedFiles.{IsCheckError}
+use Rattle.bi_show.specs.ShownFiles.{IsPage}
 use Rattle.bi_c.specs.Answers.{failure_of_error}
 use Rattle.bi_c.specs.Arguments.{bounds, HasLayout, is_yes}
 use Rattle.bi_c.specs.Calls.{IsPageFailure, IsPageText}

@@ -3,18 +3,10 @@ use Rattle.bi_blob.specs.Lookups.{Sibling, siblings}
 use Rattle.bi_blob.specs.Tree.{FileNode}
 use Rattle.bi_fit.specs.Content.{ImageModel, payloads_of_models}
 use Rattle.bi_fit.specs.Names.{is_hash_name}
-use Rattle.bi_hash.specs.declared.verdicts.Verdict.{Verdict}
-use Rattle.bi_c.specs.VerdictElements.{element_with_verdict, hash_elements, hash_elements_among, verdict_on}
+use Rattle.bi_c.specs.VerdictElements.{hash_elements, hash_elements_among}
 use Rattle.bi_c.specs.declared.verdicts.HashElement.{HashElement}
 
 -- The elements of hash nodes are added one after the other.
-
--- A child that is a hash node adds an element.
-pub hash_has_element : (image : Sibling FileNode) (payload : Option (List ℕ)) (child : Sibling FileNode) (verdict : Verdict) →
-    is_hash_name child.name ≡ true → verdict ≡ verdict_on payload child →
-    hash_elements_among image payload (child ∷ []) ≡ element_with_verdict image child verdict ∷ []
-hash_has_element image payload child verdict is judged =
-    rw is (ap (λ (v : Verdict). element_with_verdict image child v ∷ []) (sym judged))
 
 -- A child that is not a hash node adds none.
 pub other_has_none : (image : Sibling FileNode) (payload : Option (List ℕ)) (child : Sibling FileNode) →

@@ -58,16 +58,22 @@ of_named file Holds nothing each (first ∷ later) name have =
     by true rest = each first have.0
     by false rest = rest
 
+-- So a text at the beginning of its value is in its region.
+pub named_text : (file : List ℕ) (properties : List FileProperty) (name : List ℕ) → AllByRecursion (HasPropertyBytes file) properties →
+    HasPayloadBytes file (found_text_region (property_named properties name))
+    (option_and_then text_before_nul (value_named (map property_of properties) name))
+named_text file properties name have =
+    of_named file (λ found value. HasPayloadBytes file (found_text_region found) (option_and_then text_before_nul value)) tt
+    (λ property has. text_there file property has) properties name have
+
 -- The element of a hash node has the verdict on that node.
-is_element : (file : List ℕ) (image : Sibling FileNode) (payload : Option (List ℕ)) (hash : Sibling FileNode) → HasNameBytes file image →
-    HasNameBytes file hash → AllByRecursion (HasPropertyBytes file) hash.own.properties →
+pub is_element : (file : List ℕ) (image : Sibling FileNode) (payload : Option (List ℕ)) (hash : Sibling FileNode) →
+    HasNameBytes file image → HasNameBytes file hash → AllByRecursion (HasPropertyBytes file) hash.own.properties →
     IsHashElement file (element_with_verdict image hash (verdict_on payload hash)) (file_hash image.name payload hash)
 is_element file image payload hash image_there hash_there have = record {
   image = image_there;
   node = hash_there;
-  algorithm = of_named file
-      (λ found value. HasPayloadBytes file (found_text_region found) (option_and_then text_before_nul value)) tt
-      (λ property has. text_there file property has) hash.own.properties algo_name have;
+  algorithm = named_text file hash.own.properties algo_name have;
   value = of_named file (λ found value. HasPayloadBytes file (found_value_region found) value) tt
       (λ property has. has.value) hash.own.properties value_name have;
   verdict = refl;

@@ -1,8 +1,8 @@
 use Rattle.std.specs.Prelude.{ℕ, ◌/◌, ◌%◌, ◌==◌, ◌<◌, Bool, Some, None, if◌then◌else◌}
 use Rattle.bi_base.specs.Limits.{Limits, IsInRange}
-use Rattle.bi_commands.specs.declared.check.Allowed.{Allowed}
-use Rattle.bi_commands.specs.declared.check.Checker.{Checker}
-use Rattle.bi_commands.specs.declared.format.Format.{Format}
+use Rattle.bi_common.specs.declared.format.Format.{Format}
+use Rattle.bi_report.specs.declared.check.Allowed.{Allowed}
+use Rattle.bi_report.specs.declared.check.Checker.{Checker}
 use Rattle.bi_fit.specs.declared.changes.Changes.{Changes}
 use Rattle.bi_fit.specs.declared.form.Form.{Form}
 use Rattle.bi_fit.specs.declared.form.Form.TheVariants.{Embedded, External}

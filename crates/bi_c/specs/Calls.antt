@@ -10,14 +10,14 @@ use Rattle.bi_norm.specs.declared.kind.Kind.{Kind}
 use Rattle.bi_norm.specs.declared.kind.Kind.TheVariants.{Legacy, Fit}
 use Rattle.bi_norm.specs.Kinds.{BeginsAs, IsKindFault}
 use Rattle.bi_norm.specs.NormalForm.{IsNormaliseOutput, IsNormaliseError}
-use Rattle.bi_commands.specs.declared.check.Checker.{Checker}
-use Rattle.bi_commands.specs.declared.format.Format.{Format}
+use Rattle.bi_common.specs.declared.format.Format.{Format}
+use Rattle.bi_report.specs.declared.check.Checker.{Checker}
+use Rattle.bi_report.specs.CheckedFiles.{IsCheckError, IsCheckOutput}
+use Rattle.bi_describe.specs.declared.compare.CompareError.{CompareError}
+use Rattle.bi_describe.specs.declared.compare.CompareError.TheVariants as compare
+use Rattle.bi_show.specs.ShownFiles.{IsPage}
 use Rattle.bi_commands.specs.CauseSentences.{sentence_of}
-use Rattle.bi_commands.specs.CheckedFiles.{IsCheckError, IsCheckOutput}
-use Rattle.bi_commands.specs.ShownFiles.{IsPage}
 use Rattle.bi_commands.specs.UpdatedFiles.{IsUpdateOutput, IsUpdateError}
-use Rattle.bi_commands.specs.declared.compare.CompareError.{CompareError}
-use Rattle.bi_commands.specs.declared.compare.CompareError.TheVariants as compare
 use Rattle.bi_c.specs.Answers.{IsFailure}
 use Rattle.bi_c.specs.Arguments.{bounds, form_of, changes_of, checker_of, HasForm, HasChanges}
 use Rattle.bi_c.specs.Arguments.{HasLayout, is_yes}

@@ -3,15 +3,17 @@ use Rattle.bi_base.specs.declared.fault.Cause.TheVariants.{BadCell}
 use Rattle.bi_base.specs.declared.fault.Error.TheVariants as error
 use Rattle.bi_base.specs.declared.fault.Fault.{Fault}
 use Rattle.bi_base.specs.Limits.{Limits}
-use Rattle.bi_commands.specs.declared.compare.CompareError.TheVariants as compare
+use Rattle.bi_report.specs.KnownConcerns.{allowed_words}
+use Rattle.bi_report.specs.declared.check.ConcernKind.TheVariants as kind
+use Rattle.bi_describe.specs.declared.compare.CompareError.TheVariants as compare
 use Rattle.bi_commands.specs.declared.extract.ExtractError.TheVariants as extract
 use Rattle.bi_commands.specs.Extracting.{Choice, OfOtherKind, NoSuchPart, NoSuchImage}
 use Rattle.bi_commands.specs.Extracting.{NoSuchConfiguration, NoSuchKey, HasBadList}
 use Rattle.bi_commands.specs.Extracting.{HasMissingImage, NoSuchEntry, HasNoPayload}
-use Rattle.bi_commands.specs.KnownConcerns.{allowed_words}
 use Rattle.bi_fit.specs.Names.{key_name}
 use Rattle.bi_fit.specs.declared.configurations.ConfigError.TheVariants as list
 use Rattle.bi_fit.specs.declared.form.Form.TheVariants.{Embedded, External}
+use Rattle.bi_fit.specs.declared.key.Key.TheVariants as key
 use Rattle.bi_hash.specs.declared.verdicts.Verdict.TheVariants.{Good, Bad, UnknownAlgo, NoPayload}
 use Rattle.bi_hash.specs.declared.verdicts.Verdict.TheVariants.{Malformed}
 use Rattle.bi_norm.specs.declared.kind.Kind.TheVariants.{Legacy, Fit}
@@ -19,6 +21,7 @@ use Rattle.bi_c.specs.Answers.{answer_of, answer_of_failure, done, failure_of_er
 use Rattle.bi_c.specs.Answers.{status_of_failure}
 use Rattle.bi_c.specs.Arguments.{allowed_of, bounds, changes_of, form_of, has_bit, is_yes, key_of}
 use Rattle.bi_c.specs.Calls.{failure_of_compare_error, flag, kind_number}
+use Rattle.bi_c.specs.ConcernElements.{concern_number, key_number}
 use Rattle.bi_c.specs.Extracting.{IsReasonNumber, failure_of_extract_error}
 use Rattle.bi_c.specs.NodeElements.{IsNodeReason, IsPropertyReason, LacksNode, LacksProperty}
 use Rattle.bi_c.specs.TreeBuilding.{address_if}
@@ -110,7 +113,7 @@ pub record ExtractFailuresAreKnown : Type 0 where
   pub no_index : failure_of_extract_error extract.NoIndex ≡ NotFound 8 0
   pub no_payload : failure_of_extract_error extract.NoPayload ≡ NotFound 9 0
 
--- The kinds of images, and a yes and a no.
+-- The kinds of images, a yes and a no, the verdicts, the kinds of concerns, and the keys.
 pub record ValuesAreKnown : Type 0 where
   pub legacy : kind_number Legacy ≡ 1
   pub fit : kind_number Fit ≡ 2
@@ -118,6 +121,13 @@ pub record ValuesAreKnown : Type 0 where
   pub yes : flag true ≡ 1
   pub verdicts : map verdict_number (Good ∷ Bad ∷ UnknownAlgo ∷ NoPayload ∷ Malformed ∷ [])
       ≡ 0 ∷ 1 ∷ 2 ∷ 3 ∷ 4 ∷ []
+  pub concerns : map concern_number
+      (kind.BadHash ∷ kind.Unhashed ∷ kind.WeakHash ∷ kind.BadList ∷ kind.Missing
+      ∷ kind.BadDefault ∷ kind.Trailing ∷ [])
+      ≡ 1 ∷ 2 ∷ 4 ∷ 8 ∷ 16 ∷ 32 ∷ 64 ∷ []
+  pub keys : map key_number
+      (key.Kernel ∷ key.Fdt ∷ key.Ramdisk ∷ key.Firmware ∷ key.Loadables ∷ key.Script ∷ [])
+      ≡ 0 ∷ 1 ∷ 2 ∷ 3 ∷ 4 ∷ 5 ∷ []
 
 -- ---- arguments
 

@@ -1,6 +1,7 @@
 pub mod Answers
 pub mod Arguments
 pub mod Calls
+pub mod ConcernElements
 pub mod Extracting
 pub mod FitElements
 pub mod ImageElements

@@ -2,10 +2,12 @@
 
 ghost use Rattle.std.specs.Prelude.{◌≡◌, ◌↔◌, ◌<◌, IsSome, IfSome};
 ghost use Rattle.bi_base.specs.Limits.{IsInRange};
-ghost use Rattle.bi_c.specs.Arguments.{bounds, form_of as form_of_number};
+ghost use Rattle.bi_c.specs.Arguments.{allowed_of as allowed_of_number, bounds};
+ghost use Rattle.bi_c.specs.Arguments.{form_of as form_of_number};
 ghost use Rattle.bi_c.specs.Arguments.{has_bit as is_set, is_yes, key_of as key_of_number};
 
 use bi_base::Limits;
+use bi_commands::check::Allowed;
 use bi_fit::Key;
 use bi_norm::Form;
 
@@ -66,4 +68,23 @@ pub(crate) fn has_bit(mask: u32, number: u32) -> bool
     ensures { result ≡ is_set mask number }
 {
     (number / mask) % 2 == 1
+}
+
+/// Returns the kinds that these bits allow, if there are no other bits.
+pub(crate) fn allowed_of(kinds: u32) -> Option<Allowed>
+    ensures in_range { IsSome result ↔ kinds < 128 }
+    ensures value { IfSome result (λ allowed. allowed ≡ allowed_of_number kinds) }
+{
+    if kinds >= 128 {
+        return None;
+    }
+    Some(Allowed {
+        bad_hash: has_bit(1, kinds),
+        unhashed: has_bit(2, kinds),
+        weak_hash: has_bit(4, kinds),
+        bad_list: has_bit(8, kinds),
+        missing: has_bit(16, kinds),
+        bad_default: has_bit(32, kinds),
+        trailing: has_bit(64, kinds),
+    })
 }

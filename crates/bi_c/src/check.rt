@@ -1,17 +1,16 @@
 //! The concerns about a file.
 
-ghost use Rattle.std.specs.Prelude.{◌≡◌, ◌<◌, ◌↔◌, IsSome, IfSome};
 ghost use Rattle.bi_c.specs.Answers.{Fills, IsFailure, IsFailureBy};
-ghost use Rattle.bi_c.specs.Arguments.{allowed_of as allowed_of_number, bounds};
+ghost use Rattle.bi_c.specs.Arguments.{bounds};
 ghost use Rattle.bi_c.specs.Calls.{IsCheckText, IsConcernsText, HasKinds};
-ghost use Rattle.bi_commands.specs.CheckedFiles.{IsCheckError};
-ghost use Rattle.bi_commands.specs.declared.format.Format.TheVariants.{Lines, Json};
+ghost use Rattle.bi_common.specs.declared.format.Format.TheVariants.{Lines, Json};
+ghost use Rattle.bi_report.specs.CheckedFiles.{IsCheckError};
 
 use crate::answer::{Answer, fail, fill};
-use crate::arguments::{has_bit, limits_of};
+use crate::arguments::{allowed_of, limits_of};
 use crate::failure::{Failure, failure_of};
 use bi_base::{Limits, VecSink};
-use bi_commands::check::{Allowed, Checker, check_into};
+use bi_commands::check::{Checker, check_into};
 use bi_commands::format::Format;
 use std::alloc::Global;
 
@@ -92,23 +91,4 @@ fn fill_concerns(
         Ok(clean) => fill(&sink.into_vec(), usize::from(clean), buffer, answer),
         Err(error) => fail(failure_of(error), answer),
     }
-}
-
-/// Returns the kinds that these bits allow, if there are no other bits.
-fn allowed_of(kinds: u32) -> Option<Allowed>
-    ensures in_range { IsSome result ↔ kinds < 128 }
-    ensures value { IfSome result (λ allowed. allowed ≡ allowed_of_number kinds) }
-{
-    if kinds >= 128 {
-        return None;
-    }
-    Some(Allowed {
-        bad_hash: has_bit(1, kinds),
-        unhashed: has_bit(2, kinds),
-        weak_hash: has_bit(4, kinds),
-        bad_list: has_bit(8, kinds),
-        missing: has_bit(16, kinds),
-        bad_default: has_bit(32, kinds),
-        trailing: has_bit(64, kinds),
-    })
 }

@@ -5,8 +5,8 @@ ghost use Rattle.bi_c.specs.Answers.{Answers, Fills, IsTextOf, IsFailureOf};
 ghost use Rattle.bi_c.specs.Arguments.{bounds};
 ghost use Rattle.bi_c.specs.Calls.{IsSame, IsTextWithFlag, IsFailureOfTwo};
 ghost use Rattle.bi_c.specs.Calls.{failure_of_compare_error, flag};
-ghost use Rattle.bi_commands.specs.Comparing.{IsComparison, IsComparisonError, IsReadingError};
-ghost use Rattle.bi_commands.specs.declared.format.Format.TheVariants.{Lines, Json};
+ghost use Rattle.bi_common.specs.declared.format.Format.TheVariants.{Lines, Json};
+ghost use Rattle.bi_describe.specs.Comparing.{IsComparison, IsComparisonError, IsReadingError};
 
 use crate::answer::{Answer, fail, fill, succeed};
 use crate::arguments::limits_of;

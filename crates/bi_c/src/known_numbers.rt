@@ -31,7 +31,8 @@ pub fn extract_failures_are_known()
     ensures { ExtractFailuresAreKnown }
 {}
 
-/// The kinds of images, a yes and a no, and the verdicts are known numbers.
+/// The kinds of images, a yes and a no, the verdicts, the kinds of concerns and the keys are known
+/// numbers.
 pub fn values_are_known()
     ensures { ValuesAreKnown }
 {}

@@ -8,6 +8,7 @@ mod building;
 mod causes;
 mod check;
 mod compare;
+mod concerns;
 mod configurations;
 mod extract;
 mod failure;
@@ -31,6 +32,7 @@ mod verdicts;
 mod writing;
 
 pub use answer::Answer;
+pub use concerns::ConcernElement;
 pub use fit::{FitFields, ReservationElement};
 pub use fit_building::BuildElement;
 pub use images::ImageElement;

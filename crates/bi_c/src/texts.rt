@@ -3,10 +3,10 @@
 ghost use Rattle.std.specs.Prelude.{string_bytes};
 ghost use Rattle.bi_c.specs.Answers.{Fills, IsTextOf, IsFailureOf, failure_of_error};
 ghost use Rattle.bi_c.specs.Calls.{IsTextOnly, IsTextWithFlag, IsFailureOfOne, flag};
-ghost use Rattle.bi_commands.specs.Describing.{IsDescription, IsDescribeError};
-ghost use Rattle.bi_commands.specs.ListedFiles.{IsListing};
-ghost use Rattle.bi_commands.specs.declared.format.Format.TheVariants.{Lines, Json};
-ghost use Rattle.bi_commands.specs.VerifiedFiles.{IsVerifyOutput};
+ghost use Rattle.bi_common.specs.declared.format.Format.TheVariants.{Lines, Json};
+ghost use Rattle.bi_report.specs.ListedFiles.{IsListing};
+ghost use Rattle.bi_report.specs.VerifiedFiles.{IsVerifyOutput};
+ghost use Rattle.bi_describe.specs.Describing.{IsDescription, IsDescribeError};
 ghost use Rattle.bi_norm.specs.Converting.{IsConvertedFile, IsConvertError};
 ghost use Rattle.bi_norm.specs.Reading.{IsBootImageReadError};
 

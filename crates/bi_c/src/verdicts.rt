@@ -15,7 +15,8 @@ ghost use Rattle.bi_c.specs.Calls.{IsFailureOfOne};
 ghost use Rattle.bi_c.specs.VerdictElements.{AreHashElements, element_with_verdict};
 ghost use Rattle.bi_c.specs.VerdictElements.{found_text_region, found_value_region};
 ghost use Rattle.bi_c.specs.VerdictElements.{hash_elements as elements_of_hashes};
-ghost use Rattle.bi_c.specs.VerdictElements.{hash_elements_among, verdict_number};
+ghost use Rattle.bi_c.specs.VerdictElements.{hash_elements_among};
+ghost use Rattle.bi_c.specs.VerdictElements.{verdict_number as number_of_verdict};
 
 use crate::answer::{Answer, fail, fill};
 use crate::arguments::limits_of;
@@ -153,13 +154,13 @@ fn hash_element(image: NodeRef<'_, '_>, hash: NodeRef<'_, '_>, verdict: Verdict)
         node: name_region(hash),
         algorithm: text_of(hash.find_property(b"algo")),
         value: value_of(hash.find_property(b"value")),
-        verdict: number_of(verdict),
+        verdict: verdict_number(verdict),
     }
 }
 
 /// Returns where the bytes before the first zero in the value of a property are, if there are a
 /// property and a zero.
-fn text_of(property: Option<Property<'_>>) -> Region
+pub(crate) fn text_of(property: Option<Property<'_>>) -> Region
     ensures { result ≡ found_text_region (option_map file_property_of property.entry) }
 {
     let Some(property) = property else {
@@ -188,8 +189,8 @@ fn value_of(property: Option<Property<'_>>) -> Region
 }
 
 /// Returns the number of a verdict.
-fn number_of(verdict: Verdict) -> u32
-    ensures { result ≡ verdict_number verdict }
+pub(crate) fn verdict_number(verdict: Verdict) -> u32
+    ensures { result ≡ number_of_verdict verdict }
 {
     match verdict {
         Verdict::Good => 0,

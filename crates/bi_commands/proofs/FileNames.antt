@@ -8,15 +8,15 @@ use Rattle.std.specs.List.{AllByRecursion, flat_map}
 use Rattle.bi_base.specs.Cells.{AreBytes}
 use Rattle.bi_base.proofs.ListMembers.{each-append}
 use Rattle.bi_blob.specs.Tree.{IsNew}
+use Rattle.bi_common.specs.Shown.{digits_of_byte, is_plain, shown_byte, shown_text}
+use Rattle.bi_common.proofs.ReadableWords.Cuts.{HasNoEnd, first_same, later_same}
+use Rattle.bi_common.proofs.ReadableWords.Numbers.{IsAbove, AreDigits, decimal_above, decimal_below}
+use Rattle.bi_common.proofs.ReadableWords.ShownNames.{ShownName, Nothing, Dash, Others, ways, is_slash}
+use Rattle.bi_common.proofs.ReadableWords.ShownNames.{plain_no_percent, read_digits}
+use Rattle.bi_common.proofs.ReadableWords.ShownNames.{same_shown, shown_no_slash, some_shown}
+use Rattle.bi_common.proofs.UnshownNames.{glyph_is_digit}
 use Rattle.bi_commands.specs.ExtractingAll.{PayloadFile, IsSafeFileName, AreSafeFileNames, image_file_name, part_file_name, part_files}
 use Rattle.bi_commands.specs.ExtractingAll.{without_first_dot}
-use Rattle.bi_commands.specs.Shown.{digits_of_byte, is_plain, shown_byte, shown_text}
-use Rattle.bi_commands.proofs.ReadableDescriptions.Cuts.{HasNoEnd, first_same, later_same}
-use Rattle.bi_commands.proofs.ReadableDescriptions.Numbers.{IsAbove, AreDigits, decimal_above, decimal_below}
-use Rattle.bi_commands.proofs.ReadableDescriptions.ShownNames.{ShownName, Nothing, Dash, Others, ways, is_slash}
-use Rattle.bi_commands.proofs.ReadableDescriptions.ShownNames.{plain_no_percent, read_digits}
-use Rattle.bi_commands.proofs.ReadableDescriptions.ShownNames.{same_shown, shown_no_slash, some_shown}
-use Rattle.bi_commands.proofs.UnshownNames.{glyph_is_digit}
 
 -- Each payload has a safe name of a file. No two payloads have the same name.
 

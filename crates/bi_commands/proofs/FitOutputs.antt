@@ -10,7 +10,7 @@ use Rattle.bi_fit.specs.declared.building.Head.{Head}
 use Rattle.bi_norm.specs.declared.fit_building.ImageSpec.{ImageSpec}
 use Rattle.bi_norm.specs.FitBuilding.{IsBuilt, IsBuildError}
 use Rattle.bi_norm.specs.Cutting.{IsCut, IsCutError}
-use Rattle.bi_base.specs.Commands.{Appended, AppendFailed, WasRefused, SinkFailed}
+use Rattle.bi_base.specs.Commands.{AppendFailed, WasRefused, SinkFailed}
 use Rattle.bi_commands.specs.Parts.{IsFilled, lengths_of, pieces_among}
 use Rattle.bi_commands.specs.declared.parts.Part.{Part}
 use Rattle.bi_commands.specs.BuildCommands.{HavePayloads, IsFitOutput, IsFitOutputError, NotCut, NotBuilt}
@@ -62,17 +62,6 @@ is_output limits form head given parts input contents images text completed buil
   images = images;
   have = completed.have;
   built = built;
-}
-
--- Images that were built are the output.
-pub fit_output_appended : {S : Type 0} (appends : S → List ℕ → S → Type 0) (limits : Limits) (form : Form) (head : Head)
-    (given : List ImageSpec) (parts : List Part) (input : List ℕ) (contents : List (List ℕ)) (images : List ImageSpec) (old new : S) →
-    HasPayloads limits given parts input contents images → Appended appends (IsBuilt limits form head images) old new →
-    Appended appends (IsFitOutput limits form head given parts input) old new
-fit_output_appended appends limits form head given parts input contents images old new completed built = record {
-  text = built.text;
-  is_text = is_output limits form head given parts input contents images built.text completed built.is_text;
-  appended = built.appended;
 }
 
 -- Images that were not built were refused, or the sink failed.

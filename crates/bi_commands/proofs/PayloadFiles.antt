@@ -28,12 +28,12 @@ use Rattle.bi_norm.specs.Meaning.{Meaning, OfLegacy, OfFit, Means}
 use Rattle.bi_norm.specs.Reading.{IsBootImageReadError, IsReadBootImage, meaning_of}
 use Rattle.bi_norm.proofs.Comparisons.{opened_means}
 use Rattle.bi_norm.proofs.NormalForms.{needs_memory}
+use Rattle.bi_common.specs.PayloadBounds.{IsOverPayloadBound}
 use Rattle.bi_commands.specs.declared.extract_all.Payload.{Payload}
 use Rattle.bi_commands.specs.Extracting.{Chosen, choice_by_name, choice_of_image, choice_of_part, choice_of_payload}
 use Rattle.bi_commands.specs.ExtractingAll.{PayloadFile, IsSafeFileName, AreSafeFileNames, IsExtractedFile, OfPart, OfImage}
 use Rattle.bi_commands.specs.ExtractingAll.{AreAllPayloads, EachPayloadHasItsFile, FileNamesAreSafe, IsExtractAllError}
 use Rattle.bi_commands.specs.ExtractingAll.{image_file, image_file_name, image_files, part_file_name, part_files, payload_files}
-use Rattle.bi_commands.specs.PayloadBounds.{IsOverPayloadBound}
 use Rattle.bi_commands.specs.Payloads.{IsPayloadError, payload_file}
 use Rattle.bi_commands.proofs.Choices.{names_of_content}
 use Rattle.bi_commands.proofs.FileNames.{names_of_files, safe_part_names, safe_image_name, same_image_file}

@@ -10,10 +10,10 @@ use Rattle.bi_fit.specs.Judgement.{Image, images_of}
 use Rattle.bi_norm.specs.Comparing.{MeansOnly}
 use Rattle.bi_norm.specs.Meaning.{Meaning, OfLegacy, OfFit, Means}
 use Rattle.bi_norm.specs.Reading.{IsReadErrorOrTooLarge}
+use Rattle.bi_common.specs.PayloadBounds.{IsOverPayloadBound}
+use Rattle.bi_common.specs.Shown.{shown_text}
 use Rattle.bi_commands.specs.declared.extract.Select.TheVariants.{Part}
 use Rattle.bi_commands.specs.Extracting.{Chosen, choice_of, choice_by_name, MeansSuch}
-use Rattle.bi_commands.specs.PayloadBounds.{IsOverPayloadBound}
-use Rattle.bi_commands.specs.Shown.{shown_text}
 
 -- What `extract --all` writes: each payload of a boot image, in its own file (profile of this
 -- project).

@@ -1,20 +1,17 @@
 use Rattle.std.specs.Prelude.{[], ◌∷◌, None, Some, codes, replicate}
 use Rattle.bi_fit.specs.declared.form.Form.TheVariants.{Embedded}
 use Rattle.bi_fit.specs.ImageTree.{ImageTree}
-use Rattle.bi_fit.specs.KnownFiles.{plain_tree, shared_file, shared_region, shared_tree}
+use Rattle.bi_fit.specs.KnownFiles.{plain_tree, shared_file}
 use Rattle.bi_legacy.specs.KnownFaults.{limited_to}
 use Rattle.bi_legacy.specs.KnownImages.{multi_image}
-use Rattle.bi_norm.specs.Meaning.{Meaning, OfLegacy, OfFit}
+use Rattle.bi_norm.specs.Meaning.{OfLegacy, OfFit}
+use Rattle.bi_common.specs.PayloadBounds.{IsOverPayloadBound}
+use Rattle.bi_describe.specs.KnownRefusals.{three_payloads}
 use Rattle.bi_commands.specs.KnownUpdates.{no_changes, only_hashes, only_time}
-use Rattle.bi_commands.specs.PayloadBounds.{IsOverPayloadBound}
 use Rattle.bi_commands.specs.UpdatedFiles.{HashesTooMuch, IsTooLongToUpdate}
 
 -- Small boot images whose payloads are over the payload bound or within it, by which a reader can
 -- judge the definitions.
-
--- Three images with the same payload of 1,000 bytes.
-abbrev pub three_payloads : Meaning
-three_payloads = OfFit (shared_tree shared_region)
 
 -- An image with a payload of 100 bytes, one with an empty payload, and one without a payload.
 abbrev pub payload_of_100 : ImageTree

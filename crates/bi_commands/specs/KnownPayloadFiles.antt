@@ -3,9 +3,9 @@ use Rattle.bi_fit.specs.KnownFiles.{plain_tree, three_tree}
 use Rattle.bi_legacy.specs.KnownFaults.{limited_to}
 use Rattle.bi_legacy.specs.KnownImages.{kernel_image, multi_image}
 use Rattle.bi_norm.specs.Meaning.{OfLegacy, OfFit}
+use Rattle.bi_common.specs.PayloadBounds.{IsOverPayloadBound}
 use Rattle.bi_commands.specs.ExtractingAll.{part_file_name, image_file_name, IsSafeFileName}
 use Rattle.bi_commands.specs.ExtractingAll.{payload_files}
-use Rattle.bi_commands.specs.PayloadBounds.{IsOverPayloadBound}
 
 -- The files of the payloads of small boot images, by which a reader can judge the definitions.
 

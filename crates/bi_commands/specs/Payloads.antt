@@ -4,10 +4,10 @@ use Rattle.bi_base.specs.declared.fault.Error.{Error}
 use Rattle.bi_base.specs.Limits.{Limits}
 use Rattle.bi_base.specs.Reading.{too_large}
 use Rattle.bi_norm.specs.Meaning.{Meaning}
+use Rattle.bi_common.specs.PayloadBounds.{IsOverPayloadBound}
 use Rattle.bi_commands.specs.declared.extract_all.Payload.{Payload}
 use Rattle.bi_commands.specs.declared.extract_all.Payloads.{Payloads}
 use Rattle.bi_commands.specs.ExtractingAll.{PayloadFile}
-use Rattle.bi_commands.specs.PayloadBounds.{IsOverPayloadBound}
 
 -- The payloads that `extract_all` returns.
 

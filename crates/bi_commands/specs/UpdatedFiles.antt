@@ -16,7 +16,7 @@ use Rattle.bi_norm.specs.Comparing.{MeansOnly}
 use Rattle.bi_norm.specs.Meaning.{Meaning, OfLegacy, OfFit, Means, normal_text}
 use Rattle.bi_norm.specs.Meaning.{meaning_signature_count}
 use Rattle.bi_norm.specs.Reading.{IsReadErrorOrTooLarge}
-use Rattle.bi_commands.specs.PayloadBounds.{IsOverPayloadBound}
+use Rattle.bi_common.specs.PayloadBounds.{IsOverPayloadBound}
 
 -- Updating a boot image: its time, and the digests in its hash nodes (profile of this project).
 

@@ -4,17 +4,17 @@ ghost use Rattle.std.specs.Prelude.{◌≡◌, ◌++◌, [], ◌∷◌, map, IfO
 ghost use Rattle.bi_fit.specs.Content.{IsHeld, image_model, tree_of};
 ghost use Rattle.bi_norm.specs.Meaning.{OfFit};
 ghost use Rattle.bi_norm.specs.Reading.{meaning_of};
+ghost use Rattle.bi_common.specs.PayloadBounds.{IsOverPayloadBound};
+ghost use Rattle.bi_common.specs.HeldImages.{IsHeldImage};
 ghost use Rattle.bi_commands.specs.ExtractingAll.{AreAllPayloads, IsExtractAllError};
 ghost use Rattle.bi_commands.specs.ExtractingAll.{image_file, part_file_name};
 ghost use Rattle.bi_commands.specs.ExtractingAll.{part_files, payload_files};
 ghost use Rattle.bi_commands.specs.ExtractingAll.{image_file_name as image_file_name_of};
-ghost use Rattle.bi_commands.specs.PayloadBounds.{IsOverPayloadBound};
 ghost use Rattle.bi_commands.specs.Payloads.{IsPayloadError, payload_file, payloads_model};
-ghost use Rattle.bi_commands.specs.ReadDescription.{IsHeldImage};
 
-use crate::payload_bounds::BoundedFit;
-use crate::shown::{put_bytes, shown_name};
 use bi_base::{Error, Limits};
+use bi_common::payload_bounds::BoundedFit;
+use bi_common::shown::{put_bytes, shown_name};
 use bi_fit::{Fit, Image};
 use bi_legacy::Legacy;
 use bi_norm::BootImage;

@@ -10,8 +10,8 @@ ghost use Rattle.bi_commands.specs.UpdatedFiles.{IsUpdated, IsUpdateOutput, IsUp
 ghost use Rattle.bi_commands.specs.UpdatedFiles.{HasNewDigests, IsDigestsError};
 ghost use Rattle.bi_commands.specs.UpdatedFiles.{update_promise, update_laws};
 
-use crate::payload_bounds::BoundedFit;
 use bi_base::{Command, Error, Limits, Sink, VecSink, pipe_to};
+use bi_common::payload_bounds::BoundedFit;
 pub use bi_fit::Changes;
 use bi_fit::{Fit, Form};
 use bi_legacy::Legacy;

@@ -88,10 +88,10 @@ pub record IsApart (properties : PropertyMap) (payload : Option (List ℕ)) : Ty
   pub bytes : IfSome payload AreBytes
 
 -- What an image tree must be so that a file can mean it, if the file is not longer than its limit
--- and the tree not deeper than the limit of its depth: numbers are in their ranges, names are names,
--- names and values are bytes, there is a child `images`, and each image node has one payload or
--- none, apart from its properties. The depth is how many nodes are inside one another at most, the
--- root included (`depth_of`).
+-- and the tree not deeper than the limit of its depth: numbers are in their ranges, names are
+-- names, names and values are bytes, there is a child `images`, and each image node has one payload
+-- or none, apart from its properties. The depth is how many nodes are inside one another at most,
+-- the root included (`depth_of`).
 pub record IsImageTree (tree : ImageTree) : Type 0 where
   pub cpu_fits : tree.cpu < 2 ^ 32
   pub are_reservations : AllByRecursion IsReservation tree.reservations

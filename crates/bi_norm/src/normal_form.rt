@@ -17,9 +17,9 @@ use bi_legacy::Legacy;
 use std::alloc::Global;
 use std::io::{Read, Write};
 
-/// Returns the normal form of a boot image. Two accepted files have the same normal form if and only
-/// if they mean the same thing. `form` says where the normal form of a flattened image tree has the
-/// payloads; it has no effect on a legacy image.
+/// Returns the normal form of a boot image. Two accepted files have the same normal form if and
+/// only if they mean the same thing. `form` says where the normal form of a flattened image tree
+/// has the payloads; it has no effect on a legacy image.
 ///
 /// Fails with the first of these errors that applies, each as `Error::Refused`:
 ///

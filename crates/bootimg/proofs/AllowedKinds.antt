@@ -2,10 +2,10 @@ use Rattle.std.proofs.Common.{◌≡◌, ◌↔◌, ◌⊎◌, ℕ, false, List,
 use Rattle.std.proofs.Common.{true≢false}
 use Rattle.std.proofs.lemmas.List.Elements.{Contains-append_left, Contains-append_right, Contains-append_cases}
 use Rattle.bi_base.proofs.ListMembers.{Contains-none, Contains-cases, Contains-first, each-append, each-contains}
-use Rattle.bi_commands.specs.Checking.{kind_word, allows}
-use Rattle.bi_commands.specs.declared.check.Allowed.{Allowed}
-use Rattle.bi_commands.specs.declared.check.ConcernKind.{ConcernKind}
-use Rattle.bi_commands.specs.declared.check.ConcernKind.TheVariants as kind
+use Rattle.bi_report.specs.Checking.{kind_word, allows}
+use Rattle.bi_report.specs.declared.check.Allowed.{Allowed}
+use Rattle.bi_report.specs.declared.check.ConcernKind.{ConcernKind}
+use Rattle.bi_report.specs.declared.check.ConcernKind.TheVariants as kind
 use Rattle.bootimg.specs.CommandLine.{IsAllowed, IsKindWord, NoneIs}
 
 -- Words allow the kinds that they are the words for. No words allow no kind, and a word for no kind allows nothing.

@@ -9,7 +9,7 @@ use Rattle.std.proofs.lemmas.Slice.Zip.{all_zipped_more}
 use Rattle.bi_base.specs.Limits.{Limits}
 use Rattle.bi_base.specs.Pipes.{IsTracedPipe}
 use Rattle.bi_base.specs.declared.fault.Error.{Error}
-use Rattle.bi_commands.specs.KnownTexts.{lent}
+use Rattle.bi_commands.specs.KnownChoices.{lent}
 use Rattle.bi_commands.specs.declared.parts.Part.{Part}
 use Rattle.bi_commands.specs.declared.parts.Part.TheVariants.{Bytes, Length}
 use Rattle.bootimg.specs.CommandLine.{is_input, reads_input, sources_of}

@@ -4,6 +4,7 @@ use Rattle.std.proofs.Common.{Err, IfNone, IfSome, IfErr, MatchOption, length, a
 use Rattle.std.specs.List.{AllZip, position_or_len, before_first, after_first}
 use Rattle.std.specs.Option.{ok_or, option_map_or}
 use Rattle.std.specs.Result.{IsErrAnd}
+use Rattle.std.specs.Prelude.{OnOk}
 use Rattle.std.specs.Str.{bytes_eq}
 use Rattle.std.proofs.lemmas.List.{take_more, map-append}
 use Rattle.std.proofs.lemmas.List.Elements.{All-from_get_or}
@@ -14,7 +15,7 @@ use Rattle.bootimg.specs.CodeWords.{IsCode}
 use Rattle.clap.specs.Matches.{raw_values}
 use Rattle.clap.specs.declared.parser.matches.MatchedArg.{MatchedArg}
 use Rattle.bootimg.specs.CommandLine.{given_count, list_of, option_of, parts_of, texts_of, AreEscaped, AreGiven, AreImages, ArePartSources}
-use Rattle.bootimg.specs.CommandLine.{IsFailureOutcome, IsEntry, IsFirstBad, IsSelection, IsSelectionFailure}
+use Rattle.bootimg.specs.CommandLine.{IsAllFailure, IsAllRequest, IsNoneGiven, IsFailureOutcome, IsEntry, IsFirstBad, IsSelection, IsSelectionFailure}
 use Rattle.bootimg.specs.CommandLine.{IsAddress, IsBadValue, IsImage, IsImageText, IsNameOf, IsPartSource, NoneIs, SelectsDefault}
 use Rattle.bootimg.specs.Numbers.{IsNumber}
 use Rattle.bootimg.specs.declared.codes.CodeField.TheVariants.{Os, Arch, ImageType, Compression}
@@ -326,6 +327,17 @@ pub no_one : (options : ArgMatches) (part image config : Option (List ℕ)) (def
 no_one options part image config default given other =
     (default, given.default_is, λ one. other (sym (count_given options part image config default given) ∙ one))
 
+-- None is given, and so is nothing beside `--all`; or one at least is.
+pub none_is_given : (options : ArgMatches) → AreGiven options None None None false → IsNoneGiven options
+none_is_given options given =
+    record { default = false; default_is = given.default_is; none = count_given options None None None false given }
+
+-- A bad value of `extract --all`.
+pub bad_all_request : {T : Type 0} (options : ArgMatches) (result : Result T Failure) → IsNoneGiven options →
+    IfErr result (IsBadValue (IsAllRequest options)) → IfErr result (IsAllFailure options)
+bad_all_request options (Ok request) none bad = tt
+bad_all_request options (Err failure) none bad = subst (IsAllFailure options) (sym bad.0) (none, bad.1)
+
 -- Two names that are given as one option.
 same_word : {A : Type 0} {one other : A} (option : Option A) → option ≡ Some one → option ≡ Some other → one ≡ other
 same_word option is also = let e = sym is ∙ also in cc
@@ -425,3 +437,18 @@ err_if P (Err error) is gives = gives error is
 pub text_given : (options : ArgMatches) (id : List ℕ) (found : Option (Bor (List ℕ))) (text : Bor (List ℕ)) →
     option_map (λ s. s.now) found ≡ option_of options id → found ≡ Some text → option_of options id ≡ Some text.now
 text_given options id found text is was = sym is ∙ ap (option_map (λ s. s.now)) was
+
+-- An option that has to be given has this text.
+pub text_required : {E : Type 0} (options : ArgMatches) (id : List ℕ) (found : Option (Bor (List ℕ))) (error : E)
+    (result : Result (Bor (List ℕ)) E) (text : Bor (List ℕ)) → option_map (λ s. s.now) found ≡ option_of options id →
+    result ≡ ok_or found error → result ≡ Ok text → option_of options id ≡ Some text.now
+text_required options id None error result text is same was = absurd (let e : Err error ≡ Ok text = sym same ∙ was in cc)
+text_required options id (Some other) error result text is same was =
+    let e : Ok other ≡ Ok text = sym same ∙ was in
+    let equal : other ≡ text = cc in
+    sym is ∙ ap (λ (b : Bor (List ℕ)). Some b.now) equal
+
+-- A fact holds whether or not there is an error.
+pub if_ok : {T E : Type 0} {P : Type 0} (result : Result T E) → P → OnOk result P
+if_ok (Ok value) holds = holds
+if_ok (Err error) holds = tt

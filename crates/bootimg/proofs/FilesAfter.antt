@@ -12,7 +12,7 @@ use Rattle.bootimg.specs.Files.{WritingStopped, ClosingFailed, IsNotPutInPlace, 
 use Rattle.bootimg.specs.Files.{CannotBeReplaced, NoNewFile, NewFileFailed}
 use Rattle.bootimg.specs.FilesAfter.{with_entry_at, written_file, after_step, after_steps, HasFile, OthersAreSame, AreSameNames}
 use Rattle.bootimg.specs.FilesAfter.{HaveContents}
-use Rattle.bootimg.specs.FilesAfter.{LeavesNewFile}
+use Rattle.bootimg.specs.FilesAfter.{LeavesNewDirectory, LeavesNewFile}
 use Rattle.bootimg.proofs.NewFiles.{steps_in_turn}
 
 -- What has each name after an output was saved, or was not. `base` is what has each name before all steps.
@@ -34,7 +34,7 @@ with_entry_at-other names name other entry apart = at (bytes_eq other name) refl
     at true same = absurd (apart (same_bytes other name same))
     at false differs = refl
 
-is_no_file : (entry : Entry) → IsNoFile entry → entry ≡ NoFile
+pub is_no_file : (entry : Entry) → IsNoFile entry → entry ≡ NoFile
 is_no_file NoFile is = refl
 is_no_file entry is = absurd is
 
@@ -45,7 +45,7 @@ pub after_steps-append : (names : Names) (first second : List FileStep)
 after_steps-append names [] second = refl
 after_steps-append names (step ∷ first) second = after_steps-append (after_step names step) first second
 
-taken_change_nothing : (taken : List (List ℕ)) (names : Names) → after_steps names (map NameTaken taken) ≡ names
+pub taken_change_nothing : (taken : List (List ℕ)) (names : Names) → after_steps names (map NameTaken taken) ≡ names
 taken_change_nothing [] names = refl
 taken_change_nothing (name ∷ taken) names = taken_change_nothing taken names
 
@@ -55,7 +55,7 @@ Touches base name old new =
     IfSome new (λ after. (before : List FileStep) × (old ≡ Some before)
     × OthersAreSame name (after_steps base before) (after_steps base after))
 
-touches_in_turn : (base : Names) (name : List ℕ) (old middle new : Option (List FileStep)) → Touches base name old middle
+pub touches_in_turn : (base : Names) (name : List ℕ) (old middle new : Option (List FileStep)) → Touches base name old middle
     → Touches base name middle new → Touches base name old new
 touches_in_turn base name old middle None one other = tt
 touches_in_turn base name old None (Some after) one other = absurd (let none : None ≡ Some other.0 = other.1 in cc)
@@ -63,7 +63,7 @@ touches_in_turn base name old (Some between) (Some after) one other =
     let same : between ≡ other.0 = let is : Some between ≡ Some other.0 = other.1 in cc in
     (one.0, one.1, λ q apart. other.2 q apart ∙ ap (λ l. after_steps base l q) (sym same) ∙ one.2 q apart)
 
-touches_with : (base : Names) (name : List ℕ) (old new : Option (List FileStep)) (steps : List FileStep)
+pub touches_with : (base : Names) (name : List ℕ) (old new : Option (List FileStep)) (steps : List FileStep)
     → ((names : Names) → OthersAreSame name names (after_steps names steps)) → TookSteps old new steps → Touches base name old new
 touches_with base name old None steps others took = tt
 touches_with base name old (Some after) steps others took = (
@@ -97,7 +97,7 @@ keeps_with base old None steps same took = tt
 keeps_with base old (Some after) steps same took =
     (took.0, took.1, ap (λ l. after_steps base l) took.2 ∙ after_steps-append base took.0 steps ∙ same (after_steps base took.0))
 
-names_taken_keep : (base : Names) (name : List ℕ) (count : ℕ) (old new : Option (List FileStep)) → AreNamesTaken name count old new
+pub names_taken_keep : (base : Names) (name : List ℕ) (count : ℕ) (old new : Option (List FileStep)) → AreNamesTaken name count old new
     → KeepsNames base old new
 names_taken_keep base name count old new are = keeps_with base old new (map NameTaken are.taken) (taken_change_nothing are.taken) are.steps
 
@@ -150,7 +150,7 @@ not_put_touches base name beside bytes file old new (RenamingFailed closed is no
 
 -- ---- not saved
 
-not_made_keeps : (base : Names) (name : List ℕ) (failure : Failure) (old new : Option (List FileStep)) → IsNotMade name failure old new
+pub not_made_keeps : (base : Names) (name : List ℕ) (failure : Failure) (old new : Option (List FileStep)) → IsNotMade name failure old new
     → KeepsNames base old new
 not_made_keeps base name failure old new (NoMemoryForName number within taken why) = names_taken_keep base name number old new taken
 not_made_keeps base name failure old new (AllNamesTaken taken why) = names_taken_keep base name 10000 old new taken
@@ -161,7 +161,9 @@ not_made_keeps base name failure old new (MakingFailed number beside tried taken
 -- What a failure leaves, if the steps are known.
 abbrev pub LeftAfterFailure : (base names : Names) → (new : Option (List FileStep)) → Type 0
 LeftAfterFailure base names new =
-    IfSome new (λ after. AreSameNames names (after_steps base after) ⊎ LeavesNewFile names (after_steps base after) after)
+    IfSome new (λ after.
+    AreSameNames names (after_steps base after)
+    ⊎ (LeavesNewFile names (after_steps base after) after ⊎ LeavesNewDirectory names (after_steps base after) after))
 
 pub kept_is_left : (base names : Names) (old new : Option (List FileStep))
     → ((before : List FileStep) → old ≡ Some before → after_steps base before ≡ names) → KeepsNames base old new
@@ -169,17 +171,19 @@ pub kept_is_left : (base names : Names) (old new : Option (List FileStep))
 kept_is_left base names old None are keeps = tt
 kept_is_left base names old (Some after) are keeps = inl (λ q. ap (λ n. n q) (keeps.2 ∙ are keeps.0 keeps.1))
 
-removed_is_left : (base names : Names) (beside : List ℕ) (old failed new : Option (List FileStep))
+pub removed_is_left : (base names : Names) (beside : List ℕ) (old failed new : Option (List FileStep)) (step : FileStep)
     → ((before : List FileStep) → old ≡ Some before → after_steps base before ≡ names) → names beside ≡ NoFile
-    → Touches base beside old failed → TookSteps failed new (Removed beside ∷ []) → LeftAfterFailure base names new
-removed_is_left base names beside old failed None are unused touches took = tt
-removed_is_left base names beside old None (Some after) are unused touches took =
+    → Touches base beside old failed → ((n : Names) → after_step n step ≡ with_entry_at n beside NoFile)
+    → TookSteps failed new (step ∷ []) → LeftAfterFailure base names new
+removed_is_left base names beside old failed None step are unused touches removes took = tt
+removed_is_left base names beside old None (Some after) step are unused touches removes took =
     absurd (let none : None ≡ Some took.0 = took.1 in cc)
-removed_is_left base names beside old (Some between) (Some after) are unused touches took =
+removed_is_left base names beside old (Some between) (Some after) step are unused touches removes took =
     let same : between ≡ took.0 = let is : Some between ≡ Some took.0 = took.1 in cc in
     let now : (q : List ℕ) → after_steps base after q ≡ with_entry_at (after_steps base between) beside NoFile q =
     λ q.
-    ap (λ l. after_steps base l q) took.2 ∙ ap (λ n. n q) (after_steps-append base took.0 (Removed beside ∷ []))
+    ap (λ l. after_steps base l q) took.2 ∙ ap (λ n. n q) (after_steps-append base took.0 (step ∷ []))
+    ∙ ap (λ n. n q) (removes (after_steps base took.0))
     ∙ ap (λ l. with_entry_at (after_steps base l) beside NoFile q) (sym same)
     in
     inl (λ q. at q (bytes_eq q beside) refl (now q))
@@ -208,13 +212,13 @@ not_removed_is_left base names beside old failed new are unused touches took =
         → LeftAfterFailure base names new
     left None took touches = tt
     left (Some after) took touches =
-        inr (record {
+        inr (inl (record {
           beside = beside;
           earlier = took.0;
           not_removed = took.2;
           was_unused = unused;
           others_are_same = λ q apart. touches.2 q apart ∙ ap (λ n. n q) (are touches.0 touches.1);
-        })
+        }))
 
 pub not_saved_leaves : (base names : Names) (name bytes : List ℕ) (failure : Failure) (old new : Option (List FileStep))
     → ((before : List FileStep) → old ≡ Some before → after_steps base before ≡ names) → IsNotSaved (Some names) name bytes failure old new
@@ -224,10 +228,10 @@ not_saved_leaves base names name bytes failure old new are (CannotBeReplaced can
 not_saved_leaves base names name bytes failure old new are (NoNewFile can not_made) =
     kept_is_left base names old new are (not_made_keeps base name failure old new not_made)
 not_saved_leaves base names name bytes failure old new are (NewFileFailed beside file made failed can is not_put (inl took) why) =
-    removed_is_left base names beside old failed new are (is_no_file (names beside) is.is_unused)
+    removed_is_left base names beside old failed new (Removed beside) are (is_no_file (names beside) is.is_unused)
     (touches_in_turn base beside old made failed (made_touches base (Some names) name beside file old made is)
     (not_put_touches base name beside bytes file made failed not_put))
-    took
+    (λ n. refl) took
 not_saved_leaves base names name bytes failure old new are (NewFileFailed beside file made failed can is not_put (inr took) why) =
     not_removed_is_left base names beside old failed new are (is_no_file (names beside) is.is_unused)
     (touches_in_turn base beside old made failed (made_touches base (Some names) name beside file old made is)
@@ -237,17 +241,17 @@ not_saved_leaves base names name bytes failure old new are (NewFileFailed beside
 -- ---- saved
 
 -- The bytes that were written to a new file whose bytes are known.
-filled_file : (old new : Option (List ℕ)) (bytes : List ℕ) → (known : (held : List ℕ) × (old ≡ Some held)) → HasNoBytes old
+pub filled_file : (old new : Option (List ℕ)) (bytes : List ℕ) → (known : (held : List ℕ) × (old ≡ Some held)) → HasNoBytes old
     → Appends old new bytes → unwrap_or new [] ≡ bytes
 filled_file None new bytes known none appends = absurd (let no : None ≡ Some known.0 = known.1 in cc)
 filled_file (Some held) None bytes known none appends = absurd appends
 filled_file (Some held) (Some now) bytes known none appends = appends ∙ ap (λ l. l ++ bytes) none
 
-HaveContents-later : (first second : List FileStep) → HaveContents (first ++ second) → HaveContents second
+pub HaveContents-later : (first second : List FileStep) → HaveContents (first ++ second) → HaveContents second
 HaveContents-later [] second have = have
 HaveContents-later (step ∷ first) second have = HaveContents-later first second have.1
 
-HaveContents-first : (first second : List FileStep) → HaveContents (first ++ second) → HaveContents first
+pub HaveContents-first : (first second : List FileStep) → HaveContents (first ++ second) → HaveContents first
 HaveContents-first [] second have = tt
 HaveContents-first (step ∷ first) second have = (have.0, HaveContents-first first second have.1)
 

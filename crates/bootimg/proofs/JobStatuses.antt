@@ -1,7 +1,7 @@
 use Rattle.std.proofs.Common.{◌≡◌, ◌<◌, ℕ, Bool, true, false, List, Option, Result, Ok, Err, arith, subst, sym}
 use Rattle.bi_base.specs.declared.fault.Cause.{Cause}
 use Rattle.bi_base.specs.Limits.{Limits}
-use Rattle.bi_commands.specs.Offsets.{input_from}
+use Rattle.bi_common.specs.Offsets.{input_from}
 use Rattle.bi_commands.specs.declared.parts.Part.{Part}
 use Rattle.bootimg.specs.declared.command_line.ImagePlan.{ImagePlan}
 use Rattle.bootimg.specs.declared.command_line.Job.{Job}

@@ -7,6 +7,7 @@ use Rattle.bi_commands.specs.declared.parts.Part.TheVariants.{Bytes, Length}
 use Rattle.bootimg.specs.declared.command_line.Job.{Job}
 use Rattle.bootimg.specs.declared.command_line.Job.TheVariants.{Run as RunTask, Compare, Build, Explain}
 use Rattle.bootimg.specs.declared.command_line.Request.{Request}
+use Rattle.bootimg.specs.declared.command_line.extract.AllRequest.{AllRequest}
 use Rattle.bootimg.specs.declared.command_line.ImagePlan.{ImagePlan}
 use Rattle.bootimg.specs.declared.command_line.build.BuildPlan.{BuildPlan}
 use Rattle.bootimg.specs.declared.command_line.part.PartSource.{PartSource}
@@ -16,20 +17,22 @@ use Rattle.bootimg.specs.declared.command_line.source.ImageSource.{ImageSource}
 use Rattle.bootimg.specs.declared.failure.Failure.{Failure}
 use Rattle.bootimg.specs.declared.jobs.Problem.{Problem}
 use Rattle.bootimg.specs.declared.tasks.Done.{Done}
-use Rattle.bootimg.specs.CommandLine.{IsRequest, sources_of}
+use Rattle.bootimg.specs.CommandLine.{IsAllRequested, IsRequest, sources_of}
 use Rattle.bootimg.specs.Files.{FileStep, KnownFiles, Names, Opened, NotOpened, ReaderClosed, WasOpened, WasNotOpened}
 use Rattle.clap.specs.declared.error.kind.ErrorKind.{ErrorKind}
-use Rattle.bootimg.specs.FilesAfter.{after_steps, AreSameNames, HasFile, HaveContents}
-use Rattle.bootimg.specs.LeftFiles.{LeavesFiles, OutputIsThere, NoFileIsNamed, NothingIsRequested, HasFailed}
+use Rattle.bootimg.specs.FilesAfter.{after_steps, AreSameNames, HasDirectory, HasFile, HaveContents}
+use Rattle.bootimg.specs.LeftFiles.{LeavesFiles, DirectoryIsThere, OutputIsThere, NoFileIsNamed, NothingIsRequested, HasFailed}
 use Rattle.bootimg.specs.Runs.{Inputs, Run, Work, IsFileRead, IsFileNotRead, CouldNotOpen, OpenedNotRead, IsImageRead, InputRead, FileRead}
 use Rattle.bootimg.specs.Runs.{IsImageNotRead, InputNotRead, FileNotRead, IsPart, ArePartsRead, IsImageWork, DoneOnInput, DoneOnFile}
 use Rattle.bootimg.specs.Runs.{FileNotOpened, IsCompareWork, BothRead, OneNotRead, OtherNotRead, IsBuildWork, BuiltWithInput, BuiltOfFiles}
 use Rattle.bootimg.specs.Runs.{PartNotRead, NoRoom, IsJobWork, IsSavedWork, OutputSaved, OutputNotSaved, NoOutput, IsOutputRun}
 use Rattle.bootimg.specs.Runs.{ToStandardOutput, ToFile, IsEnd, EndsWell, EndsWithFailure, IsTextRun, IsWritten, IsNotWritten}
-use Rattle.bootimg.specs.Runs.{IsUsage, IsRun, RanJob, Rejected, WroteText, inputs_before, inputs_after}
+use Rattle.bootimg.specs.Runs.{IsUsage, IsRun, RanJob, ExtractedAll, Rejected, WroteText, inputs_before, inputs_after}
+use Rattle.bootimg.specs.Runs.{IsAllWork, PayloadsSaved, PayloadsNotSaved, NotExtracted, NothingRead}
 use Rattle.bootimg.proofs.JobStatuses.{job_status_below_2}
 use Rattle.bootimg.proofs.FilesAfter.{KeepsNames, keeps_same, keeps_in_turn, keeps_with, LeftAfterFailure, kept_is_left, not_saved_leaves}
 use Rattle.bootimg.proofs.FilesAfter.{saved_leaves}
+use Rattle.bootimg.proofs.DirectoriesAfter.{directory_not_saved_leaves, directory_saved_leaves}
 
 -- What a run leaves of the files.
 
@@ -209,6 +212,43 @@ output_run_leaves base names arguments request run outcome output is named are (
     saved_work_leaves base names arguments request name (inputs_before run) (inputs_after run) run.errors run.new_errors run.status outcome
     is named are saved end contents
 
+all_work_leaves : (base names : Names) (arguments : List (List ℕ)) (request : AllRequest) (before after : Inputs)
+    (errors new_errors : WriteTrace) (status : ℕ) (outcome : Result Done Problem) → IsAllRequested arguments request
+    → AreNames base names before.steps → IsAllWork (Some names) request before after outcome → IsEnd errors new_errors status outcome
+    → IfSome after.steps HaveContents → RunLeaves base names arguments before.input.remaining status after.steps
+all_work_leaves base names arguments request before after errors new_errors status outcome is are
+    (PayloadsSaved file name payloads read image all word saved done ended ends) end contents =
+    there after.steps
+    (directory_saved_leaves base names name payloads read after.steps
+    (kept_names base names before.steps read are (image_read_keeps base (Some names) request.limits before _ file request.source image))
+    all.safe.distinct saved contents)
+  where
+    there : (new : Option (List FileStep)) → IfSome new (λ l. HasDirectory names (after_steps base l) name payloads)
+        → RunLeaves base names arguments before.input.remaining status new
+    there None has = tt
+    there (Some l) has =
+        DirectoryIsThere request file name payloads before (record { input = after.input; steps = read }) is refl image all word
+        (status_at_ok errors new_errors status outcome done end ends ∙ ended.is_status) has
+all_work_leaves base names arguments request before after errors new_errors status outcome is are
+    (PayloadsNotSaved file name payloads read image all word failure not ends) end contents =
+    failure_leaves base names arguments before.input.remaining status after.steps
+    (status_at_err errors new_errors status outcome _ end ends)
+    (directory_not_saved_leaves base names name payloads failure read after.steps
+    (kept_names base names before.steps read are (image_read_keeps base (Some names) request.limits before _ file request.source image))
+    not)
+all_work_leaves base names arguments request before after errors new_errors status outcome is are
+    (NotExtracted file image error why ends) end contents =
+    failure_leaves base names arguments before.input.remaining status after.steps
+    (status_at_err errors new_errors status outcome _ end ends)
+    (kept_is_left base names before.steps after.steps are
+    (image_read_keeps base (Some names) request.limits before after file request.source image))
+all_work_leaves base names arguments request before after errors new_errors status outcome is are
+    (NothingRead failure not ends) end contents =
+    failure_leaves base names arguments before.input.remaining status after.steps
+    (status_at_err errors new_errors status outcome _ end ends)
+    (kept_is_left base names before.steps after.steps are
+    (image_not_read_keeps base (Some names) request.limits before after failure request.source not))
+
 text_run_keeps_steps : (kind : ErrorKind) (text : List ℕ) (run : Run) → IsTextRun kind text run → run.new_steps ≡ run.steps
 text_run_keeps_steps kind text run (IsWritten asked wrote errors input steps status) = steps
 text_run_keeps_steps kind text run (IsNotWritten asked error stopped reports input steps status) = steps
@@ -220,6 +260,9 @@ pub run_leaves : (base names : Names) (arguments : List (List ℕ)) (run : Run) 
     → RunLeaves base names arguments run.input.remaining run.status run.new_steps
 run_leaves base names arguments run (RanJob request is lengths ran) are contents =
     output_run_leaves base names arguments request run ran.outcome request.output is refl are ran.done ran.end contents
+run_leaves base names arguments run (ExtractedAll request is ran) are contents =
+    all_work_leaves base names arguments request (inputs_before run) (inputs_after run) run.errors run.new_errors run.status ran.outcome is
+    are ran.done ran.end contents
 run_leaves base names arguments run (Rejected failure why rejection) are contents =
     failure_leaves base names arguments run.input.remaining run.status run.new_steps rejection.status
     (kept_is_left base names run.steps run.new_steps are (keeps_same base run.steps run.new_steps rejection.no_steps))

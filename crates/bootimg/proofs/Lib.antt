@@ -14,6 +14,8 @@ pub mod ProgramFacts
 pub mod NoRequests
 pub mod CauseLines
 pub mod FilesAfter
+pub mod DirectoriesAfter
+pub mod NewDirectories
 pub mod LeftFiles
 pub mod MemoryLogs
 pub mod JobStatuses
@@ -21,4 +23,5 @@ pub mod ArgumentFacts
 pub mod OptionFacts
 pub mod RequestFacts
 pub mod RunEnds
+pub mod AllRuns
 pub mod StepFacts

@@ -18,7 +18,7 @@ use Rattle.bootimg.specs.Files.{NotRemoved, Removed, SavesNothing, TookSteps, Wr
 -- ---- steps in turn
 
 -- No step was taken.
-no_steps : (now : Option (List FileStep)) → TookSteps now now []
+pub no_steps : (now : Option (List FileStep)) → TookSteps now now []
 no_steps None = tt
 no_steps (Some steps) = (steps, refl, sym (append-nil steps))
 
@@ -89,7 +89,7 @@ always_at_err (Ok v) p = tt
 always_at_err (Err e) p = p
 
 -- A step was taken, or it failed.
-either : {T E : Type 0} {P Q : Type 0} (result : Result T E) → OnOk result P → OnErr result Q → P ⊎ Q
+pub either : {T E : Type 0} {P Q : Type 0} (result : Result T E) → OnOk result P → OnErr result Q → P ⊎ Q
 either (Ok v) p q = inl p
 either (Err e) p q = inr q
 

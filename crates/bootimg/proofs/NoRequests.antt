@@ -1,4 +1,5 @@
-use Rattle.std.proofs.Common.{◌≡◌, ◌∙◌, ℕ, true, Bor, List, Option, Some, None, Result, Ok, Err, IfErr, ap, inl, inr, is_some, option_map}
+use Rattle.std.proofs.Common.{◌≡◌, ◌∙◌, ℕ, true, Bor, List, Option, Some, None, Result, Ok, Err, IfErr, ap, codes, inl, inr, is_some}
+use Rattle.std.proofs.Common.{option_map}
 use Rattle.std.proofs.Common.{refl, subst, sym, []}
 use Rattle.std.specs.Box.{box_value}
 use Rattle.std.specs.Result.{IsErrAnd}
@@ -12,7 +13,9 @@ use Rattle.clap.specs.declared.parser.matches.ArgMatches.{ArgMatches}
 use Rattle.clap.specs.declared.parser.matches.ArgMatches.TheViews.{out-ArgMatches, out-SubCommand}
 use Rattle.bootimg.specs.CommandLine.{limit_of, Gives, HasNoText, HasText, IsBadValue, IsFailureOutcome, IsJob, IsLimits, IsNoRequest}
 use Rattle.bootimg.specs.CommandLine.{IsOutcomeOf}
-use Rattle.bootimg.specs.CommandLine.{IsTaskFailure, NoJob, NoLimits, NoMemory}
+use Rattle.bootimg.specs.CommandLine.{IsAllFailure, IsAllRequest, IsAllRequested, IsNoneGiven, IsTaskFailure, NoJob, NoLimits, NoMemory}
+use Rattle.bootimg.specs.CommandLine.{NotAll, SelectsAll}
+use Rattle.bootimg.specs.declared.command_line.extract.AllRequest.{AllRequest}
 use Rattle.bootimg.specs.Program.{program_app, IsCommandName}
 use Rattle.bootimg.specs.declared.command_line.Job.{Job}
 use Rattle.bootimg.specs.declared.command_line.Outcome.{Outcome}
@@ -135,3 +138,21 @@ pub no_limits : {T : Type 0} (arguments : List (List ℕ)) (name : List ℕ) (op
     → IsBadValue (IsLimits (limit_of options)) failure → IfErr result (IsNoRequest arguments)
 no_limits arguments name options job result failure gives is is_job bad =
     passed_on arguments result (outcome.Failure failure) is (NoLimits name options job gives is_job bad)
+
+-- The options of `extract --all` request nothing.
+pub no_all : (arguments : List (List ℕ)) (name : List ℕ) (options : ArgMatches) (failure : Failure) → Gives arguments name options
+    → name ≡ codes "extract" → SelectsAll options true → IsAllFailure options failure → IsNoRequest arguments (outcome.Failure failure)
+no_all arguments name options failure gives named selects bad =
+    NotAll options (subst (λ n. Gives arguments n options) named gives) selects bad
+
+-- They request all payloads.
+pub all_requested : (arguments : List (List ℕ)) (name : List ℕ) (options : ArgMatches) (request : AllRequest)
+    → Gives arguments name options → name ≡ codes "extract" → SelectsAll options true → IsNoneGiven options → IsAllRequest options request
+    → IsAllRequested arguments request
+all_requested arguments name options request gives named selects none is = record {
+  options = options;
+  given = subst (λ n. Gives arguments n options) named gives;
+  selects = selects;
+  none = none;
+  is = is;
+}

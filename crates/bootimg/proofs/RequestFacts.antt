@@ -5,13 +5,13 @@ use Rattle.std.specs.Option.{option_map_or}
 use Rattle.std.specs.Prelude.{bytes_eq, count_by}
 use Rattle.std.proofs.lemmas.Slice.Eq.{bytes_eq-Decides}
 use Rattle.bi_base.proofs.EqualBytes.{other_bytes, same_bytes}
-use Rattle.bi_commands.specs.Checking.{allows, kind_word}
-use Rattle.bi_commands.specs.Differences.{words_of_line}
-use Rattle.bi_commands.specs.KnownConcerns.{each_kind}
-use Rattle.bi_commands.specs.declared.check.Allowed.{Allowed}
-use Rattle.bi_commands.specs.declared.check.ConcernKind.{ConcernKind}
-use Rattle.bi_commands.specs.declared.check.ConcernKind.TheVariants as kind
-use Rattle.bi_commands.proofs.CleanLaws.NoLines.{any_is_found, passes_any}
+use Rattle.bi_report.specs.Checking.{allows, kind_word}
+use Rattle.bi_report.specs.KnownConcerns.{each_kind}
+use Rattle.bi_report.specs.declared.check.Allowed.{Allowed}
+use Rattle.bi_report.specs.declared.check.ConcernKind.{ConcernKind}
+use Rattle.bi_report.specs.declared.check.ConcernKind.TheVariants as kind
+use Rattle.bi_report.proofs.CleanLaws.NoLines.{any_is_found, passes_any}
+use Rattle.bi_describe.specs.Differences.{words_of_line}
 use Rattle.bi_fit.specs.Names.{key_name}
 use Rattle.bi_fit.specs.declared.key.Key.{Key}
 use Rattle.bi_fit.specs.declared.key.Key.TheVariants.{Kernel, Fdt, Ramdisk, Firmware, Loadables, Script}
@@ -26,10 +26,10 @@ use Rattle.clap.proofs.WalkLemmas.{first_value-rows, one_text-rows}
 use Rattle.bootimg.specs.CodeWords.{IsCode}
 use Rattle.bootimg.specs.CommandLine.{Gives, IsAddress, IsAllowed, IsChangesFailure, IsFields, IsImageSource, IsImageText, IsNewTime}
 use Rattle.bootimg.specs.CommandLine.{IsPartSource, IsSelection, IsSelectionFailure, IsTask, IsBuildPlan, NamesAFile, NoneIs}
-use Rattle.bootimg.specs.CommandLine.{IsEntry, IsNameOf, SelectsDefault, default_flag}
+use Rattle.bootimg.specs.CommandLine.{IsAllFailure, IsEntry, IsNameOf, IsNoneGiven, SelectsDefault, default_flag}
 use Rattle.bootimg.specs.CommandLine.{given_count, listed_words, list_of, option_of, parts_of, value_of}
 use Rattle.bootimg.specs.KnownArguments.{IsOnlyCode, IsOnlyNumber}
-use Rattle.bootimg.specs.KnownRequests.{AllowedWordsAreKnown, AreFieldsOfLine, ChangesAreKnown}
+use Rattle.bootimg.specs.KnownRequests.{AllRequestsAreKnown, AllowedWordsAreKnown, AreFieldsOfLine, ChangesAreKnown}
 use Rattle.bootimg.specs.KnownRequests.{CommandNamesAreKnown, FlagsAreKnown, HoldsFor, ImageOffsetsAreKnown}
 use Rattle.bootimg.specs.KnownRequests.{IsFileNamed, IsImageOfWord, IsOnlyOne, IsPartNamed, PartWordsAreKnown, PlansAreKnown}
 use Rattle.bootimg.specs.KnownRequests.{SelectionsAreKnown, SelectsEntry, SelectsImage, SourcesAreKnown, line_of_fields}
@@ -100,6 +100,9 @@ flags_are_known = record {
       holds.given (flag_is (codes "extract --default") (codes "extract") options is (codes "default") ∙ refl);
   no_default = λ options is default holds.
       holds.not_given (flag_is (codes "extract") (codes "extract") options is (codes "default") ∙ refl);
+  all = λ options is all holds.
+      holds.given (flag_is (codes "extract --all -o d") (codes "extract") options is (codes "all") ∙ refl);
+  not_all = λ options is all holds. holds.not_given (flag_is (codes "extract") (codes "extract") options is (codes "all") ∙ refl);
   escaped = λ options is escaped holds.
       holds.given (flag_is (codes "extract --escaped") (codes "extract") options is (codes "escaped") ∙ refl);
   not_escaped = λ options is escaped holds.
@@ -506,6 +509,99 @@ selections_are_known = record {
         λ selection selected. two_selected options selected.0 part flag selection selected.2,
         two_fail options part image config flag,
       );
+}
+
+-- ---- extract --all
+
+-- The default configuration is not selected.
+no_default_given : (options : ArgMatches) → default_flag options ≡ Some (codes "false") → SelectsDefault options false
+no_default_given options flag = record {
+  given = λ yes.
+      absurd (other_bytes (codes "true") (codes "false") refl (same_value (default_flag options) (codes "true") (codes "false") yes flag));
+  not_given = λ no. refl;
+  unknown = λ none. refl;
+}
+
+-- No key has this name.
+no_key_is : (key : Key) → ¬ (codes "dtb" ≡ key_name key)
+no_key_is Kernel same = other_bytes (codes "dtb") (codes "kernel") refl same
+no_key_is Fdt same = other_bytes (codes "dtb") (codes "fdt") refl same
+no_key_is Ramdisk same = other_bytes (codes "dtb") (codes "ramdisk") refl same
+no_key_is Firmware same = other_bytes (codes "dtb") (codes "firmware") refl same
+no_key_is Loadables same = other_bytes (codes "dtb") (codes "loadables") refl same
+no_key_is Script same = other_bytes (codes "dtb") (codes "script") refl same
+
+-- The failure where nothing else is selected, and where a part is.
+bad_all_value : (options : ArgMatches) → option_of options (codes "part") ≡ None → option_of options (codes "image") ≡ None
+    → option_of options (codes "config") ≡ None → default_flag options ≡ Some (codes "false")
+    → IsOnlyOne (IsAllFailure options) BadValue
+bad_all_value options part image config flag NoSelection is =
+    absurd (is.some (count_is options None None None is.default false part image config (is.default_is.not_given flag) ∙ refl))
+bad_all_value options part image config flag BadValue is = refl
+bad_all_value options part image config flag other is = absurd is
+
+part_is_given : (options : ArgMatches) → option_of options (codes "part") ≡ Some (codes "0") → option_of options (codes "image") ≡ None
+    → option_of options (codes "config") ≡ None → default_flag options ≡ Some (codes "false") → ¬ (IsNoneGiven options)
+part_is_given options part image config flag is =
+    omega (
+      arith,
+      is.none,
+      count_is options (Some (codes "0")) None None is.default false part image config (is.default_is.not_given flag),
+    )
+
+all_and_part : (options : ArgMatches) → ¬ (IsNoneGiven options) → IsOnlyOne (IsAllFailure options) NoSelection
+all_and_part options given NoSelection is = refl
+all_and_part options given BadValue is = absurd (given is.0)
+all_and_part options given other is = absurd is
+
+pub all_requests_are_known : AllRequestsAreKnown
+unfolding program_app clap_on_literals
+all_requests_are_known = record {
+  given = λ options is.
+      let line = codes "extract --all -o d --offset 7 in" in
+      let name = codes "extract" in
+      let part : option_of options (codes "part") ≡ None = option_is line name options is (codes "part") ∙ refl in
+      let image : option_of options (codes "image") ≡ None = option_is line name options is (codes "image") ∙ refl in
+      let config : option_of options (codes "config") ≡ None = option_is line name options is (codes "config") ∙ refl in
+      let flag : default_flag options ≡ Some (codes "false") = flag_is line name options is (codes "default") ∙ refl in
+      let directory : option_of options (codes "output") ≡ Some (codes "d") = option_is line name options is (codes "output") ∙ refl in (
+        record {
+          default = false;
+          default_is = no_default_given options flag;
+          none = count_is options None None None false false part image config refl ∙ refl;
+        },
+        λ request holds. record {
+          directory_is = same_value (option_of options (codes "output")) request.directory.now (codes "d") holds.directory directory;
+          offset_is = number_given _ (codes "7") 7 (value_is line name options is (codes "offset") (codes "0") ∙ refl)
+              (decimal_digits (codes "7") refl refl) request.offset holds.offset;
+          source_is = file_is_named _ (codes "in") request.source (option_is line name options is (codes "file") ∙ refl) refl
+              holds.source;
+        },
+      );
+  no_directory = λ options is.
+      let line = codes "extract --all in" in
+      let name = codes "extract" in
+      let none : option_of options (codes "output") ≡ None = option_is line name options is (codes "output") ∙ refl in (
+        λ request holds. not_both (option_of options (codes "output")) request.directory.now holds.directory none,
+        bad_all_value options (option_is line name options is (codes "part") ∙ refl) (option_is line name options is (codes "image") ∙ refl)
+            (option_is line name options is (codes "config") ∙ refl) (flag_is line name options is (codes "default") ∙ refl),
+      );
+  bad_key = λ options is.
+      let line = codes "extract --all --key dtb -o d in" in
+      let name = codes "extract" in
+      let key : value_of options (codes "key") (codes "kernel") ≡ codes "dtb" =
+      value_is line name options is (codes "key") (codes "kernel") ∙ refl in (
+        λ request holds. no_key_is holds.has_entry.0.0 (sym key ∙ holds.has_entry.1.key),
+        bad_all_value options (option_is line name options is (codes "part") ∙ refl) (option_is line name options is (codes "image") ∙ refl)
+            (option_is line name options is (codes "config") ∙ refl) (flag_is line name options is (codes "default") ∙ refl),
+      );
+  two_selections = λ options is.
+      let line = codes "extract --all --part 0 -o d in" in
+      let name = codes "extract" in
+      let given : ¬ (IsNoneGiven options) =
+      part_is_given options (option_is line name options is (codes "part") ∙ refl) (option_is line name options is (codes "image") ∙ refl)
+      (option_is line name options is (codes "config") ∙ refl) (flag_is line name options is (codes "default") ∙ refl) in
+      (given, all_and_part options given);
 }
 
 -- ---- building

@@ -1,8 +1,7 @@
-use Rattle.std.proofs.Common.{◌≡◌, ◌++◌, ℕ, Bool, false, List, Option, Result, Ok, Err, inl, inr, refl, subst}
+use Rattle.std.proofs.Common.{◌≡◌, ℕ, Bool, false, List, Option, Result, Ok, Err, inl, inr, refl, subst}
 use Rattle.std.specs.Prelude.{◌↔◌, IsTrue}
 use Rattle.clap.specs.declared.error.kind.ErrorKind.{ErrorKind}
 use Rattle.clap.specs.declared.error.kind.ErrorKind.TheVariants.{DisplayHelp, DisplayVersion}
-use Rattle.bi_base.specs.BufferedSinks.{wrote_in_turn, stopped_after}
 use Rattle.bi_base.specs.Sinks.{Wrote}
 use Rattle.bi_base.specs.Traces.{ReadsWell, WriteTrace, WritesWell}
 use Rattle.bi_base.specs.Writing.{WroteAll, WriteStopped}
@@ -18,12 +17,6 @@ use Rattle.bootimg.specs.Runs.{IsPlainRun, IsRun, IsTaskWork, Logs, IsLogged, Ha
 use Rattle.bootimg.specs.Runs.{HasFailed, IsAskedFor, IsMistake, plan_promise, problem}
 
 -- A run of the program over traced streams is one over plain streams, and it succeeds, fails or is rejected as its calls do.
-
--- After some bytes were written, writing others wrote both, or stopped.
-pub both_written : (old mid new : WriteTrace) (first second : List ℕ) (result : Result (Unit {0}) Error) → WroteAll old first mid
-    → Wrote WroteAll WriteStopped mid second result new → Wrote WroteAll WriteStopped old (first ++ second) result new
-both_written old mid new first second (Ok done) wrote then = wrote_in_turn old mid new first second wrote then
-both_written old mid new first second (Err error) wrote then = stopped_after old mid new first second error wrote then
 
 -- Bytes that were written are logged, and so are those of which writing stopped.
 pub line_is_logged : (old new : WriteTrace) (bytes : List ℕ) (result : Result (Unit {0}) Error)

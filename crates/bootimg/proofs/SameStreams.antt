@@ -13,6 +13,7 @@ use Rattle.bootimg.specs.declared.command_line.source.ImageSource.{ImageSource}
 use Rattle.bootimg.specs.declared.failure.Failure.{Failure}
 use Rattle.bootimg.specs.Files.{FileStep, KnownFiles}
 use Rattle.bootimg.specs.declared.command_line.Request.{Request}
+use Rattle.bootimg.specs.declared.command_line.extract.AllRequest.{AllRequest}
 use Rattle.bootimg.specs.declared.jobs.Problem.{Problem}
 use Rattle.bootimg.specs.declared.tasks.Done.{Done}
 use Rattle.bootimg.specs.Runs.{Inputs, Run, Work, no_input, work_of, with_input, Logs, IsLogged, HasStopped, Notes}
@@ -23,7 +24,7 @@ use Rattle.bootimg.specs.Runs.{IsExplainWork, WroteExplanation, ExplanationNotWr
 use Rattle.bootimg.specs.Runs.{WasNotBuilt, IsBuildWork, BuiltWithInput, BuiltOfFiles, PartNotRead, NoRoom, IsJobWork, IsHeldWork}
 use Rattle.bootimg.specs.Runs.{IsSavedWork, OutputSaved, OutputNotSaved, NoOutput, IsOutputRun, ToStandardOutput, ToFile, IsEnd, EndsWell}
 use Rattle.bootimg.specs.Runs.{EndsWithFailure, IsRequestRun, IsTextRun, IsWritten, IsNotWritten, IsUsage, IsRun, RanJob, Rejected}
-use Rattle.bootimg.specs.Runs.{WroteText}
+use Rattle.bootimg.specs.Runs.{WroteText, ExtractedAll, IsAllRun, IsAllWork, PayloadsSaved, PayloadsNotSaved, NotExtracted, NothingRead}
 
 -- A run has the same streams before and after it.
 
@@ -166,6 +167,22 @@ request_run_keeps files request run is =
     let keeps = output_run_keeps files request.job request.limits run is.outcome request.output is.done in
     record { reader = keeps.reader; writer = keeps.writer; log = end_keeps _ _ _ _ is.end }
 
+all_work_keeps : (files : KnownFiles) (request : AllRequest) (before after : Inputs) (outcome : Result Done Problem)
+    → IsAllWork files request before after outcome → after.input.reader ≡ before.input.reader
+all_work_keeps files request before after outcome (PayloadsSaved file name payloads read image all word saved done ended ends) =
+    read_keeps _ _ _ _ _ _ image
+all_work_keeps files request before after outcome (PayloadsNotSaved file name payloads read image all word failure not ends) =
+    read_keeps _ _ _ _ _ _ image
+all_work_keeps files request before after outcome (NotExtracted file image error why ends) = read_keeps _ _ _ _ _ _ image
+all_work_keeps files request before after outcome (NothingRead failure not ends) = not_read_keeps _ _ _ _ _ _ not
+
+all_run_keeps : (files : KnownFiles) (request : AllRequest) (run : Run) → IsAllRun files request run → KeepsStreams run
+all_run_keeps files request run is = record {
+  reader = all_work_keeps files request _ _ _ is.done;
+  writer = ap (λ trace. trace.writer) is.nothing_written;
+  log = end_keeps _ _ _ _ is.end;
+}
+
 text_run_keeps : (kind : ErrorKind) (text : List ℕ) (run : Run) → IsTextRun kind text run → KeepsStreams run
 text_run_keeps kind text run (IsWritten asked wrote errors input steps status) = record {
   reader = ap (λ trace. trace.reader) input;
@@ -186,5 +203,6 @@ text_run_keeps kind text run (IsUsage why logs output input steps status) = reco
 -- A run keeps its streams.
 pub run_keeps : (arguments : List (List ℕ)) (files : KnownFiles) (run : Run) → IsRun arguments files run → KeepsStreams run
 run_keeps arguments files run (RanJob request is lengths ran) = request_run_keeps _ request _ ran
+run_keeps arguments files run (ExtractedAll request is ran) = all_run_keeps _ request _ ran
 run_keeps arguments files run (Rejected failure why rejection) = rejection_keeps _ _ _ rejection
 run_keeps arguments files run (WroteText kind text answers is) = text_run_keeps _ _ _ is

@@ -1,26 +1,15 @@
-use Rattle.std.proofs.Common.{◌≡◌, ◌∙◌, ℕ, List, Bor, refl, sym, ap, subst}
+use Rattle.std.proofs.Common.{◌≡◌, ◌∙◌, ℕ, List, sym, subst}
 use Rattle.bi_base.specs.Commands.{CommandFailed, WasRefused, SinkFailed}
 use Rattle.bi_base.specs.declared.fault.Error.{Error}
 use Rattle.bi_base.specs.Limits.{Limits}
-use Rattle.bi_fit.specs.declared.key.Key.{Key}
-use Rattle.bi_norm.specs.Meaning.{Meaning, OfLegacy, OfFit}
+use Rattle.bi_norm.specs.Meaning.{Meaning}
 use Rattle.bi_commands.specs.declared.extract.Select.{Select}
-use Rattle.bi_commands.specs.declared.extract.Select.TheVariants.{Image, Config}
+use Rattle.bi_commands.specs.declared.extract.Select.TheVariants.{Config}
 use Rattle.bi_commands.specs.declared.extract.ExtractError.{ExtractError}
 use Rattle.bi_commands.specs.declared.extract.ExtractError.TheVariants as error
-use Rattle.bi_commands.specs.Extracting.{choice_of, choice_by_name, choice_by_configuration, IsChosen, IsExtractError, IsReason}
+use Rattle.bi_commands.specs.Extracting.{choice_of, IsChosen, IsExtractError, IsReason}
 
 -- What a selection chooses depends on the bytes of its name alone.
-
-pub same_choice_of_image : (one other : Bor (List ℕ)) → one.now ≡ other.now → (meaning : Meaning) →
-    choice_of (Image one) meaning ≡ choice_of (Image other) meaning
-same_choice_of_image one other same (OfLegacy image) = refl
-same_choice_of_image one other same (OfFit tree) = ap (choice_by_name tree) same
-
-pub same_config : (one other : Bor (List ℕ)) (key : Key) (index : ℕ) → one.now ≡ other.now → (meaning : Meaning) →
-    choice_of (Config one key index) meaning ≡ choice_of (Config other key index) meaning
-same_config one other key index same (OfLegacy image) = refl
-same_config one other key index same (OfFit tree) = ap (λ name. choice_by_configuration tree name key index) same
 
 -- Selections that choose the same of each meaning choose the same of each file.
 pub same_chosen : (one other : Select) → ((meaning : Meaning) → choice_of one meaning ≡ choice_of other meaning) →

@@ -1,10 +1,13 @@
-use Rattle.std.proofs.Common.{◌≡◌, ◌≢◌, ◌++◌, ◌∷◌, [], ◌∙◌, ◌<◌, ℕ, zero, suc, List, Some, map, length, codes, get_or, ap, refl, sym}
-use Rattle.std.proofs.Common.{inl, inr, arith}
+use Rattle.std.proofs.Common.{◌≡◌, ◌≢◌, ◌++◌, ◌∷◌, [], ◌∙◌, ◌<◌, ℕ, zero, suc, List, Option, Some, map, length, codes, get_or, ap, refl}
+use Rattle.std.proofs.Common.{sym, inl, inr, arith, subst}
 use Rattle.std.specs.Fmt.{decimal, digits}
 use Rattle.std.proofs.lemmas.List.{append_assoc}
-use Rattle.bootimg.specs.Files.{Closed, IsBeside, Made, NameTaken, Renamed, TookSteps}
-use Rattle.bootimg.specs.KnownSteps.{BesideNamesAreKnown, HasBesideNames, SavedInSteps}
-use Rattle.bootimg.proofs.NewFiles.{steps_in_turn}
+use Rattle.bi_commands.specs.ExtractingAll.{PayloadFile}
+use Rattle.bootimg.specs.Directories.{AreFilesPut}
+use Rattle.bootimg.specs.Files.{Closed, ClosedIn, DirectoryMade, DirectoryRenamed, FileStep, IsBeside, Made, MadeIn, NameTaken, Renamed}
+use Rattle.bootimg.specs.Files.{TookSteps}
+use Rattle.bootimg.specs.KnownSteps.{ArePuttingSteps, BesideNamesAreKnown, DirectorySavedInSteps, HasBesideNames, SavedInSteps}
+use Rattle.bootimg.proofs.NewFiles.{no_steps, steps_in_turn}
 
 -- A new file is in the directory of the file whose name it takes, and saving takes its steps in their order.
 
@@ -106,6 +109,50 @@ saved_in_steps files name bytes old after saved =
         filled = put.is_filled.filled;
         written = put.is_filled.is_filled.written;
         flushed = put.is_filled.is_filled.flushed;
+        are_steps = refl;
+      },
+    )
+
+-- The steps of putting files into a directory.
+putting_steps : (directory : List ℕ) (payloads : List PayloadFile) (old new : Option (List FileStep))
+    → AreFilesPut directory payloads old new
+    → (steps : List FileStep) × TookSteps old new steps × ArePuttingSteps directory payloads steps
+putting_steps directory [] old new are = ([], subst (λ n. TookSteps old n []) (sym are) (no_steps old), refl)
+putting_steps directory (payload ∷ payloads) old new are =
+    let put = are.1 in
+    let filled = put.is_filled.filled in
+    let made = MadeIn directory payload.name put.file ∷ [] in
+    let closed = ClosedIn directory payload.name filled ∷ [] in
+    let later = putting_steps directory payloads are.0 new are.2 in (
+      MadeIn directory payload.name put.file ∷ ClosedIn directory payload.name filled ∷ later.0,
+      steps_in_turn old are.0 new (MadeIn directory payload.name put.file ∷ ClosedIn directory payload.name filled ∷ []) later.0
+          (steps_in_turn old put.made are.0 made closed put.was_made put.is_filled.closed) later.1,
+      (put.file, filled, put.is_filled.is_filled.written, put.is_filled.is_filled.flushed, later.0, refl, later.2),
+    )
+
+pub directory_saved_in_steps : DirectorySavedInSteps
+directory_saved_in_steps files name payloads old after saved =
+    let place = saved.is_in_place in
+    let made = saved.is_made in
+    let beside = saved.beside in
+    let taken = map NameTaken made.are_taken.taken in
+    let putting = putting_steps beside payloads saved.made place.put place.are_put in
+    let last = putting.0 ++ DirectoryRenamed beside name ∷ [] in
+    let filled : TookSteps saved.made (Some after) last =
+    steps_in_turn saved.made place.put (Some after) putting.0 (DirectoryRenamed beside name ∷ []) putting.1 place.renamed in
+    let new : TookSteps made.tried (Some after) (DirectoryMade beside ∷ last) =
+    steps_in_turn made.tried saved.made (Some after) (DirectoryMade beside ∷ []) last made.made filled in
+    let all : TookSteps old (Some after) (taken ++ DirectoryMade beside ∷ last) =
+    steps_in_turn old made.tried (Some after) taken (DirectoryMade beside ∷ last) made.are_taken.steps new in (
+      all.0,
+      taken ++ DirectoryMade beside ∷ last,
+      all.1,
+      all.2,
+      record {
+        taken = made.are_taken.taken;
+        beside = beside;
+        putting = putting.0;
+        are_putting = putting.2;
         are_steps = refl;
       },
     )

@@ -24,6 +24,8 @@ use Rattle.bootimg.specs.declared.command_line.Outcome.TheVariants as outcome
 use Rattle.bootimg.specs.declared.command_line.ImagePlan.{ImagePlan}
 use Rattle.bootimg.specs.declared.command_line.Job.{Job}
 use Rattle.bootimg.specs.declared.command_line.Job.TheVariants.{Run, Compare, Build, Explain}
+use Rattle.bootimg.specs.declared.command_line.Order.{Order}
+use Rattle.bootimg.specs.declared.command_line.Order.TheVariants as order
 use Rattle.bootimg.specs.declared.command_line.Request.{Request}
 use Rattle.bootimg.specs.declared.command_line.Task.{Task}
 use Rattle.bootimg.specs.declared.command_line.Task.TheVariants as task
@@ -37,12 +39,13 @@ use Rattle.bootimg.specs.declared.command_line.part.PartSource.TheVariants as pa
 use Rattle.bootimg.specs.declared.command_line.source.ComparePlan.{ComparePlan}
 use Rattle.bootimg.specs.declared.command_line.source.ImageSource.{ImageSource}
 use Rattle.bootimg.specs.declared.command_line.source.ImageSource.TheVariants.{Standard, File}
-use Rattle.bi_commands.specs.Checking.{kind_word, allows as allows_kind}
-use Rattle.bi_commands.specs.declared.format.Format.{Format}
-use Rattle.bi_commands.specs.declared.format.Format.TheVariants.{Lines, Json}
-use Rattle.bi_commands.specs.declared.check.Allowed.{Allowed}
-use Rattle.bi_commands.specs.declared.check.ConcernKind.{ConcernKind}
-use Rattle.bi_commands.specs.Unshown.{IsNameShownAs}
+use Rattle.bi_common.specs.declared.format.Format.{Format}
+use Rattle.bi_common.specs.declared.format.Format.TheVariants.{Lines, Json}
+use Rattle.bi_common.specs.Unshown.{IsNameShownAs}
+use Rattle.bi_report.specs.Checking.{kind_word, allows as allows_kind}
+use Rattle.bi_report.specs.declared.check.Allowed.{Allowed}
+use Rattle.bi_report.specs.declared.check.ConcernKind.{ConcernKind}
+use Rattle.bootimg.specs.declared.command_line.extract.AllRequest.{AllRequest}
 use Rattle.bootimg.specs.declared.command_line.extract.Selected.{Selected}
 use Rattle.bootimg.specs.declared.command_line.extract.Selected.TheVariants.{Part, Image, Config}
 use Rattle.bootimg.specs.declared.command_line.extract.Selected.TheVariants.{Default}
@@ -352,6 +355,46 @@ IsSelectionFailure options NoSelection =
 IsSelectionFailure options BadValue = IsBadSelection options
 IsSelectionFailure options failure = ⊥
 
+-- ---- extract --all
+
+-- The text of the flag `--all`: `true` or `false`.
+abbrev pub all_flag : ArgMatches → Option (List ℕ)
+all_flag options = one_text (found_of options) (codes "all")
+
+-- All payloads are selected with `--all`, and else not.
+pub record SelectsAll (options : ArgMatches) (all : Bool) : Type 0 where
+  pub given : all_flag options ≡ Some (codes "true") → all ≡ true
+  pub not_given : all_flag options ≡ Some (codes "false") → all ≡ false
+  pub unknown : all_flag options ≡ None → all ≡ false
+
+-- Nothing is selected beside `--all`.
+pub record IsNoneGiven (options : ArgMatches) : Type 0 where
+  pub default : Bool
+  pub default_is : SelectsDefault options default
+  pub none : given_count options default ≡ 0
+
+-- Something else is.
+pub record IsOneGiven (options : ArgMatches) : Type 0 where
+  pub default : Bool
+  pub default_is : SelectsDefault options default
+  pub some : given_count options default ≢ 0
+
+-- The options of `extract --all` request this. The key and the index have to be good, and have no
+-- effect. The output is the directory.
+pub record IsAllRequest (options : ArgMatches) (request : AllRequest) : Type 0 where
+  pub has_entry : HasEntry options
+  pub directory : option_of options (codes "output") ≡ Some request.directory.now
+  pub offset : IsNumber (given_offset options) request.offset
+  pub source : IsImageSource (option_of options (codes "file")) request.source
+  pub limits : IsLimits (limit_of options) request.limits
+
+-- The failure of options of `extract --all` that request nothing: that something else is selected,
+-- too, or else that a value is bad or there is no output.
+abbrev pub IsAllFailure : ArgMatches → Failure → Type 0
+IsAllFailure options NoSelection = IsOneGiven options
+IsAllFailure options BadValue = IsNoneGiven options × NoneIs (IsAllRequest options)
+IsAllFailure options failure = ⊥
+
 -- ---- parts of images to be built
 
 -- The argument is a part in standard input, of this length, or `@` and the name of this file.
@@ -478,7 +521,7 @@ IsTask name options task.Scan = name ≡ codes "scan"
 IsTask name options (task.Update changes form) =
     (name ≡ codes "update") × IsChanges options changes × IsForm options form
 IsTask name options (task.Extract selection) =
-    (name ≡ codes "extract") × IsSelected options selection
+    (name ≡ codes "extract") × SelectsAll options false × IsSelected options selection
 IsTask name options task.Convert = name ≡ codes "convert"
 
 -- The command of this name, with its options, is this plan for one image.
@@ -507,8 +550,8 @@ pub data IsTaskFailure (name : List ℕ) (options : ArgMatches) (failure : Failu
       → IsTaskFailure name options failure
   NotChanged : name ≡ codes "update" → IsChangesFailure options failure
       → IsTaskFailure name options failure
-  NotSelected : name ≡ codes "extract" → IsSelectionFailure options failure
-      → IsTaskFailure name options failure
+  NotSelected : name ≡ codes "extract" → SelectsAll options false
+      → IsSelectionFailure options failure → IsTaskFailure name options failure
   NotPlaced : (task : Task) → IsTask name options task
       → IsBadValue (IsNumber (given_offset options)) failure → IsTaskFailure name options failure
   NotLegacy : name ≡ codes "build-legacy" → IsBadValue (IsLegacyPlan options) failure
@@ -538,13 +581,15 @@ pub data IsOutcomeOf (error : ClapError) (given : Outcome) : Type 0 where
       → IsOutcomeOf error given
 
 -- Why the arguments request nothing, though clap accepts them: the options of the command are no
--- job or no limits, or memory ran out.
+-- job or no limits, or those of `extract --all` are no request, or memory ran out.
 pub data IsRejected (arguments : List (List ℕ)) (failure : Failure) : Type 0 where
   NoJob : (name : List ℕ) (options : ArgMatches) → Gives arguments name options
       → IsTaskFailure name options failure → IsRejected arguments failure
   NoLimits : (name : List ℕ) (options : ArgMatches) (job : Job) → Gives arguments name options
       → IsJob name options job → IsBadValue (IsLimits (limit_of options)) failure
       → IsRejected arguments failure
+  NotAll : (options : ArgMatches) → Gives arguments (codes "extract") options
+      → SelectsAll options true → IsAllFailure options failure → IsRejected arguments failure
   NoMemory : failure ≡ Call OutOfMemory → IsRejected arguments failure
 
 -- The text is one that clap has for the arguments: its kind is that of the first thing wrong with
@@ -565,3 +610,26 @@ pub record IsRequest (arguments : List (List ℕ)) (request : Request) : Type 0 
   pub job : IsJob name options request.job
   pub limits : IsLimits (limit_of options) request.limits
   pub output : option_map (λ name. name.now) request.output ≡ option_of options (codes "output")
+
+-- The arguments request that all payloads of an image are extracted.
+pub record IsAllRequested (arguments : List (List ℕ)) (request : AllRequest) : Type 0 where
+  pub options : ArgMatches
+  pub given : Gives arguments (codes "extract") options
+  pub selects : SelectsAll options true
+  pub none : IsNoneGiven options
+  pub is : IsAllRequest options request
+
+-- The arguments request this.
+abbrev pub IsOrder : List (List ℕ) → Order → Type 0
+IsOrder arguments (order.Do request) = IsRequest arguments request
+IsOrder arguments (order.ExtractAll request) = IsAllRequested arguments request
+
+-- If a flattened image tree is to be built, there are as many lengths or files as images.
+abbrev pub HasOrderLengths : Order → Type 0
+HasOrderLengths (order.Do request) = HasJobLengths request.job
+HasOrderLengths (order.ExtractAll request) = ⊤
+
+-- A tree may have 64 levels.
+abbrev pub HasOrderDepth : Order → Type 0
+HasOrderDepth (order.Do request) = request.limits.depth ≡ 64
+HasOrderDepth (order.ExtractAll request) = request.limits.depth ≡ 64

@@ -1,10 +1,10 @@
 use Rattle.std.specs.Prelude.{◌≡◌, ℕ, Bool, true, false, List, []}
 use Rattle.bi_base.specs.declared.fault.Error.TheVariants.{Refused, OutOfMemory as NoMemory}
 use Rattle.bi_base.specs.Limits.{Limits}
-use Rattle.bi_commands.specs.Comparing.{IsComparison, IsComparisonError, IsReadingError}
-use Rattle.bi_commands.specs.declared.compare.CompareError.{CompareError}
-use Rattle.bi_commands.specs.declared.compare.CompareError.TheVariants.{One, Other, OutOfMemory}
-use Rattle.bi_commands.specs.declared.format.Format.{Format}
+use Rattle.bi_common.specs.declared.format.Format.{Format}
+use Rattle.bi_describe.specs.Comparing.{IsComparison, IsComparisonError, IsReadingError}
+use Rattle.bi_describe.specs.declared.compare.CompareError.{CompareError}
+use Rattle.bi_describe.specs.declared.compare.CompareError.TheVariants.{One, Other, OutOfMemory}
 use Rattle.bi_norm.specs.Comparing.{AreCompared}
 use Rattle.bootimg.specs.declared.command_line.source.ComparePlan.{ComparePlan}
 use Rattle.bootimg.specs.declared.command_line.source.ImageSource.{ImageSource}

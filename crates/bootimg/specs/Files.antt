@@ -5,6 +5,7 @@ use Rattle.bi_base.specs.Traces.{ReadTrace, WriteTrace, ReadsWell, WritesWell}
 use Rattle.bi_base.specs.Writing.{WroteAndFlushed, WriteOrFlushStopped}
 use Rattle.bi_base.specs.declared.fault.Error.{Error}
 use Rattle.bi_base.specs.declared.fault.Error.TheVariants.{OutOfMemory}
+use Rattle.bi_commands.specs.ExtractingAll.{PayloadFile}
 use Rattle.bootimg.specs.declared.failure.Failure.{Failure}
 use Rattle.bootimg.specs.declared.failure.Failure.TheVariants.{Call, NotWritten}
 
@@ -16,7 +17,9 @@ pub data Entry : Type 0 where
   NoFile : Entry
   -- A regular file with these bytes has it.
   RegularFile : (bytes : List ℕ) → Entry
-  -- Something else has it, for example a directory or a device.
+  -- A directory that the program made has it, with these files.
+  Directory : (files : List PayloadFile) → Entry
+  -- Something else has it, for example another directory or a device.
   OtherFile : Entry
   -- Nothing can have it, as a name that is too long.
   Unusable : Entry
@@ -42,6 +45,10 @@ NameHas (Some entries) name IsEntry = IsEntry (entries name)
 abbrev pub IsNoFile : Entry → Type 0
 IsNoFile NoFile = ⊤
 IsNoFile entry = ⊥
+
+-- Something, or what nothing can have.
+abbrev pub IsSomething : Entry → Type 0
+IsSomething entry = ¬ IsNoFile entry
 
 -- What can be opened for reading, and the bytes of its reader, if they are known: a regular file
 -- has its own.
@@ -77,9 +84,9 @@ pub data FileStep : Type 0 where
   ReaderClosed : (name : List ℕ) → (reader : ReadTrace) → FileStep
   -- A new file of this name was made, which nothing had before.
   Made : (name : List ℕ) → (file : WriteTrace) → FileStep
-  -- No file of this name was made, since something has the name.
+  -- No file or directory of this name was made, since something has the name.
   NameTaken : (name : List ℕ) → FileStep
-  -- No file of this name could be made, for another reason.
+  -- No file or directory of this name could be made, for another reason.
   NotMade : (name : List ℕ) → FileStep
   -- The new file of this name was closed.
   Closed : (name : List ℕ) → (file : WriteTrace) → FileStep
@@ -93,6 +100,29 @@ pub data FileStep : Type 0 where
   Removed : (name : List ℕ) → FileStep
   -- Removing the file of this name failed.
   NotRemoved : (name : List ℕ) → FileStep
+  -- A new directory of this name was made, which nothing had before. If none was made the step is
+  -- that of a file.
+  DirectoryMade : (name : List ℕ) → FileStep
+  -- A new file of this name was made in this directory.
+  MadeIn : (directory name : List ℕ) → (file : WriteTrace) → FileStep
+  -- No file of this name could be made in this directory.
+  NotMadeIn : (directory name : List ℕ) → FileStep
+  -- The new file of this name in this directory was closed.
+  ClosedIn : (directory name : List ℕ) → (file : WriteTrace) → FileStep
+  -- Closing it failed.
+  NotClosedIn : (directory name : List ℕ) → (file : WriteTrace) → FileStep
+  -- The directory of the first name took the second one, which nothing had.
+  DirectoryRenamed : (name new_name : List ℕ) → FileStep
+  -- It did not: each file has the name that it had.
+  DirectoryNotRenamed : (name new_name : List ℕ) → FileStep
+  -- The file of this name was removed from this directory.
+  RemovedIn : (directory name : List ℕ) → FileStep
+  -- Removing it failed.
+  NotRemovedIn : (directory name : List ℕ) → FileStep
+  -- The directory of this name was removed.
+  DirectoryRemoved : (name : List ℕ) → FileStep
+  -- Removing it failed.
+  DirectoryNotRemoved : (name : List ℕ) → FileStep
 
 -- These steps were taken between two times, if the steps up to the later one are known.
 abbrev pub TookSteps : (old new : Option (List FileStep)) → List FileStep → Type 0
@@ -171,8 +201,8 @@ pub data AreNamesBelow (name : List ℕ) : (count : ℕ) → (names : List (List
       → AreNamesBelow name below names → IsBeside name below beside → beside ≢ name
       → AreNamesBelow name (below + 1) (names ++ beside ∷ [])
 
--- No file was made of a name beside this file with a number below this one: something has each of
--- these names, and no other was tried.
+-- No file or directory was made of a name beside this file with a number below this one: something
+-- has each of these names, and no other was tried.
 pub record AreNamesTaken (name : List ℕ) (count : ℕ) (old new : Option (List FileStep)) : Type 0
   where
     pub taken : List (List ℕ)
@@ -198,7 +228,7 @@ pub record IsMadeBeside (files : KnownFiles) (name beside : List ℕ) (file : Wr
     pub is_new : IsNewFile file
     pub made : TookSteps tried new (Made beside file ∷ [])
 
--- No new file was made beside the file of this name, for this reason.
+-- No new file or directory was made beside the file of this name, for this reason.
 pub data IsNotMade (name : List ℕ) (failure : Failure) (old new : Option (List FileStep)) : Type 0
   where
     NoMemoryForName : (number : ℕ) → number < 10000 → AreNamesTaken name number old new

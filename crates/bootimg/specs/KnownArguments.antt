@@ -1,8 +1,8 @@
 use Rattle.std.specs.Prelude.{◌≡◌, ℕ, true, false, List, [], ◌∷◌, Some, codes, map}
 use Rattle.std.specs.Prelude.{option_map}
 use Rattle.bi_base.specs.Limits.{Limits}
-use Rattle.bi_commands.specs.Differences.{words_of_line}
-use Rattle.bi_commands.specs.KnownTexts.{lent}
+use Rattle.bi_describe.specs.Differences.{words_of_line}
+use Rattle.bi_commands.specs.KnownChoices.{lent}
 use Rattle.bi_legacy.specs.KnownFaults.{limited_to}
 use Rattle.clap.specs.Faults.{fault_of}
 use Rattle.clap.specs.Simple.{subcommand_of}
@@ -90,6 +90,7 @@ pub record DefaultsAreKnown : Type 0 where
       ∷ without_value (codes "image")
       ∷ without_value (codes "config")
       ∷ with_value (codes "default") (codes "false")
+      ∷ with_value (codes "all") (codes "false")
       ∷ with_value (codes "key") (codes "kernel")
       ∷ with_value (codes "index") (codes "0")
       ∷ with_value (codes "escaped") (codes "false")
@@ -183,8 +184,9 @@ pub record OptionsAreKnown : Type 0 where
       ∷ with_value (codes "key") (codes "fdt")
       ∷ with_value (codes "index") (codes "2")
       ∷ offset_and_others)
-  pub extract_flags : GivesValues (codes "extract --default --escaped") (codes "extract")
+  pub extract_flags : GivesValues (codes "extract --default --all --escaped") (codes "extract")
       (with_value (codes "default") (codes "true")
+      ∷ with_value (codes "all") (codes "true")
       ∷ with_value (codes "escaped") (codes "true")
       ∷ [])
   pub convert : GivesValues (codes "convert --offset 7 --limit 64 -o out in") (codes "convert")

@@ -1,10 +1,10 @@
 use Rattle.std.specs.Prelude.{◌≡◌, ◌++◌, ℕ, true, false, List, [], ◌∷◌}
 use Rattle.std.specs.Prelude.{None, Some, codes}
-use Rattle.bi_commands.specs.Differences.{words_of_line}
-use Rattle.bi_commands.specs.KnownConcerns.{allowed_words}
-use Rattle.bi_commands.specs.KnownTexts.{lent}
-use Rattle.bi_commands.specs.declared.check.Allowed.{Allowed}
-use Rattle.bi_commands.specs.declared.format.Format.TheVariants.{Lines, Json}
+use Rattle.bi_common.specs.declared.format.Format.TheVariants.{Lines, Json}
+use Rattle.bi_report.specs.KnownConcerns.{allowed_words}
+use Rattle.bi_report.specs.declared.check.Allowed.{Allowed}
+use Rattle.bi_describe.specs.Differences.{words_of_line}
+use Rattle.bi_commands.specs.KnownChoices.{lent}
 use Rattle.bi_fit.specs.declared.form.Form.TheVariants.{Embedded, External}
 use Rattle.bi_fit.specs.declared.key.Key.{Key}
 use Rattle.bi_fit.specs.declared.key.Key.TheVariants.{Fdt}
@@ -15,6 +15,7 @@ use Rattle.bootimg.specs.CommandLine.{AreEscaped, ChangesHashes, Gives, IsAllowe
 use Rattle.bootimg.specs.CommandLine.{IsChanges, IsChangesFailure, IsComparePlan, IsFields, IsForm}
 use Rattle.bootimg.specs.CommandLine.{IsFormat, IsImageSource, IsImageText, IsJob, IsPartSource}
 use Rattle.bootimg.specs.CommandLine.{IsQuiet, IsSelected, IsSelectionFailure, IsTask, NoneIs}
+use Rattle.bootimg.specs.CommandLine.{IsAllFailure, IsAllRequest, IsNoneGiven, SelectsAll}
 use Rattle.bootimg.specs.CommandLine.{SelectsDefault, ShowsLayout, given_offset}
 use Rattle.bootimg.specs.Numbers.{IsNumber}
 use Rattle.bootimg.specs.declared.command_line.Job.TheVariants.{Compare, Explain}
@@ -22,6 +23,7 @@ use Rattle.bootimg.specs.declared.command_line.Task.{Task}
 use Rattle.bootimg.specs.declared.command_line.Task.TheVariants as task
 use Rattle.bootimg.specs.declared.command_line.build.BuildPlan.{BuildPlan}
 use Rattle.bootimg.specs.declared.command_line.build.BuildPlan.TheVariants as build
+use Rattle.bootimg.specs.declared.command_line.extract.AllRequest.{AllRequest}
 use Rattle.bootimg.specs.declared.command_line.extract.Selected.{Selected}
 use Rattle.bootimg.specs.declared.command_line.extract.Selected.TheVariants as select
 use Rattle.bootimg.specs.declared.command_line.part.PartSource.{PartSource}
@@ -71,6 +73,10 @@ pub record FlagsAreKnown : Type 0 where
       (λ options. IsOnlyOne (SelectsDefault options) true)
   pub no_default : HoldsFor (codes "extract") (codes "extract")
       (λ options. IsOnlyOne (SelectsDefault options) false)
+  pub all : HoldsFor (codes "extract --all -o d") (codes "extract")
+      (λ options. IsOnlyOne (SelectsAll options) true)
+  pub not_all : HoldsFor (codes "extract") (codes "extract")
+      (λ options. IsOnlyOne (SelectsAll options) false)
   pub escaped : HoldsFor (codes "extract --escaped") (codes "extract")
       (λ options. IsOnlyOne (AreEscaped options) true)
   pub not_escaped : HoldsFor (codes "extract") (codes "extract")
@@ -210,6 +216,30 @@ pub record SelectionsAreKnown : Type 0 where
   pub two_selections : HoldsFor (codes "extract --part 0 --default") (codes "extract")
       (λ options. NoneIs (IsSelected options)
       × IsOnlyOne (IsSelectionFailure options) NoSelection)
+
+-- The directory, the offset and the image of a request.
+pub record IsAllOf (directory : List ℕ) (offset : ℕ) (file : List ℕ) (request : AllRequest)
+    : Type 0
+  where
+    pub directory_is : request.directory.now ≡ directory
+    pub offset_is : request.offset ≡ offset
+    pub source_is : IsFileNamed file request.source
+
+-- What the options of `extract --all` request, and the failures of other options.
+pub record AllRequestsAreKnown : Type 0 where
+  pub given : HoldsFor (codes "extract --all -o d --offset 7 in") (codes "extract")
+      (λ options. IsNoneGiven options
+      × ((request : AllRequest) → IsAllRequest options request
+      → IsAllOf (codes "d") 7 (codes "in") request))
+  pub no_directory : HoldsFor (codes "extract --all in") (codes "extract")
+      (λ options. NoneIs (IsAllRequest options)
+      × IsOnlyOne (IsAllFailure options) BadValue)
+  pub bad_key : HoldsFor (codes "extract --all --key dtb -o d in") (codes "extract")
+      (λ options. NoneIs (IsAllRequest options)
+      × IsOnlyOne (IsAllFailure options) BadValue)
+  pub two_selections : HoldsFor (codes "extract --all --part 0 -o d in") (codes "extract")
+      (λ options. ¬ (IsNoneGiven options)
+      × IsOnlyOne (IsAllFailure options) NoSelection)
 
 -- ---- building
 

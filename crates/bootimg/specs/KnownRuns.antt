@@ -4,12 +4,12 @@ use Rattle.bi_base.specs.declared.fault.Error.TheVariants.{Refused, OutOfMemory,
 use Rattle.bi_base.specs.declared.fault.Error.TheVariants.{WriteFailed}
 use Rattle.bi_base.specs.declared.fault.Fault.{Fault}
 use Rattle.bi_base.specs.Traces.{WriteTrace}
-use Rattle.bi_commands.specs.KnownTexts.{lent}
-use Rattle.bi_commands.specs.declared.compare.CompareError.{CompareError}
-use Rattle.bi_commands.specs.declared.compare.CompareError.TheVariants as compare
+use Rattle.bi_common.specs.declared.format.Format.TheVariants.{Lines}
+use Rattle.bi_describe.specs.declared.compare.CompareError.{CompareError}
+use Rattle.bi_describe.specs.declared.compare.CompareError.TheVariants as compare
+use Rattle.bi_commands.specs.KnownChoices.{lent}
 use Rattle.bi_commands.specs.declared.extract.ExtractError.{ExtractError}
 use Rattle.bi_commands.specs.declared.extract.ExtractError.TheVariants as extract
-use Rattle.bi_commands.specs.declared.format.Format.TheVariants.{Lines}
 use Rattle.bi_fit.specs.declared.configurations.ConfigError.TheVariants as list
 use Rattle.clap.specs.declared.error.kind.ErrorKind.{ErrorKind}
 use Rattle.bootimg.specs.ComparedFiles.{compare_status, failure_of_comparing, refused_source}

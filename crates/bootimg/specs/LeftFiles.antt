@@ -1,12 +1,17 @@
 use Rattle.std.specs.Prelude.{◌≡◌, ◌⊎◌, ◌<◌, ℕ, List, Option, None, Some, Ok}
 use Rattle.std.specs.Borrow.{Bor}
 use Rattle.clap.specs.declared.error.kind.ErrorKind.{ErrorKind}
+use Rattle.bi_common.specs.Offsets.{input_from}
+use Rattle.bi_commands.specs.ExtractingAll.{AreAllPayloads, PayloadFile}
 use Rattle.bootimg.specs.declared.command_line.Request.{Request}
+use Rattle.bootimg.specs.declared.command_line.extract.AllRequest.{AllRequest}
 use Rattle.bootimg.specs.declared.tasks.Done.{Done}
-use Rattle.bootimg.specs.CommandLine.{IsRequest, IsTextFor}
+use Rattle.bootimg.specs.CommandLine.{IsAllRequested, IsRequest, IsTextFor}
+use Rattle.bootimg.specs.Directories.{IsWithoutSlashes}
 use Rattle.bootimg.specs.Files.{FileStep, Names}
-use Rattle.bootimg.specs.FilesAfter.{AreSameNames, HasFile, LeavesNewFile}
-use Rattle.bootimg.specs.Runs.{Inputs, IsHeldWork}
+use Rattle.bootimg.specs.FilesAfter.{AreSameNames, HasDirectory, HasFile, LeavesNewDirectory}
+use Rattle.bootimg.specs.FilesAfter.{LeavesNewFile}
+use Rattle.bootimg.specs.Runs.{Inputs, IsHeldWork, IsImageRead}
 
 -- What a run leaves of the files (profile of this project).
 
@@ -22,12 +27,24 @@ pub data LeavesFiles (arguments : List (List ℕ)) (input : Option (List ℕ)) (
       → IsHeldWork (Some old) request.job request.limits before after (Ok done) (Some output)
       → status ≡ done.status → status < 2 → HasFile old new name.now output
       → LeavesFiles arguments input old new steps status
+  -- The directory that is named has exactly the files of all payloads of the image that is read,
+  -- and each other name has what it had. The status is 0.
+  DirectoryIsThere : (request : AllRequest) (file name : List ℕ) (payloads : List PayloadFile)
+      (before after : Inputs) → IsAllRequested arguments request
+      → before.input.remaining ≡ input
+      → IsImageRead (Some old) request.limits before after file request.source
+      → AreAllPayloads request.limits (input_from request.offset file) payloads
+      → IsWithoutSlashes request.directory.now name → status ≡ 0
+      → HasDirectory old new name payloads
+      → LeavesFiles arguments input old new steps status
   -- No output file is named, and each name has what it had.
   NoFileIsNamed : (request : Request) → IsRequest arguments request → request.output ≡ None
       → AreSameNames old new → LeavesFiles arguments input old new steps status
   -- The arguments ask for a text or are wrong, and each name has what it had.
   NothingIsRequested : (kind : ErrorKind) → IsTextFor arguments kind → AreSameNames old new
       → LeavesFiles arguments input old new steps status
-  -- After a failure each name has what it had, or a new file is left that could not be removed.
-  HasFailed : status ≡ 2 → AreSameNames old new ⊎ LeavesNewFile old new steps
+  -- After a failure each name has what it had, or a new file or directory is left that could not be
+  -- removed.
+  HasFailed : status ≡ 2
+      → AreSameNames old new ⊎ (LeavesNewFile old new steps ⊎ LeavesNewDirectory old new steps)
       → LeavesFiles arguments input old new steps status

@@ -5,6 +5,7 @@ pub mod Table
 pub mod ComparedFiles
 pub mod Failures
 pub mod Files
+pub mod Directories
 pub mod Numbers
 pub mod ReadParts
 pub mod Tasks

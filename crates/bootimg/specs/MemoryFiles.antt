@@ -1,11 +1,17 @@
 use Rattle.std.specs.Prelude.{◌≡◌, ℕ, Bool, true, false, List, map, Option, None, Some}
 use Rattle.bi_base.specs.Traces.{ReadTrace, WriteTrace}
 use Rattle.std.specs.Borrow.{Bor}
-use Rattle.bootimg.specs.Files.{Entry, NoFile, RegularFile, FileStep, Names}
+use Rattle.bi_commands.specs.ExtractingAll.{PayloadFile}
+use Rattle.bootimg.specs.Files.{Entry, NoFile, RegularFile, Directory, FileStep, Names}
+use Rattle.bootimg.specs.Files.{DirectoryMade, DirectoryRenamed, DirectoryNotRenamed}
+use Rattle.bootimg.specs.Files.{DirectoryRemoved, DirectoryNotRemoved, MadeIn, NotMadeIn, ClosedIn}
+use Rattle.bootimg.specs.Files.{NotClosedIn, RemovedIn, NotRemovedIn}
 use Rattle.bootimg.specs.Files.{Opened, NotOpened, ReaderClosed}
 use Rattle.bootimg.specs.Files.{Made, NameTaken, NotMade, Closed, NotClosed}
 use Rattle.bootimg.specs.Files.{Renamed, NotRenamed, Removed, NotRemoved}
 use Rattle.bootimg.specs.FilesAfter.{no_names, after_steps}
+use Rattle.bootimg.specs.declared.memory_files.Occupant.{Occupant}
+use Rattle.bootimg.specs.declared.memory_files.Occupant.TheVariants as occupant
 use Rattle.bootimg.specs.declared.memory_files.Lookup.{Lookup}
 use Rattle.bootimg.specs.declared.memory_files.Lookup.TheVariants.{Has, HadName, HadSameName}
 use Rattle.bootimg.specs.declared.memory_files.MemoryStep.{MemoryStep}
@@ -64,6 +70,17 @@ named_step name (kind.Renamed new_name) = Renamed name new_name.now
 named_step name (kind.NotRenamed new_name) = NotRenamed name new_name.now
 named_step name kind.Removed = Removed name
 named_step name kind.NotRemoved = NotRemoved name
+named_step name kind.DirectoryMade = DirectoryMade name
+named_step name (kind.MadeIn in_it file) = MadeIn name in_it.now (writing_trace file)
+named_step name (kind.NotMadeIn in_it) = NotMadeIn name in_it.now
+named_step name (kind.ClosedIn in_it file) = ClosedIn name in_it.now (writing_trace file)
+named_step name (kind.NotClosedIn in_it file) = NotClosedIn name in_it.now (writing_trace file)
+named_step name (kind.DirectoryRenamed new_name) = DirectoryRenamed name new_name.now
+named_step name (kind.DirectoryNotRenamed new_name) = DirectoryNotRenamed name new_name.now
+named_step name (kind.RemovedIn in_it) = RemovedIn name in_it.now
+named_step name (kind.NotRemovedIn in_it) = NotRemovedIn name in_it.now
+named_step name kind.DirectoryRemoved = DirectoryRemoved name
+named_step name kind.DirectoryNotRemoved = DirectoryNotRemoved name
 
 abbrev pub recorded_step : MemoryStep → FileStep
 recorded_step step = named_step step.name.now step.kind
@@ -77,14 +94,21 @@ recorded_steps false log = Some (map recorded_step log)
 abbrev pub recorded_names : List MemoryStep → Names
 recorded_names log = after_steps no_names (map recorded_step log)
 
--- What was found of a name: the bytes of a regular file, or nothing.
-abbrev pub IsFileFound : Entry → Option (Bor (List ℕ)) → Type 0
-IsFileFound entry None = entry ≡ NoFile
-IsFileFound entry (Some bytes) = entry ≡ RegularFile bytes.now
+-- What was found of a name: nothing, a regular file with its bytes, or a directory.
+abbrev pub IsOccupant : Entry → Occupant → Type 0
+IsOccupant entry occupant.Nothing = entry ≡ NoFile
+IsOccupant entry (occupant.File bytes) = entry ≡ RegularFile bytes.now
+IsOccupant entry occupant.Directory = (files : List PayloadFile) × (entry ≡ Directory files)
+
+-- What was found of one entry is found of another one.
+abbrev pub IsOccupantToo : (one other : Entry) → Type 0
+IsOccupantToo one other = (what : Occupant) → IsOccupant one what → IsOccupant other what
 
 -- What is known of a name after a step, where `names` is what had each name before it and
 -- `after names` what has it then.
 abbrev pub AreLookedUp : (after : Names → Names) → (name : List ℕ) → Lookup → Type 0
-AreLookedUp after name (Has found) = (names : Names) → IsFileFound (after names name) found
-AreLookedUp after name (HadName other) = (names : Names) → after names name ≡ names other.now
-AreLookedUp after name HadSameName = (names : Names) → after names name ≡ names name
+AreLookedUp after name (Has what) = (names : Names) → IsOccupant (after names name) what
+AreLookedUp after name (HadName other) =
+    (names : Names) → IsOccupantToo (names other.now) (after names name)
+AreLookedUp after name HadSameName =
+    (names : Names) → IsOccupantToo (names name) (after names name)

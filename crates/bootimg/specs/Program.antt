@@ -137,7 +137,8 @@ update = command (codes "update")
 abbrev pub extract : Shape
 extract = command (codes "extract")
     (value_option (codes "part") ∷ value_option (codes "image") ∷ value_option (codes "config")
-    ∷ flag_option (codes "default") ∷ option_with_default (codes "key") (codes "kernel")
+    ∷ flag_option (codes "default") ∷ flag_option (codes "all")
+    ∷ option_with_default (codes "key") (codes "kernel")
     ∷ option_with_default (codes "index") (codes "0") ∷ flag_option (codes "escaped") ∷ offset
     ∷ limit ∷ output ∷ file ∷ [])
 

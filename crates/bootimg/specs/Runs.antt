@@ -13,9 +13,10 @@ use Rattle.bi_base.specs.Reading.{IsInputRead, IsInputNotRead}
 use Rattle.bi_base.specs.Traces.{ReadTrace, WriteTrace, ReadsWell, WritesWell}
 use Rattle.bi_base.specs.Writing.{WroteAll, WriteStopped, WroteAndFlushed, WriteOrFlushStopped}
 use Rattle.bi_base.specs.Commands.{CommandPromise}
+use Rattle.bi_common.specs.Offsets.{input_from, promise_at}
+use Rattle.bi_describe.specs.declared.compare.CompareError.{CompareError}
 use Rattle.bi_commands.specs.BuildCommands.{build_legacy_promise, build_fit_promise}
-use Rattle.bi_commands.specs.Offsets.{promise_at}
-use Rattle.bi_commands.specs.declared.compare.CompareError.{CompareError}
+use Rattle.bi_commands.specs.ExtractingAll.{AreAllPayloads, IsExtractAllError, PayloadFile}
 use Rattle.bi_commands.specs.declared.parts.Part.{Part}
 use Rattle.bi_commands.specs.declared.parts.Part.TheVariants.{Bytes, Length}
 use Rattle.clap.specs.declared.error.kind.ErrorKind.{ErrorKind}
@@ -27,6 +28,7 @@ use Rattle.bootimg.specs.declared.command_line.Job.TheVariants.{Explain}
 use Rattle.bootimg.specs.declared.command_line.Request.{Request}
 use Rattle.bootimg.specs.declared.command_line.build.BuildPlan.{BuildPlan}
 use Rattle.bootimg.specs.declared.command_line.build.BuildPlan.TheVariants.{Legacy, Fit}
+use Rattle.bootimg.specs.declared.command_line.extract.AllRequest.{AllRequest}
 use Rattle.bootimg.specs.declared.command_line.part.PartSource.{PartSource}
 use Rattle.bootimg.specs.declared.command_line.part.PartSource.TheVariants as part
 use Rattle.bootimg.specs.declared.command_line.source.ComparePlan.{ComparePlan}
@@ -37,9 +39,10 @@ use Rattle.bootimg.specs.declared.failure.Failure.TheVariants.{Call, CannotOpen}
 use Rattle.bootimg.specs.declared.jobs.Problem.{Problem}
 use Rattle.bootimg.specs.declared.tasks.Done.{Done}
 use Rattle.bootimg.specs.CommandLine.{HasJobLengths, IsTextFor, IsRejected, IsRequest}
-use Rattle.bootimg.specs.CommandLine.{reads_input, sources_of}
+use Rattle.bootimg.specs.CommandLine.{IsAllRequested, reads_input, sources_of}
 use Rattle.bootimg.specs.ComparedFiles.{IsCompareOutput, IsCompareFailure, compare_status}
 use Rattle.bootimg.specs.ComparedFiles.{failure_of_comparing, refused_source}
+use Rattle.bootimg.specs.Directories.{IsDirectorySaved, IsDirectoryNotSaved, IsWithoutSlashes}
 use Rattle.bootimg.specs.Explanations.{explain_text}
 use Rattle.bootimg.specs.Failures.{failure_text, name_text}
 use Rattle.bootimg.specs.Files.{FileStep, KnownFiles, WasOpened, WasNotOpened, IsSaved, IsNotSaved}
@@ -396,6 +399,43 @@ pub data IsSavedWork (files : KnownFiles) (job : Job) (limits : Limits) (name : 
     NoOutput : (failed : Problem) → IsHeldFailure files job limits before after failed
         → outcome ≡ Err failed → IsSavedWork files job limits name before after outcome
 
+-- ---- extracting all payloads
+
+-- All payloads of the image at the offset were saved in a new directory of the name; or that
+-- failed, or the image was read and its payloads could not be extracted, or it was not read.
+-- Nothing is written before all is read and extracted.
+pub data IsAllWork (files : KnownFiles) (request : AllRequest) (before after : Inputs)
+    (outcome : Result Done Problem) : Type 0
+  where
+    PayloadsSaved : (file name : List ℕ) (payloads : List PayloadFile)
+        (read : Option (List FileStep))
+        → IsImageRead files request.limits before (record { input = after.input; steps = read })
+        file request.source
+        → AreAllPayloads request.limits (input_from request.offset file) payloads
+        → IsWithoutSlashes request.directory.now name
+        → IsDirectorySaved files name payloads read after.steps
+        → (done : Done) → EndedWith 0 done → outcome ≡ Ok done
+        → IsAllWork files request before after outcome
+    PayloadsNotSaved : (file name : List ℕ) (payloads : List PayloadFile)
+        (read : Option (List FileStep))
+        → IsImageRead files request.limits before (record { input = after.input; steps = read })
+        file request.source
+        → AreAllPayloads request.limits (input_from request.offset file) payloads
+        → IsWithoutSlashes request.directory.now name
+        → (failure : Failure) → IsDirectoryNotSaved files name payloads failure read after.steps
+        → outcome ≡ Err (problem (File request.directory) failure)
+        → IsAllWork files request before after outcome
+    NotExtracted : (file : List ℕ)
+        → IsImageRead files request.limits before after file request.source
+        → (error : Error)
+        → IsExtractAllError request.limits (input_from request.offset file) error
+        → outcome ≡ Err (problem request.source (Call error))
+        → IsAllWork files request before after outcome
+    NothingRead : (failure : Failure)
+        → IsImageNotRead files request.limits before after failure request.source
+        → outcome ≡ Err (problem request.source failure)
+        → IsAllWork files request before after outcome
+
 -- ---- a run
 
 -- The three streams and the steps with files, before and after a call, and the exit status that it
@@ -464,6 +504,14 @@ pub record IsRequestRun (files : KnownFiles) (request : Request) (run : Run) : T
   pub done : IsOutputRun files request.job request.limits run outcome request.output
   pub end : IsEnd run.errors run.new_errors run.status outcome
 
+-- All payloads that are requested were extracted, or that failed. Nothing was written to standard
+-- output.
+pub record IsAllRun (files : KnownFiles) (request : AllRequest) (run : Run) : Type 0 where
+  pub outcome : Result Done Problem
+  pub done : IsAllWork files request (inputs_before run) (inputs_after run) outcome
+  pub nothing_written : run.new_output ≡ run.output
+  pub end : IsEnd run.errors run.new_errors run.status outcome
+
 -- A text of this kind is what the arguments ask for: help or the version.
 abbrev pub IsAskedFor : ErrorKind → Type 0
 IsAskedFor kind = (kind ≡ DisplayHelp) ⊎ (kind ≡ DisplayVersion)
@@ -488,11 +536,13 @@ pub data IsTextRun (kind : ErrorKind) (text : List ℕ) (run : Run) : Type 0 whe
       → run.new_input ≡ run.input → run.new_steps ≡ run.steps → run.status ≡ 2
       → IsTextRun kind text run
 
--- The program ran with these arguments: it did the job that they request, rejected them, or wrote a
--- text that clap has for them.
+-- The program ran with these arguments: it did the job that they request or extracted all payloads,
+-- rejected them, or wrote a text that clap has for them.
 pub data IsRun (arguments : List (List ℕ)) (files : KnownFiles) (run : Run) : Type 0 where
   RanJob : (request : Request) → IsRequest arguments request → HasJobLengths request.job
       → IsRequestRun files request run → IsRun arguments files run
+  ExtractedAll : (request : AllRequest) → IsAllRequested arguments request
+      → IsAllRun files request run → IsRun arguments files run
   Rejected : (failure : Failure) → IsRejected arguments failure
       → IsRejection Standard failure run → IsRun arguments files run
   WroteText : (kind : ErrorKind) (text : List ℕ) → IsTextFor arguments kind

@@ -1,4 +1,4 @@
-use Rattle.bi_commands.specs.KnownTexts.{lent}
+use Rattle.bi_commands.specs.KnownChoices.{lent}
 use Rattle.bi_commands.specs.declared.extract.Select.{Select}
 use Rattle.bi_commands.specs.declared.extract.Select.TheVariants as select
 use Rattle.bootimg.specs.declared.command_line.extract.Selected.{Selected}

@@ -8,15 +8,15 @@ use Rattle.bi_base.specs.Limits.{Limits}
 use Rattle.bi_norm.specs.Converting.{IsConvertedFile, IsConvertError}
 use Rattle.bi_norm.specs.NormalForm.{IsNormalForm, IsNormaliseError, IsNormaliseOutput}
 use Rattle.bi_norm.specs.Reading.{IsBootImageReadError}
+use Rattle.bi_report.specs.CheckedFiles.{IsChecked, IsCheckError, IsCheckOutput}
+use Rattle.bi_report.specs.ListedFiles.{IsListing}
+use Rattle.bi_report.specs.Scanning.{IsScanText, IsScanError, IsScanOutput}
+use Rattle.bi_report.specs.VerifiedFiles.{IsReport, IsVerifyOutput}
+use Rattle.bi_describe.specs.Describing.{IsDescription, IsDescribeError}
+use Rattle.bi_show.specs.ShownFiles.{IsPage}
 use Rattle.bi_commands.specs.declared.extract.ExtractError.{ExtractError}
 use Rattle.bi_commands.specs.declared.extract.ExtractError.TheVariants as extract
-use Rattle.bi_commands.specs.CheckedFiles.{IsChecked, IsCheckError, IsCheckOutput}
-use Rattle.bi_commands.specs.Describing.{IsDescription, IsDescribeError}
 use Rattle.bi_commands.specs.Extracting.{IsChosen, IsExtractError}
-use Rattle.bi_commands.specs.ListedFiles.{IsListing}
-use Rattle.bi_commands.specs.ShownFiles.{IsPage}
-use Rattle.bi_commands.specs.Scanning.{IsScanText, IsScanError, IsScanOutput}
-use Rattle.bi_commands.specs.VerifiedFiles.{IsReport, IsVerifyOutput}
 use Rattle.bi_commands.specs.UpdatedFiles.{IsUpdated, IsUpdateError, IsUpdateOutput}
 use Rattle.bi_fit.specs.declared.configurations.ConfigError.TheVariants as list
 use Rattle.bootimg.specs.declared.command_line.Task.{Task}

@@ -12,11 +12,12 @@ mod source;
 mod table;
 mod update;
 
-ghost use Rattle.std.specs.Prelude.{◌≡◌, ◌≢◌, IfOk, IfErr, codes};
+ghost use Rattle.std.specs.Prelude.{◌≡◌, ◌≢◌, false, true, IfOk, IfErr, IsFalse, IsTrue, codes};
 ghost use Rattle.bi_base.specs.declared.fault.Error.TheVariants.{OutOfMemory};
-ghost use Rattle.bootimg.specs.CommandLine.{HasJobLengths, IsFailureOutcome, IsJob, IsNoRequest};
-ghost use Rattle.bootimg.specs.CommandLine.{IsOutcomeOf, IsRequest, IsTask, IsTaskFailure};
-ghost use Rattle.bootimg.specs.CommandLine.{texts_of};
+ghost use Rattle.bootimg.specs.CommandLine.{HasJobLengths, HasOrderDepth, HasOrderLengths};
+ghost use Rattle.bootimg.specs.CommandLine.{IsFailureOutcome};
+ghost use Rattle.bootimg.specs.CommandLine.{IsJob, IsNoRequest, IsOrder, IsOutcomeOf, IsTask};
+ghost use Rattle.bootimg.specs.CommandLine.{IsTaskFailure, SelectsAll, texts_of};
 ghost use Rattle.bootimg.specs.Program.{IsCommandName};
 ghost use Rattle.bootimg.specs.declared.command_line.Outcome.TheVariants as outcome;
 ghost use Rattle.bootimg.specs.declared.failure.Failure.TheVariants.{Call};
@@ -34,8 +35,8 @@ use build::{fit_plan, legacy_plan};
 use clap::ArgMatches;
 use clap::error::ErrorKind;
 use explain::explained_cause;
-pub use extract::Selected;
-use extract::selection;
+pub use extract::{AllRequest, Selected};
+use extract::{all_request, selection};
 use options::{form, format, limits, number};
 pub use part::PartSource;
 use show::presenter;
@@ -94,7 +95,7 @@ pub enum Job<'a> {
     Build(BuildPlan<'a>),
 }
 
-/// What the arguments request.
+/// A job that the arguments request, with its output.
 #[derive(Drop)]
 pub struct Request<'a> {
     /// What to do.
@@ -103,6 +104,15 @@ pub struct Request<'a> {
     pub limits: Limits,
     /// The name of the output file. Without one the output goes to standard output.
     pub output: Option<&'a str>,
+}
+
+/// What the arguments request.
+#[derive(Drop)]
+pub enum Order<'a> {
+    /// Do a job, and write its output.
+    Do(Request<'a>),
+    /// Extract every payload of an image into a new directory.
+    ExtractAll(AllRequest<'a>),
 }
 
 /// The outcome of arguments that request no task.
@@ -153,30 +163,46 @@ impl From<Failure> for Outcome {
 ///
 /// Errors, the first that applies: what clap rejects; `extract` without exactly one selection, or
 /// `update` without a change; a number that is malformed or out of range, an unknown code, key or
-/// kind of concerns, or `compare` of standard input with itself; an image of `build-fit` that is
-/// malformed. A call that allocates may run out of memory.
-pub fn parse_arguments<'a>(alloc: Global, arguments: &'a [&'a str]) -> Result<Request<'a>, Outcome>
-    ensures request { IfOk result (IsRequest (texts_of arguments.entry.now)) }
+/// kind of concerns, `extract --all` without an output, or `compare` of standard input with itself;
+/// an image of `build-fit` that is malformed. A call that allocates may run out of memory.
+pub fn parse_arguments<'a>(alloc: Global, arguments: &'a [&'a str]) -> Result<Order<'a>, Outcome>
+    ensures order { IfOk result (IsOrder (texts_of arguments.entry.now)) }
     ensures failure { IfErr result (IsNoRequest (texts_of arguments.entry.now)) }
-    ensures lengths { IfOk result (λ request. HasJobLengths request.job) }
-    ensures depth { IfOk result (λ request. request.limits.depth ≡ 64) }
+    ensures lengths { IfOk result HasOrderLengths }
+    ensures depth { IfOk result HasOrderDepth }
 {
     let matches = program(alloc)?.try_get_matches_from(arguments)?;
     let Some((name, options)) = matches.subcommand() else {
         unreachable!()
     };
+    if extracts_all(name, options) {
+        match all_request(options) {
+            Ok(request) => return Ok(Order::ExtractAll(request)),
+            Err(failure) => return Err(Outcome::Failure(failure)),
+        }
+    }
     let job = parse_job(alloc, name, options)?;
     let limits = limits(options)?;
-    Ok(Request {
+    Ok(Order::Do(Request {
         job,
         limits,
         output: options.get_str("output"),
-    })
+    }))
+}
+
+/// Returns whether the command of this name with the options is `extract --all`.
+fn extracts_all(name: &str, options: &ArgMatches<'_>) -> bool
+    ensures all { IsTrue result → (name.now ≡ codes "extract") × SelectsAll options.now true }
+    ensures not_all { IsFalse result → name.now ≡ codes "extract"
+        → SelectsAll options.now false }
+{
+    name == "extract" && options.get_flag("all")
 }
 
 /// Returns what the command of this name does with the options. Fails as `parse_arguments` does.
 fn parse_job<'a>(alloc: Global, name: &str, options: &ArgMatches<'a>) -> Result<Job<'a>, Outcome>
-    requires { IsCommandName name.now }
+    requires command { IsCommandName name.now }
+    requires not_all { name.now ≡ codes "extract" → SelectsAll options.now false }
     ensures job { IfOk result (IsJob name.now options.now) }
     ensures lengths { IfOk result (λ job. HasJobLengths job) }
     ensures failure { IfErr result (IsFailureOutcome (IsTaskFailure name.now options.now)) }
@@ -210,6 +236,7 @@ fn parse_job<'a>(alloc: Global, name: &str, options: &ArgMatches<'a>) -> Result<
 /// Returns the task of the command of this name with the options. Fails as `parse_arguments` does.
 fn parse_task(alloc: Global, name: &str, options: &ArgMatches<'_>) -> Result<Task, Outcome>
     requires command { IsCommandName name.now }
+    requires not_all { name.now ≡ codes "extract" → SelectsAll options.now false }
     requires no_comparison { name.now ≢ codes "compare" }
     requires no_explanation { name.now ≢ codes "explain" }
     requires no_build_legacy { name.now ≢ codes "build-legacy" }

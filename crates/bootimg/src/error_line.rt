@@ -2,7 +2,7 @@
 
 ghost use Rattle.std.specs.Prelude.{◌≡◌, ◌%◌, [], false, true, flat_map};
 ghost use Rattle.std.specs.Fmt.{decimal, digit_glyph};
-ghost use Rattle.bi_commands.specs.Shown.{shown_byte, shown_text};
+ghost use Rattle.bi_common.specs.Shown.{shown_byte, shown_text};
 ghost use Rattle.bootimg.specs.ErrorLines.{Extends, SendsMore, line_of};
 
 use arrayvec::ArrayVec;

@@ -10,10 +10,15 @@ ghost use Rattle.bootimg.specs.Files.{MayBeReplaced, MayNotBeReplaced, TookSteps
 ghost use Rattle.bootimg.specs.Files.{Opened, NotOpened, ReaderClosed};
 ghost use Rattle.bootimg.specs.Files.{Made, NameTaken, NotMade, Closed, NotClosed};
 ghost use Rattle.bootimg.specs.Files.{Renamed, NotRenamed, Removed, NotRemoved};
+ghost use Rattle.bootimg.specs.Files.{DirectoryMade, DirectoryRenamed, DirectoryNotRenamed};
+ghost use Rattle.bootimg.specs.Files.{DirectoryRemoved, DirectoryNotRemoved, IsSomething};
+ghost use Rattle.bootimg.specs.Files.{MadeIn, NotMadeIn, ClosedIn, NotClosedIn, RemovedIn};
+ghost use Rattle.bootimg.specs.Files.{NotRemovedIn};
 
 use crate::new_file::NewFile;
 use crate::opened_file::OpenedFile;
 use bi_base::{TracedRead, TracedWrite};
+use std::alloc::{AllocError, Global};
 use std::fs::{self, File, Files, OpenFile};
 use std::io::{self, Empty, ErrorKind, Read, Write};
 
@@ -89,6 +94,62 @@ pub trait FileSystem {
             (Removed name.now ∷ [])) }
         ensures not_removed { OnErr result (TookSteps (steps self.old) (steps self.new)
             (NotRemoved name.now ∷ [])) };
+
+    /// Returns whether nothing has this name, not even a link that leads nowhere.
+    fn is_unused(&self, name: &str) -> bool
+        ensures unused { IsTrue result → NameHas (known self.now) name.now IsNoFile }
+        ensures used { IsFalse result → NameHas (known self.now) name.now IsSomething };
+
+    /// Makes a new directory of this name. Fails with the kind AlreadyExists if something has the
+    /// name.
+    fn make_directory(&mut self, name: &str) -> io::Result<()>
+        ensures is_unused { OnOk result (NameHas (known self.old) name.now IsNoFile) }
+        ensures same_files { OnErr result (known self.new ≡ known self.old) }
+        ensures made { OnOk result (TookSteps (steps self.old) (steps self.new)
+            (DirectoryMade name.now ∷ [])) }
+        ensures taken { IfErr result (λ error. error_kind error ≡ AlreadyExists
+            → TookSteps (steps self.old) (steps self.new) (NameTaken name.now ∷ [])) }
+        ensures not_made { IfErr result (λ error. error_kind error ≢ AlreadyExists
+            → TookSteps (steps self.old) (steps self.new) (NotMade name.now ∷ [])) };
+
+    /// Makes a new file of this name in this directory, for writing. Fails if the directory has
+    /// something of the name.
+    fn create_in(&mut self, directory: &str, name: &str) -> io::Result<Self::Created>
+        ensures is_new { IfOk result (λ file. IsNewFile (Self.Created.trace file)) }
+        ensures made { IfOk result (λ file. TookSteps (steps self.old) (steps self.new)
+            (MadeIn directory.now name.now (Self.Created.trace file) ∷ [])) }
+        ensures not_made { OnErr result (TookSteps (steps self.old) (steps self.new)
+            (NotMadeIn directory.now name.now ∷ [])) };
+
+    /// Closes the new file of this name in this directory, as `close` does.
+    fn close_in(&mut self, directory: &str, name: &str, file: Self::Created) -> io::Result<()>
+        ensures closed { OnOk result (TookSteps (steps self.old) (steps self.new)
+            (ClosedIn directory.now name.now (Self.Created.trace file) ∷ [])) }
+        ensures not_closed { OnErr result (TookSteps (steps self.old) (steps self.new)
+            (NotClosedIn directory.now name.now (Self.Created.trace file) ∷ [])) };
+
+    /// Renames a directory. Fails if something has the new name. After an error each file has the
+    /// name that it had.
+    fn rename_directory(&mut self, name: &str, new_name: &str) -> io::Result<()>
+        ensures is_unused { OnOk result (NameHas (known self.old) new_name.now IsNoFile) }
+        ensures renamed { OnOk result (TookSteps (steps self.old) (steps self.new)
+            (DirectoryRenamed name.now new_name.now ∷ [])) }
+        ensures not_renamed { OnErr result (TookSteps (steps self.old) (steps self.new)
+            (DirectoryNotRenamed name.now new_name.now ∷ [])) };
+
+    /// Removes the file of this name from this directory. After an error it may still be there.
+    fn remove_in(&mut self, directory: &str, name: &str) -> io::Result<()>
+        ensures removed { OnOk result (TookSteps (steps self.old) (steps self.new)
+            (RemovedIn directory.now name.now ∷ [])) }
+        ensures not_removed { OnErr result (TookSteps (steps self.old) (steps self.new)
+            (NotRemovedIn directory.now name.now ∷ [])) };
+
+    /// Removes the directory of this name. After an error it may still be there.
+    fn remove_directory(&mut self, name: &str) -> io::Result<()>
+        ensures removed { OnOk result (TookSteps (steps self.old) (steps self.new)
+            (DirectoryRemoved name.now ∷ [])) }
+        ensures not_removed { OnErr result (TookSteps (steps self.old) (steps self.new)
+            (DirectoryNotRemoved name.now ∷ [])) };
 }
 
 /// No files: none can be opened, and none can be made.
@@ -129,6 +190,39 @@ impl FileSystem for NoFiles {
     fn remove(&mut self, _name: &str) -> io::Result<()> {
         Err(io::Error::from(ErrorKind::Unsupported))
     }
+
+    fn is_unused(&self, _name: &str) -> bool {
+        false
+    }
+
+    fn make_directory(&mut self, _name: &str) -> io::Result<()> {
+        Err(io::Error::from(ErrorKind::Unsupported))
+    }
+
+    fn create_in(&mut self, _directory: &str, _name: &str) -> io::Result<NewFile<Vec<u8>>> {
+        Err(io::Error::from(ErrorKind::Unsupported))
+    }
+
+    fn close_in(
+        &mut self,
+        _directory: &str,
+        _name: &str,
+        _file: NewFile<Vec<u8>>,
+    ) -> io::Result<()> {
+        Err(io::Error::from(ErrorKind::Unsupported))
+    }
+
+    fn rename_directory(&mut self, _name: &str, _new_name: &str) -> io::Result<()> {
+        Err(io::Error::from(ErrorKind::Unsupported))
+    }
+
+    fn remove_in(&mut self, _directory: &str, _name: &str) -> io::Result<()> {
+        Err(io::Error::from(ErrorKind::Unsupported))
+    }
+
+    fn remove_directory(&mut self, _name: &str) -> io::Result<()> {
+        Err(io::Error::from(ErrorKind::Unsupported))
+    }
 }
 
 /// The files of the system. What they hold, and how they change, is not known to a proof.
@@ -136,6 +230,8 @@ impl FileSystem for NoFiles {
 pub struct SystemFiles<'a, R> {
     /// The part of the runtime that opens files.
     pub runtime: &'a R,
+    /// Where the names of files in directories are allocated.
+    pub alloc: Global,
 }
 
 impl<'a, R: Files> FileSystem for SystemFiles<'a, R> {
@@ -188,6 +284,64 @@ impl<'a, R: Files> FileSystem for SystemFiles<'a, R> {
     fn remove(&mut self, name: &str) -> io::Result<()> {
         fs::remove_file(self.runtime, name)
     }
+
+    // The empty name is never used, but nothing can have it.
+    fn is_unused(&self, name: &str) -> bool {
+        match fs::symlink_metadata(self.runtime, name) {
+            Ok(_) => false,
+            Err(error) => !name.is_empty() && error.kind() == ErrorKind::NotFound,
+        }
+    }
+
+    fn make_directory(&mut self, name: &str) -> io::Result<()> {
+        fs::create_dir(self.runtime, name)
+    }
+
+    fn create_in(
+        &mut self,
+        directory: &str,
+        name: &str,
+    ) -> io::Result<NewFile<SystemFile<R::File>>> {
+        let path = path_in(self.alloc, directory, name)?;
+        let file = File::create_new(self.runtime, path.as_str())?;
+        Ok(NewFile::new(SystemFile { file }))
+    }
+
+    fn close_in(
+        &mut self,
+        _directory: &str,
+        name: &str,
+        file: NewFile<SystemFile<R::File>>,
+    ) -> io::Result<()> {
+        self.close(name, file)
+    }
+
+    // The system would replace an empty directory of the new name. So an own one is made first,
+    // which fails if something has the name, and this one is replaced.
+    fn rename_directory(&mut self, name: &str, new_name: &str) -> io::Result<()> {
+        fs::create_dir(self.runtime, new_name)?;
+        match fs::rename(self.runtime, name, new_name) {
+            Ok(()) => Ok(()),
+            Err(error) => {
+                let _ = fs::remove_dir(self.runtime, new_name);
+                Err(error)
+            }
+        }
+    }
+
+    fn remove_in(&mut self, directory: &str, name: &str) -> io::Result<()> {
+        let path = path_in(self.alloc, directory, name)?;
+        fs::remove_file(self.runtime, path.as_str())
+    }
+
+    fn remove_directory(&mut self, name: &str) -> io::Result<()> {
+        fs::remove_dir(self.runtime, name)
+    }
+}
+
+/// Returns the path of the file of this name in this directory. Fails if memory runs out.
+fn path_in(alloc: Global, directory: &str, name: &str) -> Result<String, AllocError> {
+    format!(in alloc; "{directory}/{name}")
 }
 
 /// Gives a new file the permissions of the file of this name, if there is one.

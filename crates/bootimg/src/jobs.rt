@@ -188,14 +188,14 @@ fn compare_images<'a, S: TracedRead, T: TracedWrite, F: FileSystem>(
 }
 
 /// Returns the end of a job that failed with an image from this source.
-fn job_failed<'a>(source: ImageSource<'a>, failure: Failure) -> Result<Done, Problem<'a>>
+pub fn job_failed<'a>(source: ImageSource<'a>, failure: Failure) -> Result<Done, Problem<'a>>
     ensures { result ≡ Err (problem source.entry failure) }
 {
     Err(Problem { source, failure })
 }
 
 /// Reads the image from this source. Fails as `read_input` does, or with CannotOpen.
-fn read_image<S: TracedRead, F: FileSystem>(
+pub fn read_image<S: TracedRead, F: FileSystem>(
     alloc: Global,
     source: ImageSource<'_>,
     limits: Limits,

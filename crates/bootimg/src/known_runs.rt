@@ -8,11 +8,13 @@ ghost use Rattle.bootimg.specs.KnownRequests.{FlagsAreKnown, CommandNamesAreKnow
 ghost use Rattle.bootimg.specs.KnownRequests.{SourcesAreKnown, ImageOffsetsAreKnown};
 ghost use Rattle.bootimg.specs.KnownRequests.{PartWordsAreKnown};
 ghost use Rattle.bootimg.specs.KnownRequests.{AllowedWordsAreKnown, ChangesAreKnown};
-ghost use Rattle.bootimg.specs.KnownRequests.{SelectionsAreKnown, PlansAreKnown};
+ghost use Rattle.bootimg.specs.KnownRequests.{AllRequestsAreKnown, SelectionsAreKnown};
+ghost use Rattle.bootimg.specs.KnownRequests.{PlansAreKnown};
 ghost use Rattle.bootimg.specs.KnownRuns.{StatusesAreKnown, FailureLinesAreKnown};
 ghost use Rattle.bootimg.specs.KnownRuns.{ExtractLinesAreKnown, CompareLinesAreKnown};
 ghost use Rattle.bootimg.specs.KnownRuns.{NotesAreKnown};
-ghost use Rattle.bootimg.specs.KnownSteps.{BesideNamesAreKnown, SavedInSteps};
+ghost use Rattle.bootimg.specs.KnownSteps.{BesideNamesAreKnown, DirectorySavedInSteps};
+ghost use Rattle.bootimg.specs.KnownSteps.{SavedInSteps};
 
 /// Each option of each command has a known value if it is not given.
 pub fn defaults_are_known()
@@ -89,6 +91,11 @@ pub fn selections_are_known()
     ensures { SelectionsAreKnown }
 {}
 
+/// Small command lines request all payloads of known images, or fail for known reasons.
+pub fn all_requests_are_known()
+    ensures { AllRequestsAreKnown }
+{}
+
 /// The options of a legacy image, and the fields of an image of a tree, have known meanings.
 pub fn plans_are_known()
     ensures { PlansAreKnown }
@@ -128,4 +135,10 @@ pub fn beside_names_are_known()
 /// then took the name.
 pub fn outputs_are_saved_in_steps()
     ensures { SavedInSteps }
+{}
+
+/// A directory that is saved is a new one, which was made, then got its files one after another,
+/// and then took the name.
+pub fn directories_are_saved_in_steps()
+    ensures { DirectorySavedInSteps }
 {}

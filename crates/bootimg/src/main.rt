@@ -5,8 +5,10 @@
 mod builds;
 mod codes;
 mod command_line;
+mod directories;
 mod error_line;
 mod explanations;
+mod extractions;
 mod failure;
 mod files;
 mod jobs;
@@ -49,7 +51,7 @@ fn run_streams(rt: &HostRuntime) -> io::Result<u8> {
     Ok(run_with_files(
         alloc,
         &arguments,
-        &mut SystemFiles { runtime: rt },
+        &mut SystemFiles { runtime: rt, alloc },
         &mut rt.stdin(),
         &mut rt.stdout(),
         &mut rt.stderr(),

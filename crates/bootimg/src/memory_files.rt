@@ -1,13 +1,16 @@
 //! Files in memory, whose steps are recorded, and one of which can be made to fail.
 
 ghost use Rattle.std.specs.Prelude.{◌≡◌, ◌↔◌, ◌∷◌, [], IsTrue, IsFalse, IfOk, None, Some};
+ghost use Rattle.std.specs.Prelude.{IfErr, OnErr, OnOk};
+ghost use Rattle.std.specs.IoError.{error_kind};
+ghost use Rattle.std.specs.declared.io.ErrorKind.TheVariants.{OutOfMemory};
 ghost use Rattle.std.specs.Prelude.{length, map};
 ghost use Rattle.bootimg.specs.CommandLine.{texts_of};
 ghost use Rattle.bootimg.specs.LeftFiles.{LeavesFiles};
-ghost use Rattle.bootimg.specs.Files.{NoFile, RegularFile, TookSteps};
+ghost use Rattle.bootimg.specs.Files.{Entry, TookSteps};
 ghost use Rattle.bootimg.specs.FilesAfter.{after_renaming, after_step, with_entry_at};
 ghost use Rattle.bootimg.specs.MemoryFiles.{recorded_names, recorded_steps, recorded_step};
-ghost use Rattle.bootimg.specs.MemoryFiles.{named_step, AreLookedUp, IsFileFound};
+ghost use Rattle.bootimg.specs.MemoryFiles.{named_step, AreLookedUp, IsOccupant};
 
 use crate::files::FileSystem;
 use crate::new_file::{NewFile, WriteCalls};
@@ -58,6 +61,28 @@ pub enum StepKind<'a> {
     Removed,
     /// Removing it failed.
     NotRemoved,
+    /// It was made, as a directory.
+    DirectoryMade,
+    /// It is a directory, and the new file of this name was made in it.
+    MadeIn(&'a [u8], WrittenFile<'a>),
+    /// The new file of this name was not made in it.
+    NotMadeIn(&'a [u8]),
+    /// The new file of this name in it was closed.
+    ClosedIn(&'a [u8], WrittenFile<'a>),
+    /// Closing the new file of this name in it failed.
+    NotClosedIn(&'a [u8], WrittenFile<'a>),
+    /// The directory took this name.
+    DirectoryRenamed(&'a [u8]),
+    /// The directory did not take this name.
+    DirectoryNotRenamed(&'a [u8]),
+    /// The file of this name was removed from it.
+    RemovedIn(&'a [u8]),
+    /// Removing the file of this name from it failed.
+    NotRemovedIn(&'a [u8]),
+    /// The directory was removed.
+    DirectoryRemoved,
+    /// Removing the directory failed.
+    DirectoryNotRemoved,
 }
 
 /// A step with the file of a name.
@@ -67,14 +92,25 @@ pub struct MemoryStep<'a> {
     kind: StepKind<'a>,
 }
 
-/// What a step says of the file that has a name after it.
+/// What has a name.
+#[derive(Clone, Copy)]
+pub enum Occupant<'a> {
+    /// Nothing has it.
+    Nothing,
+    /// A file with these bytes has it.
+    File(&'a [u8]),
+    /// A directory has it.
+    Directory,
+}
+
+/// What a step says of what has a name after it.
 #[derive(Clone, Copy)]
 enum Lookup<'a> {
     /// This is what has the name.
-    Has(Option<&'a [u8]>),
+    Has(Occupant<'a>),
     /// It had this name before.
     HadName(&'a [u8]),
-    /// It had the same name before.
+    /// It had the same name before. If it is a directory, its files may have changed.
     HadSameName,
 }
 
@@ -107,9 +143,9 @@ impl<'a> MemoryFiles<'a> {
         }
     }
 
-    /// Returns the bytes of the file of this name, if there is one.
-    pub fn find(&self, name: &[u8]) -> Option<&'a [u8]>
-        ensures { IsFileFound (recorded_names self.now.log.items name.now) result }
+    /// Returns what has this name.
+    pub fn find(&self, name: &[u8]) -> Occupant<'a>
+        ensures { IsOccupant (recorded_names self.now.log.items name.now) result }
     {
         let mut wanted = name;
         let mut left = self.log.len();
@@ -121,7 +157,7 @@ impl<'a> MemoryFiles<'a> {
                 Lookup::HadSameName => {}
             }
         }
-        None
+        Occupant::Nothing
     }
 
     /// Returns whether memory ran out for a step, so that not all are recorded.
@@ -147,6 +183,40 @@ impl<'a> MemoryFiles<'a> {
                 Err(_) => self.lose(),
             },
             Err(_) => self.lose(),
+        }
+    }
+
+    /// Records a step with the file of this name, as `record` does. Fails if there is no memory.
+    fn note(&mut self, name: &[u8], kind: StepKind<'a>) -> io::Result<()>
+        ensures steps { TookSteps (recorded_steps self.old.is_lost self.old.log.items)
+            (recorded_steps self.new.is_lost self.new.log.items)
+            (named_step name.now kind.entry ∷ []) }
+        ensures lost { OnErr result
+            (recorded_steps self.new.is_lost self.new.log.items ≡ None) }
+        ensures same_log { OnErr result (self.new.log.items ≡ self.old.log.items) }
+        ensures failed { IfErr result (λ error. error_kind error ≡ OutOfMemory) }
+    {
+        if self.record(name, kind) {
+            Ok(())
+        } else {
+            Err(io::Error::from(ErrorKind::OutOfMemory))
+        }
+    }
+
+    /// Returns a copy of a name for a step. Fails if there is no memory, and the step is lost.
+    fn lasting_name(&mut self, name: &str) -> io::Result<&'a [u8]>
+        ensures copy { IfOk result (λ copy. copy.now ≡ name.now) }
+        ensures same { OnOk result (self.new ≡ self.old) }
+        ensures lost { OnErr result
+            (recorded_steps self.new.is_lost self.new.log.items ≡ None) }
+        ensures same_log { OnErr result (self.new.log.items ≡ self.old.log.items) }
+    {
+        match lasting_copy(self.alloc, name.as_bytes()) {
+            Ok(copy) => Ok(copy),
+            Err(_) => {
+                self.lose();
+                Err(io::Error::from(ErrorKind::OutOfMemory))
+            }
         }
     }
 
@@ -181,26 +251,31 @@ fn look_up<'a>(step: MemoryStep<'a>, name: &[u8]) -> Lookup<'a>
     ensures { AreLookedUp (λ names. after_step names (recorded_step step.entry)) name.now result }
 {
     match step.kind {
-        StepKind::Opened(_) | StepKind::NotOpened | StepKind::ReaderClosed(_) =>
-            Lookup::HadSameName,
-        StepKind::Made(file) => look_up_written(step.name, file.bytes, name),
-        StepKind::NameTaken | StepKind::NotMade => Lookup::HadSameName,
-        StepKind::Closed(file) => look_up_written(step.name, file.bytes, name),
-        StepKind::NotClosed(file) => look_up_written(step.name, file.bytes, name),
-        StepKind::Renamed(new_name) => look_up_renamed(step.name, new_name, name),
-        StepKind::NotRenamed(_) => Lookup::HadSameName,
-        StepKind::Removed => look_up_removed(step.name, name),
-        StepKind::NotRemoved => Lookup::HadSameName,
+        StepKind::Made(file) | StepKind::Closed(file) | StepKind::NotClosed(file) => look_up_at(
+            step.name,
+            Occupant::File(file.bytes),
+            name,
+        ),
+        StepKind::DirectoryMade => look_up_at(step.name, Occupant::Directory, name),
+        StepKind::Removed | StepKind::DirectoryRemoved => look_up_at(
+            step.name,
+            Occupant::Nothing,
+            name,
+        ),
+        StepKind::Renamed(new_name) | StepKind::DirectoryRenamed(new_name) => look_up_renamed(
+            step.name, new_name, name,
+        ),
+        _ => Lookup::HadSameName,
     }
 }
 
-/// Returns what is known of this name after the file of the name `written` was written.
-fn look_up_written<'a>(written: &'a [u8], bytes: &'a [u8], name: &[u8]) -> Lookup<'a>
-    ensures { AreLookedUp (λ names. with_entry_at names written.now (RegularFile bytes.now))
-        name.now result }
+/// Returns what is known of this name after this was found to have the name `changed`.
+fn look_up_at<'a>(changed: &'a [u8], found: Occupant<'a>, name: &[u8]) -> Lookup<'a>
+    ensures { (entry : Entry) → IsOccupant entry found.entry
+        → AreLookedUp (λ names. with_entry_at names changed.now entry) name.now result }
 {
-    if name == written {
-        Lookup::Has(Some(bytes))
+    if name == changed {
+        Lookup::Has(found)
     } else {
         Lookup::HadSameName
     }
@@ -214,18 +289,7 @@ fn look_up_renamed<'a>(old_name: &'a [u8], new_name: &'a [u8], name: &[u8]) -> L
     if name == new_name {
         Lookup::HadName(old_name)
     } else if name == old_name {
-        Lookup::Has(None)
-    } else {
-        Lookup::HadSameName
-    }
-}
-
-/// Returns what is known of this name after the file of the name `removed` was removed.
-fn look_up_removed<'a>(removed: &'a [u8], name: &[u8]) -> Lookup<'a>
-    ensures { AreLookedUp (λ names. with_entry_at names removed.now NoFile) name.now result }
-{
-    if name == removed {
-        Lookup::Has(None)
+        Lookup::Has(Occupant::Nothing)
     } else {
         Lookup::HadSameName
     }
@@ -242,11 +306,11 @@ impl<'a> FileSystem for MemoryFiles<'a> {
 
     fn open(&mut self, name: &str) -> Option<OpenedFile<&'a [u8]>> {
         match self.find(name.as_bytes()) {
-            Some(bytes) => {
+            Occupant::File(bytes) => {
                 self.record(name.as_bytes(), StepKind::Opened(bytes));
                 Some(OpenedFile::new(bytes))
             }
-            None => {
+            Occupant::Nothing | Occupant::Directory => {
                 self.record(name.as_bytes(), StepKind::NotOpened);
                 None
             }
@@ -261,13 +325,11 @@ impl<'a> FileSystem for MemoryFiles<'a> {
     }
 
     fn can_replace(&self, name: &str) -> bool {
-        // Only regular files have names here: the look-up says so of this one.
-        self.find(name.as_bytes());
-        true
+        !matches!(self.find(name.as_bytes()), Occupant::Directory)
     }
 
     fn create(&mut self, name: &str, _replaced: &str) -> io::Result<NewFile<Vec<u8>>> {
-        if self.find(name.as_bytes()).is_some() {
+        if !self.is_unused(name) {
             self.record(name.as_bytes(), StepKind::NameTaken);
             return Err(io::Error::from(ErrorKind::AlreadyExists));
         }
@@ -280,11 +342,8 @@ impl<'a> FileSystem for MemoryFiles<'a> {
             bytes: &[],
             calls: file.calls(),
         };
-        if self.record(name.as_bytes(), StepKind::Made(made)) {
-            Ok(file)
-        } else {
-            Err(io::Error::from(ErrorKind::OutOfMemory))
-        }
+        self.note(name.as_bytes(), StepKind::Made(made))?;
+        Ok(file)
     }
 
     fn close(&mut self, name: &str, file: NewFile<Vec<u8>>) -> io::Result<()> {
@@ -295,27 +354,16 @@ impl<'a> FileSystem for MemoryFiles<'a> {
             self.record(name.as_bytes(), StepKind::NotClosed(written));
             return Err(io::Error::from(ErrorKind::StorageFull));
         }
-        if self.record(name.as_bytes(), StepKind::Closed(written)) {
-            Ok(())
-        } else {
-            Err(io::Error::from(ErrorKind::OutOfMemory))
-        }
+        self.note(name.as_bytes(), StepKind::Closed(written))
     }
 
     fn rename(&mut self, name: &str, new_name: &str) -> io::Result<()> {
-        let Ok(lasting_name) = lasting_copy(self.alloc, new_name.as_bytes()) else {
-            self.lose();
-            return Err(io::Error::from(ErrorKind::OutOfMemory));
-        };
+        let new_name = self.lasting_name(new_name)?;
         if self.fails() {
-            self.record(name.as_bytes(), StepKind::NotRenamed(lasting_name));
+            self.record(name.as_bytes(), StepKind::NotRenamed(new_name));
             return Err(io::Error::from(ErrorKind::PermissionDenied));
         }
-        if self.record(name.as_bytes(), StepKind::Renamed(lasting_name)) {
-            Ok(())
-        } else {
-            Err(io::Error::from(ErrorKind::OutOfMemory))
-        }
+        self.note(name.as_bytes(), StepKind::Renamed(new_name))
     }
 
     fn remove(&mut self, name: &str) -> io::Result<()> {
@@ -323,20 +371,87 @@ impl<'a> FileSystem for MemoryFiles<'a> {
             self.record(name.as_bytes(), StepKind::NotRemoved);
             return Err(io::Error::from(ErrorKind::PermissionDenied));
         }
-        if self.record(name.as_bytes(), StepKind::Removed) {
-            Ok(())
-        } else {
-            Err(io::Error::from(ErrorKind::OutOfMemory))
+        self.note(name.as_bytes(), StepKind::Removed)
+    }
+
+    fn is_unused(&self, name: &str) -> bool {
+        matches!(self.find(name.as_bytes()), Occupant::Nothing)
+    }
+
+    fn make_directory(&mut self, name: &str) -> io::Result<()> {
+        if !self.is_unused(name) {
+            self.record(name.as_bytes(), StepKind::NameTaken);
+            return Err(io::Error::from(ErrorKind::AlreadyExists));
         }
+        if self.fails() {
+            self.record(name.as_bytes(), StepKind::NotMade);
+            return Err(io::Error::from(ErrorKind::PermissionDenied));
+        }
+        self.note(name.as_bytes(), StepKind::DirectoryMade)
+    }
+
+    fn create_in(&mut self, directory: &str, name: &str) -> io::Result<NewFile<Vec<u8>>> {
+        let name = self.lasting_name(name)?;
+        if self.fails() {
+            self.record(directory.as_bytes(), StepKind::NotMadeIn(name));
+            return Err(io::Error::from(ErrorKind::StorageFull));
+        }
+        let file = NewFile::new(Vec::new(self.alloc));
+        let made = WrittenFile {
+            bytes: &[],
+            calls: file.calls(),
+        };
+        self.note(directory.as_bytes(), StepKind::MadeIn(name, made))?;
+        Ok(file)
+    }
+
+    fn close_in(&mut self, directory: &str, name: &str, file: NewFile<Vec<u8>>) -> io::Result<()> {
+        let name = self.lasting_name(name)?;
+        let calls = file.calls();
+        let bytes = file.into_writer().leak();
+        let written = WrittenFile { bytes, calls };
+        if self.fails() {
+            self.record(directory.as_bytes(), StepKind::NotClosedIn(name, written));
+            return Err(io::Error::from(ErrorKind::StorageFull));
+        }
+        self.note(directory.as_bytes(), StepKind::ClosedIn(name, written))
+    }
+
+    fn rename_directory(&mut self, name: &str, new_name: &str) -> io::Result<()> {
+        let is_unused = self.is_unused(new_name);
+        let new_name = self.lasting_name(new_name)?;
+        if !is_unused || self.fails() {
+            self.record(name.as_bytes(), StepKind::DirectoryNotRenamed(new_name));
+            return Err(io::Error::from(ErrorKind::PermissionDenied));
+        }
+        self.note(name.as_bytes(), StepKind::DirectoryRenamed(new_name))
+    }
+
+    fn remove_in(&mut self, directory: &str, name: &str) -> io::Result<()> {
+        let name = self.lasting_name(name)?;
+        if self.fails() {
+            self.record(directory.as_bytes(), StepKind::NotRemovedIn(name));
+            return Err(io::Error::from(ErrorKind::PermissionDenied));
+        }
+        self.note(directory.as_bytes(), StepKind::RemovedIn(name))
+    }
+
+    fn remove_directory(&mut self, name: &str) -> io::Result<()> {
+        if self.fails() {
+            self.record(name.as_bytes(), StepKind::DirectoryNotRemoved);
+            return Err(io::Error::from(ErrorKind::PermissionDenied));
+        }
+        self.note(name.as_bytes(), StepKind::DirectoryRemoved)
     }
 }
 
 /// Runs the program over files in memory, as `run_with_files` does.
 ///
 /// If memory suffices to record the steps, a run leaves this: after success the file that the
-/// arguments name for the output has the output, and each other name has what it had. After a
-/// failure each name has what it had, whichever step failed; only a new file that cannot be removed
-/// is left.
+/// arguments name for the output has the output, and each other name has what it had; after
+/// `extract --all` the directory has exactly the files of the payloads. After a failure each name
+/// has what it had, whichever step failed; only a new file or directory that cannot be removed is
+/// left.
 pub fn run_in_memory<'a, 'b, R: Read, W: Write, E: Write>(
     alloc: Global,
     arguments: &'a [&'a str],

@@ -3,9 +3,11 @@
 ghost use Rattle.std.specs.Prelude.{◌≡◌, IfOk, IfErr, Ok, Some};
 ghost use Rattle.bootimg.specs.CommandLine.{HasJobLengths};
 ghost use Rattle.bootimg.specs.Runs.{failure_in_memory, IsEnd, IsHeldFailure, IsHeldWork};
-ghost use Rattle.bootimg.specs.Runs.{IsRequestRun, IsSavedWork};
+ghost use Rattle.bootimg.specs.Runs.{IsAllRun, IsRequestRun, IsSavedWork};
+ghost use Rattle.bi_base.specs.Traces.{WriteTrace};
 
-use crate::command_line::{ImageSource, Job, Request};
+use crate::command_line::{AllRequest, ImageSource, Job, Request};
+use crate::extractions::extract_to_directory;
 use crate::failure::Failure;
 use crate::files::FileSystem;
 use crate::jobs::{Problem, do_job};
@@ -49,6 +51,31 @@ pub fn perform<S: TracedRead, T: TracedWrite, E: TracedWrite, F: FileSystem>(
             conclude(outcome, errors)
         }
     }
+}
+
+/// Extracts every payload of an image into a new directory, as the arguments request, and returns
+/// the exit status.
+pub fn perform_all<S: TracedRead, E: TracedWrite, F: FileSystem>(
+    alloc: Global,
+    request: &AllRequest<'_>,
+    files: &mut F,
+    input: &mut S,
+    errors: &mut E,
+) -> u8
+    ensures { (output : WriteTrace) → IsAllRun (F.known files.old) request.now (record {
+      input = S.trace input.old;
+      new_input = S.trace input.new;
+      output = output;
+      new_output = output;
+      errors = E.trace errors.old;
+      new_errors = E.trace errors.new;
+      steps = F.steps files.old;
+      new_steps = F.steps files.new;
+      status = result;
+    }) }
+{
+    let outcome = extract_to_directory(alloc, request, files, input);
+    conclude(outcome, errors)
 }
 
 /// Writes the note or the line of the failure to standard error, if there is one, and returns the

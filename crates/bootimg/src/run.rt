@@ -4,14 +4,15 @@ ghost use Rattle.std.specs.Prelude.{◌↔◌, IsTrue, List, None, Option};
 ghost use Rattle.bi_base.specs.Traces.{ReadTrace};
 ghost use Rattle.bootimg.specs.Files.{FileStep, SavesNothing, no_files};
 ghost use Rattle.bootimg.specs.CommandLine.{texts_of};
+ghost use Rattle.bootimg.specs.Directories.{SavesNoDirectory};
 ghost use Rattle.bootimg.specs.Runs.{IsPlainRun, IsRun, IsTextRun, IsMistake};
 ghost use Rattle.clap.specs.declared.error.kind.ErrorKind.{ErrorKind};
 
-use crate::command_line::{ImageSource, Outcome, parse_arguments};
+use crate::command_line::{ImageSource, Order, Outcome, parse_arguments};
 use crate::failure::Failure;
 use crate::files::{FileSystem, NoFiles};
 use crate::reports::{FAILED, report};
-use crate::requests::perform;
+use crate::requests::{perform, perform_all};
 use crate::tasks::SUCCESS;
 use bi_base::{
     Error, TracedRead, TracedReader, TracedWrite, TracedWriter, write_all, write_and_flush,
@@ -33,6 +34,7 @@ pub fn run<'a, R: Read, W: Write, E: Write>(
         (W.contents writer.old) (W.contents writer.new)
         (E.contents errors.old) (E.contents errors.new) result }
     ensures saves_nothing { SavesNothing no_files }
+    ensures saves_no_directory { SavesNoDirectory no_files }
 {
     run_with_files(alloc, arguments, &mut NoFiles, reader, writer, errors)
 }
@@ -46,7 +48,8 @@ pub fn run<'a, R: Read, W: Write, E: Write>(
 /// arguments are parsed. So is each part of an image to be built. The output, help and the version
 /// are written to `writer`. If the arguments name an output file, the output is saved there
 /// instead: it is written to a new file beside it, which takes its name then. After a failure the
-/// output file is as it was.
+/// output file is as it was. `extract --all` writes each payload to a file in a new directory beside
+/// the one that the arguments name, which takes its name then.
 ///
 /// A failure is written to `errors`: one line, or clap's text if it rejects the arguments. The line
 /// has the name of the file, if the failure is about an image in a file or the output file. After
@@ -95,7 +98,8 @@ pub fn run_traced<'a, S: TracedRead, T: TracedWrite, E: TracedWrite, F: FileSyst
     }) }
 {
     match parse_arguments(alloc, arguments) {
-        Ok(request) => perform(alloc, &request, files, input, output, errors),
+        Ok(Order::Do(request)) => perform(alloc, &request, files, input, output, errors),
+        Ok(Order::ExtractAll(request)) => perform_all(alloc, &request, files, input, errors),
         Err(Outcome::Failure(failure)) => report(ImageSource::Standard, failure, errors),
         Err(Outcome::Text(text)) => match clap_text(alloc, &text) {
             Ok(bytes) => print(&bytes, text.use_stderr(), output, errors),

@@ -13,7 +13,7 @@ use std::alloc::{AllocError, Global};
 use std::io::ErrorKind;
 
 /// How many names are tried for a new file.
-const MOST_NAMES: u32 = 10_000;
+pub const MOST_NAMES: u32 = 10_000;
 
 /// Saves these bytes in the file of this name: writes them to a new file beside it, which then
 /// takes the name.
@@ -117,7 +117,7 @@ fn create_beside<F: FileSystem>(
 }
 
 /// Returns the name of a new file with this number in the directory that has the file of this name.
-fn name_beside(alloc: Global, name: &str, number: u32) -> Result<String, AllocError>
+pub fn name_beside(alloc: Global, name: &str, number: u32) -> Result<String, AllocError>
     ensures { IfOk result (λ beside. IsBeside name.now number (string_bytes beside)) }
 {
     match name.rsplit_once('/') {

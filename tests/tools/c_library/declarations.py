@@ -22,6 +22,7 @@ STRUCTS = {
     "ImageElement": "bootimg_image",
     "PropertyElement": "bootimg_property",
     "HashElement": "bootimg_hash",
+    "ConcernElement": "bootimg_concern",
     "BuildElement": "bootimg_build_image",
 }
 # What a parameter of the source is in C.
@@ -94,7 +95,9 @@ FOUND = [
     ("HAS_", "fit_building.rt", r"(?P<name>load|entry): address_if\(has_bit\((?P<number>\d+), image.addresses\)"),
     ("CHANGE_", "update.rt", r"let new_(?P<name>time) = if has_bit\((?P<number>\d+), changes\)"),
     ("CHANGE_", "update.rt", r"(?P<name>hashes): has_bit\((?P<number>\d+), changes\)"),
-    ("ALLOW_", "check.rt", r"(?P<name>\w+): has_bit\((?P<number>\d+), kinds\)"),
+    ("ALLOW_", "arguments.rt", r"(?P<name>\w+): has_bit\((?P<number>\d+), kinds\)"),
+    ("CONCERN_", "concerns.rt", r"ConcernKind::(?P<name>\w+) => (?P<number>\d+),"),
+    ("", "concerns.rt", r"Key::(?P<name>\w+) => (?P<number>\d+),"),
 ]
 # What has another name in the header.
 RENAMED = {"DONE": "OK", "UNKNOWN_ALGO": "UNKNOWN_ALGORITHM"}
@@ -107,6 +110,8 @@ most = re.search(r"\(64\.\.=(\w+)\).*\(1\.\.=(\d+)\)", (Path(sys.argv[1]) / "../
 numbers |= {"BOOTIMG_LIMIT": int(most[1].replace("_", ""), 0), "BOOTIMG_DEPTH": int(most[2])}
 for name, number in numbers.items():
     assert_that(f"{name} == {number}u")
+    if numbers.get(name.replace("_ALLOW_", "_CONCERN_")) != number:
+        sys.exit(f"{name} is not the number of the kind of concerns")
 print("\n".join(lines))
 
 for name in sorted({*declared, *exported}):

@@ -119,7 +119,7 @@ static uint32_t make_text(const struct choice *c, int call, uint8_t *to, size_t 
 static uint32_t make(const struct choice *c, int call, void *to, size_t room, bootimg_result *answer)
 {
     const struct memory file = {.bytes = (uint8_t *)c->file, .size = c->size}, name = {.bytes = (uint8_t *)c->name, .size = c->name_size};
-    const struct call made = {.call = call, .file = file, .name = name, .key = c->number % 7};
+    const struct call made = {.call = call, .file = file, .name = name, .key = c->number % 7, .kinds = c->number};
     return call < ARRAYS ? fill_array(&made, c->limit, c->depth, to, room, answer) : make_text(c, call, to, room, answer);
 }
 
@@ -156,6 +156,14 @@ static void check_elements(const struct choice *c, int call, const void *element
             check_region(c, hash->algorithm);
             check_region(c, hash->value);
             CHECK(hash->verdict <= BOOTIMG_VERDICT_MALFORMED);
+        } else if (call == CONCERNS) {
+            const bootimg_concern *concern = (const bootimg_concern *)elements + i;
+            check_region(c, concern->name);
+            check_region(c, concern->node);
+            check_region(c, concern->algorithm);
+            CHECK(concern->kind != 0 && concern->kind <= BOOTIMG_CONCERN_TRAILING && (concern->kind & (concern->kind - 1)) == 0);
+            CHECK((concern->kind & c->number) == 0);
+            CHECK(concern->verdict <= BOOTIMG_VERDICT_MALFORMED && concern->key <= BOOTIMG_SCRIPT);
         } else if (call == PROPERTIES) {
             const bootimg_property *property = (const bootimg_property *)elements + i;
             check_region(c, property->name);
@@ -281,6 +289,21 @@ static void try_verdicts(const struct choice *c)
     CHECK((bad == 0) == (report.value == 1));
 }
 
+/* There is a concern for each line. */
+static void try_concerns(const struct choice *c)
+{
+    bootimg_result lines, answer;
+    const uint8_t *text;
+    size_t count = 0;
+    const uint32_t status = try_call(c, CHECK_LINES, &lines);
+    if (status == BOOTIMG_OK && lines.size != 0) {
+        text = end_of(output_room, lines.size);
+        for (size_t i = 0; i < lines.size; i++)
+            count += text[i] == '\n';
+    }
+    CHECK(try_call(c, CONCERNS, &answer) == status && (status != BOOTIMG_OK || answer.size == count));
+}
+
 int LLVMFuzzerTestOneInput(const uint8_t *data, size_t size)
 {
     static const uint32_t limits[] = {BOOTIMG_LIMIT, BOOTIMG_LIMIT, BOOTIMG_LIMIT, 1 << 20, 4096, 256, 64, 63};
@@ -313,6 +336,7 @@ int LLVMFuzzerTestOneInput(const uint8_t *data, size_t size)
             CHECK(answer.value == 1);
     }
     try_verdicts(&c);
+    try_concerns(&c);
     try_build(&c);
     try_others(&c);
     return 0;

@@ -70,6 +70,7 @@ static uint32_t make(int call, uint8_t *buffer, bootimg_result *answer)
         return bootimg_build_fit(file, size, name, 6, 7,
                                  &(bootimg_build_image){.name = {0, 1}, .payload = {0, size}, .os = 5, .arch = 22, .image_type = 2}, 1,
                                  BOOTIMG_EMBEDDED, BOOTIMG_LIMIT, 64, buffer, sizeof text, answer);
+    case 31: return bootimg_concerns(file, size, 0, BOOTIMG_LIMIT, 64, (void *)buffer, 100, answer);
     default: return bootimg_listed(file, size, name, 6, BOOTIMG_KERNEL, BOOTIMG_LIMIT, 64, (void *)buffer, 100, answer);
     }
 }
@@ -105,7 +106,7 @@ int main(int count, char **words)
     size = input == NULL ? 0 : fread(file, 1, sizeof file, input);
     if (size == 0)
         return 2;
-    for (int call = 0; call <= 31; call++) {
+    for (int call = 0; call <= 32; call++) {
         bootimg_result expected;
         uint32_t status;
         memset(wanted, 0xa5, sizeof wanted);

@@ -61,7 +61,7 @@ static struct memory elements_of(const struct call *call, const char *what, uint
     *status = make_with(call, &exact, answer->size, &again);
     CHECK(*status == BOOTIMG_OK && memcmp(answer, &again, sizeof again) == 0);
     CHECK(make_with(call, &array, answer->size + 2, &again) == BOOTIMG_OK && memcmp(answer, &again, sizeof again) == 0);
-    CHECK(memcmp(array.bytes, exact.bytes, exact.size) == 0 || call->call == IMAGES || call->call == VERDICTS);
+    CHECK(memcmp(array.bytes, exact.bytes, exact.size) == 0 || call->call == IMAGES || call->call == VERDICTS || call->call == CONCERNS);
     CHECK(is_unchanged(array.bytes + exact.size, 2 * size));
     give_back(array);
     if (answer->size != 0) {
@@ -281,19 +281,86 @@ static void print_configuration(FILE *output, struct memory file, const void *el
     print_keys(output, file, *name);
 }
 
+/* Prints the bytes of a region after a space, or that there are none. */
+static void print_found(FILE *output, struct memory file, bootimg_region region)
+{
+    fputc(' ', output);
+    if (region.offset == 0 && region.size == 0)
+        fputs("none", output);
+    else
+        print_bytes(output, file, region);
+}
+
 static void print_verdict(FILE *output, struct memory file, const void *element)
 {
     const bootimg_hash *hash = element;
-    const bootimg_region regions[] = {hash->image, hash->node, hash->algorithm, hash->value};
     fputs("hash", output);
-    for (int i = 0; i < 4; i++) {
-        fputc(' ', output);
-        if (regions[i].offset == 0 && regions[i].size == 0)
-            fputs("none", output);
-        else
-            print_bytes(output, file, regions[i]);
-    }
+    print_found(output, file, hash->image);
+    print_found(output, file, hash->node);
+    print_found(output, file, hash->algorithm);
+    print_found(output, file, hash->value);
     fprintf(output, " %u\n", (unsigned)hash->verdict);
+}
+
+static int is_same_region(bootimg_region one, bootimg_region other)
+{
+    return one.offset == other.offset && one.size == other.size;
+}
+
+/* Prints the algorithms of the good hash nodes of the image whose name is in a region. */
+static void print_good(FILE *output, struct memory file, bootimg_region image)
+{
+    const struct call call = {.call = VERDICTS, .file = file};
+    bootimg_result answer;
+    uint32_t status;
+    struct memory array = elements_of(&call, "verdicts", &status, &answer, output);
+    const bootimg_hash *hashes = (const bootimg_hash *)(const void *)array.bytes;
+    for (size_t i = 0; i < answer.size; i++)
+        if (is_same_region(hashes[i].image, image) && hashes[i].verdict == BOOTIMG_VERDICT_GOOD)
+            print_found(output, file, hashes[i].algorithm);
+    give_back(array);
+}
+
+static void print_concern(FILE *output, struct memory file, const void *element)
+{
+    const bootimg_concern *concern = element;
+    fprintf(output, "concern %u", (unsigned)concern->kind);
+    print_found(output, file, concern->name);
+    print_found(output, file, concern->node);
+    print_found(output, file, concern->algorithm);
+    fprintf(output, " %zu %zu %u %u", concern->index, concern->size, (unsigned)concern->verdict, (unsigned)concern->key);
+    if (concern->kind == BOOTIMG_CONCERN_WEAK_HASH)
+        print_good(output, file, concern->name);
+    fputc('\n', output);
+}
+
+static int is_same_concern(const bootimg_concern *one, const bootimg_concern *other)
+{
+    return is_same_region(one->name, other->name) && is_same_region(one->node, other->node) &&
+           is_same_region(one->algorithm, other->algorithm) && one->index == other->index && one->size == other->size &&
+           one->kind == other->kind && one->verdict == other->verdict && one->key == other->key;
+}
+
+/* The concerns without those of some kinds are the others of all concerns. */
+static void leave_out(struct memory file, uint32_t kinds)
+{
+    struct call call = {.call = CONCERNS, .file = file};
+    bootimg_result all, left;
+    struct memory array, some;
+    size_t count = 0;
+    if (bootimg_concerns(file.bytes, file.size, 0, BOOTIMG_LIMIT, BOOTIMG_DEPTH, NULL, 0, &all) == BOOTIMG_REFUSED)
+        return;
+    CHECK(make_with(&call, &array, all.size, &all) == BOOTIMG_OK);
+    call.kinds = kinds;
+    CHECK(make_with(&call, &some, all.size, &left) == BOOTIMG_OK && left.size <= all.size);
+    const bootimg_concern *concerns = (const bootimg_concern *)(const void *)array.bytes;
+    const bootimg_concern *kept = (const bootimg_concern *)(const void *)some.bytes;
+    for (size_t i = 0; i < all.size; i++)
+        if ((concerns[i].kind & kinds) == 0)
+            CHECK(count < left.size && is_same_concern(&concerns[i], &kept[count++]));
+    CHECK(count == left.size && is_unchanged((const uint8_t *)(kept + count), (all.size - count) * sizeof *kept));
+    give_back(array);
+    give_back(some);
 }
 
 /* Prints the elements of a file that a call writes, or why there are none, and `value`, if the call returns one. */
@@ -308,6 +375,7 @@ static void print_elements(FILE *output, struct memory file, int which)
         [IMAGES] = {"images", NULL, print_image},
         [CONFIGURATIONS] = {"configurations", "default", print_configuration},
         [VERDICTS] = {"verdicts", NULL, print_verdict},
+        [CONCERNS] = {"concerns", NULL, print_concern},
     };
     const struct call call = {.call = which, .file = file};
     bootimg_result answer;
@@ -319,6 +387,16 @@ static void print_elements(FILE *output, struct memory file, int which)
     if (calls[which].value != NULL && status == BOOTIMG_OK)
         fprintf(output, "%s %zu\n", calls[which].value, answer.value);
     give_back(array);
+}
+
+/* Prints all concerns about a file. */
+static void print_concerns(FILE *output, struct memory file)
+{
+    print_elements(output, file, CONCERNS);
+    for (uint32_t kind = 1; kind < 128; kind <<= 1) {
+        leave_out(file, kind);
+        leave_out(file, 127 ^ kind);
+    }
 }
 
 /* Looks up a property by its path and its name, and one whose name has a byte more. */
@@ -445,7 +523,7 @@ static void try_numbers(struct memory file)
     bootimg_result answer;
     bootimg_legacy_fields fields;
     bootimg_fit_fields fit;
-    uint8_t element[sizeof(bootimg_hash)];
+    uint8_t element[sizeof(bootimg_concern)];
     memset(element, 0xa5, sizeof element);
     memset(&fields, 0xa5, sizeof fields);
     memset(&fit, 0xa5, sizeof fit);
@@ -460,6 +538,9 @@ static void try_numbers(struct memory file)
     }
     call.call = LISTED;
     call.key = BOOTIMG_SCRIPT + 1;
+    CHECK(fill_array(&call, BOOTIMG_LIMIT, BOOTIMG_DEPTH, element, 1, &answer) == BOOTIMG_WRONG_ARGUMENT);
+    call.call = CONCERNS;
+    call.kinds = 2 * BOOTIMG_ALLOW_TRAILING;
     CHECK(fill_array(&call, BOOTIMG_LIMIT, BOOTIMG_DEPTH, element, 1, &answer) == BOOTIMG_WRONG_ARGUMENT);
     CHECK(is_unchanged(element, sizeof element) && is_unchanged((const uint8_t *)&fields, sizeof fields));
     CHECK(is_unchanged((const uint8_t *)&fit, sizeof fit));
@@ -490,6 +571,7 @@ static void *take_apart(void *argument)
         print_elements(output, file, CONFIGURATIONS);
         print_elements(output, file, VERDICTS);
         print_tree(output, file);
+        print_concerns(output, file);
         try_null(file);
         try_numbers(file);
         give_back(file);

@@ -40,6 +40,7 @@ def lines_of(path):
         ("legacy", "parts"), "BadMagic at 0" if image or magic == FIT_MAGIC else refusal)
     yield from fit_lines(image, path) if image and image.kind == "fit" else refusals(
         ("fit", "reservations", "images", "configurations", "verdicts", "properties", "children"), "BadMagic at 0" if image or magic == LEGACY_MAGIC else refusal)
+    yield from concern_lines(path) if image else refusals(("concerns",), refusal)
 
 
 def refusals(calls, refusal):
@@ -72,11 +73,25 @@ def fit_lines(image, path):
 
 def hash_line(one):
     """The line of a hash node, of the report in JSON."""
-    names = [b"" if name == "-" else urllib.parse.unquote_to_bytes(name) for name in (one["image"], one["node"])]
-    algorithm = None if one["algorithm"] is None else b"" if one["algorithm"] == "-" else urllib.parse.unquote_to_bytes(one["algorithm"])
     value = None if one["value"] is None else bytes.fromhex(one["value"])
-    fields = ["none" if field is None else field.hex() or "-" for field in (*names, algorithm, value)]
+    fields = [*map(unshown, (one["image"], one["node"], one["algorithm"])), "none" if value is None else value.hex() or "-"]
     return f"hash {' '.join(fields)} {bootimg.VERDICTS.index(one['verdict'])}"
+
+
+def unshown(name):
+    """The digits of a name in JSON."""
+    return "none" if name is None else "-" if name == "-" else urllib.parse.unquote_to_bytes(name).hex()
+
+
+def concern_lines(path):
+    """The lines of the concerns, of those in JSON."""
+    for one in json.loads(bootimg.check_json(path.read_bytes()))["concerns"]:
+        name = unshown(one.get("image", one.get("configuration", one.get("default"))))
+        words = [str(1 << bootimg.CONCERNS.index(one["concern"])), name, unshown(one.get("node")), unshown(one.get("algorithm"))]
+        words += [str(one.get("index", 0)), str(one.get("size", 0))]
+        words += [str(bootimg.VERDICTS.index(one["verdict"])) if "verdict" in one else "0"]
+        words += [str(bootimg.KEYS.index(one["key"])) if "key" in one else "0"]
+        yield " ".join(["concern", *words, *map(unshown, one.get("algorithms", ()))])
 
 
 def node_lines(path, node):

@@ -1,8 +1,10 @@
-/* Loaded before the C library: the call that the environment variable FAILING_CALL names fails, as on a file system that is full. */
+/* Loaded before the C library: the call that the environment variable FAILING_CALL names fails, as on a file system that is full. With
+ * SUCCEEDING_CALLS this many calls of the name succeed first, and one fails after them. With KILLED the program is killed there. */
 #define _GNU_SOURCE
 #include <dlfcn.h>
 #include <errno.h>
 #include <fcntl.h>
+#include <signal.h>
 #include <stdlib.h>
 #include <string.h>
 #include <sys/stat.h>
@@ -14,6 +16,14 @@ static int fails(const char *name)
     const char *failing = getenv("FAILING_CALL");
     if (failing == NULL || strcmp(failing, name) != 0) {
         return 0;
+    }
+    static int calls = 0;
+    const char *succeeding = getenv("SUCCEEDING_CALLS");
+    if (succeeding != NULL && calls++ != atoi(succeeding)) {
+        return 0;
+    }
+    if (getenv("KILLED") != NULL) {
+        raise(SIGKILL);
     }
     errno = ENOSPC;
     return 1;
@@ -39,3 +49,5 @@ CALL(int, fchmod, (int file, mode_t mode), (file, mode))
 CALL(int, rename, (const char *name, const char *new_name), (name, new_name))
 CALL(int, renameat, (int from, const char *name, int to, const char *new_name), (from, name, to, new_name))
 CALL(int, unlink, (const char *name), (name))
+CALL(int, mkdir, (const char *name, mode_t mode), (name, mode))
+CALL(int, mkdirat, (int at, const char *name, mode_t mode), (at, name, mode))

@@ -1,7 +1,7 @@
 //! The option `--allow` of the command `check`.
 
 ghost use Rattle.std.specs.Prelude.{◌≡◌, ◌↔◌, ◌⊎◌, IfOk, IfErr, IfSome, IfNone, IsTrue, Some};
-ghost use Rattle.bi_commands.specs.Checking.{allows, kind_word};
+ghost use Rattle.bi_report.specs.Checking.{allows, kind_word};
 ghost use Rattle.bootimg.specs.CommandLine.{allow_option, listed_words, IsAllowed, IsAllowedBy};
 ghost use Rattle.bootimg.specs.CommandLine.{IsBadValue, NoneIs};
 

@@ -1,19 +1,22 @@
 //! The command `extract`.
 
-ghost use Rattle.std.specs.Prelude.{◌≡◌, Some, IfSome, IfOk, IfErr};
+ghost use Rattle.std.specs.Prelude.{◌≡◌, Some, IfSome, IfOk, IfErr, OnOk};
 ghost use Rattle.bi_fit.specs.declared.key.Key.{Key};
 ghost use Rattle.bi_fit.specs.Names.{key_name};
 ghost use Rattle.bi_norm.specs.Meaning.{Meaning};
 ghost use Rattle.bi_commands.specs.Extracting.{choice_of};
 ghost use Rattle.bootimg.specs.CommandLine.{IsFailureOutcome, IsBadValue, IsEntry, IsNameOf};
-ghost use Rattle.bootimg.specs.CommandLine.{IsSelected, IsSelectionFailure};
+ghost use Rattle.bootimg.specs.CommandLine.{IsAllFailure, IsAllRequest, IsNoneGiven, IsSelected};
+ghost use Rattle.bootimg.specs.CommandLine.{IsSelectionFailure};
 ghost use Rattle.bootimg.specs.Selections.{select_of};
 
-use crate::command_line::Outcome;
-use crate::command_line::options::{number, value};
+use crate::command_line::options::{limits, number, value};
+use crate::command_line::source::source;
 use crate::command_line::table::KERNEL_KEY;
+use crate::command_line::{ImageSource, Outcome};
 use crate::failure::Failure;
 use crate::numbers::parse_number;
+use bi_base::Limits;
 use bi_commands::extract::Select;
 use bi_commands::unshown::name_shown_as;
 use bi_fit::Key;
@@ -32,6 +35,19 @@ pub enum Selected {
     Config(Vec<u8>, Key, u32),
     /// The same of the default configuration.
     Default(Key, u32),
+}
+
+/// What `extract --all` is to do: extract every payload of an image into a new directory.
+#[derive(Clone, Copy)]
+pub struct AllRequest<'a> {
+    /// The name of the directory.
+    pub directory: &'a str,
+    /// Where the image begins in the input: an offset in bytes.
+    pub offset: u32,
+    /// Where the input is read from.
+    pub source: ImageSource<'a>,
+    /// The limits for what is read, and for all payloads together.
+    pub limits: Limits,
 }
 
 impl Selected {
@@ -82,6 +98,41 @@ pub fn selection(alloc: Global, options: &ArgMatches<'_>) -> Result<Selected, Ou
         }
         _ => Err(Outcome::Failure(Failure::NoSelection)),
     }
+}
+
+/// Returns what the options of `extract --all` request. Fails with NoSelection if something else is
+/// selected, too, or else with BadValue for the value of any of the options, or if no output is
+/// named. The key and the index have no effect.
+pub fn all_request<'a>(options: &ArgMatches<'a>) -> Result<AllRequest<'a>, Failure>
+    ensures request { IfOk result (IsAllRequest options.now) }
+    ensures none { OnOk result (IsNoneGiven options.now) }
+    ensures failure { IfErr result (IsAllFailure options.now) }
+{
+    let part = options.get_str("part");
+    let image = options.get_str("image");
+    let config = options.get_str("config");
+    let default = options.get_flag("default");
+    match (part, image, config, default) {
+        (None, None, None, false) => all_values(options),
+        _ => Err(Failure::NoSelection),
+    }
+}
+
+/// Returns what the values of the options of `extract --all` request. Fails with BadValue.
+fn all_values<'a>(options: &ArgMatches<'a>) -> Result<AllRequest<'a>, Failure>
+    ensures request { IfOk result (IsAllRequest options.now) }
+    ensures bad { IfErr result (IsBadValue (IsAllRequest options.now)) }
+{
+    entry(options)?;
+    let directory = options.get_str("output").ok_or(Failure::BadValue)?;
+    let offset = number(options, "offset")?;
+    let limits = limits(options)?;
+    Ok(AllRequest {
+        directory,
+        offset,
+        source: source(options, "file"),
+        limits,
+    })
 }
 
 /// Returns the name that the argument is, or the one that is printed as the argument if it is

@@ -310,6 +310,13 @@ const DEFAULT: OptionText = OptionText {
     form: OptionForm::Flag,
 };
 
+const ALL: OptionText = OptionText {
+    name: "all",
+    value_name: "",
+    help: "Write each part or payload to a file of its own in the new directory DIR, with -o DIR",
+    form: OptionForm::Flag,
+};
+
 const ESCAPED: OptionText = OptionText {
     name: "escaped",
     value_name: "",
@@ -586,18 +593,24 @@ static CHANGING_COMMANDS: [CommandText; 3] = [
         aliases: &[],
         about: "Write one part or payload of an image",
         usage: "bootimg extract (--part <N> | --image <NAME> | --config <NAME> | --default) \
-             [OPTIONS] [IMAGE] > PAYLOAD",
+             [OPTIONS] [IMAGE] > PAYLOAD\n       \
+             bootimg extract --all -o <DIR> [OPTIONS] [IMAGE]",
         after_help: "\
                  Reads an image, and writes the bytes that are selected to standard output. A\n\
                  legacy image has parts: those in the list of sizes of a multi-file image or a\n\
                  script, and one part in any other image. The images of a flattened image tree\n\
                  have payloads.\n\n\
+                 With --all, each part of a legacy image is the file part-N, and each payload of\n\
+                 a flattened image tree has the name of its image, as list prints it, where a\n\
+                 dot that comes first is %2E. DIR must not be there yet. It is made last, with\n\
+                 all files, or not at all.\n\n\
                  Hash nodes are not checked: verify does that.\n\n\
                  Numbers are decimal, or hexadecimal with 0x.\n\n\
                  Example: bootimg extract --part 1 multi.uimage > ramdisk\n\
-                 Example: bootimg extract --default --key fdt kernel.itb > board.dtb",
+                 Example: bootimg extract --default --key fdt kernel.itb > board.dtb\n\
+                 Example: bootimg extract --all -o parts kernel.itb",
         options: &[
-            PART, IMAGE, CONFIG, DEFAULT, KEY, INDEX, ESCAPED, OFFSET, LIMIT, OUTPUT, FILE,
+            PART, IMAGE, CONFIG, DEFAULT, ALL, KEY, INDEX, ESCAPED, OFFSET, LIMIT, OUTPUT, FILE,
         ],
     },
     CommandText {

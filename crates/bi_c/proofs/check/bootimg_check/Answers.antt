@@ -1,5 +1,5 @@
 use Rattle.std.proofs.Common.{refl}
-use Rattle.bi_commands.specs.declared.format.Format.TheVariants.{Lines}
+use Rattle.bi_common.specs.declared.format.Format.TheVariants.{Lines}
 use Rattle.bi_c.specs.declared.failure.Failure.TheVariants.{WrongArgument}
 use Rattle.bi_c.specs.Answers.{FilledNothing}
 use Rattle.bi_c.specs.Calls.{HasKinds}

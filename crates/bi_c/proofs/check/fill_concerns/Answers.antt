@@ -1,7 +1,7 @@
 use Rattle.std.proofs.Common.{◌≡◌, ◌++◌, List, ℕ, refl, subst, sym, ap, ◌∙◌}
 use Rattle.bi_fit.proofs.AppendedTexts.{error_in_memory}
 use Rattle.bi_norm.proofs.NormalForms.{needs_memory}
-use Rattle.bi_commands.specs.CheckedFiles.{IsChecked, IsCheckError, IsCheckOutput}
+use Rattle.bi_report.specs.CheckedFiles.{IsChecked, IsCheckError, IsCheckOutput}
 use Rattle.bi_c.specs.Answers.{FilledNothing}
 use Rattle.bi_c.proofs.CallAnswers.{byte_is_flag, buffer_is_filled}
 use Rattle.bi_c.proofs.check.fill_concerns.Goals as goal

@@ -1,7 +1,7 @@
 use Rattle.std.proofs.Common.{◌≡◌, ℕ, refl, subst}
 use Rattle.bi_base.specs.Limits.{Limits, IsInRange}
 use Rattle.bi_norm.specs.Comparing.{AreCompared}
-use Rattle.bi_commands.specs.Comparing.{IsReadingError}
+use Rattle.bi_describe.specs.Comparing.{IsReadingError}
 use Rattle.bi_c.specs.declared.failure.Failure.TheVariants.{WrongArgument}
 use Rattle.bi_c.specs.Answers.{Returned, Failed}
 use Rattle.bi_c.proofs.CallAnswers.{not_so, is_so, byte_is_flag}

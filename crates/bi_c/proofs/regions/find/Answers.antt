@@ -3,8 +3,8 @@ use Rattle.bi_fit.specs.Content.{tree_of}
 use Rattle.bi_fit.specs.Reading.{IsReadFit}
 use Rattle.bi_norm.specs.Meaning.{OfLegacy, OfFit}
 use Rattle.bi_norm.specs.Reading.{IsReadBootImage}
+use Rattle.bi_report.proofs.TreeMemory.{tree_needs_memory}
 use Rattle.bi_commands.specs.Extracting.{choice_of}
-use Rattle.bi_commands.proofs.ImageCalls.{tree_needs_memory}
 use Rattle.bi_c.specs.Extracting.{IsChosenAt}
 use Rattle.bi_fit.proofs.PlacedImages.{are_placed}
 use Rattle.bi_commands.proofs.ImageCalls.{refused_of_file, failed_of_file}

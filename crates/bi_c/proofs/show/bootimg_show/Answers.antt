@@ -1,6 +1,6 @@
 use Rattle.std.proofs.Common.{refl, string_bytes}
-use Rattle.bi_commands.specs.CheckedFiles.{IsCheckError}
-use Rattle.bi_commands.specs.ShownFiles.{IsPage}
+use Rattle.bi_report.specs.CheckedFiles.{IsCheckError}
+use Rattle.bi_show.specs.ShownFiles.{IsPage}
 use Rattle.bi_c.specs.declared.failure.Failure.TheVariants.{WrongArgument}
 use Rattle.bi_c.specs.Answers.{FilledNothing, failure_of_error}
 use Rattle.bi_c.specs.Arguments.{HasLayout}

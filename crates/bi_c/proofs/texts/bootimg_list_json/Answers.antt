@@ -1,7 +1,7 @@
 use Rattle.std.proofs.Common.{refl, string_bytes}
 use Rattle.bi_norm.specs.Reading.{IsBootImageReadError}
-use Rattle.bi_commands.specs.declared.format.Format.TheVariants.{Json}
-use Rattle.bi_commands.specs.ListedFiles.{IsListing}
+use Rattle.bi_common.specs.declared.format.Format.TheVariants.{Json}
+use Rattle.bi_report.specs.ListedFiles.{IsListing}
 use Rattle.bi_c.specs.declared.failure.Failure.TheVariants.{WrongArgument}
 use Rattle.bi_c.specs.Answers.{FilledNothing}
 use Rattle.bi_c.proofs.CallAnswers.{not_so, is_so, text_fills}

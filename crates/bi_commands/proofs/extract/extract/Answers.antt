@@ -3,7 +3,8 @@ use Rattle.bi_fit.specs.Content.{tree_of}
 use Rattle.bi_fit.specs.Reading.{IsReadFit}
 use Rattle.bi_norm.specs.Meaning.{OfLegacy, OfFit}
 use Rattle.bi_norm.specs.Reading.{IsReadBootImage}
-use Rattle.bi_commands.proofs.ImageCalls.{tree_needs_memory, chosen_of_file, refused_of_file, failed_of_file}
+use Rattle.bi_report.proofs.TreeMemory.{tree_needs_memory}
+use Rattle.bi_commands.proofs.ImageCalls.{chosen_of_file, refused_of_file, failed_of_file}
 use Rattle.bi_commands.proofs.extract.extract.Goals as goal
 
 pub select_payload-requires : goal.select_payload-requires

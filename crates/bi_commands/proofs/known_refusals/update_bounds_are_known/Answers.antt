@@ -1,4 +1,4 @@
-use Rattle.bi_commands.proofs.RefusalFacts.{update_bounds_are_known}
+use Rattle.bi_commands.proofs.BoundFacts.{update_bounds_are_known}
 use Rattle.bi_commands.proofs.known_refusals.update_bounds_are_known.Goals as goal
 
 pub returns : goal.returns

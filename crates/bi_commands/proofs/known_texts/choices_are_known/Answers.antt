@@ -1,4 +1,4 @@
-use Rattle.bi_commands.proofs.TextFacts.{choices_are_known}
+use Rattle.bi_commands.proofs.ChoiceFacts.{choices_are_known}
 use Rattle.bi_commands.proofs.known_texts.choices_are_known.Goals as goal
 
 pub returns : goal.returns

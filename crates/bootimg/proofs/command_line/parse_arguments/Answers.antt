@@ -1,7 +1,8 @@
-use Rattle.std.proofs.Common.{◌≡◌, ◌∙◌, false, true}
+use Rattle.std.proofs.Common.{◌≡◌, ◌∙◌, false, refl, true}
 use Rattle.clap.specs.Words.{app_of}
 use Rattle.bootimg.specs.CommandLine.{texts_of}
-use Rattle.bootimg.proofs.NoRequests.{arguments_give, given_is_command, no_job, no_limits, rejected_by_clap, subcommand_is_there}
+use Rattle.bootimg.proofs.NoRequests.{all_requested, arguments_give, given_is_command, no_all, no_job, no_limits, rejected_by_clap}
+use Rattle.bootimg.proofs.NoRequests.{subcommand_is_there}
 use Rattle.bootimg.proofs.command_line.parse_arguments.Goals as goal
 
 pub returns-in_err-matches-clause-failure : goal.returns-in_err-matches-clause-failure
@@ -16,8 +17,8 @@ unreachable-requires c =
     let bad : false ≡ true = c.in_default.ensures.variant ∙ there in
     cc
 
-pub parse_job-requires : goal.parse_job-requires
-parse_job-requires c =
+pub parse_job-requires-clause-command : goal.parse_job-requires-clause-command
+parse_job-requires-clause-command c =
     given_is_command (texts_of c.args.arguments.now) c.in-Some.name.now c.in-Some.options.now
     (arguments_give (app_of c.in_ok-program.field-0)
     (texts_of c.args.arguments.now) c.in_ok-matches.matches c.subcommand.result c.in-Some.name
@@ -43,8 +44,28 @@ returns-in_err-limits-clause-failure c =
     c.subcommand.ensures.name c.subcommand.ensures.rows)
     c.from_residual-in_err-limits.ensures.1 c.in_ok-job.ensures.job c.in_err-limits.ensures.bad
 
-pub returns-clause-request : goal.returns-clause-request
-returns-clause-request c = record {
+pub returns-in-Err-clause-failure : goal.returns-in-Err-clause-failure
+returns-in-Err-clause-failure c =
+    let all = c.if-extracts_all.ensures.all refl in
+    no_all (texts_of c.args.arguments.now) c.in-Some.name.now c.in-Some.options.now c.in-Err.failure
+    (arguments_give (app_of c.in_ok-program.field-0)
+    (texts_of c.args.arguments.now) c.in_ok-matches.matches c.subcommand.result c.in-Some.name
+    c.in-Some.options c.in_ok-program.ensures c.in_ok-matches.ensures.kinds c.in_ok-matches.ensures.matches c.in-Some.is
+    c.subcommand.ensures.name c.subcommand.ensures.rows)
+    all.0 all.1 c.in-Err.ensures.failure
+
+pub returns-in-Ok-clause-order : goal.returns-in-Ok-clause-order
+returns-in-Ok-clause-order c =
+    let all = c.if-extracts_all.ensures.all refl in
+    all_requested (texts_of c.args.arguments.now) c.in-Some.name.now c.in-Some.options.now c.in-Ok.request
+    (arguments_give (app_of c.in_ok-program.field-0)
+    (texts_of c.args.arguments.now) c.in_ok-matches.matches c.subcommand.result c.in-Some.name
+    c.in-Some.options c.in_ok-program.ensures c.in_ok-matches.ensures.kinds c.in_ok-matches.ensures.matches c.in-Some.is
+    c.subcommand.ensures.name c.subcommand.ensures.rows)
+    all.0 all.1 c.in-Ok.ensures.none c.in-Ok.ensures.request
+
+pub returns-clause-order : goal.returns-clause-order
+returns-clause-order c = record {
   name = c.in-Some.name.now;
   options = c.in-Some.options.now;
   given = arguments_give (app_of c.in_ok-program.field-0) (texts_of c.args.arguments.now) c.in_ok-matches.matches c.subcommand.result

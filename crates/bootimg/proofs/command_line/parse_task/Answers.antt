@@ -27,6 +27,7 @@ returns-clause-task c =
       )
       | in-extract+in_ok-selection-in-extract w ↦ subst is_task (sym w.result-is) (
         w.in-extract.is,
+        c.requires.not_all w.in-extract.is,
         w.in_ok-selection-in-extract.ensures.selection,
       )
       | in-convert w ↦ subst is_task (sym w.result-is) w.in-convert.is

@@ -1,14 +1,24 @@
 use Rattle.std.proofs.Common.{◌≡◌, ap, refl, rules, subst}
 use Rattle.clap.specs.Values.{kind_of}
-use Rattle.bootimg.specs.CommandLine.{texts_of, IsNoRequest, NoMemory}
+use Rattle.bootimg.specs.CommandLine.{texts_of, HasOrderLengths, IsNoRequest, IsOrder, NoMemory}
+use Rattle.bootimg.specs.declared.command_line.Order.TheVariants as order
 use Rattle.bootimg.specs.declared.command_line.Outcome.TheVariants as outcome
 use Rattle.bootimg.specs.declared.failure.Failure.TheVariants.{Call}
-use Rattle.bootimg.specs.Runs.{RanJob, Rejected, WroteText}
+use Rattle.bootimg.specs.Runs.{ExtractedAll, RanJob, Rejected, WroteText}
 use Rattle.bootimg.proofs.RunFacts.{run_is_rejected}
 use Rattle.bootimg.proofs.run.run_traced.Goals as goal
 
-pub returns-in-Ok : goal.returns-in-Ok
-returns-in-Ok g c = RanJob c.in-Ok.request c.in-Ok.ensures.request c.in-Ok.ensures.lengths c.perform.ensures
+pub returns-in-Ok-Do : goal.returns-in-Ok-Do
+returns-in-Ok-Do g c =
+    let is : c.in-Ok-Do.field-0 ≡ order.Do c.in-Ok-Do.request = search rules in
+    RanJob c.in-Ok-Do.request (subst (λ o. IsOrder (texts_of c.args.arguments.now) o) is c.in-Ok-Do.ensures.order)
+    (subst (λ o. HasOrderLengths o) is c.in-Ok-Do.ensures.lengths) c.perform.ensures
+
+pub returns-in-Ok-ExtractAll : goal.returns-in-Ok-ExtractAll
+returns-in-Ok-ExtractAll g c =
+    let is : c.in-Ok-ExtractAll.field-0 ≡ order.ExtractAll c.in-Ok-ExtractAll.request = search rules in
+    ExtractedAll c.in-Ok-ExtractAll.request (subst (λ o. IsOrder (texts_of c.args.arguments.now) o) is c.in-Ok-ExtractAll.ensures.order)
+    (c.perform_all.ensures _)
 
 pub returns-in-Err-Failure : goal.returns-in-Err-Failure
 returns-in-Err-Failure g c =
@@ -16,8 +26,8 @@ returns-in-Err-Failure g c =
     Rejected c.in-Err-Failure.failure (subst (λ o. IsNoRequest (texts_of c.args.arguments.now) o) is c.in-Err-Failure.ensures.failure)
     (run_is_rejected _ _ _ refl refl refl c.report.ensures.line c.report.ensures.status)
 
-pub returns-in-Ok-clap_text : goal.returns-in-Ok-clap_text
-returns-in-Ok-clap_text g c =
+pub returns-in-Ok : goal.returns-in-Ok
+returns-in-Ok g c =
     let is : c.in-Err-Text.field-0 ≡ outcome.Text c.in-Err-Text.text = search rules in
     WroteText (kind_of c.in-Err-Text.text) _ (subst (λ o. IsNoRequest (texts_of c.args.arguments.now) o) is c.in-Err-Text.ensures.failure)
     (c.print.ensures (kind_of c.in-Err-Text.text) _ _ c.use_stderr.ensures)

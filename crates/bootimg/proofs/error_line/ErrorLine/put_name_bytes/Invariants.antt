@@ -1,5 +1,5 @@
 use Rattle.std.proofs.Common.{flat_map, take}
-use Rattle.bi_commands.specs.Shown.{shown_byte}
+use Rattle.bi_common.specs.Shown.{shown_byte}
 use Rattle.bootimg.specs.ErrorLines.{Extends, line_of}
 use Rattle.bootimg.proofs.error_line.ErrorLine.put_name_bytes.Given as goal
 

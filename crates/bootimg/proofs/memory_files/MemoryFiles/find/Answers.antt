@@ -1,17 +1,17 @@
-use Rattle.std.proofs.Common.{◌∙◌, ◌-◌, arith, subst, sym, take}
-use Rattle.bootimg.specs.Files.{Entry}
-use Rattle.bootimg.specs.MemoryFiles.{recorded_names, IsFileFound}
-use Rattle.bootimg.proofs.MemoryLogs.{one_step_back}
+use Rattle.std.proofs.Common.{◌-◌, arith, take}
+use Rattle.bootimg.specs.MemoryFiles.{recorded_names}
+use Rattle.bootimg.proofs.MemoryLogs.{found_after_all, nothing_is_found, one_step_back}
 use Rattle.bootimg.proofs.memory_files.MemoryFiles.find.Goals as goal
+
+pub loop-left-init : goal.loop-left-init
+loop-left-init c = record { within = omega arith; same = found_after_all c.args.self.now.log.items c.len-left.result c.args.name.now (omega arith) }
 
 pub returns-in-Has : goal.returns-in-Has
 returns-in-Has c =
     let log = c.args.self.now.log.items in
-    let back =
     one_step_back log c.loop-left.left c.index.result.now c.args.name.now c.loop-left.wanted.now c.loop-left-test.true
-    c.loop-left.invariant.within c.index.ensures c.loop-left.invariant.same
-    in
-    subst (λ (e : Entry). IsFileFound e c.in-Has.found) (sym back) (c.in-Has.ensures (recorded_names (take (c.loop-left.left - 1) log)))
+    c.loop-left.invariant.within c.index.ensures c.loop-left.invariant.same c.in-Has.found
+    (c.in-Has.ensures (recorded_names (take (c.loop-left.left - 1) log)))
 
 pub loop-left-preserved-in-HadName : goal.loop-left-preserved-in-HadName
 loop-left-preserved-in-HadName c =
@@ -20,7 +20,10 @@ loop-left-preserved-in-HadName c =
     one_step_back log c.loop-left.left c.index.result.now c.args.name.now c.loop-left.wanted.now c.loop-left-test.true
     c.loop-left.invariant.within c.index.ensures c.loop-left.invariant.same
     in
-    record { within = omega arith; same = back ∙ c.in-HadName.ensures (recorded_names (take (c.loop-left.left - 1) log)) }
+    record {
+      within = omega arith;
+      same = λ what is. back what (c.in-HadName.ensures (recorded_names (take (c.loop-left.left - 1) log)) what is);
+    }
 
 pub loop-left-preserved : goal.loop-left-preserved
 loop-left-preserved c =
@@ -29,4 +32,12 @@ loop-left-preserved c =
     one_step_back log c.loop-left.left c.index.result.now c.args.name.now c.loop-left.wanted.now c.loop-left-test.true
     c.loop-left.invariant.within c.index.ensures c.loop-left.invariant.same
     in
-    record { within = omega arith; same = back ∙ c.in-HadSameName.ensures (recorded_names (take (c.loop-left.left - 1) log)) }
+    record {
+      within = omega arith;
+      same = λ what is. back what (c.in-HadSameName.ensures (recorded_names (take (c.loop-left.left - 1) log)) what is);
+    }
+
+pub returns : goal.returns
+returns c =
+    nothing_is_found c.args.self.now.log.items c.loop-left.left c.args.name.now c.loop-left.wanted.now
+    (omega (arith, c.loop-left-test.false)) c.loop-left.invariant.same

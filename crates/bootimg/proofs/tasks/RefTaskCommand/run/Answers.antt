@@ -3,13 +3,13 @@ use Rattle.std.proofs.lemmas.Result.{err_from_is_err_and}
 use Rattle.bi_norm.specs.Converting.{IsConvertedFile, IsConvertError}
 use Rattle.bi_norm.specs.NormalForm.{IsNormalForm, IsNormaliseError}
 use Rattle.bi_norm.specs.Reading.{IsBootImageReadError}
-use Rattle.bi_commands.specs.CheckedFiles.{IsChecked, IsCheckError}
-use Rattle.bi_commands.specs.Describing.{IsDescription, IsDescribeError}
+use Rattle.bi_report.specs.CheckedFiles.{IsChecked, IsCheckError}
+use Rattle.bi_report.specs.ListedFiles.{IsListing}
+use Rattle.bi_report.specs.Scanning.{IsScanText, IsScanError}
+use Rattle.bi_report.specs.VerifiedFiles.{IsReport}
+use Rattle.bi_describe.specs.Describing.{IsDescription, IsDescribeError}
+use Rattle.bi_show.specs.ShownFiles.{IsPage}
 use Rattle.bi_commands.specs.Extracting.{IsChosen, IsExtractError}
-use Rattle.bi_commands.specs.ListedFiles.{IsListing}
-use Rattle.bi_commands.specs.ShownFiles.{IsPage}
-use Rattle.bi_commands.specs.Scanning.{IsScanText, IsScanError}
-use Rattle.bi_commands.specs.VerifiedFiles.{IsReport}
 use Rattle.bi_commands.specs.UpdatedFiles.{IsUpdated, IsUpdateError}
 use Rattle.bootimg.specs.Selections.{select_of}
 use Rattle.bootimg.proofs.SelectionNames.{same_chosen, same_failure}

@@ -1,9 +1,0 @@
-use Rattle.std.proofs.Common.{◌≡◌}
-use Rattle.std.specs.List.{list_any}
-use Rattle.bi_commands.specs.Checking.{is_good}
-use Rattle.bi_commands.specs.HashedImages.{hashes_left}
-use Rattle.bi_commands.proofs.check.images.has_good.Given as goal
-
--- The hash nodes that are left decide.
-abbrev pub invariant-loop-hash : goal.invariant-loop-hash
-invariant-loop-hash l = list_any is_good (hashes_left l.hash-iterator) ≡ list_any is_good (hashes_left l.fn.hashes)

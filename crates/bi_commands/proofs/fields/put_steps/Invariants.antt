@@ -1,7 +1,0 @@
-use Rattle.std.proofs.Common.{take}
-use Rattle.bi_commands.proofs.DescriptionPieces.{steps_of}
-use Rattle.bi_commands.proofs.fields.put_steps.Given as goal
-
--- The names before this one were appended.
-abbrev pub invariant-loop-name : goal.invariant-loop-name
-invariant-loop-name g l = g.S.Sink.appends l.initial.sink (steps_of (take l.name-index l.names)) l.sink

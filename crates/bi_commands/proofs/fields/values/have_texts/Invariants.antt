@@ -1,7 +1,0 @@
-use Rattle.std.proofs.Common.{◌≡◌, drop, false}
-use Rattle.bi_commands.specs.DescribedValues.{end_texts}
-use Rattle.bi_commands.proofs.fields.values.have_texts.Given as goal
-
--- The remaining bytes decide.
-abbrev pub invariant-loop-byte : goal.invariant-loop-byte
-invariant-loop-byte l = end_texts false l.value ≡ end_texts l.has_begun (drop l.byte-index l.value)

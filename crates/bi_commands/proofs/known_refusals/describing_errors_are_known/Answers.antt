@@ -1,5 +1,0 @@
-use Rattle.bi_commands.proofs.RefusalFacts.{describing_errors_are_known}
-use Rattle.bi_commands.proofs.known_refusals.describing_errors_are_known.Goals as goal
-
-pub returns : goal.returns
-returns c = describing_errors_are_known

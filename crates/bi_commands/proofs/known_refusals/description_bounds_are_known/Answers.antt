@@ -1,5 +1,0 @@
-use Rattle.bi_commands.proofs.RefusalFacts.{description_bounds_are_known}
-use Rattle.bi_commands.proofs.known_refusals.description_bounds_are_known.Goals as goal
-
-pub returns : goal.returns
-returns c = description_bounds_are_known

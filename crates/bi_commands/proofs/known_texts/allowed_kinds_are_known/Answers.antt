@@ -1,5 +1,0 @@
-use Rattle.bi_commands.proofs.TextFacts.{allowed_kinds_are_known}
-use Rattle.bi_commands.proofs.known_texts.allowed_kinds_are_known.Goals as goal
-
-pub returns : goal.returns
-returns c = allowed_kinds_are_known

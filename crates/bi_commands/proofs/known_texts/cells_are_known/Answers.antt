@@ -1,5 +1,0 @@
-use Rattle.bi_commands.proofs.PageFacts.{cells_are_known}
-use Rattle.bi_commands.proofs.known_texts.cells_are_known.Goals as goal
-
-pub returns : goal.returns
-returns c = cells_are_known

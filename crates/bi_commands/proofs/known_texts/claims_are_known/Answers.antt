@@ -1,5 +1,0 @@
-use Rattle.bi_commands.proofs.ScanFacts.{claims_are_known}
-use Rattle.bi_commands.proofs.known_texts.claims_are_known.Goals as goal
-
-pub returns : goal.returns
-returns c = claims_are_known

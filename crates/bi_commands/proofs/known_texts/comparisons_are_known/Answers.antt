@@ -1,5 +1,0 @@
-use Rattle.bi_commands.proofs.DifferenceFacts.{comparisons_are_known}
-use Rattle.bi_commands.proofs.known_texts.comparisons_are_known.Goals as goal
-
-pub returns : goal.returns
-returns c = comparisons_are_known

@@ -1,5 +1,0 @@
-use Rattle.bi_commands.proofs.TextFacts.{configuration_lines_are_known}
-use Rattle.bi_commands.proofs.known_texts.configuration_lines_are_known.Goals as goal
-
-pub returns : goal.returns
-returns c = configuration_lines_are_known

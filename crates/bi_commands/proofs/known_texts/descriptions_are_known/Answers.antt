@@ -1,5 +1,0 @@
-use Rattle.bi_commands.proofs.DescriptionFacts.{descriptions_are_known}
-use Rattle.bi_commands.proofs.known_texts.descriptions_are_known.Goals as goal
-
-pub returns : goal.returns
-returns c = descriptions_are_known

@@ -1,5 +1,0 @@
-use Rattle.bi_commands.proofs.TextFacts.{fit_listing_is_known}
-use Rattle.bi_commands.proofs.known_texts.fit_listing_is_known.Goals as goal
-
-pub returns : goal.returns
-returns c = fit_listing_is_known

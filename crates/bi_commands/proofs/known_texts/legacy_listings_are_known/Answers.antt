@@ -1,5 +1,0 @@
-use Rattle.bi_commands.proofs.TextFacts.{legacy_listings_are_known}
-use Rattle.bi_commands.proofs.known_texts.legacy_listings_are_known.Goals as goal
-
-pub returns : goal.returns
-returns c = legacy_listings_are_known

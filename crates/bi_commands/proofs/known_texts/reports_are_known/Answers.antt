@@ -1,5 +1,0 @@
-use Rattle.bi_commands.proofs.TextFacts.{reports_are_known}
-use Rattle.bi_commands.proofs.known_texts.reports_are_known.Goals as goal
-
-pub returns : goal.returns
-returns c = reports_are_known

@@ -1,5 +1,0 @@
-use Rattle.bi_commands.proofs.ScanFacts.{scans_are_known}
-use Rattle.bi_commands.proofs.known_texts.scans_are_known.Goals as goal
-
-pub returns : goal.returns
-returns c = scans_are_known

@@ -1,5 +1,0 @@
-use Rattle.bi_commands.proofs.TextFacts.{strong_algorithms_are_known}
-use Rattle.bi_commands.proofs.known_texts.strong_algorithms_are_known.Goals as goal
-
-pub returns : goal.returns
-returns c = strong_algorithms_are_known

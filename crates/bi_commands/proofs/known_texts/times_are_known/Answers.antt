@@ -1,5 +1,0 @@
-use Rattle.bi_commands.proofs.PageFacts.{times_are_known}
-use Rattle.bi_commands.proofs.known_texts.times_are_known.Goals as goal
-
-pub returns : goal.returns
-returns c = times_are_known

@@ -1,5 +1,0 @@
-use Rattle.bi_commands.proofs.TextFacts.{trailing_bytes_are_known}
-use Rattle.bi_commands.proofs.known_texts.trailing_bytes_are_known.Goals as goal
-
-pub returns : goal.returns
-returns c = trailing_bytes_are_known

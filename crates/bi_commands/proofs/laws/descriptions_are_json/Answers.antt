@@ -1,5 +1,0 @@
-use Rattle.bi_commands.proofs.JsonDescriptions.{descriptions_are_json}
-use Rattle.bi_commands.proofs.laws.descriptions_are_json.Goals as goal
-
-pub returns : goal.returns
-returns c = descriptions_are_json

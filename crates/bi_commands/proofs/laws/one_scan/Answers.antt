@@ -1,5 +1,0 @@
-use Rattle.bi_commands.proofs.ScanLaws.{one_scan}
-use Rattle.bi_commands.proofs.laws.one_scan.Goals as goal
-
-pub returns : goal.returns
-returns c = one_scan c.one_meaning.ensures

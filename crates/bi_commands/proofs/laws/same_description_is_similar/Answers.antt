@@ -1,5 +1,0 @@
-use Rattle.bi_commands.proofs.ReadableDescriptions.SameDescriptions.{same_description_is_similar}
-use Rattle.bi_commands.proofs.laws.same_description_is_similar.Goals as goal
-
-pub returns : goal.returns
-returns c = same_description_is_similar

@@ -1,5 +1,0 @@
-use Rattle.bi_commands.proofs.ScanClaims.{scan_has_no_fault}
-use Rattle.bi_commands.proofs.laws.scan_has_no_fault.Goals as goal
-
-pub returns : goal.returns
-returns c = scan_has_no_fault

@@ -1,0 +1,41 @@
+use Rattle.std.proofs.Common.{ℕ, List, [], ◌∷◌, ◌++◌, ap}
+use Rattle.bi_common.specs.ValueTexts.{hexadecimal_digits}
+use Rattle.bi_common.proofs.JsonTexts.{digits_unescaped}
+use Rattle.bi_common.proofs.LineChains.{first_of_all_fails, next_fails, last_writes}
+use Rattle.bi_common.proofs.LineChains.{one_more_piece}
+use Rattle.bi_common.proofs.json.put_digits_string.Goals as goal
+
+pub returns-in_err-put : goal.returns-in_err-put
+returns-in_err-put g c =
+    let S = g.S.Sink in
+    let laws = g.met.S.Sink in
+    let one : List ℕ = 34 ∷ [] in
+    let two : List ℕ = hexadecimal_digits c.args.bytes.now in
+    let three : List ℕ = 34 ∷ [] in
+    first_of_all_fails S.appends S.fails laws.fails_before c.args.sink.now c.put.new.self one (two ++ three) _ _ c.from_residual.result
+    (ap (λ (digits : List ℕ). 34 ∷ (digits ++ 34 ∷ [])) (digits_unescaped c.args.bytes.now)) c.from_residual.ensures.1 c.in_err-put.ensures
+
+pub returns-in_err-put_digits : goal.returns-in_err-put_digits
+returns-in_err-put_digits g c =
+    let S = g.S.Sink in
+    let laws = g.met.S.Sink in
+    let one : List ℕ = 34 ∷ [] in
+    let two : List ℕ = hexadecimal_digits c.args.bytes.now in
+    let three : List ℕ = 34 ∷ [] in
+    next_fails S.appends S.fails laws.fails_after laws.fails_before c.args.sink.now c.put.new.self c.put_digits.new.sink one two three _ _
+    c.from_residual-in_err-put_digits.result
+    (one_more_piece one two three _ (ap (λ (digits : List ℕ). 34 ∷ (digits ++ 34 ∷ [])) (digits_unescaped c.args.bytes.now)))
+    c.from_residual-in_err-put_digits.ensures.1 c.in_ok-put.ensures c.in_err-put_digits.ensures
+
+pub returns : goal.returns
+returns g c =
+    let S = g.S.Sink in
+    let laws = g.met.S.Sink in
+    let one : List ℕ = 34 ∷ [] in
+    let two : List ℕ = hexadecimal_digits c.args.bytes.now in
+    let three : List ℕ = 34 ∷ [] in
+    last_writes S.appends S.fails laws.appends_in_turn laws.fails_after c.args.sink.now c.put_digits.new.sink c.put-2.new.self (one ++ two)
+    three _ c.put-2.result
+    (one_more_piece one two three _ (ap (λ (digits : List ℕ). 34 ∷ (digits ++ 34 ∷ [])) (digits_unescaped c.args.bytes.now)))
+    (laws.appends_in_turn c.args.sink.now c.put.new.self c.put_digits.new.sink one two c.in_ok-put.ensures c.in_ok-put_digits.ensures)
+    c.put-2.ensures

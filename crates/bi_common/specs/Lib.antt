@@ -1,0 +1,17 @@
+pub mod DescribedValues
+pub mod PayloadBounds
+pub mod Shown
+pub mod Unshown
+pub mod ValueTexts
+pub mod Fields
+pub mod HashedImages
+pub mod VerdictCounts
+pub mod Json
+pub mod Formats
+pub mod JsonValues
+pub mod JsonGrammar
+pub mod KnownJson
+pub mod Offsets
+pub mod CommonLines
+pub mod KnownWords
+pub mod HeldImages

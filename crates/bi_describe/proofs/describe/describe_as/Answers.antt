@@ -1,0 +1,21 @@
+use Rattle.std.proofs.Common.{string_bytes}
+use Rattle.std.proofs.lemmas.Result.{err_from_is_err_and}
+use Rattle.bi_describe.proofs.DescribedFiles.{described_of_result, describe_error_of_reading, failed_of_result}
+use Rattle.bi_describe.proofs.describe.describe_as.Goals as goal
+
+pub returns-in_err-image-clause-failed : goal.returns-in_err-image-clause-failed
+returns-in_err-image-clause-failed c =
+    let p = err_from_is_err_and c.from_residual.result c.from_residual.ensures.1 in
+    rw (p.1, p.2) (describe_error_of_reading c.args.format c.args.limits c.args.file.now c.in_err-image.field-0.0
+    c.in_err-image.ensures.failed)
+
+pub returns-clause-failed : goal.returns-clause-failed
+returns-clause-failed c =
+    failed_of_result c.args.format c.args.limits c.args.file.now c.in_ok-image.image c.describe_image.result c.in_ok-image.ensures.read
+    c.describe_image.ensures.failed
+
+pub returns-clause-described : goal.returns-clause-described
+returns-clause-described c =
+    described_of_result string_bytes c.args.format c.args.limits c.args.file.now c.in_ok-image.image c.describe_image.result
+    c.in_ok-image.ensures.read
+    c.describe_image.ensures.within c.describe_image.ensures.described

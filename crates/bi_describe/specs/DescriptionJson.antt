@@ -1,0 +1,96 @@
+use Rattle.std.specs.Prelude.{ℕ, List, [], ◌∷◌, ◌++◌, Option, None, Some, map, codes}
+use Rattle.std.specs.Prelude.{if◌then◌else◌}
+use Rattle.std.specs.FinMap.{entries}
+use Rattle.bi_blob.specs.Tree.{Nodes, none, node, Property}
+use Rattle.bi_fit.specs.ImageTree.{ImageTree}
+use Rattle.bi_fit.specs.Judgement.{listed_names}
+use Rattle.bi_legacy.specs.Meaning.{LegacyImage}
+use Rattle.bi_norm.specs.Meaning.{Meaning, OfLegacy, OfFit}
+use Rattle.bi_common.specs.Json.{JsonText, Member, json_string, json_number, json_null}
+use Rattle.bi_common.specs.Json.{json_array, json_object, json_line}
+use Rattle.bi_common.specs.CommonLines.{header_members, name_member, reservations_member}
+use Rattle.bi_common.specs.ValueTexts.{are_quotable_texts, hexadecimal_digits}
+use Rattle.bi_describe.specs.Descriptions.{PayloadDigest, digest_of_payload, NodePayload}
+use Rattle.bi_describe.specs.Descriptions.{NotAnImage, OfImage, DescribedNode, plain_node}
+use Rattle.bi_describe.specs.Descriptions.{described_nodes}
+
+-- The JSON that `describe` writes: it depends on the meaning alone (profile of this project).
+
+-- A payload, or a part of a legacy image: its size and its SHA-256.
+abbrev pub digest_object : PayloadDigest → JsonText
+digest_object digest =
+    json_object
+    ((codes "size", json_number digest.size)
+    ∷ (codes "sha256", json_string (hexadecimal_digits digest.sha256)) ∷ [])
+
+-- A legacy image.
+abbrev pub legacy_object : LegacyImage → JsonText
+legacy_object image =
+    json_object
+    (header_members image
+    ++ (
+      codes "parts",
+      json_array
+          (map (λ part. digest_object (digest_of_payload part)) image.parts),
+    ) ∷ [])
+
+-- The member for the value of a property: its texts, if it is one or more texts, or else its
+-- bytes.
+abbrev pub value_member : List ℕ → Member
+value_member value =
+    if are_quotable_texts value
+    then (codes "strings", json_array (map json_string (listed_names value)))
+    else (codes "hex", json_string (hexadecimal_digits value))
+
+-- A property.
+abbrev pub property_object : Property → JsonText
+property_object property =
+    json_object (name_member (codes "name") property.0 ∷ value_member property.1 ∷ [])
+
+-- The payload of an image, if it has one.
+abbrev pub payload_or_null : Option PayloadDigest → JsonText
+payload_or_null None = json_null
+payload_or_null (Some digest) = digest_object digest
+
+-- The member for the payload of an image node. Any other node has none.
+abbrev pub payload_members : NodePayload → List Member
+payload_members NotAnImage = []
+payload_members (OfImage payload) = (codes "payload", payload_or_null payload) ∷ []
+
+-- The members of a node after its name, if it has children with these values. Its properties are in
+-- byte order of their names.
+abbrev pub node_members : DescribedNode → (children : List JsonText) → List Member
+node_members own children =
+    payload_members own.payload
+    ++ (codes "properties", json_array (map property_object (entries own.properties)))
+    ∷ (codes "children", json_array children) ∷ []
+
+-- These nodes, each with those below it.
+abbrev pub node_objects : Nodes DescribedNode → List JsonText
+node_objects none = []
+node_objects (node name own children later) =
+    json_object (name_member (codes "name") name ∷ node_members own (node_objects children))
+    ∷ node_objects later
+
+-- A flattened image tree.
+abbrev pub fit_object : ImageTree → JsonText
+fit_object tree =
+    json_object
+    ((codes "kind", json_string (codes "fit"))
+    ∷ (codes "boot_cpu", json_number tree.cpu)
+    ∷ reservations_member tree.reservations
+    ∷ (
+      codes "root",
+      json_object
+          (node_members (plain_node tree.root.own)
+          (node_objects (described_nodes tree.root.children tree.payloads))),
+    ) ∷ [])
+
+-- What a boot image means.
+abbrev pub meaning_object : Meaning → JsonText
+meaning_object (OfLegacy image) = legacy_object image
+meaning_object (OfFit tree) = fit_object tree
+
+-- The text of the description of a meaning in JSON.
+abbrev pub description_json : Meaning → List ℕ
+description_json meaning = json_line (meaning_object meaning)

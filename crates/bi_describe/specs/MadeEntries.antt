@@ -1,0 +1,45 @@
+use Rattle.std.specs.Prelude.{ℕ, List, [], ◌∷◌, ◌++◌, Option, map, option_map}
+use Rattle.std.specs.FinMap.{entries}
+use Rattle.bi_blob.specs.Tree.{Nodes, PropertyMap, FileNode, with_each}
+use Rattle.bi_blob.specs.Lookups.{Sibling}
+use Rattle.bi_fit.specs.NormalNodes.{nodes_by_name, properties_by_name}
+use Rattle.bi_fit.specs.ImageTree.{with_children_of, without_payload, without_payloads}
+use Rattle.bi_fit.specs.Names.{images_name}
+use Rattle.bi_describe.specs.Descriptions.{digest_of_payload, described_images, described_nodes}
+use Rattle.bi_describe.specs.Descriptions.{plain_node}
+use Rattle.bi_describe.specs.TreeEntries.{EntryModel, NodeBegins, NodeEnds, PayloadEntry}
+use Rattle.bi_describe.specs.TreeEntries.{PropertyEntry, node_entries}
+
+-- The entries of the nodes of a file.
+
+-- The entries of properties, in byte order of their names.
+abbrev pub property_entries : PropertyMap → List EntryModel
+property_entries properties = map PropertyEntry (entries properties)
+
+-- The entries of nodes that are no image nodes.
+abbrev pub plain_entries : Nodes FileNode → List EntryModel
+plain_entries nodes = node_entries (with_each plain_node (nodes_by_name nodes))
+
+-- The entry with which a node begins, and those of its properties.
+abbrev pub begin_entries : (name : List ℕ) → PropertyMap → List EntryModel
+begin_entries name properties = NodeBegins name ∷ property_entries properties
+
+-- The entries of an image node and of all nodes below it. The properties that hold a payload or
+-- name its region are left out.
+abbrev pub image_entries : Sibling FileNode → Option (List ℕ) → List EntryModel
+image_entries image payload =
+    NodeBegins image.name
+    ∷ (PayloadEntry (option_map digest_of_payload payload)
+    ∷ (property_entries (without_payload (properties_by_name image.own))
+    ++ (plain_entries image.children ++ NodeEnds ∷ [])))
+
+-- The entries of image nodes with these payloads.
+abbrev pub images_entries : Nodes FileNode → List (Option (List ℕ)) → List EntryModel
+images_entries nodes payloads =
+    node_entries (described_images (without_payloads (nodes_by_name nodes)) payloads)
+
+-- The entries of the children of the root, and of all nodes below them.
+abbrev pub root_children_entries : Nodes FileNode → List (Option (List ℕ)) → List EntryModel
+root_children_entries nodes payloads =
+    node_entries (described_nodes
+    (with_children_of images_name without_payloads (nodes_by_name nodes)) payloads)

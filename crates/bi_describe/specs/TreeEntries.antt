@@ -1,0 +1,87 @@
+use Rattle.std.specs.Prelude.{ℕ, ◌+◌, ◌-◌, List, [], ◌∷◌, ◌++◌, Option, length, map, max, take}
+use Rattle.std.specs.Prelude.{codes, option_map}
+use Rattle.std.specs.FinMap.{entries}
+use Rattle.bi_blob.specs.Tree.{Nodes, none, node, Property}
+use Rattle.bi_fit.specs.ImageTree.{ImageTree}
+use Rattle.bi_common.specs.Shown.{Words, path}
+use Rattle.bi_describe.specs.declared.describe.entries.Entry.{Entry}
+use Rattle.bi_describe.specs.declared.describe.entries.Entry.TheVariants as entry
+use Rattle.bi_describe.specs.declared.describe.entries.PayloadDigest as made
+use Rattle.bi_describe.specs.Descriptions.{PayloadDigest, NodePayload, NotAnImage, OfImage}
+use Rattle.bi_describe.specs.Descriptions.{DescribedNode, described_nodes, property_words}
+use Rattle.bi_describe.specs.Descriptions.{payload_words}
+
+-- The lines of a tree as a flat list: what each line after that of the root has besides its path.
+
+-- A node begins or ends; the payload of an image node, if it has one; or a property. The last two
+-- are about the innermost open node.
+pub data EntryModel : Type 0 where
+  NodeBegins : (name : List ℕ) → EntryModel
+  NodeEnds : EntryModel
+  PayloadEntry : (payload : Option PayloadDigest) → EntryModel
+  PropertyEntry : (property : Property) → EntryModel
+
+-- The entry for the payload of an image node. Any other node has none.
+abbrev pub payload_entries : NodePayload → List EntryModel
+payload_entries NotAnImage = []
+payload_entries (OfImage payload) = PayloadEntry payload ∷ []
+
+-- The entries of a node without itself and its children.
+abbrev pub own_entries : DescribedNode → List EntryModel
+own_entries own = payload_entries own.payload ++ map PropertyEntry (entries own.properties)
+
+-- The entries of nodes, each before those of its children.
+abbrev pub node_entries : Nodes DescribedNode → List EntryModel
+node_entries none = []
+node_entries (node name own children later) =
+    NodeBegins name
+    ∷ (own_entries own ++ (node_entries children ++ (NodeEnds ∷ node_entries later)))
+
+-- The entries of a tree: the properties of the root, and the nodes below it.
+abbrev pub tree_entries : ImageTree → List EntryModel
+tree_entries tree =
+    map PropertyEntry (entries tree.root.own)
+    ++ node_entries (described_nodes tree.root.children tree.payloads)
+
+-- The names of the open nodes after an entry, if these are open before it. The root is left out.
+abbrev pub open_after : (names : List (List ℕ)) → EntryModel → List (List ℕ)
+open_after names (NodeBegins name) = names ++ name ∷ []
+open_after names NodeEnds = take (length names - 1) names
+open_after names (PayloadEntry payload) = names
+open_after names (PropertyEntry property) = names
+
+-- The lines of an entry, if these nodes are open after it.
+abbrev pub lines_of_entry : (names : List (List ℕ)) → EntryModel → List Words
+lines_of_entry names (NodeBegins name) = (codes "node" ∷ path names ∷ []) ∷ []
+lines_of_entry names NodeEnds = []
+lines_of_entry names (PayloadEntry payload) = payload_words (path names) (OfImage payload)
+lines_of_entry names (PropertyEntry property) = property_words (path names) property ∷ []
+
+-- The lines of entries, if these nodes are open before them.
+abbrev pub entry_lines : (names : List (List ℕ)) → List EntryModel → List Words
+entry_lines names [] = []
+entry_lines names (entry ∷ later) =
+    lines_of_entry (open_after names entry) entry ++ entry_lines (open_after names entry) later
+
+-- The number of the open nodes after an entry.
+abbrev pub count_after : (count : ℕ) → EntryModel → ℕ
+count_after count (NodeBegins name) = count + 1
+count_after count NodeEnds = count - 1
+count_after count (PayloadEntry payload) = count
+count_after count (PropertyEntry property) = count
+
+-- How many nodes are open at most, if so many are open before these entries.
+abbrev pub most_open : (count : ℕ) → List EntryModel → ℕ
+most_open count [] = count
+most_open count (entry ∷ later) = max count (most_open (count_after count entry) later)
+
+-- A digest that the code made.
+abbrev pub digest_made : made.PayloadDigest → PayloadDigest
+digest_made digest = record { size = digest.size; sha256 = digest.sha256 }
+
+-- An entry that the code made.
+abbrev pub as_entry : Entry → EntryModel
+as_entry (entry.Begin name) = NodeBegins name.now
+as_entry entry.End = NodeEnds
+as_entry (entry.Payload payload) = PayloadEntry (option_map digest_made payload)
+as_entry (entry.Property name value) = PropertyEntry (name.now, value.now)

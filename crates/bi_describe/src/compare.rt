@@ -1,0 +1,263 @@
+//! Comparing what two boot images mean: whether it is the same, and what differs.
+
+mod differences;
+mod json;
+mod texts;
+
+ghost use Rattle.std.specs.Prelude.{◌≡◌, ◌↔◌, ◌⊎◌, IsTrue, List, ℕ, IfOk, OnOk, IfErr};
+ghost use Rattle.std.specs.Prelude.{string_bytes};
+ghost use Rattle.bi_base.specs.Limits.{Limits};
+ghost use Rattle.bi_norm.specs.Comparing.{AreCompared};
+ghost use Rattle.bi_norm.specs.Meaning.{Meaning, Means};
+ghost use Rattle.bi_norm.specs.Reading.{IsBootImageReadError, meaning_of, IsReadBootImage};
+ghost use Rattle.bi_common.specs.declared.format.Format.TheVariants.{Lines, Json};
+ghost use Rattle.bi_common.specs.HeldImages.{IsHeldImage};
+ghost use Rattle.bi_describe.specs.Comparing.{IsComparison, IsComparisonError};
+ghost use Rattle.bi_describe.specs.Comparing.{IsReadingError, IsDescribingError, comparison};
+ghost use Rattle.bi_describe.specs.Descriptions.{description};
+ghost use Rattle.bi_describe.specs.Describing.{CanBeDescribed};
+
+use crate::describe::describe_image;
+use bi_base::{Error, Fault, Limits};
+use bi_common::format::Format;
+use bi_norm::BootImage;
+use json::comparison_json;
+use std::alloc::{AllocError, Global};
+use texts::compare_texts;
+
+/// Why two boot images were not compared.
+#[derive(Clone, Copy, Debug, PartialEq, Eq, thiserror::Error)]
+pub enum CompareError {
+    /// The first file is refused.
+    #[error("the first file is refused")]
+    One(Fault),
+    /// The second file is refused.
+    #[error("the second file is refused")]
+    Other(Fault),
+    /// Memory ran out.
+    #[error("out of memory")]
+    OutOfMemory,
+}
+
+/// What differs between two boot images.
+#[derive(Drop)]
+pub struct Comparison {
+    /// Whether both mean the same.
+    pub same: bool,
+    /// The differences of their descriptions: empty if and only if both mean the same. Of
+    /// `compare_json`, the text of JSON.
+    pub differences: String,
+}
+
+/// Returns whether two boot images mean the same. Images of different kinds do not.
+///
+/// Errors, the first that applies: One with the fault of the first file; Other with that of the
+/// second one. OutOfMemory may come in place of any of these, but only after the first file has
+/// passed the checks of a legacy image, or of the header and the memory reservation block of a
+/// blob.
+pub fn have_same_meaning(
+    alloc: Global,
+    one: &[u8],
+    other: &[u8],
+    limits: Limits,
+) -> Result<bool, CompareError>
+    ensures compared { IfOk result (AreCompared limits one.now other.now) }
+    ensures failed { IfErr result (IsReadingError limits one.now other.now) }
+{
+    let image = read_one(alloc, one, limits)?;
+    let other_image = read_other(alloc, other, limits)?;
+    Ok(mean_the_same(alloc, &image, &other_image)?)
+}
+
+/// Returns what differs between what two boot images mean: the differences of their descriptions,
+/// which are empty if and only if both mean the same. No limit applies to them.
+///
+/// Errors, the first that applies: One with the fault of the first file; Other with that of the
+/// second one; if the meanings differ, One and then Other with TooLarge at the limit, if a meaning
+/// is too long to describe. OutOfMemory may come in place of any of these, but only after the first
+/// file has passed the checks of a legacy image, or of the header and the memory reservation block
+/// of a blob.
+///
+/// # Example
+///
+/// ```
+/// use bi_base::Limits;
+/// use bi_commands::compare::compare;
+///
+/// let limits = Limits::new(0x7fff_ffff, 64).unwrap();
+/// let comparison = compare(rt.alloc(), kernel, board, limits)?;
+/// assert!(rt; !comparison.same);
+/// assert!(rt; comparison.differences.as_str().starts_with("-kind legacy\n"));
+/// ```
+pub fn compare(
+    alloc: Global,
+    one: &[u8],
+    other: &[u8],
+    limits: Limits,
+) -> Result<Comparison, CompareError>
+    ensures compared { IfOk result (λ comparison. IsComparison Lines limits one.now other.now
+        comparison.same (string_bytes comparison.differences)) }
+    ensures failed { IfErr result (IsComparisonError limits one.now other.now) }
+{
+    let image = read_one(alloc, one, limits)?;
+    let other_image = read_other(alloc, other, limits)?;
+    if mean_the_same(alloc, &image, &other_image)? {
+        return Ok(Comparison {
+            same: true,
+            differences: String::new(alloc),
+        });
+    }
+    let text = describe_one(alloc, &image, limits)?;
+    let other_text = describe_other(alloc, &other_image, limits)?;
+    Ok(Comparison {
+        same: false,
+        differences: compare_images(alloc, &image, &other_image, &text, &other_text)?,
+    })
+}
+
+/// Returns whether two boot images mean the same, and what differs between them, as one text of
+/// JSON and a newline. It says what the lines of `compare` say, and the errors are those of
+/// `compare`.
+pub fn compare_json(
+    alloc: Global,
+    one: &[u8],
+    other: &[u8],
+    limits: Limits,
+) -> Result<Comparison, CompareError>
+    ensures compared { IfOk result (λ comparison. IsComparison Json limits one.now other.now
+        comparison.same (string_bytes comparison.differences)) }
+    ensures failed { IfErr result (IsComparisonError limits one.now other.now) }
+{
+    let comparison = compare(alloc, one, other, limits)?;
+    let same = comparison.same;
+    Ok(Comparison {
+        same,
+        differences: comparison_json(alloc, same, &comparison.differences)?,
+    })
+}
+
+impl From<AllocError> for CompareError {
+    ghost use Rattle.bi_describe.specs.declared.compare.CompareError.TheVariants.{OutOfMemory};
+
+    ghost from_gives = { λ _ error. error ≡ OutOfMemory };
+
+    fn from(_error: AllocError) -> CompareError {
+        CompareError::OutOfMemory
+    }
+}
+
+/// Reads the first file.
+fn read_one(alloc: Global, file: &[u8], limits: Limits) -> Result<BootImage<'_>, CompareError>
+    ensures read { IfOk result (IsReadBootImage limits file.entry.now) }
+    ensures failed { IfErr result (λ error. (other : List ℕ)
+        → IsReadingError limits file.entry.now other error) }
+{
+    match BootImage::read(alloc, file, limits) {
+        Ok(image) => Ok(image),
+        Err(error) => Err(reading_failure(error)),
+    }
+}
+
+/// Returns the failure for an error of reading the first file.
+fn reading_failure(error: Error) -> CompareError
+    ensures { (limits : Limits) (file other : List ℕ) → IsBootImageReadError limits file error
+        → IsReadingError limits file other result }
+{
+    match error {
+        Error::Refused(fault) => CompareError::One(fault),
+        _ => CompareError::OutOfMemory,
+    }
+}
+
+/// Reads the second file.
+fn read_other(alloc: Global, file: &[u8], limits: Limits) -> Result<BootImage<'_>, CompareError>
+    ensures read { IfOk result (IsReadBootImage limits file.entry.now) }
+    ensures failed { IfErr result (λ error. (one : List ℕ) (meaning : Meaning)
+        → Means limits one meaning → IsReadingError limits one file.entry.now error) }
+{
+    match BootImage::read(alloc, file, limits) {
+        Ok(image) => Ok(image),
+        Err(Error::Refused(fault)) => Err(CompareError::Other(fault)),
+        Err(_) => Err(CompareError::OutOfMemory),
+    }
+}
+
+/// Returns whether two images that were read mean the same. It fails if memory runs out.
+fn mean_the_same(
+    alloc: Global,
+    image: &BootImage<'_>,
+    other: &BootImage<'_>,
+) -> Result<bool, AllocError>
+    ensures { IfOk result (λ same. IsTrue same
+        ↔ (meaning_of image.now ≡ meaning_of other.now)) }
+{
+    match image.has_same_meaning(alloc, other) {
+        Ok(same) => Ok(same),
+        Err(_) => Err(AllocError),
+    }
+}
+
+/// Describes the image of the first file.
+fn describe_one(
+    alloc: Global,
+    image: &BootImage<'_>,
+    limits: Limits,
+) -> Result<String, CompareError>
+    requires held { IsHeldImage image.now }
+    ensures within { OnOk result (CanBeDescribed Lines limits (meaning_of image.now)) }
+    ensures described { IfOk result (λ text. string_bytes text
+        ≡ description (meaning_of image.now)) }
+    ensures failed { IfErr result (λ error. (error ≡ CompareError.OutOfMemory)
+        ⊎ ((other : Meaning) → IsDescribingError limits (meaning_of image.now) other error)) }
+{
+    match describe_image(alloc, image, limits, Format::Lines) {
+        Ok(text) => Ok(text),
+        Err(Error::Refused(fault)) => Err(CompareError::One(fault)),
+        Err(_) => Err(CompareError::OutOfMemory),
+    }
+}
+
+/// Describes the image of the second file.
+fn describe_other(
+    alloc: Global,
+    image: &BootImage<'_>,
+    limits: Limits,
+) -> Result<String, CompareError>
+    requires held { IsHeldImage image.now }
+    ensures within { OnOk result (CanBeDescribed Lines limits (meaning_of image.now)) }
+    ensures described { IfOk result (λ text. string_bytes text
+        ≡ description (meaning_of image.now)) }
+    ensures failed { IfErr result (λ error. (error ≡ CompareError.OutOfMemory)
+        ⊎ ((one : Meaning) → CanBeDescribed Lines limits one
+        → IsDescribingError limits one (meaning_of image.now) error)) }
+{
+    match describe_image(alloc, image, limits, Format::Lines) {
+        Ok(text) => Ok(text),
+        Err(Error::Refused(fault)) => Err(CompareError::Other(fault)),
+        Err(_) => Err(CompareError::OutOfMemory),
+    }
+}
+
+/// Compares two images that do not mean the same, whose descriptions are given.
+fn compare_images(
+    alloc: Global,
+    image: &BootImage<'_>,
+    other: &BootImage<'_>,
+    text: &str,
+    other_text: &str,
+) -> Result<String, AllocError>
+    ensures { IfOk result (λ differences. text.now ≡ description (meaning_of image.now)
+        → other_text.now ≡ description (meaning_of other.now)
+        → string_bytes differences ≡ comparison (meaning_of image.now) (meaning_of other.now)) }
+{
+    match (image, other) {
+        (BootImage::Legacy(_), BootImage::Fit(_)) => {
+            "-kind legacy\n+kind fit\n".to_string(alloc)
+        }
+        (BootImage::Fit(_), BootImage::Legacy(_)) => {
+            "-kind fit\n+kind legacy\n".to_string(alloc)
+        }
+        (BootImage::Legacy(_), BootImage::Legacy(_)) => compare_texts(alloc, text, other_text),
+        (BootImage::Fit(_), BootImage::Fit(_)) => compare_texts(alloc, text, other_text),
+    }
+}

@@ -1,0 +1,209 @@
+//! The description of a boot image: a text that depends on its meaning alone.
+
+ghost use Rattle.std.specs.Prelude.{◌≡◌, ⊤, IfOk, OnOk, IfErr, IsAscii, string_bytes};
+ghost use Rattle.bi_base.specs.Commands.{Appended, AppendFailed};
+ghost use Rattle.bi_base.specs.Pipes.{IsPiped};
+ghost use Rattle.bi_norm.specs.Reading.{meaning_of};
+ghost use Rattle.bi_common.specs.declared.format.Format.TheVariants.{Lines, Json};
+ghost use Rattle.bi_common.specs.HeldImages.{IsHeldImage};
+ghost use Rattle.bi_describe.specs.Describing.{CanBeDescribed, IsImageError, description_text};
+ghost use Rattle.bi_describe.specs.Describing.{IsDescription, IsDescribeError};
+ghost use Rattle.bi_describe.specs.Describing.{describe_promise, describe_laws};
+ghost use Rattle.bi_describe.specs.ReadDescription.{IsDescriptionOf};
+
+mod digests;
+mod entries;
+mod fit;
+mod image_nodes;
+mod image_payload;
+mod json;
+mod legacy;
+mod limited_sink;
+mod lines;
+mod nodes;
+mod properties;
+
+use bi_base::{Command, Error, Limits, Sink, VecSink, are_bytes, pipe_to};
+use bi_common::format::Format;
+use bi_norm::BootImage;
+use fit::describe_fit;
+use legacy::describe_legacy;
+use std::alloc::Global;
+use std::io::{Read, Write};
+
+/// Returns the description of what a boot image means.
+///
+/// Errors, the first that applies: those of `BootImage::read`; TooLarge at the limit, if the
+/// payloads of a flattened image tree together are longer than that, each counted for each image
+/// that has it, or if the description is. OutOfMemory may come in place of any of these, but only
+/// after the checks of a legacy image, or of the header and the memory reservation block of a blob.
+/// No payload is hashed before the lengths of the payloads are checked.
+///
+/// # Example
+///
+/// ```
+/// use bi_base::Limits;
+/// use bi_commands::describe::describe;
+///
+/// let limits = Limits::new(0x7fff_ffff, 64).unwrap();
+/// let text = describe(rt.alloc(), board, limits)?;
+/// assert!(rt; text.as_str().starts_with("kind fit\nboot-cpu 0\nnode /\n"));
+/// ```
+pub fn describe(alloc: Global, file: &[u8], limits: Limits) -> Result<String, Error>
+    ensures described { IfOk result (λ text. IsDescription Lines limits file.now
+        (string_bytes text)) }
+    ensures failed { IfErr result (IsDescribeError Lines limits file.now) }
+{
+    describe_as(alloc, file, limits, Format::Lines)
+}
+
+/// Returns the description of what a boot image means, as one text of JSON and a newline. It says
+/// what the lines of `describe` say. The errors are those of `describe`, but the limit on the
+/// description is on the JSON and its newline.
+pub fn describe_json(alloc: Global, file: &[u8], limits: Limits) -> Result<String, Error>
+    ensures described { IfOk result (λ text. IsDescription Json limits file.now
+        (string_bytes text)) }
+    ensures failed { IfErr result (IsDescribeError Json limits file.now) }
+{
+    describe_as(alloc, file, limits, Format::Json)
+}
+
+/// Returns the description of what a boot image means, in a form.
+fn describe_as(alloc: Global, file: &[u8], limits: Limits, format: Format) -> Result<String, Error>
+    ensures described { IfOk result (λ text. IsDescription format limits file.now
+        (string_bytes text)) }
+    ensures failed { IfErr result (IsDescribeError format limits file.now) }
+{
+    let image = BootImage::read(alloc, file, limits)?;
+    describe_image(alloc, &image, limits, format)
+}
+
+/// Describing, as a command: `describe`, or `describe_json`.
+#[derive(Clone, Copy, Debug, PartialEq, Eq)]
+pub struct Describer {
+    /// The form of the description.
+    pub format: Format,
+}
+
+impl Command for Describer {
+    type Value = ();
+
+    type Failure = Error;
+
+    ghost can_run = { λ _. ⊤ };
+
+    ghost promise = { λ describer. describe_promise describer.format };
+
+    /// Appends the description piece by piece. Each refusal and each allocation comes before the
+    /// first byte.
+    fn run<S: Sink>(
+        &self,
+        alloc: Global,
+        input: &[u8],
+        limits: Limits,
+        sink: &mut S,
+    ) -> Result<(), Error> {
+        let image = BootImage::read(alloc, input, limits)?;
+        describe_into(alloc, &image, limits, self.format, sink)?;
+        Ok(())
+    }
+
+    ghost wraps_from = { λ _ _ _ _ same. same };
+
+    ghost laws = { λ describer. describe_laws describer.format };
+}
+
+/// Reads a boot image to its end, writes its description, and flushes: `pipe_to` with a
+/// `Describer`.
+///
+/// The errors are those of `pipe_to`, and of the file those of `describe`.
+pub fn describe_to<R: Read, W: Write>(
+    alloc: Global,
+    reader: &mut R,
+    writer: &mut W,
+    limits: Limits,
+) -> Result<(), Error>
+    ensures { IsPiped (describe_promise Lines limits) limits (R.remaining reader.old)
+        (R.remaining reader.new) (W.contents writer.old) (W.contents writer.new) result }
+{
+    let describer = Describer {
+        format: Format::Lines,
+    };
+    pipe_to(alloc, &describer, reader, writer, limits)
+}
+
+/// Reads a boot image to its end, writes its description as one text of JSON and a newline, and
+/// flushes.
+///
+/// The errors are those of `pipe_to`, and of the file those of `describe_json`.
+pub fn describe_json_to<R: Read, W: Write>(
+    alloc: Global,
+    reader: &mut R,
+    writer: &mut W,
+    limits: Limits,
+) -> Result<(), Error>
+    ensures { IsPiped (describe_promise Json limits) limits (R.remaining reader.old)
+        (R.remaining reader.new) (W.contents writer.old) (W.contents writer.new) result }
+{
+    let describer = Describer {
+        format: Format::Json,
+    };
+    pipe_to(alloc, &describer, reader, writer, limits)
+}
+
+/// Returns the description of what a boot image that was read means, in a form.
+///
+/// Errors: TooLarge at the limit, if the payloads or the description are longer; OutOfMemory.
+pub(crate) fn describe_image(
+    alloc: Global,
+    image: &BootImage,
+    limits: Limits,
+    format: Format,
+) -> Result<String, Error>
+    requires held { IsHeldImage image.now }
+    ensures within { OnOk result (CanBeDescribed format limits (meaning_of image.now)) }
+    ensures described { IfOk result (λ text. string_bytes text
+        ≡ description_text format (meaning_of image.now)) }
+    ensures failed { IfErr result (IsImageError format limits (meaning_of image.now)) }
+{
+    let mut sink = VecSink::new(alloc);
+    describe_into(alloc, image, limits, format, &mut sink)?;
+    description_is_ascii(image, format);
+    match String::from_utf8(sink.into_vec()) {
+        Ok(text) => Ok(text),
+        Err(_) => unreachable!(),
+    }
+}
+
+/// Does nothing. Its contract states that the description of an image that was read is ASCII, in
+/// each form.
+fn description_is_ascii(image: &BootImage, format: Format)
+    requires held { IsHeldImage image.now }
+    ensures { IsAscii (description_text format (meaning_of image.now)) }
+{
+    if let BootImage::Legacy(image) = image {
+        are_bytes(image.fields().name);
+    }
+}
+
+/// Appends the description of what a boot image that was read means, in a form. Each refusal and
+/// each allocation comes before the first byte.
+fn describe_into<S: Sink>(
+    alloc: Global,
+    image: &BootImage,
+    limits: Limits,
+    format: Format,
+    sink: &mut S,
+) -> Result<(), Error>
+    requires held { IsHeldImage image.now }
+    ensures appended { OnOk result (Appended S.appends
+        (IsDescriptionOf format limits (meaning_of image.now)) sink.old sink.new) }
+    ensures failed { IfErr result (AppendFailed S.fails
+        (IsDescriptionOf format limits (meaning_of image.now))
+        (IsImageError format limits (meaning_of image.now)) sink.old sink.new) }
+{
+    match image {
+        BootImage::Legacy(image) => describe_legacy(alloc, image, limits, format, sink),
+        BootImage::Fit(image) => describe_fit(alloc, image, limits, format, sink),
+    }
+}

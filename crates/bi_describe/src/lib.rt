@@ -1,0 +1,8 @@
+//! The commands describe, over any reader and writer, and compare, over two files in memory.
+#![tactic(auto)]
+
+pub mod compare;
+pub mod describe;
+pub mod known_refusals;
+pub mod known_texts;
+pub mod laws;

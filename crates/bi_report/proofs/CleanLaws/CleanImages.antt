@@ -1,0 +1,206 @@
+use Rattle.std.proofs.Common.{◌≡◌, ℕ, Bool, true, false, ◌&&◌, List, [], ◌∷◌, ◌++◌, Option, Some, None, flat_map, Contains, IsFalse, IsSome}
+use Rattle.std.proofs.Common.{is_some, filter, bytes_eq, refl, sym, ap, ap₂, subst, ◌∙◌, true≢false}
+use Rattle.std.specs.List.{AllByRecursion, list_any}
+use Rattle.std.proofs.lemmas.Bool.{and_parts}
+use Rattle.std.proofs.lemmas.Slice.Eq.{bytes_eq-Decides}
+use Rattle.bi_fit.specs.Judgement.{Image, CheckedHash}
+use Rattle.bi_hash.specs.declared.verdicts.Verdict.TheVariants.{Good}
+use Rattle.bi_common.specs.VerdictCounts.{is_verdict}
+use Rattle.bi_report.specs.declared.check.Allowed.{Allowed}
+use Rattle.bi_report.specs.Checking.{BadHash, concern_lines, hash_concerns, hashes_of_image, image_concerns, is_good, is_strong}
+use Rattle.bi_report.specs.Checking.{is_strong_algorithm, payload_concerns, strong_algorithms, UnhashedImage, WeakHash}
+use Rattle.bi_report.specs.CleanFiles.{HasGoodHash, HasStrongHash, IsHashed, IsNotWeak}
+use Rattle.bi_report.specs.Reports.{AreGood}
+use Rattle.bi_report.proofs.CheckedHashes.{strong_only, unhashed_only, weak_allowed, weak_only}
+use Rattle.bi_report.proofs.ConcernLines.{lines_allowed}
+use Rattle.bi_report.proofs.CleanLaws.NoLines.{HaveNoLine, all_have_none, both_have_none, each_has_none, any_is_found, one_is_allowed}
+use Rattle.bi_report.proofs.CleanLaws.NoLines.{parts_have_none, passed_has_none, passes_any, test_is_passed}
+use Rattle.bi_report.proofs.ImageReports.{good_passes}
+
+-- The concerns about images have no line if and only if, for each concern that is not allowed, the hashes are Good, and the images are
+-- hashed and not weak.
+
+-- Hash nodes without a line have Good verdicts, if others are not allowed.
+hashes_are_good : (allowed : Allowed) (hashes : List CheckedHash) →
+    AllByRecursion (λ hash. HaveNoLine allowed (hash_concerns hash)) hashes → IsFalse allowed.bad_hash → AreGood hashes
+hashes_are_good allowed [] each refused = tt
+hashes_are_good allowed (hash ∷ later) each refused = (
+  good_passes hash.verdict (test_is_passed allowed (is_good hash) (BadHash hash) each.0 refused),
+  hashes_are_good allowed later each.1 refused,
+)
+
+good_have_none : (allowed : Allowed) (hashes : List CheckedHash) → (IsFalse allowed.bad_hash → AreGood hashes) →
+    AllByRecursion (λ hash. HaveNoLine allowed (hash_concerns hash)) hashes
+good_have_none allowed [] good = tt
+good_have_none allowed (hash ∷ later) good = (
+  passed_has_none allowed (is_good hash) (BadHash hash) (λ refused. ap (is_verdict Good) (good refused).0),
+  good_have_none allowed later (λ refused. (good refused).1),
+)
+
+-- A Good verdict, and the test for one.
+good_of_test : (image : Image) → list_any is_good (hashes_of_image image) ≡ true → HasGoodHash image
+good_of_test image is =
+    let one = any_is_found is_good (hashes_of_image image) is in
+    record { hash = one.0; is_there = one.1; is_good = good_passes one.0.verdict one.2 }
+
+test_of_good : (image : Image) → HasGoodHash image → list_any is_good (hashes_of_image image) ≡ true
+test_of_good image has = passes_any is_good (hashes_of_image image) has.hash has.is_there (ap (is_verdict Good) has.is_good)
+
+-- The name of a strong algorithm, and the test for one.
+strong_name : (algorithm : Option (List ℕ)) → is_strong_algorithm algorithm ≡ true →
+    (name : List ℕ) × (algorithm ≡ Some name) × Contains strong_algorithms name
+strong_name None is = absurd cc
+strong_name (Some name) is =
+    let one = any_is_found (bytes_eq name) strong_algorithms is in
+    (name, refl, subst (Contains strong_algorithms) (sym ((bytes_eq-Decides name one.0).0 one.2)) one.1)
+
+test_of_name : (algorithm : Option (List ℕ)) (name : List ℕ) → algorithm ≡ Some name → Contains strong_algorithms name →
+    is_strong_algorithm algorithm ≡ true
+test_of_name algorithm name is there =
+    ap is_strong_algorithm is ∙ passes_any (bytes_eq name) strong_algorithms name there ((bytes_eq-Decides name name).1 refl)
+
+-- A Good verdict of a strong algorithm, and the test for one.
+strong_of_test : (image : Image) → list_any is_strong (hashes_of_image image) ≡ true → HasStrongHash image
+strong_of_test image is =
+    let one = any_is_found is_strong (hashes_of_image image) is in
+    let both = and_parts (is_good one.0) (is_strong_algorithm one.0.algo) one.2 in
+    let name = strong_name one.0.algo both.1 in
+    record {
+      hash = one.0;
+      is_there = one.1;
+      is_good = good_passes one.0.verdict both.0;
+      algorithm = name.0;
+      has_algorithm = name.1;
+      is_strong = name.2;
+    }
+
+test_of_strong : (image : Image) → HasStrongHash image → list_any is_strong (hashes_of_image image) ≡ true
+test_of_strong image has =
+    passes_any is_strong (hashes_of_image image) has.hash has.is_there
+    (ap₂ (λ a b. a && b) (ap (is_verdict Good) has.is_good) (test_of_name has.hash.algo has.algorithm has.has_algorithm has.is_strong))
+
+-- What an image without a line is.
+pub record IsCleanImage (allowed : Allowed) (image : Image) : Type 0 where
+  pub good : IsFalse allowed.bad_hash → AreGood (hashes_of_image image)
+  pub hashed : IsFalse allowed.unhashed → IsHashed image
+  pub not_weak : IsFalse allowed.weak_hash → IsNotWeak image
+
+module _ (allowed : Allowed) (image : Image) where
+  abbrev hashes : List CheckedHash
+  hashes = hashes_of_image image
+
+  abbrev name : List ℕ
+  name = image.entry.name
+
+  -- An image without a payload is hashed, and not weakly.
+  no_payload : image.payload ≡ None → ¬ (IsSome image.payload)
+  no_payload is some = true≢false (sym some ∙ ap is_some is)
+
+  -- A payload without a line.
+  payload_is_hashed : (payload : Option (List ℕ)) → image.payload ≡ payload → HaveNoLine allowed (payload_concerns name payload hashes) →
+      (IsFalse allowed.unhashed → IsHashed image) × (IsFalse allowed.weak_hash → IsNotWeak image)
+  payload_is_hashed None is none = (λ refused some. absurd (no_payload is some), λ refused some good. absurd (no_payload is some))
+  payload_is_hashed (Some payload) is none = by (list_any is_good hashes) (list_any is_strong hashes) refl refl where
+    by : (good strong : Bool) → list_any is_good hashes ≡ good → list_any is_strong hashes ≡ strong →
+        (IsFalse allowed.unhashed → IsHashed image) × (IsFalse allowed.weak_hash → IsNotWeak image)
+    by false strong no_good is_strong =
+        let fine = one_is_allowed allowed (UnhashedImage name)
+        (sym (ap (concern_lines allowed) (unhashed_only name hashes no_good)) ∙ none) in (
+          λ refused some. absurd (true≢false (sym fine ∙ refused)),
+          λ refused some good. absurd (true≢false (sym (test_of_good image good) ∙ no_good)),
+        )
+    by true false some_good no_strong =
+        let fine = one_is_allowed allowed (WeakHash name (filter is_good hashes))
+        (sym (ap (concern_lines allowed) (weak_only name hashes some_good no_strong)) ∙ none) in
+        (λ refused some. good_of_test image some_good, λ refused some good. absurd (true≢false (sym fine ∙ refused)))
+    by true true some_good some_strong = (
+      λ refused some. good_of_test image some_good,
+      λ refused some good. strong_of_test image some_strong,
+    )
+
+  hashed_has_none : (payload : Option (List ℕ)) → image.payload ≡ payload → (IsFalse allowed.unhashed → IsHashed image) →
+      (IsFalse allowed.weak_hash → IsNotWeak image) →
+      HaveNoLine allowed (payload_concerns name payload hashes)
+  hashed_has_none None is hashed not_weak = refl
+  hashed_has_none (Some payload) is hashed not_weak = by (list_any is_good hashes) (list_any is_strong hashes) refl refl where
+    there : IsSome image.payload
+    there = ap is_some is
+
+    unhashed_one : list_any is_good hashes ≡ false → (b : Bool) → allowed.unhashed ≡ b →
+        HaveNoLine allowed (payload_concerns name (Some payload) hashes)
+    unhashed_one no_good true fine = ap (concern_lines allowed) (unhashed_only name hashes no_good)
+        ∙ lines_allowed allowed (UnhashedImage name) fine
+    unhashed_one no_good false refused = absurd (true≢false (sym (test_of_good image (hashed refused there)) ∙ no_good))
+
+    weak_one : list_any is_good hashes ≡ true → list_any is_strong hashes ≡ false → (b : Bool) → allowed.weak_hash ≡ b →
+        HaveNoLine allowed (payload_concerns name (Some payload) hashes)
+    weak_one some_good no_strong true fine = weak_allowed allowed name hashes some_good fine
+    weak_one some_good no_strong false refused =
+        absurd (true≢false (sym (test_of_strong image (not_weak refused there (good_of_test image some_good))) ∙ no_strong))
+
+    by : (good strong : Bool) → list_any is_good hashes ≡ good → list_any is_strong hashes ≡ strong →
+        HaveNoLine allowed (payload_concerns name (Some payload) hashes)
+    by false strong no_good is_strong = unhashed_one no_good allowed.unhashed refl
+    by true false some_good no_strong = weak_one some_good no_strong allowed.weak_hash refl
+    by true true some_good some_strong = ap (concern_lines allowed) (strong_only name hashes some_good some_strong)
+
+  -- An image without a line.
+  pub image_is_clean : HaveNoLine allowed (image_concerns image) → IsCleanImage allowed image
+  image_is_clean none =
+      let both = parts_have_none allowed (flat_map hash_concerns hashes) (payload_concerns name image.payload hashes) none in
+      let payload = payload_is_hashed image.payload refl both.1 in
+      record {
+        good = hashes_are_good allowed hashes (each_has_none allowed hash_concerns hashes both.0);
+        hashed = payload.0;
+        not_weak = payload.1;
+      }
+
+  pub clean_image_has_none : IsCleanImage allowed image → HaveNoLine allowed (image_concerns image)
+  clean_image_has_none is =
+      both_have_none allowed (flat_map hash_concerns hashes) (payload_concerns name image.payload hashes)
+      (all_have_none allowed hash_concerns hashes (good_have_none allowed hashes is.good))
+      (hashed_has_none image.payload refl is.hashed is.not_weak)
+
+-- Good verdicts of two lists.
+good_parts : (one later : List CheckedHash) → AreGood (one ++ later) → AreGood one × AreGood later
+good_parts [] later good = (tt, good)
+good_parts (hash ∷ one) later good = let rest = good_parts one later good.1 in ((good.0, rest.0), rest.1)
+
+both_good : (one later : List CheckedHash) → AreGood one → AreGood later → AreGood (one ++ later)
+both_good [] later first rest = rest
+both_good (hash ∷ one) later first rest = (first.0, both_good one later first.1 rest)
+
+-- What images without a line are.
+pub record AreCleanImages (allowed : Allowed) (images : List Image) : Type 0 where
+  pub good : IsFalse allowed.bad_hash → AreGood (flat_map hashes_of_image images)
+  pub hashed : IsFalse allowed.unhashed → AllByRecursion IsHashed images
+  pub not_weak : IsFalse allowed.weak_hash → AllByRecursion IsNotWeak images
+
+pub images_are_clean : (allowed : Allowed) (images : List Image) → HaveNoLine allowed (flat_map image_concerns images) →
+    AreCleanImages allowed images
+images_are_clean allowed [] none = record { good = λ refused. tt; hashed = λ refused. tt; not_weak = λ refused. tt }
+images_are_clean allowed (image ∷ later) none =
+    let both = parts_have_none allowed (image_concerns image) (flat_map image_concerns later) none in
+    let first = image_is_clean allowed image both.0 in
+    let rest = images_are_clean allowed later both.1 in
+    record {
+      good = λ refused. both_good (hashes_of_image image) (flat_map hashes_of_image later) (first.good refused) (rest.good refused);
+      hashed = λ refused. (first.hashed refused, rest.hashed refused);
+      not_weak = λ refused. (first.not_weak refused, rest.not_weak refused);
+    }
+
+pub clean_images_have_none : (allowed : Allowed) (images : List Image) → AreCleanImages allowed images →
+    HaveNoLine allowed (flat_map image_concerns images)
+clean_images_have_none allowed [] are = refl
+clean_images_have_none allowed (image ∷ later) are =
+    both_have_none allowed (image_concerns image) (flat_map image_concerns later)
+    (clean_image_has_none allowed image (record {
+      good = λ refused. (good_parts (hashes_of_image image) (flat_map hashes_of_image later) (are.good refused)).0;
+      hashed = λ refused. (are.hashed refused).0;
+      not_weak = λ refused. (are.not_weak refused).0;
+    }))
+    (clean_images_have_none allowed later (record {
+      good = λ refused. (good_parts (hashes_of_image image) (flat_map hashes_of_image later) (are.good refused)).1;
+      hashed = λ refused. (are.hashed refused).1;
+      not_weak = λ refused. (are.not_weak refused).1;
+    }))

@@ -1,0 +1,151 @@
+use Rattle.std.proofs.Common.{◌≡◌, ℕ, ◌-◌, true, ◌&&◌, ◌==◌, List, [], ◌∷◌, ◌++◌, IsFalse, drop, length, flat_map, refl, sym, ap, ap₂}
+use Rattle.std.proofs.Common.{subst, ◌∙◌, arith}
+use Rattle.std.specs.List.{list_all}
+use Rattle.std.proofs.lemmas.Bool.{and_parts, eqb-true}
+use Rattle.bi_base.specs.Limits.{Limits}
+use Rattle.bi_blob.specs.Tree.{names}
+use Rattle.bi_blob.proofs.Blobs.OneBlob.{one_blob}
+use Rattle.bi_fit.specs.File.{FitMeans}
+use Rattle.bi_fit.specs.ImageTree.{ImageTree, image_nodes}
+use Rattle.bi_fit.specs.Judgement.{configuration_nodes, default_of, images_of}
+use Rattle.bi_fit.proofs.FilePayloads.{payloads_are_at_places}
+use Rattle.bi_fit.proofs.Meanings.{one_fit_meaning, same_in_some}
+use Rattle.bi_legacy.specs.Meaning.{LegacyImage}
+use Rattle.bi_legacy.specs.Parts.{parts_end}
+use Rattle.bi_legacy.specs.Reading.{LegacyModel, IsReadLegacy}
+use Rattle.bi_norm.proofs.FilesWithoutMeaning.{means_legacy, means_tree}
+use Rattle.bi_report.specs.declared.check.Allowed.{Allowed}
+use Rattle.bi_report.specs.Checking.{Concern, AreConcerns, OfLegacyImage, OfImageTree, concern_lines, configuration_concerns, content_end}
+use Rattle.bi_report.specs.Checking.{default_concerns, image_concerns, TrailingBytes, trailing_concerns, tree_concerns}
+use Rattle.bi_report.specs.CleanFiles.{AreZeros, CleanImageTree, CleanLegacyImage, EmptyIsClean, HasZerosAfter, IsClean, IsCleanTree}
+use Rattle.bi_report.specs.CleanFiles.{NamesConfiguration}
+use Rattle.bi_report.proofs.CleanLaws.CleanConfigurations.{clean_configurations_have_none, configurations_are_clean, default_has_none}
+use Rattle.bi_report.proofs.CleanLaws.CleanConfigurations.{default_is_there}
+use Rattle.bi_report.proofs.CleanLaws.CleanImages.{clean_images_have_none, images_are_clean}
+use Rattle.bi_report.proofs.CleanLaws.ContentEnds.{zeros_after, zeros_from_end}
+use Rattle.bi_report.proofs.CleanLaws.NoLines.{HaveNoLine, all_have_none, both_have_none, each_has_none, parts_have_none, passed_has_none}
+use Rattle.bi_report.proofs.CleanLaws.NoLines.{test_is_passed}
+
+-- Checking a file writes nothing if and only if the file is clean.
+
+-- The test that a byte is zero.
+zero_of_test : (byte : ℕ) → (byte == 0) ≡ true → byte ≡ 0
+zero_of_test byte is = eqb-true byte 0 is
+
+-- Bytes that are all zero, and the test for them.
+zeros_of_test : (bytes : List ℕ) → list_all (λ byte. byte == 0) bytes ≡ true → AreZeros bytes
+zeros_of_test [] is = tt
+zeros_of_test (byte ∷ later) is =
+    let both = and_parts (byte == 0) (list_all (λ byte. byte == 0) later) is in
+    (zero_of_test byte both.0, zeros_of_test later both.1)
+
+test_of_zeros : (bytes : List ℕ) → AreZeros bytes → list_all (λ byte. byte == 0) bytes ≡ true
+test_of_zeros [] are = refl
+test_of_zeros (byte ∷ later) are = ap₂ (λ a b. a && b) (ap (λ n. n == 0) are.0) (test_of_zeros later are.1)
+
+-- Bytes after an image without a line.
+end_is_clean : (allowed : Allowed) (bytes : List ℕ) → HaveNoLine allowed (trailing_concerns bytes) → IsFalse allowed.trailing →
+    AreZeros bytes
+end_is_clean allowed bytes none refused = zeros_of_test bytes
+    (test_is_passed allowed (list_all (λ byte. byte == 0) bytes) (TrailingBytes (length bytes)) none refused)
+
+clean_end_has_none : (allowed : Allowed) (bytes : List ℕ) → (IsFalse allowed.trailing → AreZeros bytes) →
+    HaveNoLine allowed (trailing_concerns bytes)
+clean_end_has_none allowed bytes are = passed_has_none allowed (list_all (λ byte. byte == 0) bytes) (TrailingBytes (length bytes))
+    (λ refused. test_of_zeros bytes (are refused))
+
+module _ (allowed : Allowed) (tree : ImageTree) where
+  abbrev configurations : List (List ℕ)
+  configurations = names (configuration_nodes tree)
+
+  -- A tree without a line.
+  tree_is_clean : HaveNoLine allowed (tree_concerns tree) → IsCleanTree allowed tree
+  tree_is_clean none =
+      let both = parts_have_none allowed (flat_map image_concerns (images_of tree))
+      (flat_map (configuration_concerns tree) configurations ++ default_concerns (default_of tree) configurations) none in
+      let rest = parts_have_none allowed (flat_map (configuration_concerns tree) configurations)
+      (default_concerns (default_of tree) configurations) both.1 in
+      let images = images_are_clean allowed (images_of tree) both.0 in
+      let lists = configurations_are_clean allowed tree configurations
+      (each_has_none allowed (configuration_concerns tree) configurations rest.0) in
+      record {
+        bad_hash = images.good;
+        unhashed = images.hashed;
+        weak_hash = images.not_weak;
+        bad_list = lists.bad_list;
+        missing = lists.missing;
+        bad_default = λ refused some.
+            let one = default_is_there allowed (default_of tree) configurations rest.1 refused some in
+            record { name = one.name; is_default = one.is_default; is_there = one.is_there };
+      }
+
+  clean_tree_has_none : IsCleanTree allowed tree → HaveNoLine allowed (tree_concerns tree)
+  clean_tree_has_none is =
+      both_have_none allowed (flat_map image_concerns (images_of tree))
+      (flat_map (configuration_concerns tree) configurations ++ default_concerns (default_of tree) configurations)
+      (clean_images_have_none allowed (images_of tree) (record { good = is.bad_hash; hashed = is.unhashed; not_weak = is.weak_hash }))
+      (both_have_none allowed (flat_map (configuration_concerns tree) configurations) (default_concerns (default_of tree) configurations)
+      (all_have_none allowed (configuration_concerns tree) configurations
+      (clean_configurations_have_none allowed tree configurations (record { bad_list = is.bad_list; missing = is.missing })))
+      (default_has_none allowed (default_of tree) configurations (λ refused some.
+      let one : NamesConfiguration tree = is.bad_default refused some in
+      record { name = one.name; is_default = one.is_default; is_there = one.is_there })))
+
+-- A file has one list of image nodes.
+one_list_of_nodes : (limits : Limits) (file : List ℕ) (one other : ImageTree) (means : FitMeans limits file one)
+    (also : FitMeans limits file other) → means.is_file.images ≡ also.is_file.images
+one_list_of_nodes limits file one other means also =
+    let same = one_blob file one.cpu other.cpu one.reservations other.reservations means.is_file.root also.is_file.root
+    means.is_file.blob also.is_file.blob in
+    same_in_some means.is_file.images also.is_file.images
+    (sym means.is_file.has_images ∙ ap image_nodes same.same_root ∙ also.is_file.has_images)
+
+-- A legacy image has one number of bytes after it.
+one_unused : (limits : Limits) (file : List ℕ) (one other : LegacyModel) → IsReadLegacy limits file one → IsReadLegacy limits file other →
+    one.unused ≡ other.unused
+one_unused limits file one other means also =
+    let same : other.image ≡ one.image = means.only other.image also.means in
+    let ends : parts_end other.image.image_type other.image.parts
+    ≡ parts_end one.image.image_type one.image.parts = ap (λ (image : LegacyImage). parts_end image.image_type image.parts) same in
+    omega (arith, means.unused, also.unused, ends)
+
+-- A file without a line is clean.
+file_is_clean : (allowed : Allowed) (limits : Limits) (file : List ℕ) (concerns : List Concern) → AreConcerns limits file concerns →
+    HaveNoLine allowed concerns → IsClean allowed limits file
+file_is_clean allowed limits file concerns (OfLegacyImage parsed opened is) none =
+    CleanLegacyImage parsed opened (end_is_clean allowed (drop (length file - parsed.unused) file)
+    (sym (ap (concern_lines allowed) is) ∙ none))
+file_is_clean allowed limits file concerns (OfImageTree tree means is) none =
+    let rest = drop (content_end file means.is_file.images tree.payloads) file in
+    let both = parts_have_none allowed (tree_concerns tree) (trailing_concerns rest) (sym (ap (concern_lines allowed) is) ∙ none) in
+    CleanImageTree tree means (tree_is_clean allowed tree both.0)
+    (λ refused. zeros_after file means.is_file.images tree.payloads (end_is_clean allowed rest both.1 refused))
+
+-- A clean file has no line.
+clean_file_has_none : (allowed : Allowed) (limits : Limits) (file : List ℕ) (concerns : List Concern) → AreConcerns limits file concerns →
+    IsClean allowed limits file → HaveNoLine allowed concerns
+clean_file_has_none allowed limits file concerns (OfLegacyImage parsed opened is) (CleanLegacyImage other also zeros) =
+    ap (concern_lines allowed) is
+    ∙ clean_end_has_none allowed (drop (length file - parsed.unused) file)
+    (subst (λ unused. IsFalse allowed.trailing → AreZeros (drop (length file - unused) file))
+    (one_unused limits file other parsed also opened) zeros)
+clean_file_has_none allowed limits file concerns (OfLegacyImage parsed opened is) (CleanImageTree tree means clean zeros) =
+    absurd (means_tree limits file tree means (means_legacy limits file parsed.image opened.means))
+clean_file_has_none allowed limits file concerns (OfImageTree tree means is) (CleanLegacyImage other also zeros) =
+    absurd (means_tree limits file tree means (means_legacy limits file other.image also.means))
+clean_file_has_none allowed limits file concerns (OfImageTree tree means is) (CleanImageTree other also clean zeros) =
+    let same : other ≡ tree = one_fit_meaning file other tree also.is_file means.is_file in
+    let nodes : also.is_file.images ≡ means.is_file.images = one_list_of_nodes limits file other tree also means in
+    ap (concern_lines allowed) is
+    ∙ both_have_none allowed (tree_concerns tree) (trailing_concerns (drop (content_end file means.is_file.images tree.payloads) file))
+    (clean_tree_has_none allowed tree (subst (IsCleanTree allowed) same clean))
+    (clean_end_has_none allowed (drop (content_end file means.is_file.images tree.payloads) file) (λ refused.
+    zeros_from_end file means.is_file.images tree.payloads (payloads_are_at_places file tree means.is_file)
+    (subst (λ found. HasZerosAfter file found tree.payloads) nodes
+    (subst (λ (t : ImageTree). HasZerosAfter file also.is_file.images t.payloads) same (zeros refused)))))
+
+pub empty_is_clean : EmptyIsClean
+empty_is_clean allowed limits file text checked = (
+  λ empty. file_is_clean allowed limits file checked.concerns checked.are_concerns (sym checked.is_text ∙ empty),
+  λ clean. checked.is_text ∙ clean_file_has_none allowed limits file checked.concerns checked.are_concerns clean,
+)

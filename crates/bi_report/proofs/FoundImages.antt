@@ -1,0 +1,72 @@
+use Rattle.std.proofs.Common.{◌≡◌, ℕ, List, [], ◌∷◌, ◌++◌, map, filter, refl, sym, ap, ap₂, ◌∙◌}
+use Rattle.std.specs.List.{flat_map}
+use Rattle.std.proofs.lemmas.List.Folds.{flat_map-map}
+use Rattle.bi_blob.specs.Lookups.{Sibling, siblings}
+use Rattle.bi_blob.specs.Tree.{FileNode}
+use Rattle.bi_fit.specs.Content.{FitModel, ImageModel, tree_of}
+use Rattle.bi_fit.specs.HashNodes.{file_hashes, file_images, file_verdicts}
+use Rattle.bi_fit.specs.Judgement.{Image, CheckedHash, checked_hash, images_of, images_with, verdicts_of}
+use Rattle.bi_fit.specs.Names.{is_hash_name}
+use Rattle.bi_fit.proofs.FileNodes.{bare_image, image_siblings, siblings-by_name}
+use Rattle.bi_fit.proofs.FileVerdicts.{hashes_are, verdicts_are}
+use Rattle.bi_common.specs.declared.format.Format.{Format}
+use Rattle.bi_common.specs.HashedImages.{FoundHash, found_hashes, hashed_image, hashed_images, images_of_blob}
+use Rattle.bi_common.proofs.TextsInTurn.{map_append}
+use Rattle.bi_common.proofs.HashedImages.{verdicts_of_found}
+use Rattle.bi_report.specs.Checking.{Concern, hash_concerns, hashed_concerns, hashes_of_image, image_concerns}
+use Rattle.bi_report.specs.FoundConcerns.{HashOf, NodeItself, concerns_in, found_in_hash, found_in_image}
+use Rattle.bi_report.specs.ReadReports.{hash_text, hash_texts}
+use Rattle.bi_report.proofs.FoundConcerns.{concerns_in_both, concerns_in_each, only_concerns}
+
+-- The hash nodes of the images that were read of a file, and the concerns about them, are those of its tree.
+
+-- The hash nodes image by image.
+texts_by_image : (format : Format) (entries : List (Sibling FileNode)) (images : List ImageModel) →
+    hash_texts format (hashed_images entries images) ≡ map (hash_text format) (file_verdicts entries images)
+texts_by_image format [] images = refl
+texts_by_image format (entry ∷ entries) [] = refl
+texts_by_image format (entry ∷ entries) (image ∷ images) =
+    let first : List CheckedHash = file_hashes entry.name image.payload (siblings entry.children) in
+    ap (λ (texts : List (List ℕ)). map (hash_text format) first ++ texts) (texts_by_image format entries images)
+    ∙ sym (map_append (hash_text format) first (file_verdicts entries images))
+
+pub texts_of_images : (format : Format) (content : FitModel) →
+    hash_texts format (images_of_blob content) ≡ map (hash_text format) (verdicts_of (tree_of content))
+texts_of_images format content =
+    texts_by_image format (siblings (file_images content.blob)) content.images ∙ ap (map (hash_text format)) (sym (verdicts_are content))
+
+-- The concerns about an image that was read.
+in_image : (entry : Sibling FileNode) (image : ImageModel) →
+    concerns_in (found_in_image (hashed_image entry image))
+    ≡ hashed_concerns entry.name image.payload (file_hashes entry.name image.payload (siblings entry.children))
+in_image entry image =
+    let found = found_hashes entry.name image.payload (siblings entry.children) in
+    let about_hash : (hash : FoundHash) → concerns_in (found_in_hash entry hash) ≡ hash_concerns hash.checked =
+    λ hash. only_concerns (HashOf entry hash.node) (hash_concerns hash.checked) in
+    concerns_in_both (flat_map (found_in_hash entry) found) _
+    ∙ ap₂ (λ (a b : List Concern). a ++ b)
+    (concerns_in_each (found_in_hash entry) (λ hash. hash_concerns hash.checked) about_hash found
+    ∙ sym (flat_map-map hash_concerns (λ (hash : FoundHash). hash.checked) found)
+    ∙ ap (flat_map hash_concerns) (verdicts_of_found entry.name image.payload (siblings entry.children)))
+    (only_concerns (NodeItself entry) _)
+
+-- The concerns about images.
+concerns_by_image : (entries : List (Sibling FileNode)) (images : List ImageModel) →
+    concerns_in (flat_map found_in_image (hashed_images entries images))
+    ≡ flat_map image_concerns (images_with (map bare_image entries) (map (λ (image : ImageModel). image.payload) images))
+concerns_by_image [] images = refl
+concerns_by_image (entry ∷ entries) [] = refl
+concerns_by_image (entry ∷ entries) (image ∷ images) =
+    let first : Image = record { entry = bare_image entry; payload = image.payload } in
+    let same : hashes_of_image first ≡ file_hashes entry.name image.payload (siblings entry.children) =
+    ap (λ children. map (checked_hash first) (filter (λ child. is_hash_name child.name) children)) (siblings-by_name entry.children)
+    ∙ hashes_are first (siblings entry.children) in
+    concerns_in_both (found_in_image (hashed_image entry image)) (flat_map found_in_image (hashed_images entries images))
+    ∙ ap₂ (λ (a b : List Concern). a ++ b) (in_image entry image ∙ ap (hashed_concerns entry.name image.payload) (sym same))
+    (concerns_by_image entries images)
+
+pub concerns_of_images : (content : FitModel) →
+    concerns_in (flat_map found_in_image (images_of_blob content)) ≡ flat_map image_concerns (images_of (tree_of content))
+concerns_of_images content =
+    concerns_by_image (siblings (file_images content.blob)) content.images
+    ∙ ap (λ entries. flat_map image_concerns (images_with entries (tree_of content).payloads)) (sym (image_siblings content))

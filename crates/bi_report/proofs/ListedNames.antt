@@ -1,0 +1,134 @@
+use Rattle.std.proofs.Common.{◌≡◌, true, ℕ, ◌+◌, List, [], ◌∷◌, ◌++◌, Option, Some, None, option_and_then, slice_get, map, codes, refl, sym}
+use Rattle.std.proofs.Common.{ap}
+use Rattle.std.proofs.Common.{◌∙◌, append_assoc, append-nil, Bool, subst}
+use Rattle.std.specs.List.{ends_with, join_with_byte, flat_map}
+use Rattle.std.specs.Prelude.{nat_eq}
+use Rattle.std.proofs.lemmas.List.Folds.{flat_map-map}
+use Rattle.std.proofs.lemmas.Option.{same_Some}
+use Rattle.bi_fit.specs.declared.key.Key.{Key}
+use Rattle.bi_fit.specs.Content.{ImageModel, index_of}
+use Rattle.bi_fit.specs.Judgement.{ListedImage, ListResult, Missing, ListedImages, listed_names, with_image}
+use Rattle.bi_fit.specs.Names.{key_name}
+use Rattle.bi_fit.specs.HashNodes.{file_list, file_listed_in, listed_payload}
+use Rattle.bi_fit.proofs.FileLists.{payload_found, payload_named-missing}
+use Rattle.bi_common.specs.declared.format.Format.{Format}
+use Rattle.bi_common.specs.declared.format.Format.TheVariants.{Lines}
+use Rattle.bi_common.specs.Formats.{in_turn, is_later_after}
+use Rattle.bi_common.specs.Shown.{line, shown_text}
+use Rattle.bi_common.proofs.FitLines.{joined_more}
+use Rattle.bi_report.specs.FitListing.{key_line}
+use Rattle.bi_report.specs.declared.listed.KeyList.{KeyList}
+use Rattle.bi_report.specs.declared.listed.KeyList.TheVariants as listed
+use Rattle.bi_report.specs.Listed.{AreListedImages, IsListed}
+use Rattle.bi_report.specs.ListingJson.{key_objects, listed_object}
+use Rattle.bi_report.specs.ReadListing.{key_texts, missing_from, first_missing}
+
+-- The first name of a list that no image has is the one that is missing, and the line of a list without such a name has all its names.
+
+-- The first name that no image has is the one that is missing.
+pub missing_is : (images : List ImageModel) (index missing : ℕ) (names : List (List ℕ)) → first_missing images index names ≡ Some missing →
+    file_list images index names ≡ Missing missing
+missing_is images index missing [] is = absurd cc
+missing_is images index missing (name ∷ later) is = by_image (index_of name images) refl is
+    (λ is. missing_is images (index + 1) missing later is)
+  where
+    by_image : (found : Option ℕ) → index_of name images ≡ found →
+        missing_from index found (first_missing images (index + 1) later) ≡ Some missing →
+        (first_missing images (index + 1) later ≡ Some missing → file_list images (index + 1) later ≡ Missing missing) →
+        file_list images index (name ∷ later) ≡ Missing missing
+    by_image None none is rest =
+        ap (λ found. listed_payload index name found (file_list images (index + 1) later)) (payload_named-missing name images none)
+        ∙ ap Missing (same_Some index missing is)
+    by_image (Some image) some is rest =
+        ap (λ found. listed_payload index name found (file_list images (index + 1) later)) (payload_found name images image some)
+        ∙ ap (with_image (record { name = name; payload = option_and_then (λ other. other.payload) (slice_get images image) }))
+        (rest is)
+
+-- Images of these names are listed.
+abbrev AreListed : List ImageModel → ℕ → List (List ℕ) → Type 0
+AreListed images index names =
+    (listed : List ListedImage) × (file_list images index names ≡ ListedImages listed)
+    × (map (λ (image : ListedImage). image.name) listed ≡ names)
+
+-- They are, if no name is missing.
+names_found : (images : List ImageModel) (index : ℕ) (names : List (List ℕ)) → first_missing images index names ≡ None →
+    AreListed images index names
+names_found images index [] is = ([], refl, refl)
+names_found images index (name ∷ later) is = by_image (index_of name images) refl is (λ is. names_found images (index + 1) later is)
+  where
+    by_image : (found : Option ℕ) → index_of name images ≡ found →
+        missing_from index found (first_missing images (index + 1) later) ≡ None →
+        (first_missing images (index + 1) later ≡ None → AreListed images (index + 1) later) → AreListed images index (name ∷ later)
+    by_image None none is rest = absurd cc
+    by_image (Some image) some is rest =
+        let first : ListedImage = record { name = name; payload = option_and_then (λ other. other.payload) (slice_get images image) } in
+        let (listed, found, named) = rest is in (
+          first ∷ listed,
+          ap (λ payload. listed_payload index name payload (file_list images (index + 1) later)) (payload_found name images image some)
+              ∙ ap (with_image first) found,
+          ap (λ names. name ∷ names) named,
+        )
+
+-- The shown names of images.
+shown_names : (listed : List ListedImage) →
+    map (λ (image : ListedImage). shown_text image.name) listed ≡ map shown_text (map (λ (image : ListedImage). image.name) listed)
+shown_names [] = refl
+shown_names (image ∷ later) = ap (λ names. shown_text image.name ∷ names) (shown_names later)
+
+-- The line of a key that lists these names.
+pub images_line : (configuration : List ℕ) (key : Key) (result : ListResult) (names : List (List ℕ)) → AreListedImages result names →
+    key_line configuration key result ≡ line (codes "key" ∷ shown_text configuration ∷ key_name key ∷ codes "ok" ∷ map shown_text names)
+images_line configuration key result names are =
+    ap (key_line configuration key) are.is_listed
+    ∙ ap (λ words. line (codes "key" ∷ shown_text configuration ∷ key_name key ∷ codes "ok" ∷ words))
+    (shown_names are.images ∙ ap (map shown_text) are.are_names)
+
+-- The object of a key that lists these names.
+pub images_object : (key : Key) (result : ListResult) (names : List (List ℕ)) → AreListedImages result names →
+    key_objects key result ≡ listed_object key names ∷ []
+images_object key result names are =
+    ap (key_objects key) are.is_listed ∙ ap (λ (names : List (List ℕ)). listed_object key names ∷ []) are.are_names
+
+-- What is listed under a key that is there: one line,
+pub key_as_line : (format : Format) (is_later : Bool) (configuration : List ℕ) (key : Key) (result : ListResult) (found : KeyList) →
+    format ≡ Lines → IsListed result found → ¬ (found ≡ listed.NoKey) →
+    (in_turn format is_later (key_texts format configuration key result) ≡ key_line configuration key result)
+    × (true ≡ is_later_after is_later (key_texts format configuration key result))
+key_as_line format is_later configuration key result found lines is some =
+    subst (λ (form : Format). (in_turn form is_later (key_texts form configuration key result) ≡ key_line configuration key result)
+    × (true ≡ is_later_after is_later (key_texts form configuration key result))) (sym lines) (
+      ap (in_turn Lines is_later) (by found is some) ∙ append-nil (key_line configuration key result),
+      ap (is_later_after is_later) (sym (by found is some)),
+    )
+  where
+    by : (other : KeyList) → IsListed result other → ¬ (other ≡ listed.NoKey) →
+        key_texts Lines configuration key result ≡ key_line configuration key result ∷ []
+    by listed.NoKey is some = absurd (some refl)
+    by listed.BadList is some = rw is refl
+    by (listed.Missing index) is some = rw is refl
+    by (listed.Images value) is some = rw is.is_listed refl
+
+-- The line of a key that lists names: its first words, where the name of the key is given as a word, the names, and a newline.
+pub line_of_names : (configuration : List ℕ) (key : Key) (word : List ℕ) (names : List (List ℕ)) → word ≡ key_name key →
+    line (codes "key" ∷ shown_text configuration ∷ key_name key ∷ codes "ok" ∷ map shown_text names)
+    ≡ join_with_byte 32 (codes "key" ∷ shown_text configuration ∷ word ∷ codes "ok" ∷ [])
+    ++ (flat_map (λ name. 32 ∷ shown_text name) names ++ 10 ∷ [])
+line_of_names configuration key word names is =
+    let later : List (List ℕ) = shown_text configuration ∷ word ∷ codes "ok" ∷ [] in
+    ap (λ other. line (codes "key" ∷ shown_text configuration ∷ other ∷ codes "ok" ∷ map shown_text names)) (sym is)
+    ∙ ap (λ text. text ++ 10 ∷ [])
+    (joined_more 32 (codes "key") later (map shown_text names)
+    ∙ ap (λ more. join_with_byte 32 (codes "key" ∷ later) ++ more) (flat_map-map (λ word. 32 ∷ word) shown_text names))
+    ∙ append_assoc (join_with_byte 32 (codes "key" ∷ later)) (flat_map (λ name. 32 ∷ shown_text name) names) (10 ∷ [])
+
+-- What the value of a key lists, if its last byte is zero: a name is missing,
+pub listed_missing : (images : List ImageModel) (value : List ℕ) (index : ℕ) → ends_with nat_eq value (0 ∷ []) ≡ true →
+    first_missing images 0 (listed_names value) ≡ Some index → file_listed_in images value ≡ Missing index
+listed_missing images value index ends is = rw ends (missing_is images 0 index (listed_names value) is)
+
+-- or images are listed.
+pub listed_images : (images : List ImageModel) (value : List ℕ) → ends_with nat_eq value (0 ∷ []) ≡ true →
+    first_missing images 0 (listed_names value) ≡ None → AreListedImages (file_listed_in images value) (listed_names value)
+listed_images images value ends is =
+    let (listed, found, named) = names_found images 0 (listed_names value) is in
+    record { images = listed; is_listed = rw ends found; are_names = named }

@@ -1,0 +1,11 @@
+use Rattle.std.proofs.Common.{◌≡◌, length}
+use Rattle.bi_common.specs.HashedImages.{found_left}
+use Rattle.bi_report.specs.ConcernsLeft.{image_left}
+use Rattle.bi_report.proofs.check.images.ImageConcernsIterator.next.Given as goal
+
+-- The concerns that are left are all.
+abbrev pub invariant-loop-node : goal.invariant-loop-node
+invariant-loop-node l = image_left l.self ≡ image_left l.initial.self
+
+abbrev pub decreases-loop-node : goal.decreases-loop-node
+decreases-loop-node l = length (found_left l.self.hashes)

@@ -1,0 +1,24 @@
+use Rattle.std.specs.Prelude.{List, ◌++◌}
+use Rattle.bi_report.specs.declared.check.checked_image.CheckedImage.{CheckedImage}
+use Rattle.bi_report.specs.declared.check.concerns.Concerns.{Concerns}
+use Rattle.bi_report.specs.declared.check.concerns.KeptConcerns.{KeptConcerns}
+use Rattle.bi_report.specs.ConcernsLeft.{configurations_left, found_in_content, images_left}
+use Rattle.bi_report.specs.ConcernValues.{found_or_none, left_or_none}
+use Rattle.bi_report.specs.FoundConcerns.{FoundConcern, kept_found}
+
+-- A boot image whose concerns are known.
+
+-- The concerns about an image, each with what it is about.
+abbrev pub found_of : CheckedImage → List FoundConcern
+found_of image = found_in_content image.file.now image.content
+
+-- The concerns that are left about an image.
+abbrev pub concerns_left : Concerns → List FoundConcern
+concerns_left left =
+    left_or_none images_left left.of_images
+    ++ (left_or_none configurations_left left.of_configurations
+    ++ (found_or_none left.of_default ++ found_or_none left.of_rest))
+
+-- Those of them that are not allowed.
+abbrev pub kept_left : KeptConcerns → List FoundConcern
+kept_left left = kept_found left.allowed (concerns_left left.concerns)

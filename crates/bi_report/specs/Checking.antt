@@ -1,0 +1,229 @@
+use Rattle.std.specs.Prelude.{ℕ, ◌+◌, ◌-◌, ◌≡◌, ◌&&◌, ◌==◌, max, Bool, false, not, List, [], ◌∷◌}
+use Rattle.std.specs.Prelude.{◌++◌, Option, Some, None, length, map, filter, flat_map, drop, codes}
+use Rattle.std.specs.Prelude.{bytes_eq, unwrap_or, if◌then◌else◌}
+use Rattle.std.specs.Fmt.{decimal}
+use Rattle.std.specs.List.{list_all, list_any}
+use Rattle.bi_base.specs.Limits.{Limits}
+use Rattle.bi_blob.specs.Blob.{totalsize}
+use Rattle.bi_blob.specs.Tree.{Nodes, node, FileNode, names}
+use Rattle.bi_fit.specs.declared.key.Key.{Key}
+use Rattle.bi_fit.specs.File.{FitMeans}
+use Rattle.bi_fit.specs.ImageTree.{ImageTree}
+use Rattle.bi_fit.specs.Judgement.{Image, images_of, CheckedHash, checked_hash, hash_nodes}
+use Rattle.bi_fit.specs.Judgement.{ListResult, NoConfig, NoKey, BadList, Missing, ListedImages}
+use Rattle.bi_fit.specs.Judgement.{configuration_nodes, listed_of, default_of}
+use Rattle.bi_fit.specs.Names.{key_name, all_keys}
+use Rattle.bi_fit.specs.Payloads.{PayloadSource, source_of, payload_place}
+use Rattle.bi_hash.specs.declared.verdicts.Verdict.TheVariants.{Good}
+use Rattle.bi_legacy.specs.Reading.{LegacyModel, IsReadLegacy}
+use Rattle.bi_common.specs.Shown.{Words, shown_or_none, line, shown_text}
+use Rattle.bi_common.specs.VerdictCounts.{is_verdict}
+use Rattle.bi_report.specs.declared.check.Allowed.{Allowed}
+use Rattle.bi_report.specs.declared.check.ConcernKind.{ConcernKind}
+use Rattle.bi_report.specs.declared.check.ConcernKind.TheVariants as kind
+use Rattle.bi_report.specs.Reports.{verdict_word}
+
+-- The concerns about a boot image: what in it is not protected (profile of this project).
+
+-- A concern.
+pub data Concern : Type 0 where
+  -- A hash node whose verdict is not Good.
+  BadHash : (hash : CheckedHash) → Concern
+  -- An image with a payload and without a Good verdict.
+  UnhashedImage : (image : List ℕ) → Concern
+  -- An image with a payload, and with Good verdicts on these hash nodes alone, none of which names
+  -- a strong algorithm.
+  WeakHash : (image : List ℕ) → (good : List CheckedHash) → Concern
+  -- A key of a configuration whose value is not a list of names.
+  BadKey : (configuration : List ℕ) → Key → Concern
+  -- A key of a configuration that lists at this index, counted from 0, a name that no image has.
+  -- It is the first such name.
+  MissingImage : (configuration : List ℕ) → Key → (index : ℕ) → Concern
+  -- A default that names no configuration, or is not there.
+  BadDefault : (default : Option (List ℕ)) → Concern
+  -- This many bytes follow an image, and one of them is not zero.
+  TrailingBytes : (count : ℕ) → Concern
+
+-- The kind of a concern.
+abbrev pub kind_of : Concern → ConcernKind
+kind_of (BadHash hash) = kind.BadHash
+kind_of (UnhashedImage image) = kind.Unhashed
+kind_of (WeakHash image good) = kind.WeakHash
+kind_of (BadKey configuration key) = kind.BadList
+kind_of (MissingImage configuration key index) = kind.Missing
+kind_of (BadDefault default) = kind.BadDefault
+kind_of (TrailingBytes count) = kind.Trailing
+
+-- The word for a kind: the first word of the line of a concern.
+abbrev pub kind_word : ConcernKind → List ℕ
+kind_word kind.BadHash = codes "bad-hash"
+kind_word kind.Unhashed = codes "unhashed"
+kind_word kind.WeakHash = codes "weak-hash"
+kind_word kind.BadList = codes "bad-list"
+kind_word kind.Missing = codes "missing"
+kind_word kind.BadDefault = codes "bad-default"
+kind_word kind.Trailing = codes "trailing"
+
+-- The words after it.
+abbrev pub concern_words : Concern → Words
+concern_words (BadHash hash) =
+    shown_text hash.image ∷ shown_text hash.node_name ∷ shown_or_none hash.algo
+    ∷ verdict_word hash.verdict ∷ []
+concern_words (UnhashedImage image) = shown_text image ∷ []
+concern_words (WeakHash image good) =
+    shown_text image ∷ map (λ hash. shown_or_none hash.algo) good
+concern_words (BadKey configuration key) = shown_text configuration ∷ key_name key ∷ []
+concern_words (MissingImage configuration key index) =
+    shown_text configuration ∷ key_name key ∷ decimal index ∷ []
+concern_words (BadDefault default) = shown_or_none default ∷ []
+concern_words (TrailingBytes count) = decimal count ∷ []
+
+-- The line of a concern.
+abbrev pub concern_line : Concern → List ℕ
+concern_line concern = line (kind_word (kind_of concern) ∷ concern_words concern)
+
+-- ---- the hash nodes of an image
+
+-- Whether the verdict on a hash node is Good.
+abbrev pub is_good : CheckedHash → Bool
+is_good hash = is_verdict Good hash.verdict
+
+-- The names of the strong algorithms.
+abbrev pub strong_algorithms : List (List ℕ)
+strong_algorithms = codes "sha256" ∷ codes "sha384" ∷ codes "sha512" ∷ []
+
+-- Whether this is the name of a strong algorithm.
+abbrev pub is_strong_algorithm : Option (List ℕ) → Bool
+is_strong_algorithm None = false
+is_strong_algorithm (Some name) = list_any (bytes_eq name) strong_algorithms
+
+-- Whether the verdict on a hash node is Good and its algorithm is strong.
+abbrev pub is_strong : CheckedHash → Bool
+is_strong hash = is_good hash && is_strong_algorithm hash.algo
+
+-- The concern about a hash node, if its verdict is not Good.
+abbrev pub hash_concerns : CheckedHash → List Concern
+hash_concerns hash = if is_good hash then [] else BadHash hash ∷ []
+
+-- The concern about an image with a payload and these hash nodes: that no verdict is Good, or else
+-- that no Good one is of a strong algorithm.
+abbrev pub protection_concerns : (image : List ℕ) → List CheckedHash → List Concern
+protection_concerns image hashes =
+    if not (list_any is_good hashes) then UnhashedImage image ∷ [] else
+    if not (list_any is_strong hashes) then WeakHash image (filter is_good hashes) ∷ [] else []
+
+-- The concern about an image, which may have no payload, and these hash nodes: there is none
+-- without a payload.
+abbrev pub payload_concerns : (image : List ℕ) → Option (List ℕ) → List CheckedHash → List Concern
+payload_concerns image None hashes = []
+payload_concerns image (Some payload) hashes = protection_concerns image hashes
+
+-- The concerns about an image with these hash nodes: about each of them, and then about the
+-- payload.
+abbrev pub hashed_concerns : (image : List ℕ) → Option (List ℕ) → List CheckedHash → List Concern
+hashed_concerns image payload hashes =
+    flat_map hash_concerns hashes ++ payload_concerns image payload hashes
+
+-- The hash nodes of an image, with their verdicts.
+abbrev pub hashes_of_image : Image → List CheckedHash
+hashes_of_image image = map (checked_hash image) (hash_nodes image)
+
+-- The concerns about an image.
+abbrev pub image_concerns : Image → List Concern
+image_concerns image = hashed_concerns image.entry.name image.payload (hashes_of_image image)
+
+-- ---- configurations
+
+-- The concern about what a configuration lists under a key, if that is not images.
+abbrev pub list_concerns : (configuration : List ℕ) → Key → ListResult → List Concern
+list_concerns configuration key NoConfig = []
+list_concerns configuration key NoKey = []
+list_concerns configuration key BadList = BadKey configuration key ∷ []
+list_concerns configuration key (Missing index) = MissingImage configuration key index ∷ []
+list_concerns configuration key (ListedImages images) = []
+
+-- The concerns about a configuration, key by key.
+abbrev pub configuration_concerns : ImageTree → (configuration : List ℕ) → List Concern
+configuration_concerns tree configuration =
+    flat_map (λ key. list_concerns configuration key (listed_of tree configuration key)) all_keys
+
+-- Whether the default is the name of one of these configurations.
+abbrev pub names_one_of : Option (List ℕ) → (configurations : List (List ℕ)) → Bool
+names_one_of None configurations = false
+names_one_of (Some name) configurations = list_any (bytes_eq name) configurations
+
+-- The concern about the default, if there are configurations and it names none of them.
+abbrev pub default_concerns : Option (List ℕ) → (configurations : List (List ℕ)) → List Concern
+default_concerns default [] = []
+default_concerns default (first ∷ later) =
+    if names_one_of default (first ∷ later) then [] else BadDefault default ∷ []
+
+-- The concerns about what a flattened image tree means.
+abbrev pub tree_concerns : ImageTree → List Concern
+tree_concerns tree =
+    flat_map image_concerns (images_of tree)
+    ++ (flat_map (configuration_concerns tree) (names (configuration_nodes tree))
+    ++ default_concerns (default_of tree) (names (configuration_nodes tree)))
+
+-- ---- bytes after an image
+
+-- The concern about the bytes of a file after its image, if one of them is not zero.
+abbrev pub trailing_concerns : List ℕ → List Concern
+trailing_concerns bytes =
+    if list_all (λ byte. byte == 0) bytes then [] else TrailingBytes (length bytes) ∷ []
+
+-- Where a payload ends in its file, by its source. One of no bytes ends where it begins.
+abbrev pub payload_end : List ℕ → PayloadSource → Option (List ℕ) → ℕ
+payload_end file from None = 0
+payload_end file from (Some payload) =
+    unwrap_or (payload_place file from) 0 + length payload
+
+-- Where the content of a flattened image tree ends: the end of the blob, or of the payload of one
+-- of these image nodes that ends after it and after all others.
+abbrev pub content_end : List ℕ → Nodes FileNode → List (Option (List ℕ)) → ℕ
+content_end file (node name own children later) (payload ∷ payloads) =
+    max (payload_end file (source_of own) payload) (content_end file later payloads)
+content_end file nodes payloads = totalsize file
+
+-- These are the concerns about a file, in their order.
+pub data AreConcerns (limits : Limits) (file : List ℕ) (concerns : List Concern) : Type 0 where
+  OfLegacyImage : (parsed : LegacyModel) → IsReadLegacy limits file parsed
+      → concerns ≡ trailing_concerns (drop (length file - parsed.unused) file)
+      → AreConcerns limits file concerns
+  OfImageTree : (tree : ImageTree) → (means : FitMeans limits file tree)
+      → concerns ≡ tree_concerns tree
+      ++ trailing_concerns (drop (content_end file means.is_file.images tree.payloads) file)
+      → AreConcerns limits file concerns
+
+-- ---- what is allowed
+
+-- No kind is allowed.
+abbrev pub nothing_allowed : Allowed
+nothing_allowed = record {
+  bad_hash = false;
+  unhashed = false;
+  weak_hash = false;
+  bad_list = false;
+  missing = false;
+  bad_default = false;
+  trailing = false;
+}
+
+-- Whether the lines of this kind are left out.
+abbrev pub allows : Allowed → ConcernKind → Bool
+allows allowed kind.BadHash = allowed.bad_hash
+allows allowed kind.Unhashed = allowed.unhashed
+allows allowed kind.WeakHash = allowed.weak_hash
+allows allowed kind.BadList = allowed.bad_list
+allows allowed kind.Missing = allowed.missing
+allows allowed kind.BadDefault = allowed.bad_default
+allows allowed kind.Trailing = allowed.trailing
+
+-- The concerns that are not allowed.
+abbrev pub kept_concerns : Allowed → List Concern → List Concern
+kept_concerns allowed concerns =
+    filter (λ concern. not (allows allowed (kind_of concern))) concerns
+
+-- The lines of the concerns that are not allowed.
+abbrev pub concern_lines : Allowed → List Concern → List ℕ
+concern_lines allowed concerns = flat_map concern_line (kept_concerns allowed concerns)

@@ -1,0 +1,85 @@
+//! Small boot images with what is listed, reported, checked and found of them. Each function does
+//! nothing: what it ensures is a fact about the definitions. One of them calls the function of a
+//! law, from which its facts follow.
+
+ghost use Rattle.bi_report.specs.KnownConcerns.{ConcernsAreKnown, StrongAlgorithmsAreKnown};
+ghost use Rattle.bi_report.specs.KnownConcerns.{TrailingBytesAreKnown, LegacyConcernsAreKnown};
+ghost use Rattle.bi_report.specs.KnownConcerns.{AllowedKindsAreKnown};
+ghost use Rattle.bi_report.specs.KnownScans.{ClaimsAreKnown, OffsetsAreKnown, ScansAreKnown};
+ghost use Rattle.bi_report.specs.KnownTexts.{ReportsAreKnown, LegacyListingsAreKnown};
+ghost use Rattle.bi_report.specs.KnownTexts.{FitListingIsKnown, EachSourceIsListed};
+ghost use Rattle.bi_report.specs.KnownTexts.{ConfigurationLinesAreKnown};
+
+/// The reports on a legacy image and on small trees are known texts, one with each verdict.
+pub fn reports_are_known()
+    ensures { ReportsAreKnown }
+{}
+
+/// The listings of a kernel image and of a multi-file image are known texts.
+pub fn legacy_listings_are_known()
+    ensures { LegacyListingsAreKnown }
+{}
+
+/// The listing of a file with three images, the payloads of which follow the blob, is a known text.
+pub fn fit_listing_is_known()
+    ensures { FitListingIsKnown }
+{}
+
+/// The listing of a file with images whose payloads are given by `data`, `data-position` and
+/// `data-offset`, with a memory reservation and another boot processor than 0, is a known text.
+pub fn each_source_is_listed()
+    ensures { EachSourceIsListed }
+{}
+
+/// The lines of the configurations of a small tree, and of its default, are a known text, with a
+/// line for each way in which a key lists images or none.
+pub fn configuration_lines_are_known()
+    ensures { ConfigurationLinesAreKnown }
+{}
+
+/// The concerns about small trees have known lines: about hash nodes of each verdict, lists of each
+/// kind, a default that names no configuration, and bytes after an image.
+pub fn concerns_are_known()
+    ensures { ConcernsAreKnown }
+{}
+
+/// An image whose good verdicts are by CRC-32, MD5 or SHA-1 alone has a line, and one with a good
+/// verdict by SHA-256, SHA-384 or SHA-512 has none.
+pub fn strong_algorithms_are_known()
+    ensures { StrongAlgorithmsAreKnown }
+{}
+
+/// The bytes after the payload that ends last, here that of the first image, are those that have a
+/// line.
+pub fn trailing_bytes_are_known()
+    ensures { TrailingBytesAreKnown }
+{}
+
+/// The bytes after the last part of a legacy image, in its data or after that, are those that have
+/// a line. If there are none, or if they are allowed, the image is clean.
+pub fn legacy_concerns_are_known()
+    ensures { LegacyConcernsAreKnown }
+{
+    bi_legacy::laws::one_meaning();
+}
+
+/// Each kind of concerns is allowed by its own name.
+pub fn allowed_kinds_are_known()
+    ensures { AllowedKindsAreKnown }
+{}
+
+/// Small images have known claims: those that are whole, and those whose header fails a check.
+pub fn claims_are_known()
+    ensures { ClaimsAreKnown }
+{}
+
+/// The scans of small files are known texts, and the files are refused within lower limits.
+pub fn scans_are_known()
+    ensures { ScansAreKnown }
+{}
+
+/// The images at offsets of a small file are known: the one that begins there, or an empty one
+/// after the end.
+pub fn offsets_are_known()
+    ensures { OffsetsAreKnown }
+{}

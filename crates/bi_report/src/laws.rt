@@ -1,0 +1,60 @@
+//! Laws of what is listed, reported, checked and found. Their functions do nothing: what each of
+//! them ensures is the law.
+
+ghost use Rattle.bi_report.specs.CleanFiles.{EmptyIsClean};
+ghost use Rattle.bi_report.specs.JsonLaws.{ConcernsAreJson, ListingsAreJson, ReportsAreJson};
+ghost use Rattle.bi_report.specs.ScanLaws.{EachImageHasItsLine, LinesAreFew, OneScan};
+ghost use Rattle.bi_report.specs.ScanLaws.{ScanHasNoFault, ScannedImagesAreWhole};
+
+/// Checking a boot image writes nothing if and only if the image is clean: if everything in it is
+/// protected, but for what is allowed.
+pub fn empty_is_clean()
+    ensures { EmptyIsClean }
+{}
+
+/// A boot image that is found inside a file, cut out at its offset and with its extent, is accepted
+/// within the same limits, and means what it means inside the file.
+pub fn scanned_images_are_whole()
+    ensures { ScannedImagesAreWhole }
+{}
+
+/// A scan of a file has a line for each boot image that is accepted at an offset of the file, and
+/// no other line.
+pub fn each_image_has_its_line()
+    ensures { EachImageHasItsLine }
+{
+    bi_norm::laws::one_meaning();
+}
+
+/// A file has at most one scan within limits.
+pub fn one_scan()
+    ensures { OneScan }
+{
+    bi_norm::laws::one_meaning();
+}
+
+/// A file with a scan within limits has no fault of a scan within them.
+pub fn scan_has_no_fault()
+    ensures { ScanHasNoFault }
+{}
+
+/// A scan has at most one line for each 64 bytes of the limit: so many bytes each boot image claims
+/// at least.
+pub fn lines_are_few()
+    ensures { LinesAreFew }
+{}
+
+/// A listing in JSON is one line of JSON.
+pub fn listings_are_json()
+    ensures { ListingsAreJson }
+{}
+
+/// A report of `verify` in JSON is one line of JSON.
+pub fn reports_are_json()
+    ensures { ReportsAreJson }
+{}
+
+/// The concerns that `check` writes in JSON are one line of JSON.
+pub fn concerns_are_json()
+    ensures { ConcernsAreJson }
+{}

@@ -1,0 +1,12 @@
+//! The commands that report on a boot image: list, verify, check and scan, over any reader and
+//! writer.
+#![tactic(auto)]
+
+pub mod check;
+pub mod children;
+pub mod known_texts;
+pub mod laws;
+pub mod list;
+pub mod listed;
+pub mod scan;
+pub mod verify;

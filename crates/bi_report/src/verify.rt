@@ -1,0 +1,333 @@
+//! The report on a boot image: a text with the verdict on each of its checksums and digests.
+
+mod report_json;
+mod report_line;
+
+ghost use Rattle.std.specs.Prelude.{◌≡◌, ◌↔◌, [], ◌∷◌, ⊤, IfOk, IfErr, OnOk, IsTrue, false, map};
+ghost use Rattle.std.specs.Prelude.{string_bytes};
+ghost use Rattle.bi_base.specs.Commands.{Appended, AppendFailed};
+ghost use Rattle.bi_base.specs.declared.fault.Error.TheVariants.{OutOfMemory};
+ghost use Rattle.bi_base.specs.Pipes.{IsPiped};
+ghost use Rattle.bi_base.specs.Sinks.{Wrote};
+ghost use Rattle.bi_fit.specs.Content.{AreAtTheirPlaces, IsHeld, tree_of};
+ghost use Rattle.bi_fit.specs.Judgement.{verdicts_of};
+ghost use Rattle.bi_fit.specs.JudgementCalls.{checked_hash_of};
+ghost use Rattle.bi_norm.specs.Meaning.{OfFit};
+ghost use Rattle.bi_norm.specs.Reading.{IsBootImageReadError};
+ghost use Rattle.bi_common.specs.HashedImages.{hashes_left, images_of_blob};
+ghost use Rattle.bi_common.specs.declared.format.Format.TheVariants.{Lines, Json};
+ghost use Rattle.bi_common.specs.Formats.{WroteInTurn, in_turn};
+ghost use Rattle.bi_common.specs.VerdictCounts.{counts_model, hash_counts};
+ghost use Rattle.bi_report.specs.ReadReports.{after_hashes, before_hashes, hash_text, hash_texts};
+ghost use Rattle.bi_report.specs.ReadReports.{legacy_report_text};
+ghost use Rattle.bi_report.specs.Reports.{AreGood};
+ghost use Rattle.bi_report.specs.VerifiedFiles.{IsReport, IsVerifyOutput, report_text};
+ghost use Rattle.bi_report.specs.VerifiedFiles.{verify_laws, verify_promise};
+
+use bi_base::{Command, Error, Limits, Sink, VecSink, pipe_to};
+use bi_common::format::Format;
+use bi_common::hash_nodes::{HashNodes, HashedImages};
+use bi_common::json::put_comma;
+use bi_common::verdict_counts::{Counts, count_verdicts};
+use bi_fit::{Checked, Fit};
+use bi_hash::RegionDigests;
+use bi_norm::BootImage;
+use report_json::{put_checksums_object, put_hash_object, put_summary_member};
+pub use report_line::verdict_word;
+use report_line::{ReportLine, put_report_line};
+use std::alloc::Global;
+use std::io::{Read, Write};
+
+/// A report on the checksums and digests of a boot image.
+#[derive(Drop)]
+pub struct Report {
+    /// Its lines.
+    pub text: String,
+    /// Whether no verdict in it is other than Good.
+    pub all_good: bool,
+}
+
+/// Returns the report on a boot image. It has a line for each hash node of a flattened image tree,
+/// with the verdict on it, and a last line with the number of each verdict. Of a legacy image it
+/// has a line for each of the two checksums, both good, since an image with a wrong one is refused.
+///
+/// Errors, the first that applies: TooLarge at the limit, if the file is longer; Truncated at 0, if
+/// it has fewer than four bytes; BadMagic at 0; those of `Legacy::read` or of `Fit::read`.
+/// OutOfMemory may come in place of any of these, but only after the checks of a legacy image, or
+/// of the header and the memory reservation block of a blob.
+///
+/// # Example
+///
+/// ```
+/// use bi_base::Limits;
+/// use bi_commands::verify::verify;
+///
+/// let limits = Limits::new(0x7fff_ffff, 64).unwrap();
+/// let report = verify(rt.alloc(), kernel, limits)?;
+/// assert!(rt; report.all_good);
+/// assert!(rt; report.text.as_str() == "header crc32 good\ndata crc32 good\n");
+/// ```
+pub fn verify(alloc: Global, file: &[u8], limits: Limits) -> Result<Report, Error>
+    ensures verified { IfOk result (λ report. IsVerifyOutput Lines limits report.all_good file.now
+        (string_bytes report.text)) }
+    ensures failed { IfErr result (IsBootImageReadError limits file.now) }
+{
+    verify_as(alloc, file, limits, Format::Lines)
+}
+
+/// Returns the report on a boot image, as one text of JSON and a newline. It says what the lines of
+/// `verify` say, and the errors are those of `verify`.
+pub fn verify_json(alloc: Global, file: &[u8], limits: Limits) -> Result<Report, Error>
+    ensures verified { IfOk result (λ report. IsVerifyOutput Json limits report.all_good file.now
+        (string_bytes report.text)) }
+    ensures failed { IfErr result (IsBootImageReadError limits file.now) }
+{
+    verify_as(alloc, file, limits, Format::Json)
+}
+
+/// Returns the report on a boot image, in a form.
+fn verify_as(alloc: Global, file: &[u8], limits: Limits, format: Format) -> Result<Report, Error>
+    ensures verified { IfOk result (λ report. IsVerifyOutput format limits report.all_good file.now
+        (string_bytes report.text)) }
+    ensures failed { IfErr result (IsBootImageReadError limits file.now) }
+{
+    let mut sink = VecSink::new(alloc);
+    let all_good = verify_into(alloc, file, limits, format, &mut sink)?;
+    match String::from_utf8(sink.into_vec()) {
+        Ok(text) => Ok(Report { text, all_good }),
+        Err(_) => unreachable!(),
+    }
+}
+
+/// Appends the report on a boot image in a form, piece by piece, and returns whether no verdict in
+/// it is other than Good. Each refusal and each allocation comes before the first byte, and no
+/// memory is taken for the report.
+fn verify_into<S: Sink>(
+    alloc: Global,
+    file: &[u8],
+    limits: Limits,
+    format: Format,
+    sink: &mut S,
+) -> Result<bool, Error>
+    ensures appended { IfOk result (λ good. Appended S.appends
+        (IsVerifyOutput format limits good file.now) sink.old sink.new) }
+    ensures failed { IfErr result (AppendFailed S.fails (IsReport format limits file.now)
+        (IsBootImageReadError limits file.now) sink.old sink.new) }
+{
+    match BootImage::read(alloc, file, limits)? {
+        BootImage::Legacy(_image) => {
+            put_checksums(format, sink)?;
+            Ok(true)
+        }
+        BootImage::Fit(image) => verify_fit(alloc, &image, format, sink),
+    }
+}
+
+/// Verifying, as a command: `verify`, or `verify_json`. Its value is whether no verdict is other
+/// than Good.
+#[derive(Clone, Copy, Debug, PartialEq, Eq)]
+pub struct Verifier {
+    /// The form of the report.
+    pub format: Format,
+}
+
+impl Command for Verifier {
+    type Value = bool;
+
+    type Failure = Error;
+
+    ghost can_run = { λ _. ⊤ };
+
+    ghost promise = { λ verifier. verify_promise verifier.format };
+
+    /// Appends the report piece by piece. Each refusal and each allocation comes before the first
+    /// byte.
+    fn run<S: Sink>(
+        &self,
+        alloc: Global,
+        input: &[u8],
+        limits: Limits,
+        sink: &mut S,
+    ) -> Result<bool, Error> {
+        let all_good = verify_into(alloc, input, limits, self.format, sink)?;
+        Ok(all_good)
+    }
+
+    ghost wraps_from = { λ _ _ _ _ same. same };
+
+    ghost laws = { λ verifier. verify_laws verifier.format };
+}
+
+/// Reads a boot image to its end, writes the report on it, and flushes: `pipe_to` with a
+/// `Verifier`. Returns whether no verdict is other than Good.
+///
+/// The errors are those of `pipe_to`, and of the file those of `verify`.
+pub fn verify_to<R: Read, W: Write>(
+    alloc: Global,
+    reader: &mut R,
+    writer: &mut W,
+    limits: Limits,
+) -> Result<bool, Error>
+    ensures { IsPiped (verify_promise Lines limits) limits (R.remaining reader.old)
+        (R.remaining reader.new) (W.contents writer.old) (W.contents writer.new) result }
+{
+    let verifier = Verifier {
+        format: Format::Lines,
+    };
+    pipe_to(alloc, &verifier, reader, writer, limits)
+}
+
+/// Reads a boot image to its end, writes the report on it as one text of JSON and a newline, and
+/// flushes. Its value and its errors are those of `verify_to`.
+pub fn verify_json_to<R: Read, W: Write>(
+    alloc: Global,
+    reader: &mut R,
+    writer: &mut W,
+    limits: Limits,
+) -> Result<bool, Error>
+    ensures { IsPiped (verify_promise Json limits) limits (R.remaining reader.old)
+        (R.remaining reader.new) (W.contents writer.old) (W.contents writer.new) result }
+{
+    let verifier = Verifier {
+        format: Format::Json,
+    };
+    pipe_to(alloc, &verifier, reader, writer, limits)
+}
+
+/// Appends the report on any legacy image that was read, so that its checksums are right. Fails as
+/// the sink does.
+fn put_checksums<S: Sink>(format: Format, sink: &mut S) -> Result<(), Error>
+    ensures { Wrote S.appends S.fails sink.old (legacy_report_text format) result sink.new }
+{
+    match format {
+        Format::Lines => put_checksum_lines(sink),
+        Format::Json => put_checksums_object(sink),
+    }
+}
+
+/// Appends the lines of the two checksums, which are good. Fails as the sink does.
+fn put_checksum_lines<S: Sink>(sink: &mut S) -> Result<(), Error>
+    ensures { Wrote S.appends S.fails sink.old (legacy_report_text Lines) result sink.new }
+{
+    put_report_line(ReportLine::GoodChecksum(b"header"), sink)?;
+    put_report_line(ReportLine::GoodChecksum(b"data"), sink)
+}
+
+/// Appends the report on a flattened image tree that was read, and returns whether no verdict is
+/// other than Good. Fails with OutOfMemory before the first byte, or as the sink does.
+fn verify_fit<S: Sink>(
+    alloc: Global,
+    fit: &Fit,
+    format: Format,
+    sink: &mut S,
+) -> Result<bool, Error>
+    requires held { IsHeld fit.now }
+    ensures appended { OnOk result
+        (S.appends sink.old (report_text format (OfFit (tree_of fit.now))) sink.new) }
+    ensures good { IfOk result (λ good. IsTrue good ↔ AreGood (verdicts_of (tree_of fit.now))) }
+    ensures failed { IfErr result (AppendFailed S.fails
+        (λ text. text ≡ report_text format (OfFit (tree_of fit.now)))
+        (λ error. error ≡ OutOfMemory) sink.old sink.new) }
+{
+    let mut digests = fit.region_digests(alloc);
+    let counts = count_verdicts(fit, &mut digests)?;
+    put_report(fit, &digests, counts, format, sink)?;
+    Ok(counts.are_good())
+}
+
+/// Appends the report on a flattened image tree with this number of each verdict. Fails as the sink
+/// does.
+fn put_report<'a, S: Sink>(
+    fit: &Fit<'a>,
+    digests: &RegionDigests<'a>,
+    counts: Counts,
+    format: Format,
+    sink: &mut S,
+) -> Result<(), Error>
+    requires placed { AreAtTheirPlaces digests.now fit.now.images }
+    requires counted { counts ≡ hash_counts (verdicts_of (tree_of fit.now)) }
+    ensures { Wrote S.appends S.fails sink.old (report_text format (OfFit (tree_of fit.now))) result
+        sink.new }
+{
+    put_before_hashes(format, sink)?;
+    put_images(fit, digests, format, sink)?;
+    put_after_hashes(counts, format, sink)
+}
+
+/// Appends what comes before the hash nodes. Fails as the sink does.
+fn put_before_hashes<S: Sink>(format: Format, sink: &mut S) -> Result<(), Error>
+    ensures { Wrote S.appends S.fails sink.old (before_hashes format) result sink.new }
+{
+    match format {
+        Format::Lines => Ok(()),
+        Format::Json => sink.put(b"{\"kind\":\"fit\",\"hashes\":["),
+    }
+}
+
+/// Appends what comes after the hash nodes. Fails as the sink does.
+fn put_after_hashes<S: Sink>(counts: Counts, format: Format, sink: &mut S) -> Result<(), Error>
+    ensures { Wrote S.appends S.fails sink.old (after_hashes format (counts_model counts)) result
+        sink.new }
+{
+    match format {
+        Format::Lines => put_report_line(ReportLine::Summary(counts), sink),
+        Format::Json => put_summary_member(counts, sink),
+    }
+}
+
+/// Appends each hash node of a flattened image tree. Fails as the sink does.
+fn put_images<'a, S: Sink>(
+    fit: &Fit<'a>,
+    digests: &RegionDigests<'a>,
+    format: Format,
+    sink: &mut S,
+) -> Result<(), Error>
+    requires placed { AreAtTheirPlaces digests.now fit.now.images }
+    ensures { Wrote S.appends S.fails sink.old
+        (in_turn format false (hash_texts format (images_of_blob fit.now))) result sink.new }
+{
+    let mut is_later = false;
+    for image in HashedImages::new(fit, digests) {
+        is_later = put_hashes(image.hashes, format, is_later, sink)?;
+    }
+    Ok(())
+}
+
+/// Appends each hash node of an image, and returns whether there is one, or there are any before
+/// them. Fails as the sink does.
+fn put_hashes<S: Sink>(
+    hashes: HashNodes,
+    format: Format,
+    is_later: bool,
+    sink: &mut S,
+) -> Result<bool, Error>
+    ensures { WroteInTurn S.appends S.fails sink.old format is_later
+        (map (hash_text format) (hashes_left hashes.entry)) result sink.new }
+{
+    let mut later = is_later;
+    for hash in hashes {
+        put_hash(hash, format, later, sink)?;
+        later = true;
+    }
+    Ok(later)
+}
+
+/// Appends a hash node. Fails as the sink does.
+fn put_hash<S: Sink>(
+    hash: Checked,
+    format: Format,
+    is_later: bool,
+    sink: &mut S,
+) -> Result<(), Error>
+    ensures { Wrote S.appends S.fails sink.old
+        (in_turn format is_later (hash_text format (checked_hash_of hash.entry) ∷ [])) result
+        sink.new }
+{
+    match format {
+        Format::Lines => put_report_line(ReportLine::HashVerdict(hash), sink),
+        Format::Json => {
+            put_comma(is_later, sink)?;
+            put_hash_object(&hash, sink)
+        }
+    }
+}

@@ -1,0 +1,103 @@
+use Rattle.std.proofs.Common.{◌≡◌, ℕ, zero, suc, ◌+◌, ◌*◌, ◌<◌, ◌≤◌, Bool, true, false, List, [], ◌∷◌, ◌++◌, length, ap, ◌∙◌}
+use Rattle.std.proofs.Common.{arith, subst}
+use Rattle.std.specs.Prelude.{if◌then◌else◌}
+use Rattle.std.specs.List.{AllByRecursion, sum}
+use Rattle.std.proofs.lemmas.List.{length-append}
+use Rattle.bi_show.specs.declared.show.dates.Date.{Date}
+use Rattle.bi_show.specs.Dates.{IsDate, days_of_years, is_leap_year, month_lengths, year_length}
+
+-- These lemmas bound the lengths of years and months, and the numbers of a date.
+
+-- A year has at least 365 days.
+pub year_has_days : (year : ℕ) → 365 ≤ year_length year
+year_has_days year = by (is_leap_year year) where
+  by : (b : Bool)
+      → 365 ≤ sum (31 ∷ (if b then 29 else 28) ∷ 31 ∷ 30 ∷ 31 ∷ 30 ∷ 31 ∷ 31 ∷ 30 ∷ 31 ∷ 30 ∷ 31 ∷ [])
+  by true = omega arith
+  by false = omega arith
+
+years_have_days : (count : ℕ) → 365 * count ≤ days_of_years count
+years_have_days zero = omega arith
+years_have_days (suc count) =
+    let rest = years_have_days count in
+    let year = year_has_days (1970 + count) in
+    omega (arith, rest, year)
+
+-- A month has at most 31 days.
+months_are_short : (year : ℕ) → AllByRecursion (λ days. days ≤ 31) (month_lengths year)
+months_are_short year = by (is_leap_year year) where
+  by : (b : Bool) → AllByRecursion (λ days. days ≤ 31)
+      (31 ∷ (if b then 29 else 28) ∷ 31 ∷ 30 ∷ 31 ∷ 30 ∷ 31 ∷ 31 ∷ 30 ∷ 31 ∷ 30 ∷ 31 ∷ [])
+  by true = (
+    omega arith,
+    (
+      omega arith,
+      (
+        omega arith,
+        (
+          omega arith,
+          (
+            omega arith,
+            (
+              omega arith,
+              (
+                omega arith,
+                (
+                  omega arith,
+                  (
+                    omega arith,
+                    (omega arith, (omega arith, (omega arith, tt))),
+                  ),
+                ),
+              ),
+            ),
+          ),
+        ),
+      ),
+    ),
+  )
+  by false = (
+    omega arith,
+    (
+      omega arith,
+      (
+        omega arith,
+        (
+          omega arith,
+          (
+            omega arith,
+            (
+              omega arith,
+              (
+                omega arith,
+                (
+                  omega arith,
+                  (
+                    omega arith,
+                    (omega arith, (omega arith, (omega arith, tt))),
+                  ),
+                ),
+              ),
+            ),
+          ),
+        ),
+      ),
+    ),
+  )
+
+-- If each number of a list has a property, a number in the list has it.
+of_one : (P : ℕ → Type 0) (earlier : List ℕ) (one : ℕ) (later : List ℕ) → AllByRecursion P (earlier ++ one ∷ later) → P one
+of_one P [] one later each = each.0
+of_one P (first ∷ earlier) one later each = of_one P earlier one later each.1
+
+-- A time of 32 bits has a date with four digits for the year, and two for the month and for the day.
+pub date_is_short : (days : ℕ) (date : Date) → IsDate days date → days < 49711 →
+    (date.year < 10000) × (date.month < 100) × (date.day < 100)
+date_is_short days date is few =
+    let years = years_have_days is.years in
+    let lengths : AllByRecursion (λ days. days ≤ 31) (is.earlier ++ is.month_length ∷ is.later) =
+    subst (AllByRecursion (λ days. days ≤ 31)) is.months (months_are_short date.year) in
+    let short : is.month_length ≤ 31 = of_one (λ days. days ≤ 31) is.earlier is.month_length is.later lengths in
+    let twelve : 12 ≡ length is.earlier + length (is.month_length ∷ is.later) =
+    ap length is.months ∙ length-append is.earlier (is.month_length ∷ is.later) in
+    (omega (arith, years, is.is_year, is.is_day), omega (arith, twelve, is.is_month), omega (arith, short, is.to_last))

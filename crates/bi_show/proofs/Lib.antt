@@ -1,0 +1,8 @@
+pub mod DateFacts
+pub mod TableFacts
+pub mod ShownCells
+pub mod ShownRows
+pub mod ShownPages
+pub mod LayoutFacts
+pub mod LayoutsOfFiles
+pub mod PageFacts

@@ -1,0 +1,147 @@
+use Rattle.std.proofs.Common.{◌≡◌, ◌∷◌, ◌++◌, ℕ, ◌-◌, List, [], String, Vec, Result, Ok, Err, IfErr, ap, ap₂, append-nil}
+use Rattle.std.proofs.Common.{append_assoc, map, refl, subst, sym, ◌∙◌}
+use Rattle.std.specs.Prelude.{IsAscii}
+use Rattle.std.specs.declared.alloc.Global.{Global}
+use Rattle.std.specs.List.{AllZip}
+use Rattle.bi_base.specs.declared.fault.Error.{Error}
+use Rattle.bi_base.specs.Limits.{Limits}
+use Rattle.bi_base.specs.VecSinks.{Grows}
+use Rattle.bi_blob.specs.Lookups.{Sibling, siblings}
+use Rattle.bi_blob.specs.Tree.{FileNode, Root}
+use Rattle.bi_fdt.specs.Content.{root_of}
+use Rattle.bi_fit.specs.declared.image.Place.{Place}
+use Rattle.bi_fit.specs.Content.{FitModel, ImageModel, IsReadImage, offset_of_place, place_of, tree_of}
+use Rattle.bi_fit.specs.HashNodes.{file_configurations, file_images}
+use Rattle.bi_fit.specs.Payloads.{PayloadSource, NoSource, Data, DataOffset, DataPosition, payload_place, source_of}
+use Rattle.bi_fit.specs.Reading.{IsReadFit}
+use Rattle.bi_common.specs.declared.format.Format.TheVariants.{Lines}
+use Rattle.bi_report.specs.CheckedFiles.{IsCheckError, concerns_text}
+use Rattle.bi_report.specs.Checking.{nothing_allowed}
+use Rattle.bi_report.specs.FoundConcerns.{FoundConcern, HasConcerns, concerns_in}
+use Rattle.bi_report.specs.ReadChecking.{IsReadCheckError}
+use Rattle.bi_report.proofs.AsciiReports.{checked_is_ascii}
+use Rattle.bi_report.proofs.CheckedFiles.{check_error_of_tree, text_checks}
+use Rattle.bi_show.specs.FitPages.{configurations_table, fit_head, fit_tables, image_heading, image_row, image_rows, reservations_table}
+use Rattle.bi_show.specs.FitPages.{signatures_table}
+use Rattle.bi_show.specs.Pages.{Table, table_text}
+use Rattle.bi_show.specs.ReadPages.{read_image_rows}
+use Rattle.bi_show.specs.Rows.{cells_of_rows}
+use Rattle.bi_show.specs.ShownFiles.{AreConcernLines}
+
+-- These lemmas put the parts of a page together.
+
+-- A text that was appended to an empty sink is what the sink has.
+whole_text : (old new text : List ℕ) → old ≡ [] → Grows old text new → new ≡ text
+whole_text old new text empty grown = grown ∙ ap (λ (l : List ℕ). l ++ text) empty
+
+-- The sink has the lines of concerns that were appended to it when it was empty,
+pub lines_in_memory : (limits : Limits) (file old new lines : List ℕ) → AreConcernLines limits file lines → old ≡ [] → Grows old lines new →
+    AreConcernLines limits file new
+lines_in_memory limits file old new lines are empty grown =
+    subst (AreConcernLines limits file) (sym (whole_text old new lines empty grown)) are
+
+-- and these lines are ASCII.
+pub ascii_lines_in_memory : (limits : Limits) (file old new lines : List ℕ) → AreConcernLines limits file lines → old ≡ [] →
+    Grows old lines new → IsAscii new
+ascii_lines_in_memory limits file old new lines are empty grown =
+    checked_is_ascii Lines nothing_allowed limits file new (lines_in_memory limits file old new lines are empty grown)
+
+-- The lines of the concerns about a file are ASCII.
+pub lines_of_concerns : (limits : Limits) (file : List ℕ) (found all : List FoundConcern) → found ≡ all →
+    HasConcerns limits file all → AreConcernLines limits file (concerns_text Lines nothing_allowed (concerns_in found))
+lines_of_concerns limits file found all same has =
+    text_checks Lines nothing_allowed limits file found (subst (HasConcerns limits file) (sym same) has)
+
+-- The offset of a payload depends on its source.
+pub offset_found : (file : List ℕ) (source : PayloadSource) (place : Place) → place ≡ place_of file source →
+    offset_of_place place ≡ payload_place file source
+offset_found file NoSource place is = ap offset_of_place is
+offset_found file (Data data_property) place is = ap offset_of_place is
+offset_found file (DataOffset offset size) place is = ap offset_of_place is
+offset_found file (DataPosition position size) place is = ap offset_of_place is
+
+-- The rows of images that were read are those of the images of the file.
+rows_of_images : (file : List ℕ) (entries : List (Sibling FileNode)) (images : List ImageModel) → AllZip (IsReadImage file) entries images →
+    read_image_rows entries images ≡ image_rows file entries (map (λ (image : ImageModel). image.payload) images)
+rows_of_images file [] [] are = refl
+rows_of_images file [] (image ∷ images) are = absurd are
+rows_of_images file (entry ∷ entries) [] are = refl
+rows_of_images file (entry ∷ entries) (image ∷ images) are =
+    ap₂ (λ (row : List (List ℕ)) (rows : Table). row ∷ rows)
+    (ap (image_row entry image.payload) (offset_found file (source_of entry.own) image.place are.0.place))
+    (rows_of_images file entries images are.1)
+
+-- The images that were read are those of the file.
+pub images_of_file : (limits : Limits) (file : List ℕ) (content : FitModel) → IsReadFit limits file content →
+    AllZip (IsReadImage file) (siblings (file_images content.blob)) content.images
+images_of_file limits file content is =
+    subst (λ (f : List ℕ). AllZip (IsReadImage f) (siblings (file_images content.blob)) content.images) is.is_file is.held.images
+
+-- The tables of a FIT that was read from a file are those of the file.
+pub tables_of_file : (limits : Limits) (file : List ℕ) (content : FitModel) (is : IsReadFit limits file content) (time : List ℕ)
+    (regions : Table) →
+    fit_head file (root_of content.blob) (tree_of content) time
+    ∷ reservations_table content.blob.reservations
+    ∷ (image_heading ∷ read_image_rows (siblings (file_images content.blob)) content.images)
+    ∷ configurations_table (siblings (file_configurations content.blob))
+    ∷ signatures_table (siblings (file_images content.blob)) (siblings (file_configurations content.blob)) ∷ regions ∷ []
+    ≡ fit_tables file is.means.is_file.root (tree_of content) time regions
+tables_of_file limits file content is time regions =
+    let entries = siblings (file_images content.blob) in
+    ap (λ (rows : Table). fit_head file (root_of content.blob) (tree_of content) time
+    ∷ reservations_table content.blob.reservations
+    ∷ (image_heading ∷ rows)
+    ∷ configurations_table (siblings (file_configurations content.blob))
+    ∷ signatures_table (siblings (file_images content.blob)) (siblings (file_configurations content.blob)) ∷ regions ∷ [])
+    (rows_of_images file entries content.images (images_of_file limits file content is))
+    ∙ ap (λ (root : Root FileNode). fit_tables file root (tree_of content) time regions) (sym is.same_root)
+
+-- A table was appended.
+pub shown_table : (old new : List ℕ) (slice rows : List (Vec (String Global) Global)) (table : Table) →
+    new ≡ old ++ table_text (cells_of_rows slice) →
+    slice ≡ rows → cells_of_rows rows ≡ table → new ≡ old ++ table_text table
+shown_table old new slice rows table is same cells =
+    is ∙ ap (λ (t : Table). old ++ table_text t) (ap (λ (l : List (Vec (String Global) Global)). cells_of_rows l) same ∙ cells)
+
+-- A page of a legacy image has three tables.
+pub three_tables : (first second third lines start one two three page : List ℕ) → start ≡ [] → one ≡ start ++ first → two ≡ one ++ second →
+    three ≡ two ++ third → page ≡ three ++ lines → page ≡ (first ++ (second ++ (third ++ []))) ++ lines
+three_tables first second third lines start one two three page empty is_one is_two is_three is_page =
+    is_page
+    ∙ ap (λ (l : List ℕ). l ++ lines)
+    (is_three
+    ∙ ap (λ (l : List ℕ). l ++ third)
+    (is_two ∙ ap (λ (l : List ℕ). l ++ second) (is_one ∙ ap (λ (l : List ℕ). l ++ first) empty))
+    ∙ regroup first second third)
+  where
+    regroup : (a b c : List ℕ) → (a ++ b) ++ c ≡ a ++ (b ++ (c ++ []))
+    regroup a b c = simp (append_assoc, append-nil)
+
+-- A page of a FIT has six tables.
+pub six_tables : (first second third fourth fifth sixth lines start one two three four five six page : List ℕ) → start ≡ [] →
+    one ≡ start ++ first → two ≡ one ++ second → three ≡ two ++ third → four ≡ three ++ fourth → five ≡ four ++ fifth →
+    six ≡ five ++ sixth → page ≡ six ++ lines → page ≡ (first ++ (second ++ (third ++ (fourth ++ (fifth ++ (sixth ++ [])))))) ++ lines
+six_tables first second third fourth fifth sixth lines start one two three four five six page empty is_one is_two is_three is_four
+    is_five is_six is_page =
+    is_page
+    ∙ ap (λ (l : List ℕ). l ++ lines)
+    (is_six
+    ∙ ap (λ (l : List ℕ). l ++ sixth)
+    (is_five
+    ∙ ap (λ (l : List ℕ). l ++ fifth)
+    (is_four
+    ∙ ap (λ (l : List ℕ). l ++ fourth)
+    (is_three
+    ∙ ap (λ (l : List ℕ). l ++ third)
+    (is_two ∙ ap (λ (l : List ℕ). l ++ second) (is_one ∙ ap (λ (l : List ℕ). l ++ first) empty)))))
+    ∙ regroup first second third fourth fifth sixth)
+  where
+    regroup : (a b c d e f : List ℕ) → ((((a ++ b) ++ c) ++ d) ++ e) ++ f ≡ a ++ (b ++ (c ++ (d ++ (e ++ (f ++ [])))))
+    regroup a b c d e f = simp (append_assoc, append-nil)
+
+-- An error of showing what was read from a file is one of showing the file.
+pub tree_not_shown : {V : Type 0} (limits : Limits) (file : List ℕ) (content : FitModel) (result : Result V Error) →
+    IsReadFit limits file content →
+    IfErr result (IsReadCheckError limits content) → IfErr result (IsCheckError limits file)
+tree_not_shown limits file content (Ok value) is failed = tt
+tree_not_shown limits file content (Err error) is failed = check_error_of_tree limits file content error is failed

@@ -1,0 +1,12 @@
+pub mod Dates
+pub mod Pages
+pub mod Rows
+pub mod CodeNames
+pub mod AllCodes
+pub mod PageCells
+pub mod LegacyPages
+pub mod FitPages
+pub mod Layouts
+pub mod ReadPages
+pub mod ShownFiles
+pub mod KnownPages

@@ -1,0 +1,30 @@
+//! Small boot images with their pages. Each function does nothing: what it ensures is a fact about
+//! the definitions. One of them calls the function of a law, from which its facts follow.
+
+ghost use Rattle.bi_show.specs.KnownPages.{CellsAreKnown, PagesAreKnown, TablesAreKnown};
+ghost use Rattle.bi_show.specs.KnownPages.{TimesAreKnown};
+
+/// Times have known texts: the first and the last time of 32 bits, and seconds before and after a
+/// day, a leap day and a year begin.
+pub fn times_are_known()
+    ensures { TimesAreKnown }
+{}
+
+/// Small tables have known texts: with a short row, with one row, and with none.
+pub fn tables_are_known()
+    ensures { TablesAreKnown }
+{}
+
+/// Cells are known words: codes with a name and without one, numbers, texts, and values of
+/// properties.
+pub fn cells_are_known()
+    ensures { CellsAreKnown }
+{}
+
+/// The pages of a kernel image and of a multi-file image are known texts, with their layout and
+/// without it.
+pub fn pages_are_known()
+    ensures { PagesAreKnown }
+{
+    bi_legacy::laws::one_meaning();
+}

@@ -1,0 +1,5 @@
+//! The command show, over any reader and writer.
+#![tactic(auto)]
+
+pub mod known_texts;
+pub mod show;
