@@ -1,4 +1,5 @@
 pub mod CellLaws
+pub mod AlignmentLaws
 pub mod ByteLists
 pub mod CrcLaws
 pub mod CrcTableEntries

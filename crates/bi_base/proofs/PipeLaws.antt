@@ -32,13 +32,6 @@ failed_writing trace wraps IsText HasError old new error none (SinkFailed text c
     (subst (λ l. WriteStopped (state_of trace old).trace (l ++ text) (state_of trace new).trace cause) none stops.stopped))
     wrapped
 
--- A sink over which a command failed still has its writer.
-pub failed_same_borrow : {T E : Type 0} (trace : T → WriteTrace) (wraps : Error → E) (IsText : List ℕ → Type 0)
-    (HasError : E → Type 0) (old new : BufferedSink T) (error : E)
-    → CommandFailed (BufferFails trace) wraps IsText HasError old new error → new.target.ghost_name ≡ old.target.ghost_name
-failed_same_borrow trace wraps IsText HasError old new error (WasRefused is same) = ap (λ sink. (state_of trace sink).borrow) same
-failed_same_borrow trace wraps IsText HasError old new error (SinkFailed text cause is stops wrapped) = stops.same_borrow
-
 -- Where a new sink took the text, finishing it writes and flushes the text, or that stops.
 pub finished_writing : {T : Type 0} (trace : T → WriteTrace) (IsText : List ℕ → Type 0) (old mid : BufferedSink T)
     (new : WriteTrace) (result : Result (Unit {0}) Error) → (state_of trace old).held ≡ []

@@ -11,7 +11,7 @@ use Rattle.bi_base.specs.BufferedSinks.{Buffer, Holds, writes_in_turn}
 use Rattle.bi_base.specs.Reading.{IsInput, IsReadError, ReadWhole, too_large}
 use Rattle.bi_base.specs.Sinks.{Wrote}
 use Rattle.bi_base.specs.Traces.{ReadTrace, WriteTrace, MustStopReading}
-use Rattle.bi_base.specs.Transfers.{Transferred, TransferFailed}
+use Rattle.bi_base.specs.Transfers.{TransferFailed}
 use Rattle.bi_base.specs.Writing.{Writes, WriteStopped, WroteAndFlushed, WriteOrFlushStopped}
 
 -- A call that reads a whole input and writes and flushes its output ends well. It fails if reading stops, the input is refused or writing
@@ -65,15 +65,6 @@ finished_after old mid bytes new (Err error) none holds finished =
       cause = finished.cause;
       same_writer = finished.same_writer ∙ holds.wrote.same_writer;
     }
-
--- The input was read, and its output was written and flushed.
-pub transfer_ends_well : (source new_source : ReadTrace) (target new_target : WriteTrace) (IsOutput : List ℕ → List ℕ → Type 0)
-    (input output : List ℕ) → ReadWhole source.remaining new_source.remaining input → IsOutput input output →
-    WroteAndFlushed target output new_target → Transferred source new_source target new_target IsOutput
-transfer_ends_well source new_source target new_target IsOutput input output read is_output wrote = record {
-  moved = record { input = input; output = output; read = read; written = wrote.written; is_output = is_output };
-  flushed = wrote.flushed;
-}
 
 -- The input was read, and writing its output stopped.
 pub write_stopped : (source new_source : ReadTrace) (target new_target : WriteTrace) (IsOutput : List ℕ → List ℕ → Type 0)

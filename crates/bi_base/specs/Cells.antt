@@ -1,4 +1,4 @@
-use Rattle.std.specs.Prelude.{ℕ, ◌+◌, ◌*◌, ◌/◌, ◌^◌, ◌<◌, List, take, drop, slice_index}
+use Rattle.std.specs.Prelude.{ℕ, ◌+◌, ◌-◌, ◌*◌, ◌/◌, ◌^◌, ◌<◌, List, take, drop, slice_index}
 use Rattle.std.specs.Int.{to_be_bytes, from_be_bytes, w32, w64}
 
 -- A cell: the four big-endian bytes of a number, modulo 2^32 (Devicetree Specification, 2.2.4.2:
@@ -28,6 +28,11 @@ u64_at file at = from_be_bytes w64 (slice file at 8)
 pub record AreBytes (bytes : List ℕ) : Type 0 where
   pub each : (i : ℕ) → slice_index bytes i < 2 ^ 8
 
+-- The least multiple of `align` that is at least `n`, if `align` is not 0: where what is aligned
+-- begins.
+abbrev pub up_to : (align n : ℕ) → ℕ
+up_to align n = align * ((n + (align - 1)) / align)
+
 -- The least multiple of four that is at least `n`: where what is aligned to a cell begins.
 abbrev pub up4 : ℕ → ℕ
-up4 n = 4 * ((n + 3) / 4)
+up4 n = up_to 4 n

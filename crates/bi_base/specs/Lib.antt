@@ -1,4 +1,6 @@
 pub mod Cells
+pub mod Alignments
+pub mod Aligns
 pub mod Causes
 pub mod KnownCauses
 pub mod Errors

@@ -2,6 +2,7 @@
 //! input, sinks that bytes are written to, and commands from a reader to a writer.
 #![tactic(auto)]
 
+mod align;
 mod buffered_sink;
 mod bytes;
 mod cells;
@@ -25,7 +26,9 @@ mod traced_write;
 mod vec_sink;
 mod write_sink;
 mod writing;
+mod zeros;
 
+pub use align::Align;
 pub use buffered_sink::BufferedSink;
 pub use bytes::are_bytes;
 pub use cells::{be32_at, be64_at, cell_at, put_cell, put_cells, two_cells_at, up4};
@@ -46,3 +49,4 @@ pub use traced_write::{TracedWrite, TracedWriter};
 pub use vec_sink::VecSink;
 pub use write_sink::WriteSink;
 pub use writing::{flush, write_all, write_and_flush};
+pub use zeros::put_zeros;

@@ -42,7 +42,8 @@ pub fn pipe<C: Command, S: TracedRead, T: TracedWrite>(
         (S.trace source.new) (T.trace target.old) (T.trace target.new) result }
 {
     let input = read_all_traced(alloc, source, limits)?;
-    write_output(alloc, command, &input, limits, target)
+    let mut sink = BufferedSink::new(target);
+    run_and_finish(alloc, command, &input, limits, &mut sink)
 }
 
 /// Reads an input to its end, runs a command on it, writes the output and flushes: `pipe` over a
@@ -66,27 +67,6 @@ pub fn pipe_to<C: Command, R: Read, W: Write>(
     let mut source = TracedReader::new(reader);
     let mut target = TracedWriter::new(writer);
     pipe(alloc, command, &mut source, &mut target, limits)
-}
-
-/// Runs a command over a buffered sink of a writer, and flushes.
-fn write_output<C: Command, T: TracedWrite>(
-    alloc: Global,
-    command: &C,
-    input: &[u8],
-    limits: Limits,
-    target: &mut T,
-) -> Result<C::Value, C::Failure>
-    requires can { C.can_run command.now }
-    requires short { length input.now ≤ limits.file }
-    ensures written { IfOk result (λ value. Appended WroteAndFlushed
-        ((C.promise command.now limits).is_output value input.now)
-        (T.trace target.old) (T.trace target.new)) }
-    ensures failed { let promise = C.promise command.now limits in
-        IfErr result (CommandFailed WriteOrFlushStopped promise.wraps (promise.is_text input.now)
-        (promise.has_error input.now) (T.trace target.old) (T.trace target.new)) }
-{
-    let mut sink = BufferedSink::new(target);
-    run_and_finish(alloc, command, input, limits, &mut sink)
 }
 
 /// Runs a command over a sink with an empty buffer, and finishes the sink.

@@ -29,8 +29,8 @@ returns g c =
     record {
       done = search rules;
       failed = piping_failed promise limits (g.met.C.Command.laws command limits) _ _ _ _ c.deref.result.now
-          c.in_ok-input.input.items c.write_output.result c.in_ok-input.ensures.read.whole c.deref.ensures.value
-          c.write_output.ensures.failed;
+          c.in_ok-input.input.items c.run_and_finish.result c.in_ok-input.ensures.read.whole c.deref.ensures.value
+          (search rules);
       takes_at_most_one_byte_more = search rules;
       no_failed_read_ignored = search rules;
       no_failed_write_ignored = search rules;
