@@ -1,4 +1,4 @@
-use Rattle.std.proofs.Common.{◌≡◌, ◌≢◌, ℕ, ◌+◌, ◌*◌, ◌/◌, ◌%◌, ◌^◌, ◌<◌, ◌≤◌, List, [], ◌∷◌, ◌++◌, length, take, drop, replicate, suc, zero}
+use Rattle.std.proofs.Common.{◌≡◌, ℕ, ◌+◌, ◌*◌, ◌^◌, ◌<◌, ◌≤◌, List, [], ◌∷◌, ◌++◌, length, take, drop, replicate, suc, zero}
 use Rattle.std.proofs.Common.{refl, sym, ap, ◌∙◌, arith}
 use Rattle.std.specs.Cmp.{ranked}
 use Rattle.std.specs.Cmp.Lexicographic.{slice_cmp}
@@ -7,10 +7,9 @@ use Rattle.std.specs.declared.cmp.Ordering.{Ordering}
 use Rattle.std.specs.declared.cmp.Ordering.TheVariants.{Less, Equal, Greater}
 use Rattle.std.proofs.lemmas.Cmp.{nat_list_cmp_total}
 use Rattle.std.proofs.lemmas.List.{take-replicate}
-use Rattle.std.proofs.lemmas.Nat.{mul-add-lt, div-mul-add, mod-mul-add}
+use Rattle.std.proofs.lemmas.Nat.{mul-add-lt}
 use Rattle.bi_base.specs.Cells.{AreBytes}
 use Rattle.bi_base.proofs.ByteLists.{AreBytes-drop}
-use Rattle.bi_blob.specs.Tree.{HasNoZero}
 use Rattle.bi_blob.specs.NamesByPrefix.{prefix_of_name, PrefixesKeepByteOrder}
 
 -- Short names without zeros are the same if their prefixes are, and the order of names by prefix and then by bytes is byte order.
@@ -37,11 +36,6 @@ leading (suc count) (byte ∷ later) = byte * 256 ^ count + leading count later
 power_is_positive : (count : ℕ) → 0 < 256 ^ count
 power_is_positive zero = omega arith
 power_is_positive (suc count) = omega (arith, power_is_positive count)
-
--- The number of a name that does not begin with a zero is above zero.
-above_zero : (count first rest : ℕ) → first ≢ 0 → 0 < first * 256 ^ count + rest
-above_zero count first rest nonzero =
-    omega (arith, mul-add-lt 0 (256 ^ count) 0 first (omega (arith, nonzero)) (power_is_positive count))
 
 leading_fits : (count : ℕ) (name : List ℕ) → AreBytes name → leading count name < 256 ^ count
 leading_fits zero name bytes = power_is_positive zero
@@ -90,40 +84,6 @@ prefix_is_leading (a ∷ b ∷ c ∷ d ∷ e ∷ []) = omega arith
 prefix_is_leading (a ∷ b ∷ c ∷ d ∷ e ∷ f ∷ []) = omega arith
 prefix_is_leading (a ∷ b ∷ c ∷ d ∷ e ∷ f ∷ g ∷ []) = omega arith
 prefix_is_leading (a ∷ b ∷ c ∷ d ∷ e ∷ f ∷ g ∷ h ∷ later) = omega arith
-
--- Names of at most this count of bytes without zeros are the same if their first bytes are the same number.
-leading_tells : (count : ℕ) (one other : List ℕ) → AreBytes one → AreBytes other → HasNoZero one → HasNoZero other →
-    length one ≤ count → length other ≤ count → leading count one ≡ leading count other → one ≡ other
-leading_tells count [] [] one_bytes other_bytes one_nonzero other_nonzero one_short other_short same = refl
-leading_tells zero (x ∷ xs) other one_bytes other_bytes one_nonzero other_nonzero one_short other_short same =
-    absurd (omega (arith, one_short))
-leading_tells zero [] (y ∷ ys) one_bytes other_bytes one_nonzero other_nonzero one_short other_short same =
-    absurd (omega (arith, other_short))
-leading_tells (suc count) [] (y ∷ ys) one_bytes other_bytes one_nonzero other_nonzero one_short other_short same =
-    absurd (omega (arith, same, above_zero count y (leading count ys) other_nonzero.0))
-leading_tells (suc count) (x ∷ xs) [] one_bytes other_bytes one_nonzero other_nonzero one_short other_short same =
-    absurd (omega (arith, same, above_zero count x (leading count xs) one_nonzero.0))
-leading_tells (suc count) (x ∷ xs) (y ∷ ys) one_bytes other_bytes one_nonzero other_nonzero one_short other_short same =
-    let power = 256 ^ count in
-    let xs_bytes = AreBytes-drop 1 (x ∷ xs) one_bytes in
-    let ys_bytes = AreBytes-drop 1 (y ∷ ys) other_bytes in
-    let first : x ≡ y =
-    sym (div-mul-add x power (leading count xs) (leading_fits count xs xs_bytes))
-    ∙ ap (λ n. n / power) same ∙ div-mul-add y power (leading count ys) (leading_fits count ys ys_bytes) in
-    let rest : leading count xs ≡ leading count ys =
-    sym (mod-mul-add x power (leading count xs) (leading_fits count xs xs_bytes))
-    ∙ ap (λ n. n % power) same ∙ mod-mul-add y power (leading count ys) (leading_fits count ys ys_bytes) in
-    ap (λ byte. byte ∷ xs) first
-    ∙ ap (λ l. y ∷ l)
-    (leading_tells count xs ys xs_bytes ys_bytes one_nonzero.1 other_nonzero.1 (omega (arith, one_short))
-    (omega (arith, other_short)) rest)
-
--- Names of at most eight bytes without zeros are the same if their prefixes are.
-pub prefix_tells : (one other : List ℕ) → AreBytes one → AreBytes other → HasNoZero one → HasNoZero other →
-    length one ≤ 8 → length other ≤ 8 → prefix_of_name one ≡ prefix_of_name other → one ≡ other
-prefix_tells one other one_bytes other_bytes one_nonzero other_nonzero one_short other_short same =
-    leading_tells 8 one other one_bytes other_bytes one_nonzero other_nonzero one_short other_short
-    (sym (prefix_is_leading one) ∙ same ∙ prefix_is_leading other)
 
 -- The order of names by prefix, and of those with one prefix by their bytes, is byte order.
 pub prefixes_keep_order : PrefixesKeepByteOrder

@@ -2,15 +2,13 @@ use Rattle.std.proofs.Common.{◌≡◌, ◌≢◌, ℕ, Bool, true, false, cond
 use Rattle.std.specs.Prelude.{◌||◌, bytes_eq}
 use Rattle.std.specs.List.{list_any}
 use Rattle.std.specs.declared.cmp.Ordering.{Ordering}
-use Rattle.std.specs.declared.cmp.Ordering.TheVariants.{Less, Equal, Greater}
-use Rattle.std.specs.Ordering.{nat_cmp, ordering_then, is_eq}
+use Rattle.std.specs.Ordering.{nat_cmp, is_eq}
 use Rattle.std.specs.Cmp.Lexicographic.{slice_cmp, bytes_decides}
 use Rattle.std.specs.BTreeSet.{BTreeSet, contains, Updates, IsEmpty, btree_set_len}
 use denote.Ref.{Bor}
 use Rattle.std.proofs.lemmas.Bool.{false≢true, or_cases}
 use Rattle.std.proofs.lemmas.List.Folds.{list_any-append}
 use Rattle.std.proofs.lemmas.List.{nil_from_length}
-use Rattle.std.proofs.lemmas.Map.Lookups.{exact_bytes}
 use Rattle.std.proofs.lemmas.Map.Text.{is_eq-slice_cmp}
 use Rattle.bi_blob.specs.Tree.{IsNew}
 use Rattle.bi_blob.specs.NameSets.{HoldsNames}
@@ -20,25 +18,6 @@ use Rattle.bi_blob.specs.NameSets.{HoldsNames}
 -- The order of names.
 abbrev pub name_cmp : Bor (List ℕ) → Bor (List ℕ) → Ordering
 name_cmp x y = slice_cmp nat_cmp x.now y.now
-
--- Names in an order that compares something of them first, and then their bytes, are equal if and only if the bytes are.
-pub is_eq-before : (before : List ℕ → List ℕ → Ordering) → ((name : List ℕ) → before name name ≡ Equal) → (m n : List ℕ) →
-    is_eq (ordering_then (before m n) (slice_cmp nat_cmp m n)) ≡ bytes_eq m n
-is_eq-before before itself m n = by_order (slice_cmp nat_cmp m n) refl ∙ is_eq-slice_cmp m n where
-  unequal : (a : Ordering) → is_eq (ordering_then a Less) ≡ false
-  unequal Less = refl
-  unequal Equal = refl
-  unequal Greater = refl
-
-  unequal_greater : (a : Ordering) → is_eq (ordering_then a Greater) ≡ false
-  unequal_greater Less = refl
-  unequal_greater Equal = refl
-  unequal_greater Greater = refl
-
-  by_order : (o : Ordering) → slice_cmp nat_cmp m n ≡ o → is_eq (ordering_then (before m n) o) ≡ is_eq o
-  by_order Less e = unequal (before m n)
-  by_order Equal e = ap (λ a. is_eq (ordering_then a Equal)) (ap (before m) (sym (exact_bytes m n e)) ∙ itself m)
-  by_order Greater e = unequal_greater (before m n)
 
 -- An empty set has no names.
 pub HoldsNames-none : (set : BTreeSet (Bor (List ℕ))) → IsEmpty set → HoldsNames set []

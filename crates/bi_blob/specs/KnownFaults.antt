@@ -22,7 +22,8 @@ use Rattle.bi_blob.specs.KnownBlobs.{cells, file_of_version_16, smallest_of_vers
 -- A file of a header, no memory reservations, a structure block of these tokens and this strings
 -- block. The first token is at offset 56.
 abbrev pub file_of : List Token → List ℕ → List ℕ
-file_of tokens strings = text_of_blocks 0 (reservation_block []) (flat_map encoding tokens) strings
+file_of tokens strings =
+    text_of_blocks 4 0 (reservation_block []) (flat_map encoding tokens) strings
 
 -- A file whose root holds FDT_END.
 abbrev pub file_with_end_in_root : List ℕ

@@ -41,7 +41,7 @@ tree_with_properties = record {
 
 -- Its normal text, with boot processor 0 and no memory reservations.
 abbrev pub text_with_properties : List ℕ
-text_with_properties = text_of_tree 0 [] tree_with_properties
+text_with_properties = text_of_tree 4 0 [] tree_with_properties
 
 -- The names in its strings block.
 abbrev pub names_of_properties : List (List ℕ)

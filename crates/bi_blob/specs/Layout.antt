@@ -3,7 +3,7 @@ use Rattle.std.specs.Prelude.{Bool, replicate, filter, flat_map, sum_by, not, by
 use Rattle.std.specs.Prelude.{if◌then◌else◌}
 use Rattle.std.specs.List.{AllByRecursion, list_any}
 use Rattle.std.specs.FinMap.{entries}
-use Rattle.bi_base.specs.Cells.{cell, up4, AreBytes}
+use Rattle.bi_base.specs.Cells.{cell, up_to, AreBytes}
 use Rattle.bi_blob.specs.Tokens.{Token, BeginNode, EndNode, Prop, End, token_bytes, width}
 use Rattle.bi_blob.specs.Tree.{Nodes, none, node, Root, Property, PropertyMap, FileProperty}
 use Rattle.bi_blob.specs.Tree.{FileNode, with_each_node, IsTree, AreProperties, IsNormal}
@@ -14,7 +14,8 @@ use Rattle.bi_blob.specs.Blob.{Reservation, IsReservation, reservation_block, bl
 -- the memory reservation block, the structure block and the strings block, one after the other. The
 -- text has no FDT_NOP, padding is zero, and each name of a property is in the strings block once,
 -- in the order of first use; names share no bytes. Properties and children are in the order of the
--- tree. The text is the normal one if the properties of each node are in byte order of their names.
+-- tree. The length of the text is a multiple of an alignment. The text is the normal one if the
+-- alignment is 4 and the properties of each node are in byte order of their names.
 
 -- The names of properties that an event uses.
 abbrev pub event_names : Event → List (List ℕ)
@@ -45,13 +46,13 @@ offset_in [] name = 0
 offset_in (other ∷ later) name =
     if bytes_eq other name then 0 else length other + 1 + offset_in later name
 
--- The zero bytes that pad what is this long to a multiple of four.
-abbrev pub padding_to_4 : ℕ → List ℕ
-padding_to_4 size = replicate (up4 size - size) 0
+-- The zero bytes that pad what is this long to a multiple of `align`.
+abbrev pub padding_to : (align size : ℕ) → List ℕ
+padding_to align size = replicate (up_to align size - size) 0
 
 -- The bytes of a token with zeros as its padding (5.4.1).
 abbrev pub encoding : Token → List ℕ
-encoding token = token_bytes token ++ padding_to_4 (length (token_bytes token))
+encoding token = token_bytes token ++ padding_to 4 (length (token_bytes token))
 
 -- The token of an event, if the strings block has these names.
 abbrev pub token_of : List (List ℕ) → Event → Token
@@ -76,12 +77,17 @@ strings_block events = strings_of (distinct_names (used_names events))
 abbrev pub length_before_padding : (reserved structure strings : ℕ) → ℕ
 length_before_padding reserved structure strings = 40 + reserved + structure + strings
 
--- The header of a text with blocks of these lengths: version 17, and a reader of version 16 can
--- read it (5.1, 5.2).
-abbrev pub blob_header : (cpu reserved structure strings : ℕ) → List ℕ
-blob_header cpu reserved structure strings =
+-- The length of a text with blocks of these lengths: a multiple of `align`.
+abbrev pub text_length : (align reserved structure strings : ℕ) → ℕ
+text_length align reserved structure strings =
+    up_to align (length_before_padding reserved structure strings)
+
+-- The header of a text of this total length with blocks of these lengths: version 17, and a reader
+-- of version 16 can read it (5.1, 5.2).
+abbrev pub blob_header : (cpu total reserved structure strings : ℕ) → List ℕ
+blob_header cpu total reserved structure strings =
     cell blob_magic
-    ++ (cell (up4 (length_before_padding reserved structure strings))
+    ++ (cell total
     ++ (cell (40 + reserved)
     ++ (cell (40 + reserved + structure)
     ++ (cell 40
@@ -91,33 +97,35 @@ blob_header cpu reserved structure strings =
     ++ (cell strings
     ++ cell structure))))))))
 
--- A text of a boot processor and three blocks.
-unfoldable pub text_of_blocks : ℕ → (reserved structure strings : List ℕ) → List ℕ
-text_of_blocks cpu reserved structure strings =
-    blob_header cpu (length reserved) (length structure) (length strings)
+-- A text of a boot processor and three blocks, whose length is a multiple of `align`.
+unfoldable pub text_of_blocks : (align cpu : ℕ) → (reserved structure strings : List ℕ) → List ℕ
+text_of_blocks align cpu reserved structure strings =
+    blob_header cpu (text_length align (length reserved) (length structure) (length strings))
+    (length reserved) (length structure) (length strings)
     ++ (reserved
     ++ (structure
     ++ (strings
-    ++ padding_to_4
+    ++ padding_to align
     (length_before_padding (length reserved) (length structure) (length strings)))))
 
 -- The text of a boot processor, memory reservations and events.
-unfoldable pub text_of_events : ℕ → List Reservation → List Event → List ℕ
-text_of_events cpu reservations events =
-    text_of_blocks cpu (reservation_block reservations) (structure_block events)
+unfoldable pub text_of_events : (align cpu : ℕ) → List Reservation → List Event → List ℕ
+text_of_events align cpu reservations events =
+    text_of_blocks align cpu (reservation_block reservations) (structure_block events)
     (strings_block events)
 
 -- The text of a boot processor, memory reservations and a tree, with its properties in their
 -- order.
-abbrev pub text_of_tree : ℕ → List Reservation → Root (List Property) → List ℕ
-text_of_tree cpu reservations root = text_of_events cpu reservations (events_of root)
+abbrev pub text_of_tree : (align cpu : ℕ) → List Reservation → Root (List Property) → List ℕ
+text_of_tree align cpu reservations root = text_of_events align cpu reservations (events_of root)
 
--- This is the normal text of a boot processor, memory reservations and a tree: the properties of
--- each node are in byte order of their names (profile of this project).
+-- This is the normal text of a boot processor, memory reservations and a tree: its length is a
+-- multiple of four, and the properties of each node are in byte order of their names (profile of
+-- this project).
 pub record IsNormalText (cpu : ℕ) (reservations : List Reservation)
     (root : Root (List Property)) (text : List ℕ) : Type 0 where
   pub is_normal : IsNormal root
-  pub is_text : text ≡ text_of_tree cpu reservations root
+  pub is_text : text ≡ text_of_tree 4 cpu reservations root
 
 -- The tree with these properties by name, and with the properties of each node in byte order
 -- (profile of this project).

@@ -1,6 +1,7 @@
 use Rattle.std.specs.Prelude.{◌≡◌, ℕ, ◌+◌, ◌*◌, ◌%◌, ◌≤◌, List, [], ◌∷◌, ◌++◌, length, sum_by}
 use Rattle.std.specs.Prelude.{Contains, ◌↔◌}
 use Rattle.bi_base.specs.declared.fault.Fault.{Fault}
+use Rattle.bi_base.specs.Alignments.{IsAlignment}
 use Rattle.bi_base.specs.Cells.{up4, AreBytes}
 use Rattle.bi_base.specs.Limits.{Limits}
 use Rattle.bi_blob.specs.Tokens.{End, AreEncodings, IsNameAt}
@@ -14,7 +15,7 @@ use Rattle.bi_blob.specs.BlobFaults.{IsBlobFault}
 use Rattle.bi_blob.specs.BlobLaws.{SameContent, HasOneTree}
 use Rattle.bi_blob.specs.Layout.{event_names, used_names, distinct_names, offset_in, tokens_of}
 use Rattle.bi_blob.specs.Layout.{structure_block, strings_block, text_of_events, text_of_tree}
-use Rattle.bi_blob.specs.Layout.{event_width, length_before_padding, structure_place}
+use Rattle.bi_blob.specs.Layout.{event_width, text_length, structure_place}
 use Rattle.bi_blob.specs.Layout.{tree_with_places, in_byte_order, IsContent, IsNormalText}
 use Rattle.bi_blob.specs.Layout.{longest_text}
 
@@ -83,13 +84,14 @@ pub record EncodesTree (reservations : List Reservation) (root : Root (List Prop
 -- The blocks of a text that is not too long encode its tree.
 abbrev pub TextEncodesItsTree : Type 0
 TextEncodesItsTree =
-    (cpu : ℕ) (reservations : List Reservation) (root : Root (List Property))
-    → IsContent cpu reservations root
-    → length (text_of_tree cpu reservations root) ≤ longest_text → EncodesTree reservations root
+    (align cpu : ℕ) (reservations : List Reservation) (root : Root (List Property))
+    → IsAlignment align → IsContent cpu reservations root
+    → length (text_of_tree align cpu reservations root) ≤ longest_text
+    → EncodesTree reservations root
 
 -- This file is a blob of these and of nothing else. Its tree has the places of the layout and the
 -- same depth, and its total size is the length of the text.
-pub record IsBlobOf (file : List ℕ) (cpu : ℕ) (reservations : List Reservation)
+pub record IsBlobOf (file : List ℕ) (align cpu : ℕ) (reservations : List Reservation)
     (root : Root (List Property)) : Type 0 where
   pub blob : IsBlob file cpu reservations (tree_with_places reservations root)
   pub same_tree : tree_without_places (tree_with_places reservations root) ≡ root
@@ -98,20 +100,21 @@ pub record IsBlobOf (file : List ℕ) (cpu : ℕ) (reservations : List Reservati
       → IsBlob file other_cpu other_reservations other_root
       → SameContent cpu other_cpu reservations other_reservations
       (tree_with_places reservations root) other_root
-  pub is_total : totalsize file ≡ length (text_of_tree cpu reservations root)
+  pub is_total : totalsize file ≡ length (text_of_tree align cpu reservations root)
 
 -- A text that is not too long, with any bytes after it, is a blob of exactly its content.
 abbrev pub TextIsBlob : Type 0
 TextIsBlob =
-    (cpu : ℕ) (reservations : List Reservation) (root : Root (List Property)) (rest : List ℕ)
-    → IsContent cpu reservations root
-    → length (text_of_tree cpu reservations root) ≤ longest_text → AreBytes rest
-    → IsBlobOf (text_of_tree cpu reservations root ++ rest) cpu reservations root
+    (align cpu : ℕ) (reservations : List Reservation) (root : Root (List Property))
+    (rest : List ℕ)
+    → IsAlignment align → IsContent cpu reservations root
+    → length (text_of_tree align cpu reservations root) ≤ longest_text → AreBytes rest
+    → IsBlobOf (text_of_tree align cpu reservations root ++ rest) align cpu reservations root
 
 -- A file is a blob of these and nothing else within limits, and has no fault under them.
-pub record IsAccepted (bounds : Limits) (file : List ℕ) (cpu : ℕ)
+pub record IsAccepted (bounds : Limits) (file : List ℕ) (align cpu : ℕ)
     (reservations : List Reservation) (root : Root (List Property)) : Type 0 where
-  pub is_blob : IsBlobOf file cpu reservations root
+  pub is_blob : IsBlobOf file align cpu reservations root
   pub is_within : IsWithin bounds file (tree_with_places reservations root)
   pub no_fault : (fault : Fault) → ¬ (IsBlobFault bounds file fault)
 
@@ -119,13 +122,14 @@ pub record IsAccepted (bounds : Limits) (file : List ℕ) (cpu : ℕ)
 -- whole length and the depth of its tree.
 abbrev pub TextIsAccepted : Type 0
 TextIsAccepted =
-    (bounds : Limits) (cpu : ℕ) (reservations : List Reservation) (root : Root (List Property))
-    (rest : List ℕ)
-    → IsContent cpu reservations root
-    → length (text_of_tree cpu reservations root) ≤ longest_text → AreBytes rest
-    → length (text_of_tree cpu reservations root ++ rest) ≤ bounds.file
+    (bounds : Limits) (align cpu : ℕ) (reservations : List Reservation)
+    (root : Root (List Property)) (rest : List ℕ)
+    → IsAlignment align → IsContent cpu reservations root
+    → length (text_of_tree align cpu reservations root) ≤ longest_text → AreBytes rest
+    → length (text_of_tree align cpu reservations root ++ rest) ≤ bounds.file
     → depth_of root ≤ bounds.depth
-    → IsAccepted bounds (text_of_tree cpu reservations root ++ rest) cpu reservations root
+    → IsAccepted bounds (text_of_tree align cpu reservations root ++ rest) align cpu reservations
+    root
 
 -- A normal text that is not too long, with any bytes after it, is accepted under limits of at least
 -- its whole length and the depth of its tree.
@@ -136,44 +140,43 @@ NormalTextIsAccepted =
     → IsContent cpu reservations root → IsNormalText cpu reservations root text
     → length text ≤ longest_text → AreBytes rest
     → length (text ++ rest) ≤ bounds.file → depth_of root ≤ bounds.depth
-    → IsAccepted bounds (text ++ rest) cpu reservations root
+    → IsAccepted bounds (text ++ rest) 4 cpu reservations root
 
 -- The length of a text.
-pub record HasTextLength (cpu : ℕ) (reservations : List Reservation)
+pub record HasTextLength (align cpu : ℕ) (reservations : List Reservation)
     (root : Root (List Property)) : Type 0 where
-  pub is_length : length (text_of_tree cpu reservations root)
-      ≡ up4
-      (length_before_padding (length (reservation_block reservations))
-      (length (structure_block (events_of root))) (length (strings_block (events_of root))))
-  pub is_whole : length (text_of_tree cpu reservations root) % 4 ≡ 0
+  pub is_length : length (text_of_tree align cpu reservations root)
+      ≡ text_length align (length (reservation_block reservations))
+      (length (structure_block (events_of root))) (length (strings_block (events_of root)))
+  pub is_whole : length (text_of_tree align cpu reservations root) % align ≡ 0
 
--- Each text is as long as its header and its blocks, padded to a multiple of four.
+-- Each text is as long as its header and its blocks, padded to a multiple of its alignment.
 abbrev pub EachTextHasItsLength : Type 0
 EachTextHasItsLength =
-    (cpu : ℕ) (reservations : List Reservation) (root : Root (List Property))
-    → HasTextLength cpu reservations root
+    (align cpu : ℕ) (reservations : List Reservation) (root : Root (List Property))
+    → IsAlignment align → HasTextLength align cpu reservations root
 
 -- The length of a text of these events, and of each of its blocks: sixteen bytes for each
 -- reservation and for the end pair, the width of each event and four bytes for FDT_END, and each
 -- name once with a zero byte.
-pub record HasLengthOfEvents (cpu : ℕ) (reservations : List Reservation) (events : List Event)
-    : Type 0 where
+pub record HasLengthOfEvents (align cpu : ℕ) (reservations : List Reservation)
+    (events : List Event) : Type 0 where
   pub reserved : length (reservation_block reservations) ≡ 16 * length reservations + 16
   pub structure : length (structure_block events) ≡ sum_by event_width events + 4
   pub strings :
       length (strings_block events)
       ≡ sum_by (λ name. length name + 1) (distinct_names (used_names events))
-  pub is_length : length (text_of_events cpu reservations events)
-      ≡ up4
-      (length_before_padding (length (reservation_block reservations))
-      (length (structure_block events)) (length (strings_block events)))
-  pub is_whole : length (text_of_events cpu reservations events) % 4 ≡ 0
+  pub is_length : length (text_of_events align cpu reservations events)
+      ≡ text_length align (length (reservation_block reservations))
+      (length (structure_block events)) (length (strings_block events))
+  pub is_whole : length (text_of_events align cpu reservations events) % align ≡ 0
 
--- Each text of events is as long as its header and its blocks, padded to a multiple of four.
+-- Each text of events is as long as its header and its blocks, padded to a multiple of its
+-- alignment.
 abbrev pub TextOfEventsHasItsLength : Type 0
 TextOfEventsHasItsLength =
-    (cpu : ℕ) (reservations : List Reservation) (events : List Event)
-    → HasLengthOfEvents cpu reservations events
+    (align cpu : ℕ) (reservations : List Reservation) (events : List Event)
+    → IsAlignment align → HasLengthOfEvents align cpu reservations events
 
 -- The number of bytes of each event's token.
 pub record HasEventWidths : Type 0 where
@@ -193,25 +196,28 @@ BlobHasContent =
 -- texts.
 abbrev pub TextHasOneContent : Type 0
 TextHasOneContent =
-    (cpu other_cpu : ℕ) (reservations other_reservations : List Reservation)
+    (align cpu other_cpu : ℕ) (reservations other_reservations : List Reservation)
     (root other_root : Root (List Property))
+    → IsAlignment align
     → IsContent cpu reservations root → IsContent other_cpu other_reservations other_root
-    → length (text_of_tree cpu reservations root) ≤ longest_text
-    → text_of_tree cpu reservations root ≡ text_of_tree other_cpu other_reservations other_root
+    → length (text_of_tree align cpu reservations root) ≤ longest_text
+    → text_of_tree align cpu reservations root
+    ≡ text_of_tree align other_cpu other_reservations other_root
     → SameContent cpu other_cpu reservations other_reservations root other_root
 
 -- Two texts are each followed by other bytes, and neither text is too long. If the files are the
 -- same, the contents are the same, and so are the bytes after the texts.
 abbrev pub TextWithRestHasOneContent : Type 0
 TextWithRestHasOneContent =
-    (cpu other_cpu : ℕ) (reservations other_reservations : List Reservation)
+    (align cpu other_cpu : ℕ) (reservations other_reservations : List Reservation)
     (root other_root : Root (List Property))
     → (rest other_rest : List ℕ)
+    → IsAlignment align
     → IsContent cpu reservations root → IsContent other_cpu other_reservations other_root
-    → length (text_of_tree cpu reservations root) ≤ longest_text
-    → length (text_of_tree other_cpu other_reservations other_root) ≤ longest_text
-    → text_of_tree cpu reservations root ++ rest
-    ≡ text_of_tree other_cpu other_reservations other_root ++ other_rest
+    → length (text_of_tree align cpu reservations root) ≤ longest_text
+    → length (text_of_tree align other_cpu other_reservations other_root) ≤ longest_text
+    → text_of_tree align cpu reservations root ++ rest
+    ≡ text_of_tree align other_cpu other_reservations other_root ++ other_rest
     → SameContent cpu other_cpu reservations other_reservations root other_root
     × (rest ≡ other_rest)
 

@@ -1,6 +1,6 @@
 use Rattle.std.proofs.Common.{◌≡◌, ◌≢◌, ℕ, ◌+◌, ◌-◌, ◌≤◌, List, [], ◌∷◌, ◌++◌, length, take, drop, min, refl, sym, ap, subst, ◌∙◌, arith}
 use Rattle.std.specs.List.{AllByRecursion}
-use Rattle.std.proofs.lemmas.List.{length-take, length-drop, append_assoc, take-append-drop, drop-append-le, drop-drop, take_at, drop_at}
+use Rattle.std.proofs.lemmas.List.{length-take, length-drop, append_assoc, take-append-drop, drop-append-le, drop-drop}
 use Rattle.bi_blob.specs.Tokens.{Token, End, token_bytes, width, IsEncoding, AreEncodings, IsTokenAt}
 use Rattle.bi_blob.proofs.Blobs.Cells.{BytesAt-from}
 use Rattle.bi_blob.proofs.Blobs.Tokens.{one_token}
@@ -61,22 +61,6 @@ AreEncodings-length at (token ∷ later) bytes is_encoded =
     let first : width token ≤ length bytes = AreEncodings-first token bytes is_encoded.0 in
     let same : at + length bytes ≡ at + width token + length (drop (width token) bytes) = omega arith in
     same ∙ rest
-
--- The encoding of a token and then those of others are the encodings of all.
-pub AreEncodings-cons : (token : Token) (later : List Token) (a b : List ℕ) → IsEncoding token a → AreEncodings later b →
-    AreEncodings (token ∷ later) (a ++ b)
-AreEncodings-cons token later a b is_padded_encoding is_encoded = (
-  subst (IsEncoding token) (sym (take_at a b (width token) is_padded_encoding.whole)) is_padded_encoding,
-  subst (AreEncodings later) (sym (drop_at a b (width token) is_padded_encoding.whole)) is_encoded,
-)
-
--- The encodings of some tokens and then those of others are the encodings of all.
-pub AreEncodings-append : (ts us : List Token) (a b : List ℕ) → AreEncodings ts a → AreEncodings us b → AreEncodings (ts ++ us) (a ++ b)
-AreEncodings-append [] us a b first second = subst (λ l. AreEncodings us (l ++ b)) (sym first) second
-AreEncodings-append (token ∷ ts) us a b first second =
-    let w : ℕ = width token in
-    subst (AreEncodings (token ∷ (ts ++ us))) (sym (append_assoc (take w a) (drop w a) b) ∙ ap (λ l. l ++ b) (take-append-drop w a))
-    (AreEncodings-cons token (ts ++ us) (take w a) (drop w a ++ b) first.0 (AreEncodings-append ts us (drop w a) b first.1 second))
 
 -- At most one list of tokens that has one FDT_END, at its end, is at an offset.
 pub one_token_list : (file : List ℕ) (at : ℕ) (ts us : List Token) → AllByRecursion (λ t. t ≢ End) ts → AllByRecursion (λ t. t ≢ End) us →

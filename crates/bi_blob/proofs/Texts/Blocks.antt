@@ -2,10 +2,10 @@ use Rattle.std.proofs.Common.{◌≡◌, ℕ, ◌+◌, ◌-◌, ◌*◌, ◌%◌
 use Rattle.std.proofs.Common.{append_assoc, length-append}
 use Rattle.std.proofs.lemmas.List.{take_at, drop_at}
 use Rattle.std.proofs.Math.Seq.{take-append-add}
-use Rattle.bi_base.specs.Cells.{slice, up4}
+use Rattle.bi_base.specs.Cells.{slice}
 use Rattle.bi_blob.specs.Blob.{Header, Reservation, pair_bytes, end_pair, reservation_block, header_length, structure_end, off_dt_struct}
 use Rattle.bi_blob.specs.Blob.{size_dt_struct}
-use Rattle.bi_blob.specs.Layout.{blob_header, padding_to_4, length_before_padding, text_of_blocks}
+use Rattle.bi_blob.specs.Layout.{blob_header, padding_to, length_before_padding, text_length, text_of_blocks}
 use Rattle.bi_blob.proofs.Blobs.Cells.{length-cell8}
 use Rattle.bi_blob.proofs.Blobs.Headers.{header_length-17, structure_end-17}
 use Rattle.bi_blob.proofs.Texts.Header.{HasCells}
@@ -41,15 +41,19 @@ pub after_five : (a b c d e rest : List ℕ) → (a ++ (b ++ (c ++ (d ++ e)))) +
 after_five a b c d e rest = simp append_assoc
 
 -- A text with any bytes after it: its header and its three blocks in turn.
-pub text_parts : (cpu : ℕ) (reserved structure strings rest : List ℕ) →
-    text_of_blocks cpu reserved structure strings ++ rest
-    ≡ blob_header cpu (length reserved) (length structure) (length strings)
+pub text_parts : (align cpu : ℕ) (reserved structure strings rest : List ℕ) →
+    text_of_blocks align cpu reserved structure strings ++ rest
+    ≡ blob_header cpu (text_length align (length reserved) (length structure) (length strings)) (length reserved) (length structure)
+    (length strings)
     ++ (reserved ++ (structure ++ (strings
-    ++ (padding_to_4 (length_before_padding (length reserved) (length structure) (length strings)) ++ rest))))
+    ++ (padding_to align (length_before_padding (length reserved) (length structure) (length strings)) ++ rest))))
 unfolding text_of_blocks
-text_parts cpu reserved structure strings rest =
-    after_five (blob_header cpu (length reserved) (length structure) (length strings)) reserved structure strings
-    (padding_to_4 (length_before_padding (length reserved) (length structure) (length strings))) rest
+text_parts align cpu reserved structure strings rest =
+    after_five
+    (blob_header cpu (text_length align (length reserved) (length structure) (length strings)) (length reserved) (length structure)
+    (length strings))
+    reserved structure strings
+    (padding_to align (length_before_padding (length reserved) (length structure) (length strings))) rest
 
 -- The memory reservation block is a whole number of pairs.
 pub length-reservations : (reservations : List Reservation) → length (flat_map pair_bytes reservations) ≡ 16 * length reservations
@@ -70,9 +74,9 @@ reserved-aligned reservations =
     length-pair = simp (length-append, length-cell8)
 
 -- What has the cells of a text, and is as long at least, has the header of a blob.
-pub text_header : (file : List ℕ) (cpu reserved structure strings : ℕ) → HasCells file cpu reserved structure strings → reserved % 8 ≡ 0 →
-    up4 (length_before_padding reserved structure strings) ≤ length file → Header file
-text_header file cpu reserved structure strings cells aligned long =
+pub text_header : (file : List ℕ) (cpu total reserved structure strings : ℕ) → HasCells file cpu total reserved structure strings →
+    reserved % 8 ≡ 0 → length_before_padding reserved structure strings ≤ total → total ≤ length file → Header file
+text_header file cpu total reserved structure strings cells aligned within long =
     let header : header_length file ≡ 40 = header_length-17 file cells.is_version in
     let structure_ends : structure_end file ≡ off_dt_struct file + size_dt_struct file = structure_end-17 file cells.is_version in
     record {

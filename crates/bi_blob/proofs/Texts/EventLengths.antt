@@ -8,12 +8,13 @@ use Rattle.bi_blob.specs.Tokens.{End}
 use Rattle.bi_blob.specs.Events.{Event}
 use Rattle.bi_blob.specs.Blob.{reservation_block}
 use Rattle.bi_blob.specs.Layout.{used_names, distinct_names, encoding, token_of, tokens_of, event_width, structure_block, strings_block}
-use Rattle.bi_blob.specs.Layout.{strings_of, text_of_events}
+use Rattle.bi_blob.specs.Layout.{strings_of, text_length, text_of_events}
 use Rattle.bi_blob.specs.TextLaws.{TextOfEventsHasItsLength, HasEventWidths}
 use Rattle.bi_base.proofs.CellLaws.{length-cell}
 pub use Rattle.bi_blob.proofs.Blobs.ReservationFaults.{length-reservation_block}
 use Rattle.bi_blob.proofs.Texts.TextTokens.{length-encoding, width-token}
-use Rattle.bi_blob.proofs.Texts.TextLength.{length-text_of_blocks, up4-whole}
+use Rattle.bi_base.proofs.AlignmentLaws.{alignment-positive, up_to-whole}
+use Rattle.bi_blob.proofs.Texts.TextLength.{length-text_of_blocks}
 use Rattle.bi_blob.proofs.Blobs.TreeTokens.{length-Prop}
 
 -- The token of each event has the width of the event, and the structure block has the widths of its events and FDT_END.
@@ -60,11 +61,15 @@ length-strings_of (name ∷ later) =
 -- The length of each text is that of the layout.
 pub text_of_events_has_length : TextOfEventsHasItsLength
 unfolding text_of_events
-text_of_events_has_length cpu reservations events = record {
+text_of_events_has_length align cpu reservations events aligned = record {
   reserved = length-reservation_block reservations;
   structure = length-structure_block events;
   strings = length-strings_of (distinct_names (used_names events));
-  is_length = length-text_of_blocks cpu (reservation_block reservations) (structure_block events) (strings_block events);
-  is_whole = ap (λ n. n % 4) (length-text_of_blocks cpu (reservation_block reservations) (structure_block events)
-      (strings_block events)) ∙ up4-whole _;
+  is_length = is_length;
+  is_whole = ap (λ n. n % align) is_length ∙ up_to-whole align _;
 }
+  where
+    is_length : length (text_of_events align cpu reservations events)
+        ≡ text_length align (length (reservation_block reservations)) (length (structure_block events)) (length (strings_block events))
+    is_length = length-text_of_blocks align cpu (reservation_block reservations) (structure_block events) (strings_block events)
+        (omega (arith, alignment-positive align aligned))

@@ -3,6 +3,7 @@ use Rattle.std.specs.Cmp.Lexicographic.{slice_cmp}
 use Rattle.std.specs.FinMap.{entries, from_entries, is_sorted, entries_sorted, get-entries, get-from_entries, same_map}
 use Rattle.std.specs.FinMap.Entries.{same_entries}
 use Rattle.std.proofs.lemmas.Cmp.{nat_list_cmp_total}
+use Rattle.bi_base.proofs.AlignmentLaws.{IsAlignment-four}
 use Rattle.bi_blob.specs.Tree.{Nodes, none, node, Root, Property, PropertyMap, with_each, tree_without_order, EachOwn, IsNormal}
 use Rattle.bi_blob.specs.Layout.{in_byte_order, text_of_tree, longest_text}
 use Rattle.bi_blob.specs.TextLaws.{EachTreeHasOneOrder, NormalTextTellsContent}
@@ -67,15 +68,15 @@ pub normal_text_tells_content : NormalTextTellsContent
 normal_text_tells_content cpu other_cpu reservations other_reservations root other_root text other_text is
     other_is normal other_normal short = (
       (λ same.
-          let one = text_has_one_content cpu other_cpu reservations other_reservations root other_root is other_is
+          let one = text_has_one_content 4 cpu other_cpu reservations other_reservations root other_root IsAlignment-four is other_is
           (subst (λ text. length text ≤ longest_text) normal.is_text short)
           (sym normal.is_text ∙ same ∙ other_normal.is_text) in
           record { same_cpu = one.same_cpu; same_reservations = one.same_reservations; same_root = ap tree_without_order one.same_root }),
       (λ same.
           normal.is_text
-          ∙ ap (λ cpu. text_of_tree cpu reservations root) same.same_cpu
-          ∙ ap (λ reservations. text_of_tree other_cpu reservations root) same.same_reservations
-          ∙ ap (λ root. text_of_tree other_cpu other_reservations root)
+          ∙ ap (λ cpu. text_of_tree 4 cpu reservations root) same.same_cpu
+          ∙ ap (λ reservations. text_of_tree 4 other_cpu reservations root) same.same_reservations
+          ∙ ap (λ root. text_of_tree 4 other_cpu other_reservations root)
           (sym (ordered-tree root normal.is_normal) ∙ ap in_byte_order same.same_root ∙ ordered-tree other_root other_normal.is_normal)
           ∙ sym other_normal.is_text),
     )

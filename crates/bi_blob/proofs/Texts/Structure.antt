@@ -1,5 +1,6 @@
 use Rattle.std.proofs.Common.{ℕ, ◌^◌, ◌<◌, ◌≤◌, List, [], ◌∷◌, ◌++◌, length, flat_map, sym, subst, arith, length-append}
 use Rattle.std.proofs.lemmas.List.Concat.{flat_map-append}
+use Rattle.bi_base.proofs.AlignmentLaws.{alignment-positive, up_to-le}
 use Rattle.bi_base.proofs.ListMembers.{each-append}
 use Rattle.bi_blob.specs.Tokens.{IsToken, End}
 use Rattle.bi_blob.specs.Tree.{Root, Property}
@@ -13,7 +14,7 @@ use Rattle.bi_blob.proofs.Texts.EventNames.{names_end-tree}
 use Rattle.bi_blob.proofs.Texts.TextTokens.{is_encoded}
 use Rattle.bi_blob.proofs.Texts.Places.{placed-tree}
 use Rattle.bi_blob.proofs.Texts.TextEvents.{named_in, encodes_events, are_tokens}
-use Rattle.bi_blob.proofs.Texts.TextLength.{length-text_of_tree, up4-le}
+use Rattle.bi_blob.proofs.Texts.TextLength.{length-text_of_tree}
 
 -- The structure block of a text encodes its tree.
 
@@ -24,20 +25,19 @@ tokens-le events =
     (omega (arith, length-append (flat_map encoding (tokens_of events)) (flat_map encoding (End ∷ []))))
 
 -- The blocks of a text are no longer than the text.
-pub blocks-le : (cpu : ℕ) (reservations : List Reservation) (root : Root (List Property)) →
+pub blocks-le : (align cpu : ℕ) (reservations : List Reservation) (root : Root (List Property)) → 0 < align →
     length_before_padding (length (reservation_block reservations)) (length (structure_block (events_of root)))
-    (length (strings_block (events_of root))) ≤ length (text_of_tree cpu reservations root)
-blocks-le cpu reservations root =
-    omega (
-      arith,
-      length-text_of_tree cpu reservations root,
-      up4-le (length_before_padding (length (reservation_block reservations)) (length (structure_block (events_of root)))
-          (length (strings_block (events_of root)))),
-    )
+    (length (strings_block (events_of root))) ≤ length (text_of_tree align cpu reservations root)
+blocks-le align cpu reservations root positive =
+    subst (λ n. before ≤ n) (sym (length-text_of_tree align cpu reservations root positive)) (up_to-le align before positive)
+  where
+    before : ℕ
+    before = length_before_padding (length (reservation_block reservations)) (length (structure_block (events_of root)))
+        (length (strings_block (events_of root)))
 
 -- The blocks of a text that is not too long encode its tree.
 pub says_tree : TextEncodesItsTree
-says_tree cpu reservations root is short = record {
+says_tree align cpu reservations root aligned is short = record {
   is_encoded = is_encoded (tokens_of (events_of root) ++ End ∷ [])
       (each-append IsToken (tokens_of (events_of root)) (End ∷ [])
       (are_tokens (distinct_names (used_names (events_of root))) (events_of root)
@@ -51,8 +51,12 @@ says_tree cpu reservations root is short = record {
       (names_end-tree root is.is_tree)));
 }
   where
+    blocks_fit : length_before_padding (length (reservation_block reservations)) (length (structure_block (events_of root)))
+        (length (strings_block (events_of root))) ≤ length (text_of_tree align cpu reservations root)
+    blocks_fit = blocks-le align cpu reservations root (omega (arith, alignment-positive align aligned))
+
     strings_fit : length (strings_block (events_of root)) < 2 ^ 32
-    strings_fit = omega (arith, blocks-le cpu reservations root)
+    strings_fit = omega (arith, blocks_fit)
 
     structure_fits : length (flat_map encoding (tokens_of (events_of root))) < 2 ^ 32
-    structure_fits = omega (arith, blocks-le cpu reservations root, tokens-le (events_of root))
+    structure_fits = omega (arith, blocks_fit, tokens-le (events_of root))

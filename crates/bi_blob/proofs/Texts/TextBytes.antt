@@ -1,12 +1,12 @@
 use Rattle.std.proofs.Common.{ℕ, ◌+◌, not, List, [], ◌∷◌, ◌++◌, length, map, flat_map, bytes_eq}
 use Rattle.std.specs.List.{AllByRecursion}
-use Rattle.bi_base.specs.Cells.{cell, up4, AreBytes}
+use Rattle.bi_base.specs.Cells.{cell, AreBytes}
 use Rattle.bi_blob.specs.Tokens.{Token, End, token_bytes, begin_node_number, end_node_number, prop_number, end_number}
 use Rattle.bi_blob.specs.Tree.{Root, Property}
 use Rattle.bi_blob.specs.Events.{Event, NodeStart, NodeProperty, NodeEnd, events_of}
 use Rattle.bi_blob.specs.Blob.{Reservation, pair_bytes, end_pair, reservation_block, blob_magic}
-use Rattle.bi_blob.specs.Layout.{used_names, distinct_names, strings_of, offset_in, padding_to_4, encoding, token_of, structure_block}
-use Rattle.bi_blob.specs.Layout.{strings_block, length_before_padding, blob_header, text_of_blocks, text_of_events, text_of_tree}
+use Rattle.bi_blob.specs.Layout.{used_names, distinct_names, strings_of, offset_in, padding_to, encoding, token_of, structure_block}
+use Rattle.bi_blob.specs.Layout.{strings_block, text_length, blob_header, text_of_blocks, text_of_events, text_of_tree}
 use Rattle.bi_blob.specs.Layout.{AreEventBytes, IsContent}
 use Rattle.bi_base.proofs.ByteLists.{AreBytes-none, AreBytes-append, AreBytes-zeros, AreBytes-cell, AreBytes-cell8, AreBytes-flat_map}
 use Rattle.bi_base.proofs.ListMembers.{each-append, each-filter}
@@ -14,9 +14,9 @@ use Rattle.bi_base.proofs.ListMembers.{each-append, each-filter}
 -- A text is bytes, where its names and values are.
 
 -- The header is.
-pub AreBytes-header : (cpu reserved structure strings : ℕ) → AreBytes (blob_header cpu reserved structure strings)
-AreBytes-header cpu reserved structure strings =
-    then blob_magic (then (up4 (length_before_padding reserved structure strings))
+pub AreBytes-header : (cpu total reserved structure strings : ℕ) → AreBytes (blob_header cpu total reserved structure strings)
+AreBytes-header cpu total reserved structure strings =
+    then blob_magic (then total
     (then (40 + reserved) (then (40 + reserved + structure) (then 40
     (then 17 (then 16 (then cpu (then strings (AreBytes-cell structure)))))))))
   where
@@ -48,7 +48,7 @@ AreBytes-token_bytes names NodeEnd bytes = AreBytes-cell end_node_number
 
 -- A token with zeros as its padding is, where it is without its padding.
 pub AreBytes-encoding : (token : Token) → AreBytes (token_bytes token) → AreBytes (encoding token)
-AreBytes-encoding token bytes = AreBytes-append (token_bytes token) (padding_to_4 (length (token_bytes token))) bytes (AreBytes-zeros _)
+AreBytes-encoding token bytes = AreBytes-append (token_bytes token) (padding_to 4 (length (token_bytes token))) bytes (AreBytes-zeros _)
 
 -- The structure block is.
 pub AreBytes-structure : (events : List Event) → AllByRecursion AreEventBytes events → AreBytes (structure_block events)
@@ -89,17 +89,18 @@ AreBytes-strings events bytes = AreBytes-strings_of (distinct_names (used_names 
     (each-distinct_names AreBytes (used_names events) (AreBytes-used_names events bytes))
 
 -- A text of three blocks is, where they are.
-pub AreBytes-text_of_blocks : (cpu : ℕ) (reserved structure strings : List ℕ) → AreBytes reserved → AreBytes structure → AreBytes strings →
-    AreBytes (text_of_blocks cpu reserved structure strings)
+pub AreBytes-text_of_blocks : (align cpu : ℕ) (reserved structure strings : List ℕ) → AreBytes reserved → AreBytes structure →
+    AreBytes strings → AreBytes (text_of_blocks align cpu reserved structure strings)
 unfolding text_of_blocks
-AreBytes-text_of_blocks cpu reserved structure strings first second third =
-    AreBytes-append _ _ (AreBytes-header cpu (length reserved) (length structure) (length strings))
+AreBytes-text_of_blocks align cpu reserved structure strings first second third =
+    AreBytes-append _ _ (AreBytes-header cpu (text_length align (length reserved) (length structure) (length strings)) (length reserved)
+    (length structure) (length strings))
     (AreBytes-append _ _ first (AreBytes-append _ _ second (AreBytes-append _ _ third (AreBytes-zeros _))))
 
 -- The text of content is.
-pub AreBytes-text : (cpu : ℕ) (reservations : List Reservation) (root : Root (List Property)) → IsContent cpu reservations root →
-    AreBytes (text_of_tree cpu reservations root)
+pub AreBytes-text : (align cpu : ℕ) (reservations : List Reservation) (root : Root (List Property)) → IsContent cpu reservations root →
+    AreBytes (text_of_tree align cpu reservations root)
 unfolding text_of_events
-AreBytes-text cpu reservations root is =
-    AreBytes-text_of_blocks cpu (reservation_block reservations) (structure_block (events_of root)) (strings_block (events_of root))
+AreBytes-text align cpu reservations root is =
+    AreBytes-text_of_blocks align cpu (reservation_block reservations) (structure_block (events_of root)) (strings_block (events_of root))
     (AreBytes-reserved reservations) (AreBytes-structure (events_of root) is.bytes) (AreBytes-strings (events_of root) is.bytes)

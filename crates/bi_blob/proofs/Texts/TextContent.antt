@@ -41,12 +41,12 @@ blob_has_content file cpu reservations root blob = record {
 
 -- Contents with one text are the same.
 pub text_has_one_content : TextHasOneContent
-text_has_one_content cpu other_cpu reservations other_reservations root other_root is other_is short same =
-    let one = one_blob (text_of_tree cpu reservations root ++ []) cpu other_cpu reservations other_reservations
+text_has_one_content align cpu other_cpu reservations other_reservations root other_root aligned is other_is short same =
+    let one = one_blob (text_of_tree align cpu reservations root ++ []) cpu other_cpu reservations other_reservations
     (tree_with_places reservations root) (tree_with_places other_reservations other_root)
-    (text_blob cpu reservations root [] is short AreBytes-none)
+    (text_blob align cpu reservations root [] aligned is short AreBytes-none)
     (subst (λ text. IsBlob (text ++ []) other_cpu other_reservations (tree_with_places other_reservations other_root)) (sym same)
-    (text_blob other_cpu other_reservations other_root [] other_is
+    (text_blob align other_cpu other_reservations other_root [] aligned other_is
     (subst (λ text. length text ≤ longest_text) same short) AreBytes-none)) in
     record {
       same_cpu = one.same_cpu;

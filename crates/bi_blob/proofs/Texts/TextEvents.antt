@@ -5,7 +5,7 @@ use Rattle.std.specs.List.{AllByRecursion}
 use Rattle.bi_base.proofs.ListMembers.{Contains-first, Contains-others}
 use Rattle.bi_blob.specs.Tokens.{Prop, token_bytes, IsToken, IsNameAt}
 use Rattle.bi_blob.specs.Events.{Event, NodeStart, NodeProperty, NodeEnd, EncodeEvents}
-use Rattle.bi_blob.specs.Layout.{used_names, strings_of, offset_in, padding_to_4, encoding, token_of, event_width}
+use Rattle.bi_blob.specs.Layout.{used_names, strings_of, offset_in, padding_to, encoding, token_of, event_width}
 use Rattle.bi_blob.proofs.Texts.NamesOnce.{found_at_offset}
 use Rattle.bi_blob.proofs.Texts.EventNames.{NameEndsAtZero}
 use Rattle.bi_blob.proofs.Texts.TextTokens.{width-token}
@@ -66,7 +66,7 @@ pub value-le : (name_offset : ℕ) (value : List ℕ) → length value ≤ lengt
 value-le name_offset value =
     omega (
       arith,
-      length-append (token_bytes (Prop name_offset value)) (padding_to_4 (length (token_bytes (Prop name_offset value)))),
+      length-append (token_bytes (Prop name_offset value)) (padding_to 4 (length (token_bytes (Prop name_offset value)))),
       length-Prop name_offset value,
     )
 

@@ -1,28 +1,29 @@
-use Rattle.std.proofs.Common.{◌≡◌, ℕ, ◌+◌, List, [], ◌∷◌, length, flat_map, refl, sym, ap, subst, ◌∙◌, arith, length-append}
+use Rattle.std.proofs.Common.{◌≡◌, ℕ, ◌+◌, ◌<◌, List, [], ◌∷◌, length, flat_map, refl, sym, ap, subst, ◌∙◌, arith, length-append}
 use Rattle.std.specs.List.{AllByRecursion}
 use Rattle.std.proofs.lemmas.List.{take_at, drop_at, length-replicate}
-use Rattle.bi_base.specs.Cells.{up4}
+use Rattle.bi_base.specs.Cells.{up_to, up4}
+use Rattle.bi_base.proofs.AlignmentLaws.{up_to-le}
 use Rattle.bi_blob.specs.Tokens.{Token, token_bytes, width, IsToken, IsEncoding, AreEncodings}
 use Rattle.bi_blob.specs.Events.{Event, NodeStart, NodeProperty, NodeEnd}
-use Rattle.bi_blob.specs.Layout.{padding_to_4, encoding, token_of, event_width, offset_in}
+use Rattle.bi_blob.specs.Layout.{padding_to, encoding, token_of, event_width, offset_in}
 use Rattle.bi_blob.proofs.Blobs.TreeTokens.{length-Prop}
 
 -- A token with zeros as its padding is an encoding of the token, and is as long as the width of the token.
 
--- Padding is as long as is missing to a multiple of four.
-pub length-padding_to_4 : (n : ℕ) → n + length (padding_to_4 n) ≡ up4 n
-length-padding_to_4 n = simp (length-replicate) (omega arith)
+-- Padding is as long as is missing to a multiple of the alignment.
+pub length-padding_to : (align n : ℕ) → 0 < align → n + length (padding_to align n) ≡ up_to align n
+length-padding_to align n positive = simp (length-replicate) (omega (arith, up_to-le align n positive))
 
 -- A token takes its width.
 pub length-encoding : (token : Token) → length (encoding token) ≡ width token
-length-encoding token = length-append (token_bytes token) (padding_to_4 (length (token_bytes token)))
-    ∙ length-padding_to_4 (length (token_bytes token))
+length-encoding token = length-append (token_bytes token) (padding_to 4 (length (token_bytes token)))
+    ∙ length-padding_to 4 (length (token_bytes token)) (omega arith)
 
 -- A token with zeros as its padding is an encoding.
 pub is_padded_encoding : (token : Token) → IsToken token → IsEncoding token (encoding token)
 is_padded_encoding token is = record {
   is_token = is;
-  padding = padding_to_4 (length (token_bytes token));
+  padding = padding_to 4 (length (token_bytes token));
   is_encoded = refl;
   whole = length-encoding token;
 }
