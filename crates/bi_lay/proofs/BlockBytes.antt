@@ -1,7 +1,7 @@
 use Rattle.std.proofs.Common.{◌≡◌, ℕ, List, [], ◌∷◌, ◌++◌, length, flat_map, Bor, refl, ap, ◌∙◌, append_assoc}
 use Rattle.bi_base.specs.Cells.{cell8}
 use Rattle.bi_blob.specs.Blob.{pair_bytes}
-use Rattle.bi_blob.specs.Layout.{strings_of, blob_header, padding_to_4, length_before_padding, text_of_blocks}
+use Rattle.bi_blob.specs.Layout.{strings_of, blob_header, padding_to, length_before_padding, text_length, text_of_blocks}
 use Rattle.bi_base.specs.Slices.{bytes_of}
 use Rattle.bi_lay.specs.Items.{reservations_of}
 
@@ -26,22 +26,23 @@ names_bytes [] = refl
 names_bytes (name ∷ later) = ap (λ l. name_and_zero name ++ l) (names_bytes later)
 
 -- A text: its header, its blocks, and its padding.
-pub text_bytes : (cpu : ℕ) (reserved structure strings : List ℕ) (reserved_size structure_size strings_size size : ℕ)
-    → reserved_size ≡ length reserved → structure_size ≡ length structure → strings_size ≡ length strings →
-    size ≡ length_before_padding reserved_size structure_size strings_size
-    → (blob_header cpu reserved_size structure_size strings_size ++ (reserved ++ structure ++ strings)) ++ padding_to_4 size
-    ≡ text_of_blocks cpu reserved structure strings
+pub text_bytes : (align cpu : ℕ) (reserved structure strings : List ℕ) (reserved_size structure_size strings_size : ℕ)
+    → reserved_size ≡ length reserved → structure_size ≡ length structure → strings_size ≡ length strings
+    → (blob_header cpu (text_length align reserved_size structure_size strings_size) reserved_size structure_size strings_size
+    ++ (reserved ++ structure ++ strings))
+    ++ padding_to align (length_before_padding reserved_size structure_size strings_size)
+    ≡ text_of_blocks align cpu reserved structure strings
 unfolding text_of_blocks
-text_bytes cpu reserved structure strings reserved_size structure_size strings_size size is_reserved is_structure is_strings is_size =
-    (λ j. (blob_header cpu (is_reserved j) (is_structure j) (is_strings j)
-    ++ (reserved ++ structure ++ strings)) ++ padding_to_4 (is_size j))
-    ∙ (λ j. (header ++ (reserved ++ structure ++ strings))
-    ++ padding_to_4 (length_before_padding (is_reserved j) (is_structure j) (is_strings j)))
+text_bytes align cpu reserved structure strings reserved_size structure_size strings_size is_reserved is_structure is_strings =
+    (λ j. (blob_header cpu (text_length align (is_reserved j) (is_structure j) (is_strings j)) (is_reserved j) (is_structure j) (is_strings j)
+    ++ (reserved ++ structure ++ strings))
+    ++ padding_to align (length_before_padding (is_reserved j) (is_structure j) (is_strings j)))
     ∙ append_assoc header (reserved ++ structure ++ strings) padding
     ∙ ap (λ l. header ++ l) (append_assoc (reserved ++ structure) strings padding ∙ append_assoc reserved structure (strings ++ padding))
   where
     header : List ℕ
-    header = blob_header cpu (length reserved) (length structure) (length strings)
+    header = blob_header cpu (text_length align (length reserved) (length structure) (length strings)) (length reserved) (length structure)
+        (length strings)
 
     padding : List ℕ
-    padding = padding_to_4 (length_before_padding (length reserved) (length structure) (length strings))
+    padding = padding_to align (length_before_padding (length reserved) (length structure) (length strings))

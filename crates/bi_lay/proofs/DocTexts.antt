@@ -1,14 +1,18 @@
 use Rattle.std.proofs.Common.{◌≡◌, ℕ, suc, ◌+◌, ◌*◌, ◌^◌, ◌<◌, ◌≤◌, List, [], ◌∷◌, ◌++◌, length, map, flat_map, refl, sym, ap, ◌∙◌, arith}
-use Rattle.std.proofs.Common.{append-nil, length-append, vec_len, Option, Some, None, MatchOption}
+use Rattle.std.proofs.Common.{append-nil, length-append, vec_len, Bool, true, false, leb, subst, Option, Some, None, MatchOption}
 use Rattle.std.specs.List.{AllByRecursion, sum_by}
 use Rattle.std.proofs.lemmas.List.Concat.{flat_map-append}
 use Rattle.std.proofs.lemmas.List.Sums.{sum_by-cons}
+use Rattle.std.proofs.lemmas.Bool.{leb-true, leb-false}
+use Rattle.bi_base.specs.declared.align.Align.{Align}
+use Rattle.bi_base.specs.Aligns.{align_bytes}
 use Rattle.bi_base.specs.Cells.{up4}
+use Rattle.bi_base.proofs.AlignmentLaws.{IsAlignment-four, alignment-positive, up_to-le}
 use Rattle.bi_blob.specs.Tokens.{BeginNode, Prop, EndNode, End as EndToken}
 use Rattle.bi_blob.specs.Events.{Event}
 use Rattle.bi_blob.specs.Blob.{Reservation, reservation_block}
 use Rattle.bi_blob.specs.Layout.{encoding, token_of, tokens_of, event_width, offset_in, strings_of, structure_block, text_of_blocks}
-use Rattle.bi_blob.specs.Layout.{text_of_events, length_before_padding, longest_text}
+use Rattle.bi_blob.specs.Layout.{text_of_events, length_before_padding, text_length, longest_text}
 use Rattle.bi_base.proofs.CellLaws.{length-cell}
 use Rattle.bi_blob.proofs.Texts.TextTokens.{length-encoding}
 use Rattle.bi_blob.proofs.Texts.TextEvents.{offset_in-le}
@@ -56,7 +60,7 @@ length-structure items =
 -- The structure block of the items is as long as that of the document's text, whatever its offsets are.
 pub length-items_structure : (doc : Fields) → length (structure_block (doc_model doc).events) ≡ length (structure_of_items doc.items.items)
 length-items_structure doc =
-    (text_of_events_has_length doc.boot_cpu (doc_model doc).reservations (doc_model doc).events).structure
+    (text_of_events_has_length 4 doc.boot_cpu (doc_model doc).reservations (doc_model doc).events IsAlignment-four).structure
     ∙ sym (length-structure doc.items.items)
 
 -- The token of an item is that of its event, where its offset is right and the strings block is not too long.
@@ -94,13 +98,13 @@ length-reservations [] = refl
 length-reservations (pair ∷ later) = ap suc (length-reservations later)
 
 -- How long the text of a document is.
-is_text_length : (doc : Fields) → IsConsistentDocument doc →
-    length (text_of (doc_model doc))
-    ≡ up4 (length_before_padding (16 * length doc.reservations.items + 16) (length (structure_of_items doc.items.items))
-    (length (strings_of doc.names.in_block)))
-is_text_length doc kept =
+is_text_length : (align : Align) (doc : Fields) → IsConsistentDocument doc →
+    length (text_of (align_bytes align) (doc_model doc))
+    ≡ text_length (align_bytes align) (16 * length doc.reservations.items + 16) (length (structure_of_items doc.items.items))
+    (length (strings_of doc.names.in_block))
+is_text_length align doc kept =
     law.is_length
-    ∙ (λ j. up4 (length_before_padding (same_reserved j) (length-items_structure doc j) (length (strings_of (sym kept.names j)))))
+    ∙ (λ j. text_length (align_bytes align) (same_reserved j) (length-items_structure doc j) (length (strings_of (sym kept.names j))))
   where
     events : List Event
     events = events_of_items doc.items.items
@@ -108,11 +112,23 @@ is_text_length doc kept =
     pairs : List Reservation
     pairs = reservations_of doc.reservations.items
 
-    law : HasLengthOfEvents doc.boot_cpu pairs events
-    law = text_of_events_has_length doc.boot_cpu pairs events
+    law : HasLengthOfEvents (align_bytes align) doc.boot_cpu pairs events
+    law = text_of_events_has_length (align_bytes align) doc.boot_cpu pairs events align.is_alignment
 
     same_reserved : length (reservation_block pairs) ≡ 16 * length doc.reservations.items + 16
     same_reserved = law.reserved ∙ ap (λ n. 16 * n + 16) (length-reservations doc.reservations.items)
+
+-- The blocks are no longer than the text.
+blocks-le : (align : Align) (doc : Fields) → IsConsistentDocument doc →
+    length_before_padding (16 * length doc.reservations.items + 16) (length (structure_of_items doc.items.items))
+    (length (strings_of doc.names.in_block)) ≤ length (text_of (align_bytes align) (doc_model doc))
+blocks-le align doc kept =
+    subst (λ n. before ≤ n) (sym (is_text_length align doc kept))
+    (up_to-le (align_bytes align) before (omega (arith, alignment-positive (align_bytes align) align.is_alignment)))
+  where
+    before : ℕ
+    before = length_before_padding (16 * length doc.reservations.items + 16) (length (structure_of_items doc.items.items))
+        (length (strings_of doc.names.in_block))
 
 -- What the sizes of the blocks are measured from: the number of the reservations, the items, and the length of the strings
 -- block as far as it is counted.
@@ -122,47 +138,56 @@ pub record AreMeasured (doc : Fields) (count : ℕ) (items : List Item) (strings
   pub is_strings : strings ≡ saturated_usize (length (strings_of doc.names.in_block))
 
 -- The length of the text, from what is measured.
-abbrev measured_length : ℕ → List Item → ℕ → ℕ
-measured_length count items strings = up4 (length_before_padding (16 * count + 16) (length (structure_of_items items)) strings)
+abbrev measured_length : Align → ℕ → List Item → ℕ → ℕ
+measured_length align count items strings =
+    text_length (align_bytes align) (16 * count + 16) (length (structure_of_items items)) strings
 
 -- Where what is measured is not too long, the strings block is counted to its end.
 strings-exact : (doc : Fields) (count : ℕ) (items : List Item) (strings : ℕ) → AreMeasured doc count items strings →
-    measured_length count items strings ≤ longest_text → strings ≡ length (strings_of doc.names.in_block)
+    length_before_padding (16 * count + 16) (length (structure_of_items items)) strings ≤ longest_text →
+    strings ≡ length (strings_of doc.names.in_block)
 strings-exact doc count items strings are short = omega (arith, are.is_strings)
 
 -- These sizes are what was measured.
-abbrev HasMeasured : ℕ → List Item → ℕ → BlockSizes → Type 0
-HasMeasured count items strings sizes =
+abbrev HasMeasured : Align → ℕ → List Item → ℕ → BlockSizes → Type 0
+HasMeasured align count items strings sizes =
     (sizes.reservations ≡ 16 * count + 16) × (sizes.structure ≡ length (structure_of_items items)) × (sizes.strings ≡ strings)
+    × (sizes.align ≡ align)
 
 -- The text is too long if what is measured is.
-measured_length-long : (doc : Fields) (count : ℕ) (items : List Item) (strings : ℕ) → IsConsistentDocument doc →
-    AreMeasured doc count items strings → longest_text < measured_length count items strings →
-    longest_text < length (text_of (doc_model doc))
-measured_length-long doc count items strings kept are long =
-    omega (
-      arith,
-      long,
-      are.is_count,
-      are.is_strings,
-      doc.reservations.ok.0,
-      ap (λ l. length (structure_of_items l)) are.are_items,
-      is_text_length doc kept,
-    )
+measured_length-long : (align : Align) (doc : Fields) (count : ℕ) (items : List Item) (strings : ℕ) → IsConsistentDocument doc →
+    AreMeasured doc count items strings → longest_text < measured_length align count items strings →
+    longest_text < length (text_of (align_bytes align) (doc_model doc))
+measured_length-long align doc count items strings kept are long = where_counted (leb all longest_text) refl
+  where
+    all : ℕ
+    all = length (strings_of doc.names.in_block)
+
+    is_count : count ≡ length doc.reservations.items
+    is_count = omega (arith, are.is_count, doc.reservations.ok.0)
+
+    where_counted : (b : Bool) → leb all longest_text ≡ b → longest_text < length (text_of (align_bytes align) (doc_model doc))
+    where_counted true is =
+        let counted : strings ≡ all = omega (arith, are.is_strings, leb-true all longest_text is) in
+        subst (λ n. longest_text < n)
+        ((λ j. text_length (align_bytes align) (16 * is_count j + 16) (length (structure_of_items (are.are_items j))) (counted j))
+        ∙ sym (is_text_length align doc kept))
+        long
+    where_counted false is = omega (arith, leb-false all longest_text is, blocks-le align doc kept)
 
 -- The text is put together of its blocks.
-pub same_text : (doc : Fields) (pairs : List (ℕ × ℕ)) (items : List Item) (names : List (List ℕ)) → IsConsistentDocument doc →
-    pairs ≡ doc.reservations.items → items ≡ doc.items.items → names ≡ doc.names.in_block →
-    length (text_of (doc_model doc)) ≤ longest_text →
-    text_of_blocks doc.boot_cpu (reservation_block (reservations_of pairs)) (structure_of_items items) (strings_of names)
-    ≡ text_of (doc_model doc)
+pub same_text : (align : Align) (doc : Fields) (pairs : List (ℕ × ℕ)) (items : List Item) (names : List (List ℕ)) →
+    IsConsistentDocument doc → pairs ≡ doc.reservations.items → items ≡ doc.items.items → names ≡ doc.names.in_block →
+    length (text_of (align_bytes align) (doc_model doc)) ≤ longest_text →
+    text_of_blocks (align_bytes align) doc.boot_cpu (reservation_block (reservations_of pairs)) (structure_of_items items)
+    (strings_of names) ≡ text_of (align_bytes align) (doc_model doc)
 unfolding text_of_events
-same_text doc pairs items names kept are_pairs are_items are_names short =
-    λ j. text_of_blocks doc.boot_cpu (reservation_block (reservations_of (are_pairs j)))
+same_text align doc pairs items names kept are_pairs are_items are_names short =
+    λ j. text_of_blocks (align_bytes align) doc.boot_cpu (reservation_block (reservations_of (are_pairs j)))
     ((ap structure_of_items are_items ∙ same_structure doc kept fits) j) (strings_of ((are_names ∙ kept.names) j))
   where
     fits : length (strings_of doc.names.in_block) < 2 ^ 32
-    fits = omega (arith, short, is_text_length doc kept)
+    fits = omega (arith, short, blocks-le align doc kept)
 
 -- The memory reservation block has sixteen bytes for each pair and for the end pair.
 length-block : (pairs : List (ℕ × ℕ)) (count : ℕ) → count ≡ length pairs →
@@ -170,26 +195,29 @@ length-block : (pairs : List (ℕ × ℕ)) (count : ℕ) → count ≡ length pa
 length-block pairs count is_count = length-reservation_block (reservations_of pairs) ∙ omega (arith, is_count, length-reservations pairs)
 
 -- The sizes that were measured are those of the blocks.
-are_sizes : (doc : Fields) (count : ℕ) (items : List Item) (strings : ℕ) (sizes : BlockSizes) → IsConsistentDocument doc →
-    AreMeasured doc count items strings → HasMeasured count items strings sizes → AreBlockSizes (doc_model doc) sizes
-are_sizes doc count items strings sizes kept are has = record {
+are_sizes : (align : Align) (doc : Fields) (count : ℕ) (items : List Item) (strings : ℕ) (sizes : BlockSizes) → IsConsistentDocument doc →
+    AreMeasured doc count items strings → HasMeasured align count items strings sizes → AreBlockSizes (doc_model doc) sizes
+are_sizes align doc count items strings sizes kept are has = record {
   reservations = has.0 ∙ sym (length-block doc.reservations.items count (omega (arith, are.is_count, doc.reservations.ok.0)));
   structure = has.1 ∙ ap (λ items. length (structure_of_items items)) are.are_items ∙ sym (length-items_structure doc);
-  strings = has.2 ∙ strings-exact doc count items strings are (omega (arith, has.0, has.1, has.2, sizes.fits))
+  strings = has.2 ∙ strings-exact doc count items strings are (omega (arith, has.0, has.1, has.2, sizes.small))
       ∙ ap (λ names. length (strings_of names)) kept.names;
 }
 
 -- What measuring finds are the sizes of the blocks, or nothing where the text is too long.
-pub found_sizes : (doc : Fields) (count : ℕ) (items : List Item) (strings : ℕ) (found : Option BlockSizes) → IsConsistentDocument doc →
-    AreMeasured doc count items strings →
-    MatchOption found (longest_text < measured_length count items strings) (HasMeasured count items strings) →
-    MatchOption found (longest_text < length (text_of (doc_model doc))) (AreBlockSizes (doc_model doc))
-found_sizes doc count items strings None kept are long = measured_length-long doc count items strings kept are long
-found_sizes doc count items strings (Some sizes) kept are has = are_sizes doc count items strings sizes kept are has
+pub found_sizes : (align : Align) (doc : Fields) (count : ℕ) (items : List Item) (strings : ℕ) (found : Option BlockSizes) →
+    IsConsistentDocument doc → AreMeasured doc count items strings →
+    MatchOption found (longest_text < measured_length align count items strings) (HasMeasured align count items strings) →
+    MatchOption found (longest_text < length (text_of (align_bytes align) (doc_model doc)))
+    (λ sizes. AreBlockSizes (doc_model doc) sizes × (sizes.align ≡ align))
+found_sizes align doc count items strings None kept are long = measured_length-long align doc count items strings kept are long
+found_sizes align doc count items strings (Some sizes) kept are has = (are_sizes align doc count items strings sizes kept are has, has.3)
 
 -- The length of a text follows from the sizes of its blocks.
 pub length-of_sizes : (content : Doc) (sizes : BlockSizes) → AreBlockSizes content sizes →
-    length (text_of content) ≡ up4 (length_before_padding sizes.reservations sizes.structure sizes.strings)
+    length (text_of (align_bytes sizes.align) content)
+    ≡ text_length (align_bytes sizes.align) sizes.reservations sizes.structure sizes.strings
 length-of_sizes content sizes are =
-    (text_of_events_has_length content.boot_cpu content.reservations content.events).is_length
-    ∙ (λ j. up4 (length_before_padding (sym are.reservations j) (sym are.structure j) (sym are.strings j)))
+    (text_of_events_has_length (align_bytes sizes.align) content.boot_cpu content.reservations content.events
+    sizes.align.is_alignment).is_length
+    ∙ (λ j. text_length (align_bytes sizes.align) (sym are.reservations j) (sym are.structure j) (sym are.strings j))

@@ -2,15 +2,15 @@ use Rattle.std.proofs.Common.{◌≡◌, ℕ, ◌+◌, ◌-◌, ◌/◌, ◌%◌
 use Rattle.std.proofs.Common.{length-append}
 use Rattle.bi_base.specs.Cells.{cell, up4}
 use Rattle.bi_blob.specs.Tokens.{BeginNode, Prop, token_bytes}
-use Rattle.bi_blob.specs.Layout.{encoding, padding_to_4}
+use Rattle.bi_blob.specs.Layout.{encoding, padding_to}
 use Rattle.bi_base.proofs.CellLaws.{length-cell}
 use Rattle.bi_blob.proofs.Blobs.TreeTokens.{length-Prop}
 
 -- The bytes of a token are the pieces that are written: its cells, its name or value, and its padding.
 
 -- The token that begins a node: its number, the name with its zero byte, and the padding.
-pub begin_bytes : (name : List ℕ) → (cell 1 ++ (name ++ 0 ∷ [])) ++ padding_to_4 (length name + 5) ≡ encoding (BeginNode name)
-begin_bytes name = ap (λ n. (cell 1 ++ (name ++ 0 ∷ [])) ++ padding_to_4 n) (sym is_length) where
+pub begin_bytes : (name : List ℕ) → (cell 1 ++ (name ++ 0 ∷ [])) ++ padding_to 4 (length name + 5) ≡ encoding (BeginNode name)
+begin_bytes name = ap (λ n. (cell 1 ++ (name ++ 0 ∷ [])) ++ padding_to 4 n) (sym is_length) where
   is_length : length (token_bytes (BeginNode name)) ≡ length name + 5
   is_length = length-append (cell 1) (name ++ 0 ∷ []) ∙ omega (arith, length-cell 1, length-append name (0 ∷ []))
 
@@ -40,9 +40,9 @@ property_cells size offset value = refl
 -- The token of a property: three cells, the value, and the padding of the value.
 pub property_bytes : (offset : ℕ) (value : List ℕ) (size low_size low_offset : ℕ) → size ≡ length value → low_size ≡ size % 2 ^ 32 →
     low_offset ≡ offset % 2 ^ 32 →
-    (flat_map cell (3 ∷ low_size ∷ low_offset ∷ []) ++ value) ++ padding_to_4 size ≡ encoding (Prop offset value)
+    (flat_map cell (3 ∷ low_size ∷ low_offset ∷ []) ++ value) ++ padding_to 4 size ≡ encoding (Prop offset value)
 property_bytes offset value size low_size low_offset is_size is_low_size is_low_offset =
-    ap (λ l. l ++ padding_to_4 size) (property_cells low_size low_offset value ∙ (λ j. cell 3 ++ (same_size j ++ (same_offset j ++ value))))
+    ap (λ l. l ++ padding_to 4 size) (property_cells low_size low_offset value ∙ (λ j. cell 3 ++ (same_size j ++ (same_offset j ++ value))))
     ∙ ap (λ n. token_bytes (Prop offset value) ++ replicate n 0) same_padding
   where
     same_size : cell low_size ≡ cell (length value)

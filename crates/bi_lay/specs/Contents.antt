@@ -30,9 +30,10 @@ empty_content boot_cpu = empty_with_names boot_cpu []
 abbrev pub name_numbered : List (List ℕ) → ℕ → List ℕ
 name_numbered names number = slice_index_or names number []
 
--- The text of a document, as this project lays it out.
-abbrev pub text_of : Doc → List ℕ
-text_of content = text_of_events content.boot_cpu content.reservations content.events
+-- The text of a document, as this project lays it out. Its length is a multiple of `align`.
+abbrev pub text_of : (align : ℕ) → Doc → List ℕ
+text_of align content =
+    text_of_events align content.boot_cpu content.reservations content.events
 
 -- One more reservation.
 abbrev pub with_reservation : Doc → (address size : ℕ) → Doc

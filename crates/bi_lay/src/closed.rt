@@ -1,6 +1,7 @@
 //! A closed document: one whose text can be written.
 
 ghost use Rattle.std.specs.Prelude.{◌≡◌, ◌<◌, ◌≤◌, length, MatchOption};
+ghost use Rattle.bi_base.specs.Aligns.{align_bytes};
 ghost use Rattle.bi_base.specs.Sinks.{Wrote};
 ghost use Rattle.bi_blob.specs.Stages.{AfterRoot};
 ghost use Rattle.bi_blob.specs.Following.{stage_of_events};
@@ -9,11 +10,11 @@ ghost use Rattle.bi_lay.specs.Contents.{text_of};
 
 use crate::document::Doc;
 use crate::sizes::BlockSizes;
-use bi_base::{Error, Sink};
+use bi_base::{Align, Error, Sink};
 use std::marker::Model;
 
 /// A document whose root has ended and whose text has at most 0x7fffffff bytes, with the sizes of
-/// its blocks. Nothing can be added to it.
+/// its blocks and the alignment of its text. Nothing can be added to it.
 #[derive(Drop)]
 pub struct ClosedDoc<'a> {
     doc: Doc<'a>,
@@ -21,9 +22,9 @@ pub struct ClosedDoc<'a> {
 }
 
 impl<'a> Model for ClosedDoc<'a> {
-    ghost use Rattle.bi_lay.specs.Contents.{Doc};
+    ghost use Rattle.std.specs.Prelude.{ℕ, List};
 
-    ghost Value = { Doc };
+    ghost Value = { List ℕ };
 
     ghost use Rattle.bi_lay.specs.ClosedDocuments.{closed_doc_model, IsClosedDocument};
 
@@ -38,10 +39,21 @@ impl<'a> Doc<'a> {
     /// `is_closed` is true.
     pub fn close(self) -> Option<ClosedDoc<'a>>
         requires { stage_of_events self.events ≡ AfterRoot }
-        ensures { MatchOption result (longest_text < length (text_of self.entry))
-            (λ closed. closed ≡ self.entry) }
+        ensures { MatchOption result (longest_text < length (text_of 4 self.entry))
+            (λ closed. closed ≡ text_of 4 self.entry) }
     {
-        let sizes = self.block_sizes()?;
+        self.close_aligned(Align::four())
+    }
+
+    /// Measures the blocks of the document's text, as `close` does. The length of the text is a
+    /// multiple of `align`, with zeros at its end. Returns None if that text has more than
+    /// 0x7fffffff bytes. Requires: `is_closed` is true.
+    pub fn close_aligned(self, align: Align) -> Option<ClosedDoc<'a>>
+        requires { stage_of_events self.events ≡ AfterRoot }
+        ensures { let text = text_of (align_bytes align) self.entry in
+            MatchOption result (longest_text < length text) (λ closed. closed ≡ text) }
+    {
+        let sizes = self.block_sizes(align)?;
         Some(ClosedDoc { doc: self, sizes })
     }
 }
@@ -49,21 +61,21 @@ impl<'a> Doc<'a> {
 impl<'a> ClosedDoc<'a> {
     /// Returns the length of the text in bytes, which is at most 0x7fffffff.
     pub fn size(&self) -> u32
-        ensures size { result ≡ length (text_of self.now) }
+        ensures size { result ≡ length self.now }
         ensures small { result ≤ longest_text }
     {
         self.doc.total_size(self.sizes)
     }
 
     /// Appends the document's text: the header, the memory reservation block, the structure block,
-    /// the strings block, and zeros up to a multiple of four.
+    /// the strings block, and zeros up to a multiple of the alignment.
     ///
     /// The only errors are those of the sink. After one, the sink is as a failed `put` of the whole
     /// text leaves it.
     ///
     /// Takes time linear in the length of the text, and allocates nothing itself.
     pub fn emit<S: Sink>(&self, sink: &mut S) -> Result<(), Error>
-        ensures { Wrote S.appends S.fails sink.old (text_of self.now) result sink.new }
+        ensures { Wrote S.appends S.fails sink.old self.now result sink.new }
     {
         self.doc.put(self.sizes, sink)
     }

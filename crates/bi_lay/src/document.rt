@@ -10,7 +10,7 @@ use crate::numbered_names::NumberedNames;
 use crate::siblings::is_new_child;
 use crate::sizes::BlockSizes;
 use crate::text::{BlobParts, put_text};
-use bi_base::{Error, Sink};
+use bi_base::{Align, Error, Sink};
 use bi_blob::{is_child_name, is_property_name};
 use std::alloc::Global;
 use std::marker::Model;
@@ -58,6 +58,7 @@ impl<'a> Doc<'a> {
     ghost use Rattle.bi_blob.specs.Following.{MayBegin, MayHaveNextProperty, MayEnd};
     ghost use Rattle.bi_blob.specs.Layout.{longest_text};
     ghost use Rattle.bi_blob.specs.TextLaws.{HasOneNormalTree};
+    ghost use Rattle.bi_base.specs.Aligns.{align_bytes};
     ghost use Rattle.bi_base.specs.Slices.{bytes_of};
     ghost use Rattle.bi_lay.specs.Contents.{empty_content, empty_with_names, name_numbered};
     ghost use Rattle.bi_lay.specs.Contents.{text_of, with_reservation, with_event};
@@ -228,10 +229,21 @@ impl<'a> Doc<'a> {
     /// for `size` and `emit` together. Requires: `is_closed` is true.
     pub fn size(&self) -> Option<u32>
         requires { stage_of_events self.now.events ≡ AfterRoot }
-        ensures { MatchOption result (longest_text < length (text_of self.now))
-            (λ size. size ≡ length (text_of self.now)) }
+        ensures { MatchOption result (longest_text < length (text_of 4 self.now))
+            (λ size. size ≡ length (text_of 4 self.now)) }
     {
-        let sizes = self.block_sizes()?;
+        self.aligned_size(Align::four())
+    }
+
+    /// Returns the length in bytes of the document's text that `close_aligned` closes with this
+    /// alignment, or None if that text has more than 0x7fffffff bytes. Takes time linear in the
+    /// number of events. Requires: `is_closed` is true.
+    pub fn aligned_size(&self, align: Align) -> Option<u32>
+        requires { stage_of_events self.now.events ≡ AfterRoot }
+        ensures { let text = text_of (align_bytes align) self.now in
+            MatchOption result (longest_text < length text) (λ size. size ≡ length text) }
+    {
+        let sizes = self.block_sizes(align)?;
         Some(self.total_size(sizes))
     }
 
@@ -246,40 +258,42 @@ impl<'a> Doc<'a> {
     /// nothing itself.
     pub fn emit<S: Sink>(&self, sink: &mut S) -> Result<(), Error>
         requires closed { stage_of_events self.now.events ≡ AfterRoot }
-        requires small { length (text_of self.now) ≤ longest_text }
-        ensures { Wrote S.appends S.fails sink.old (text_of self.now) result sink.new }
+        requires small { length (text_of 4 self.now) ≤ longest_text }
+        ensures { Wrote S.appends S.fails sink.old (text_of 4 self.now) result sink.new }
     {
-        let Some(sizes) = self.block_sizes() else {
+        let Some(sizes) = self.block_sizes(Align::four()) else {
             unreachable!();
         };
         self.put(sizes, sink)
     }
 
-    /// Returns the sizes of the blocks of the document's text, or None if the text has more than
-    /// 0x7fffffff bytes. Takes time linear in the number of events.
-    pub(crate) fn block_sizes(&self) -> Option<BlockSizes>
-        ensures { MatchOption result (longest_text < length (text_of self.now))
-            (λ sizes. AreBlockSizes self.now sizes) }
+    /// Returns the sizes of the blocks of the document's text with this alignment, or None if the
+    /// text has more than 0x7fffffff bytes. Takes time linear in the number of events.
+    pub(crate) fn block_sizes(&self, align: Align) -> Option<BlockSizes>
+        ensures { MatchOption result (longest_text < length (text_of (align_bytes align) self.now))
+            (λ sizes. AreBlockSizes self.now sizes × (sizes.align ≡ align)) }
     {
         BlockSizes::measure(
+            align,
             self.reservations.len(),
             &self.items,
             self.names.block_length(),
         )
     }
 
-    /// Returns the length of the document's text in bytes, given the sizes of its blocks.
+    /// Returns the length of the document's text in bytes, given the sizes of its blocks and its
+    /// alignment.
     pub(crate) fn total_size(&self, sizes: BlockSizes) -> u32
         requires { AreBlockSizes self.now sizes }
-        ensures size { result ≡ length (text_of self.now) }
+        ensures size { result ≡ length (text_of (align_bytes sizes.align) self.now) }
         ensures small { result ≤ longest_text }
     {
         sizes.total()
     }
 
-    /// Appends the document's text, given the sizes of its blocks: the header, the memory
-    /// reservation block, the structure block, the strings block, and zeros up to a multiple of
-    /// four.
+    /// Appends the document's text, given the sizes of its blocks and its alignment: the header,
+    /// the memory reservation block, the structure block, the strings block, and zeros up to a
+    /// multiple of the alignment.
     ///
     /// The only errors are those of the sink. After one, the sink is as a failed `put` of the whole
     /// text leaves it.
@@ -287,7 +301,8 @@ impl<'a> Doc<'a> {
     /// Takes time linear in the length of the text, and allocates nothing itself.
     pub(crate) fn put<S: Sink>(&self, sizes: BlockSizes, sink: &mut S) -> Result<(), Error>
         requires { AreBlockSizes self.now sizes }
-        ensures { Wrote S.appends S.fails sink.old (text_of self.now) result sink.new }
+        ensures { let text = text_of (align_bytes sizes.align) self.now in
+            Wrote S.appends S.fails sink.old text result sink.new }
     {
         let parts = BlobParts {
             boot_cpu: self.boot_cpu,

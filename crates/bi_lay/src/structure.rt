@@ -2,16 +2,16 @@
 #![tactic(auto, unfolding(bi_base::specs::Cells::cell))]
 
 ghost use Rattle.std.specs.Prelude.{◌≡◌, ◌+◌, ◌-◌, ◌%◌, ◌^◌, ◌<◌, ◌≤◌, [], ◌∷◌, ◌++◌, length};
-ghost use Rattle.std.specs.Prelude.{replicate, min};
+ghost use Rattle.std.specs.Prelude.{min};
 ghost use Rattle.bi_base.specs.Cells.{cell};
 ghost use Rattle.bi_base.specs.Sinks.{Wrote};
 ghost use Rattle.bi_blob.specs.Tokens.{BeginNode, Prop, End};
-ghost use Rattle.bi_blob.specs.Layout.{encoding, padding_to_4};
+ghost use Rattle.bi_blob.specs.Layout.{encoding, padding_to};
 ghost use Rattle.bi_lay.specs.Items.{item_encoding, structure_of_items};
 ghost use Rattle.bi_lay.specs.Values.{value_bytes};
 
 use crate::items::{Item, Property, Value};
-use bi_base::{CountSink, Error, Sink, put_cell, put_cells, up4};
+use bi_base::{CountSink, Error, Sink, put_cell, put_cells, put_zeros, up4};
 use bi_blob::format::{BEGIN_NODE, END, END_NODE, PROP};
 
 /// Returns how many bytes the structure block of these items has, or the greatest u64 if it has
@@ -91,19 +91,11 @@ pub(crate) fn put_string<S: Sink>(bytes: &[u8], sink: &mut S) -> Result<(), Erro
 }
 
 /// Appends the zeros that pad this many bytes to a multiple of four. Fails as the sink does.
-pub(crate) fn put_padding<S: Sink>(size: usize, sink: &mut S) -> Result<(), Error>
+fn put_padding<S: Sink>(size: usize, sink: &mut S) -> Result<(), Error>
     requires { size + 3 < 2 ^ 64 }
-    ensures { Wrote S.appends S.fails sink.old (padding_to_4 size) result sink.new }
+    ensures { Wrote S.appends S.fails sink.old (padding_to 4 size) result sink.new }
 {
     put_zeros(up4(size) - size, sink)
-}
-
-/// Appends up to four zeros. Fails as the sink does.
-fn put_zeros<S: Sink>(count: usize, sink: &mut S) -> Result<(), Error>
-    requires { count ≤ 4 }
-    ensures { Wrote S.appends S.fails sink.old (replicate count 0) result sink.new }
-{
-    sink.put(&[0; 4][..count])
 }
 
 /// Returns the low 32 bits of a number, which are all that a cell has.

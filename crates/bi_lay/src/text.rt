@@ -2,17 +2,18 @@
 //! (Devicetree Specification, chapter 5).
 
 ghost use Rattle.std.specs.Prelude.{◌≡◌, ◌++◌, length};
+ghost use Rattle.bi_base.specs.Aligns.{align_bytes};
 ghost use Rattle.bi_base.specs.Cells.{cell8};
 ghost use Rattle.bi_base.specs.Sinks.{Wrote};
 ghost use Rattle.bi_blob.specs.Blob.{reservation_block};
-ghost use Rattle.bi_blob.specs.Layout.{blob_header, text_of_blocks, strings_of};
+ghost use Rattle.bi_blob.specs.Layout.{blob_header, text_length, text_of_blocks, strings_of};
 ghost use Rattle.bi_base.specs.Slices.{bytes_of};
 ghost use Rattle.bi_lay.specs.Items.{structure_of_items, reservations_of};
 
 use crate::items::Item;
 use crate::sizes::BlockSizes;
-use crate::structure::{put_padding, put_string, put_structure};
-use bi_base::{Error, Sink, put_cells};
+use crate::structure::{put_string, put_structure};
+use bi_base::{Error, Sink, put_cells, put_zeros};
 use bi_blob::format::MAGIC;
 
 /// The offset of the memory reservation block, after the header (Devicetree Specification, 5.2).
@@ -33,7 +34,8 @@ pub(crate) struct BlobParts<'a> {
     pub(crate) names: &'a [&'a [u8]],
 }
 
-/// Appends the text of these parts, given the sizes of its blocks. Fails as the sink does.
+/// Appends the text of these parts, given the sizes of its blocks and its alignment. Fails as the
+/// sink does.
 pub(crate) fn put_text<S: Sink>(
     parts: BlobParts<'_>,
     sizes: BlockSizes,
@@ -45,20 +47,23 @@ pub(crate) fn put_text<S: Sink>(
     requires strings { sizes.strings ≡ length (strings_of (bytes_of parts.names.now)) }
     ensures { let parts = parts.entry in
         Wrote S.appends S.fails sink.old
-        (text_of_blocks parts.boot_cpu (reservation_block (reservations_of parts.reservations.now))
+        (text_of_blocks (align_bytes sizes.align) parts.boot_cpu
+        (reservation_block (reservations_of parts.reservations.now))
         (structure_of_items parts.items.now) (strings_of (bytes_of parts.names.now)))
         result sink.new }
 {
     put_header(parts.boot_cpu, sizes, sink)?;
     put_blocks(parts, sink)?;
-    put_padding(sizes.before_padding() as usize, sink)
+    put_zeros((sizes.total() - sizes.before_padding()) as usize, sink)
 }
 
 /// Appends the header of a text, given the sizes of its blocks. Fails as the sink does.
 #[tactic(auto, unfolding(bi_base::specs::Cells::cell))]
 fn put_header<S: Sink>(boot_cpu: u32, sizes: BlockSizes, sink: &mut S) -> Result<(), Error>
     ensures { Wrote S.appends S.fails sink.old
-        (blob_header boot_cpu sizes.reservations sizes.structure sizes.strings) result sink.new }
+        (blob_header boot_cpu
+        (text_length (align_bytes sizes.align) sizes.reservations sizes.structure sizes.strings)
+        sizes.reservations sizes.structure sizes.strings) result sink.new }
 {
     let cells = [
         MAGIC,

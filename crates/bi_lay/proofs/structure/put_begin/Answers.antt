@@ -1,7 +1,7 @@
 use Rattle.std.proofs.Common.{ℕ, List, [], ◌∷◌, ◌++◌, ◌+◌, length}
 use Rattle.bi_base.specs.Cells.{cell}
 use Rattle.bi_base.proofs.SinkLaws.{passed_on}
-use Rattle.bi_blob.specs.Layout.{padding_to_4}
+use Rattle.bi_blob.specs.Layout.{padding_to}
 use Rattle.bi_lay.proofs.SinkChains.{first_fails, second_fails, third_writes}
 use Rattle.bi_lay.proofs.TokenBytes.{begin_bytes}
 use Rattle.bi_lay.proofs.structure.put_begin.Goals as goal
@@ -10,7 +10,7 @@ abbrev string_of : List ℕ → List ℕ
 string_of name = name ++ 0 ∷ []
 
 abbrev padding_after : List ℕ → List ℕ
-padding_after name = padding_to_4 (length name + 5)
+padding_after name = padding_to 4 (length name + 5)
 
 pub returns-in_err-put_cell : goal.returns-in_err-put_cell
 returns-in_err-put_cell g c =

@@ -1,7 +1,7 @@
 use Rattle.std.proofs.Common.{[], ◌∷◌, flat_map}
 use Rattle.bi_base.specs.Cells.{cell}
 use Rattle.bi_base.proofs.SinkLaws.{passed_on}
-use Rattle.bi_blob.specs.Layout.{padding_to_4}
+use Rattle.bi_blob.specs.Layout.{padding_to}
 use Rattle.bi_lay.specs.Values.{value_bytes}
 use Rattle.bi_lay.proofs.SinkChains.{first_fails, second_fails, third_writes}
 use Rattle.bi_lay.proofs.TokenBytes.{property_bytes}
@@ -17,7 +17,7 @@ returns-in_err-put_cells g c =
     let is_whole = property_bytes c.args.property.name_offset value size c.low_cell.result c.low_cell-2.result c.len-size.ensures
     c.low_cell.ensures c.low_cell-2.ensures in
     passed_on S.appends S.fails c.args.sink.now _ _ c.from_residual.result c.put_cells.new.sink c.from_residual.ensures.1
-    (first_fails S.appends S.fails laws.appends_in_turn laws.fails_after laws.fails_before cells value (padding_to_4 size) _ is_whole
+    (first_fails S.appends S.fails laws.appends_in_turn laws.fails_after laws.fails_before cells value (padding_to 4 size) _ is_whole
     c.args.sink.now c.put_cells.new.sink c.in_err-put_cells.field-0.0 c.in_err-put_cells.ensures)
 
 pub returns-in_err-put_value : goal.returns-in_err-put_value
@@ -31,7 +31,7 @@ returns-in_err-put_value g c =
     c.low_cell.ensures c.low_cell-2.ensures in
     passed_on S.appends S.fails c.args.sink.now _ _ c.from_residual-in_err-put_value.result c.put_value.new.sink
     c.from_residual-in_err-put_value.ensures.1
-    (second_fails S.appends S.fails laws.appends_in_turn laws.fails_after laws.fails_before cells value (padding_to_4 size) _ is_whole
+    (second_fails S.appends S.fails laws.appends_in_turn laws.fails_after laws.fails_before cells value (padding_to 4 size) _ is_whole
     c.args.sink.now c.put_cells.new.sink c.put_value.new.sink c.in_err-put_value.field-0.0
     c.in_ok-put_cells.ensures c.in_err-put_value.ensures)
 
@@ -44,6 +44,6 @@ returns g c =
     let cells = flat_map cell (3 ∷ c.low_cell.result ∷ c.low_cell-2.result ∷ []) in
     let is_whole = property_bytes c.args.property.name_offset value size c.low_cell.result c.low_cell-2.result c.len-size.ensures
     c.low_cell.ensures c.low_cell-2.ensures in
-    third_writes S.appends S.fails laws.appends_in_turn laws.fails_after laws.fails_before cells value (padding_to_4 size) _ is_whole
+    third_writes S.appends S.fails laws.appends_in_turn laws.fails_after laws.fails_before cells value (padding_to 4 size) _ is_whole
     c.args.sink.now c.put_cells.new.sink c.put_value.new.sink c.put_padding.new.sink c.put_padding.result c.in_ok-put_cells.ensures
     c.in_ok-put_value.ensures c.put_padding.ensures
