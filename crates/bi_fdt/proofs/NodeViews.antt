@@ -282,12 +282,6 @@ lookup_passes name child later other =
     ap (λ b. cond b (Some child) (lookup (λ o. bytes_eq o name)
     (map (λ (sibling : Sibling FileNode). (sibling.name, sibling)) later))) other
 
--- It finds one of the name.
-pub lookup_finds : (name : List ℕ) (child : Sibling FileNode) (later : List (Sibling FileNode)) → bytes_eq child.name name ≡ true →
-    lookup (λ other. bytes_eq other name) (map (λ sibling. (sibling.name, sibling)) (child ∷ later)) ≡ Some child
-lookup_finds name child later same =
-    ap (λ b. cond b (Some child) (lookup (λ o. bytes_eq o name) (map (λ (sibling : Sibling FileNode). (sibling.name, sibling)) later))) same
-
 -- The value of a property of a name.
 pub value_found : (properties : List FileProperty) (name : List ℕ) →
     value_named (map property_of properties) name ≡ option_map (λ property. property.value) (property_named properties name)

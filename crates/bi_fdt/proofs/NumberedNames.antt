@@ -1,4 +1,4 @@
-use Rattle.std.proofs.Common.{◌≡◌, ℕ, zero, suc, ◌<◌, List, [], ◌∷◌, ◌++◌, length, get_or, Some, slice_get, inl, inr, refl, ap, subst, ◌∙◌}
+use Rattle.std.proofs.Common.{◌≡◌, ℕ, zero, suc, ◌<◌, List, [], ◌∷◌, ◌++◌, length, Some, slice_get, inl, inr, refl, ap, subst, ◌∙◌}
 use Rattle.std.proofs.Common.{arith}
 use Rattle.std.specs.List.{AllZip}
 use Rattle.std.proofs.lemmas.Option.{none-some, same_Some, slice_get_within}
@@ -39,19 +39,6 @@ pub AreNumbered-more : (all front : List (List ℕ)) → BeginsWith all front �
     AreNumbered front table numbers → AreNumbered all table numbers
 AreNumbered-more all front begins table numbers are =
     AllZip-then (IsNumbered front) (IsNumbered all) table numbers (IsNumbered-more all front begins) are
-
--- The item at an index of a table has the number at that index.
-abbrev pub IsNumberedAt : List (List ℕ) → List TableItem → List ℕ → ℕ → Type 0
-IsNumberedAt names table numbers index = (d : TableItem) → IsNumbered names (get_or table index d) (get_or numbers index 0)
-
--- The items of a table have numbers if that at each index does.
-pub AreNumbered-each : (names : List (List ℕ)) (table : List TableItem) (numbers : List ℕ) → length numbers ≡ length table →
-    ((index : ℕ) → index < length table → IsNumberedAt names table numbers index) → AreNumbered names table numbers
-AreNumbered-each names [] [] long each = tt
-AreNumbered-each names [] (number ∷ numbers) long each = absurd (omega arith)
-AreNumbered-each names (item ∷ table) [] long each = absurd (omega arith)
-AreNumbered-each names (item ∷ table) (number ∷ numbers) long each =
-    (each 0 (omega arith) item, AreNumbered-each names table numbers (omega arith) (λ index within. each (suc index) (omega arith)))
 
 -- The heads of names are the same when tails are added.
 heads_kept : (old new : List NamePart) → BeginsWith new old → (heads : List NamePart) (names : List (List ℕ)) →

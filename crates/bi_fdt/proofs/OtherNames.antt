@@ -20,11 +20,6 @@ value_there [] index within = absurd (omega (arith, within))
 value_there (value ∷ values) zero within = (value, refl)
 value_there (value ∷ values) (suc index) within = value_there values index (omega (arith, within))
 
--- No blocks have the number 0 everywhere.
-no_blocks_other : (parts others : List NamePart) → HasOtherNumber parts others 0 (Some 0)
-no_blocks_other parts others zero name is = refl
-no_blocks_other parts others (suc count) name is = absurd (omega (arith, is.1))
-
 -- The number of the blocks from a part on.
 part_other : (parts others : List NamePart) → AreOnce others → (index later : ℕ) (block : List ℕ) (tail found : Option ℕ) →
     slice_get parts index ≡ Some (later, block) → HasOtherNumber parts others later tail → FindsTail others tail block found →

@@ -151,13 +151,6 @@ other_is_old used name number is elsewhere = by (is_among name used) refl
           | inr last ↦ absurd (elsewhere last.0)
         ]
 
--- A node that gets one more name.
-pub marked_more : (names new : MarkedNames) (mark : ℕ) (held : List (List ℕ)) (name : List ℕ) → HasMarked names mark held →
-    ((other : List ℕ) → has_mark new.used new.marks mark other ≡ (has_mark names.used names.marks mark other || bytes_eq name other)) →
-    HasMarked new mark (held ++ name ∷ [])
-marked_more names new mark held name has more other =
-    among_push held name other ∙ ap (λ b. b || bytes_eq name other) (has other) ∙ sym (more other)
-
 -- Whether a node has a name, by its mark.
 pub new_without_mark : (names : MarkedNames) (mark : ℕ) (held : List (List ℕ)) (name : List ℕ) → HasMarked names mark held →
     has_mark names.used names.marks mark name ≡ false → IsNew name held
@@ -170,18 +163,6 @@ old_with_mark names mark held name has marked = held_by_test name held (has name
 -- A node that begins, with a mark greater than all, has no name.
 pub begins_without_names : (names : MarkedNames) (mark : ℕ) → AreMarksBelow mark names → HasMarked names mark []
 begins_without_names names mark below name = sym (no_greater_mark names.used names.marks mark name below)
-
--- Bounds of marks.
-pub bound_push : (most : ℕ) (marks : List ℕ) (mark : ℕ) → mark < most → AllByRecursion (λ other. other < most) marks →
-    AllByRecursion (λ other. other < most) (marks ++ mark ∷ [])
-bound_push most [] mark within all = (within, tt)
-bound_push most (first ∷ marks) mark within all = (all.0, bound_push most marks mark within all.1)
-
-pub bound_set : (most : ℕ) (marks : List ℕ) (number mark : ℕ) → mark < most → AllByRecursion (λ other. other < most) marks →
-    AllByRecursion (λ other. other < most) (slice_set marks number mark)
-bound_set most [] number mark within all = tt
-bound_set most (first ∷ marks) zero mark within all = (within, all.1)
-bound_set most (first ∷ marks) (suc number) mark within all = (all.0, bound_set most marks number mark within all.1)
 
 -- A greater bound.
 pub bound_more : (bound more : ℕ) (marks : List ℕ) → bound ≤ more → AllByRecursion (λ other. other < bound) marks →

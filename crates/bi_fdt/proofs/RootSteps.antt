@@ -3,12 +3,12 @@ use Rattle.std.specs.Prelude.{IsTrue, ◌||◌}
 use Rattle.std.proofs.lemmas.Bool.{ne_eqb, false≢true}
 use Rattle.bi_base.specs.declared.fault.Fault.{Fault}
 use Rattle.bi_base.specs.Cells.{up4}
-use Rattle.bi_base.specs.Checks.{IsFirstFault, HasNoFault}
+use Rattle.bi_base.specs.Checks.{HasNoFault}
 use Rattle.bi_blob.specs.Tokens.{BeginNode, width, name_from, begin_node_number, nop_number, end_number}
 use Rattle.bi_blob.specs.Tree.{Root, FileNode, depth_of}
 use Rattle.bi_blob.specs.Stages.{BeforeRoot, AfterRoot, is_expected}
 use Rattle.bi_blob.specs.Blob.{TreeBlocks, HoldsTree}
-use Rattle.bi_blob.specs.BlobFaults.{TokenPasses, HasTokenNumber, IsExpected, token_checks, token_fault, begin_checks, IsStructureFault}
+use Rattle.bi_blob.specs.BlobFaults.{TokenPasses, HasTokenNumber, IsExpected, token_fault, begin_checks, IsStructureFault}
 use Rattle.bi_blob.specs.OpenNodes.{TreeSoFar, IsOpenAt, NoTree, OpenTree, WholeTree, new_node, stage_of}
 use Rattle.bi_blob.proofs.Blobs.ReaderSteps.{next_nop, next_root}
 use Rattle.bi_blob.proofs.Blobs.EndToken.{last_token}
@@ -48,16 +48,6 @@ past_root blocks depth_limit place name position number is passes =
       is_number = number.is_number;
       passes = (number.within, (subst (λ n. IsTrue (is_expected BeforeRoot n)) (sym number.is_number) refl, passes));
     })))
-
-pub root_fault : (blocks : TreeBlocks) (depth_limit place : ℕ) (fault : Fault) → IsOpenAt blocks depth_limit place NoTree →
-    IsNumberAt blocks place begin_node_number →
-    IsFirstFault (TokenPasses blocks depth_limit place BeforeRoot) (token_fault place) begin_checks fault →
-    IsStructureFault blocks depth_limit fault
-root_fault blocks depth_limit place fault position number first =
-    fault_there blocks depth_limit place NoTree fault position
-    (subst (λ n. IsFirstFault (TokenPasses blocks depth_limit place BeforeRoot) (token_fault place)
-    (token_checks n) fault) (sym number.is_number)
-    (inr (number.within, inr (subst (λ n. IsTrue (is_expected BeforeRoot n)) (sym number.is_number) refl, first))))
 
 -- FDT_END after the root.
 pub past_end : (blocks : TreeBlocks) (depth_limit place : ℕ) (root : Root FileNode) → IsOpenAt blocks depth_limit place (WholeTree root) →

@@ -62,10 +62,6 @@ pub number_few : (file : List ℕ) (entries : List Entry) (used more : List (Lis
 number_few file entries used more name number are is has =
     omega (arith, slice_get_within more number name has, ap length is, with_used_name-few used name, table_names-few file entries used are)
 
--- A table without properties has no names.
-pub table_names-root : (file : List ℕ) (n : NodeEntry) → AreTableNames file (entry.Node n ∷ []) []
-table_names-root file n = record { names = refl; numbered = (tt, tt) }
-
 -- One more node.
 pub table_names-node : (file : List ℕ) (entries : List Entry) (used : List (List ℕ)) (n : NodeEntry) → AreTableNames file entries used →
     AreTableNames file (entries ++ entry.Node n ∷ []) used
