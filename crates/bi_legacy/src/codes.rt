@@ -4,11 +4,26 @@ ghost use Rattle.std.specs.Prelude.{◌≡◌, option_map};
 ghost use Rattle.bi_legacy.specs.Codes.{name_of_code, os_names, arch_names, type_names};
 ghost use Rattle.bi_legacy.specs.Codes.{compression_names};
 
-/// The type of a multi-file image (U-Boot, include/image.h).
+/// The type of a standalone program (U-Boot, include/image.h).
+pub const IH_TYPE_STANDALONE: u8 = 1;
+
+/// The type of a kernel.
+pub const IH_TYPE_KERNEL: u8 = 2;
+
+/// The type of a RAM disk.
+pub const IH_TYPE_RAMDISK: u8 = 3;
+
+/// The type of a multi-file image.
 pub const IH_TYPE_MULTI: u8 = 4;
 
-/// The type of a script (U-Boot, include/image.h).
+/// The type of a firmware.
+pub const IH_TYPE_FIRMWARE: u8 = 5;
+
+/// The type of a script.
 pub const IH_TYPE_SCRIPT: u8 = 6;
+
+/// The type of a devicetree blob.
+pub const IH_TYPE_FLATDT: u8 = 8;
 
 /// Returns the name of an operating system's code (U-Boot, include/image.h: `IH_OS_*`). Returns
 /// None if the code has no name here.
@@ -47,13 +62,13 @@ pub fn type_name(code: u8) -> Option<&'static str>
     ensures { option_map (λ name. name.now) result ≡ name_of_code type_names code }
 {
     match code {
-        1 => Some("standalone"),
-        2 => Some("kernel"),
-        3 => Some("ramdisk"),
-        4 => Some("multi"),
-        5 => Some("firmware"),
-        6 => Some("script"),
-        8 => Some("flat_dt"),
+        IH_TYPE_STANDALONE => Some("standalone"),
+        IH_TYPE_KERNEL => Some("kernel"),
+        IH_TYPE_RAMDISK => Some("ramdisk"),
+        IH_TYPE_MULTI => Some("multi"),
+        IH_TYPE_FIRMWARE => Some("firmware"),
+        IH_TYPE_SCRIPT => Some("script"),
+        IH_TYPE_FLATDT => Some("flat_dt"),
         _ => None,
     }
 }
