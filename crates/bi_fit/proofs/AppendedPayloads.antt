@@ -1,9 +1,10 @@
-use Rattle.std.proofs.Common.{◌≡◌, ℕ, ◌+◌, ◌-◌, ◌<◌, ◌≤◌, List, [], ◌∷◌, ◌++◌, length, take, drop, get_or, replicate, Option, Some}
-use Rattle.std.proofs.Common.{None, Bor, refl, sym, ap, ◌∙◌, subst, arith, append-nil, append_assoc}
-use Rattle.std.proofs.lemmas.List.{take-append-drop, take_more, take-replicate}
+use Rattle.std.proofs.Common.{◌≡◌, ℕ, ◌+◌, ◌<◌, ◌≤◌, List, [], ◌∷◌, ◌++◌, length, take, drop, get_or, Option, Some}
+use Rattle.std.proofs.Common.{None, Bor, refl, sym, ap, ◌∙◌, arith, append-nil, append_assoc}
+use Rattle.std.proofs.lemmas.List.{take-append-drop, take_more}
 use Rattle.std.specs.Prelude.{option_map}
-use Rattle.bi_base.specs.Cells.{up4}
-use Rattle.bi_blob.specs.Layout.{padding_to_4}
+use Rattle.bi_base.specs.Alignments.{IsAlignment}
+use Rattle.bi_base.specs.Cells.{up_to}
+use Rattle.bi_blob.specs.Layout.{padding_to}
 use Rattle.bi_fit.specs.declared.image.Image.{Image}
 use Rattle.bi_fit.specs.Content.{image_model}
 use Rattle.bi_fit.specs.NormalNodes.{payloads_of}
@@ -12,24 +13,16 @@ use Rattle.bi_fit.proofs.TextLaws.{payloads_end-append, payloads_end_later}
 
 -- The payloads of images before one and those from it on are the payloads of all images, as they are appended one by one.
 
--- The zeros before a payload.
-pub area_zeros : (end begin : ℕ) → begin ≡ up4 end → take {A = ℕ} (begin - end) (0 ∷ 0 ∷ 0 ∷ []) ≡ padding_to_4 end
-area_zeros end begin is =
-    let same : begin - end ≡ up4 end - end = omega (arith, is) in
-    let zeros : take {A = ℕ} (begin - end) (0 ∷ 0 ∷ 0 ∷ [])
-    ≡ replicate (begin - end) 0 = take-replicate (begin - end) 3 0 (omega (arith, is)) in
-    subst (λ (count : ℕ). take {A = ℕ} (begin - end) (0 ∷ 0 ∷ 0 ∷ []) ≡ replicate count 0) same zeros
-
 -- Payloads take up what the first of them do, and then what the others do.
-pub payload_area-append : (end : ℕ) (first later : List (Option (List ℕ))) →
-    payload_area end (first ++ later) ≡ payload_area end first ++ payload_area (payloads_end end first) later
-payload_area-append end [] later = refl
-payload_area-append end (None ∷ first) later = payload_area-append end first later
-payload_area-append end (Some payload ∷ first) later =
-    let pad = padding_to_4 end in
-    let before = payload_area (end_after end (Some payload)) first in
-    let after = payload_area (payloads_end (end_after end (Some payload)) first) later in
-    ap (λ l. pad ++ (payload ++ l)) (payload_area-append (end_after end (Some payload)) first later)
+pub payload_area-append : (align end : ℕ) (first later : List (Option (List ℕ))) →
+    payload_area align end (first ++ later) ≡ payload_area align end first ++ payload_area align (payloads_end align end first) later
+payload_area-append align end [] later = refl
+payload_area-append align end (None ∷ first) later = payload_area-append align end first later
+payload_area-append align end (Some payload ∷ first) later =
+    let pad = padding_to align end in
+    let before = payload_area align (end_after align end (Some payload)) first in
+    let after = payload_area align (payloads_end align (end_after align end (Some payload)) first) later in
+    ap (λ l. pad ++ (payload ++ l)) (payload_area-append align (end_after align end (Some payload)) first later)
     ∙ ap (λ l. pad ++ l) (sym (append_assoc payload before after))
     ∙ sym (append_assoc pad (payload ++ before) after)
 
@@ -50,11 +43,11 @@ payloads_split images i =
     ap payloads_of (sym (take-append-drop i images)) ∙ payloads_of-append (take i images) (drop i images)
 
 -- The payloads before an image, and where they end.
-abbrev pub area_before : List Image → ℕ → List ℕ
-area_before images i = payload_area 0 (payloads_of (take i images))
+abbrev pub area_before : (align : ℕ) → List Image → ℕ → List ℕ
+area_before align images i = payload_area align 0 (payloads_of (take i images))
 
-abbrev pub end_before : List Image → ℕ → ℕ
-end_before images i = payloads_end 0 (payloads_of (take i images))
+abbrev pub end_before : (align : ℕ) → List Image → ℕ → ℕ
+end_before align images i = payloads_end align 0 (payloads_of (take i images))
 
 -- After an image with a payload.
 payload_more : (images : List Image) (i : ℕ) (d : Image) (payload : Bor (List ℕ)) → i < length images →
@@ -64,20 +57,21 @@ payload_more images i d payload within is =
     payloads_more images i d within
     ∙ ap (λ p. payloads_of (take i images) ++ (option_map (λ (bytes : Bor (List ℕ)). bytes.now) p ∷ [])) is
 
-pub area_with_payload : (images : List Image) (i : ℕ) (d : Image) (payload : Bor (List ℕ)) → i < length images →
+pub area_with_payload : (align : ℕ) (images : List Image) (i : ℕ) (d : Image) (payload : Bor (List ℕ)) → i < length images →
     (get_or images i d).payload ≡ Some payload →
-    area_before images (i + 1) ≡ area_before images i ++ (padding_to_4 (end_before images i) ++ payload.now)
-area_with_payload images i d payload within is =
+    area_before align images (i + 1) ≡ area_before align images i ++ (padding_to align (end_before align images i) ++ payload.now)
+area_with_payload align images i d payload within is =
     let first = payloads_of (take i images) in
-    ap (payload_area 0) (payload_more images i d payload within is)
-    ∙ payload_area-append 0 first (Some payload.now ∷ [])
-    ∙ ap (λ l. payload_area 0 first ++ (padding_to_4 (payloads_end 0 first) ++ l)) (append-nil payload.now)
+    ap (payload_area align 0) (payload_more images i d payload within is)
+    ∙ payload_area-append align 0 first (Some payload.now ∷ [])
+    ∙ ap (λ l. payload_area align 0 first ++ (padding_to align (payloads_end align 0 first) ++ l)) (append-nil payload.now)
 
-pub end_with_payload : (images : List Image) (i : ℕ) (d : Image) (payload : Bor (List ℕ)) → i < length images →
-    (get_or images i d).payload ≡ Some payload → end_before images (i + 1) ≡ up4 (end_before images i) + length payload.now
-end_with_payload images i d payload within is =
-    ap (payloads_end 0) (payload_more images i d payload within is)
-    ∙ payloads_end-append 0 (payloads_of (take i images)) (Some payload.now ∷ [])
+pub end_with_payload : (align : ℕ) (images : List Image) (i : ℕ) (d : Image) (payload : Bor (List ℕ)) → i < length images →
+    (get_or images i d).payload ≡ Some payload →
+    end_before align images (i + 1) ≡ up_to align (end_before align images i) + length payload.now
+end_with_payload align images i d payload within is =
+    ap (payloads_end align 0) (payload_more images i d payload within is)
+    ∙ payloads_end-append align 0 (payloads_of (take i images)) (Some payload.now ∷ [])
 
 -- After an image without one.
 nothing_more : (images : List Image) (i : ℕ) (d : Image) → i < length images → (get_or images i d).payload ≡ None →
@@ -86,34 +80,36 @@ nothing_more images i d within is =
     payloads_more images i d within
     ∙ ap (λ p. payloads_of (take i images) ++ (option_map (λ (bytes : Bor (List ℕ)). bytes.now) p ∷ [])) is
 
-pub area_without_payload : (images : List Image) (i : ℕ) (d : Image) → i < length images → (get_or images i d).payload ≡ None →
-    area_before images (i + 1) ≡ area_before images i
-area_without_payload images i d within is =
+pub area_without_payload : (align : ℕ) (images : List Image) (i : ℕ) (d : Image) → i < length images →
+    (get_or images i d).payload ≡ None → area_before align images (i + 1) ≡ area_before align images i
+area_without_payload align images i d within is =
     let first = payloads_of (take i images) in
-    ap (payload_area 0) (nothing_more images i d within is)
-    ∙ payload_area-append 0 first (None ∷ [])
-    ∙ append-nil (payload_area 0 first)
+    ap (payload_area align 0) (nothing_more images i d within is)
+    ∙ payload_area-append align 0 first (None ∷ [])
+    ∙ append-nil (payload_area align 0 first)
 
-pub end_without_payload : (images : List Image) (i : ℕ) (d : Image) → i < length images → (get_or images i d).payload ≡ None →
-    end_before images (i + 1) ≡ end_before images i
-end_without_payload images i d within is =
-    ap (payloads_end 0) (nothing_more images i d within is)
-    ∙ payloads_end-append 0 (payloads_of (take i images)) (None ∷ [])
+pub end_without_payload : (align : ℕ) (images : List Image) (i : ℕ) (d : Image) → i < length images →
+    (get_or images i d).payload ≡ None → end_before align images (i + 1) ≡ end_before align images i
+end_without_payload align images i d within is =
+    ap (payloads_end align 0) (nothing_more images i d within is)
+    ∙ payloads_end-append align 0 (payloads_of (take i images)) (None ∷ [])
 
 -- What comes after the payloads before an image.
-abbrev pub area_from : List Image → ℕ → List ℕ
-area_from images i = payload_area (end_before images i) (payloads_of (drop i images))
+abbrev pub area_from : (align : ℕ) → List Image → ℕ → List ℕ
+area_from align images i = payload_area align (end_before align images i) (payloads_of (drop i images))
 
-pub area_split : (images : List Image) (i : ℕ) → payload_area 0 (payloads_of images) ≡ area_before images i ++ area_from images i
-area_split images i =
-    ap (payload_area 0) (payloads_split images i)
-    ∙ payload_area-append 0 (payloads_of (take i images)) (payloads_of (drop i images))
+pub area_split : (align : ℕ) (images : List Image) (i : ℕ) →
+    payload_area align 0 (payloads_of images) ≡ area_before align images i ++ area_from align images i
+area_split align images i =
+    ap (payload_area align 0) (payloads_split images i)
+    ∙ payload_area-append align 0 (payloads_of (take i images)) (payloads_of (drop i images))
 
 -- The payloads before an image end no later than all.
-pub end_within : (images : List Image) (i : ℕ) → end_before images i ≤ payloads_end 0 (payloads_of images)
-end_within images i =
+pub end_within : (align : ℕ) (images : List Image) (i : ℕ) → IsAlignment align →
+    end_before align images i ≤ payloads_end align 0 (payloads_of images)
+end_within align images i aligned =
     omega (
       arith,
-      payloads_end_later (payloads_of (take i images)) (payloads_of (drop i images)),
-      ap (payloads_end 0) (payloads_split images i),
+      payloads_end_later align (payloads_of (take i images)) (payloads_of (drop i images)) aligned,
+      ap (payloads_end align 0) (payloads_split images i),
     )

@@ -1,20 +1,26 @@
-use Rattle.std.proofs.Common.{◌≡◌, ◌≢◌, ℕ, ◌≤◌, Bool, true, false, not, List, [], ◌∷◌, map, flat_map, codes, bytes_eq, Option, Some, None}
-use Rattle.std.proofs.Common.{refl, sym, ap, subst, ◌∙◌, arith, true≢false, nat_cmp}
-use Rattle.std.specs.Prelude.{◌==◌}
-use Rattle.std.specs.List.{AllByRecursion, AllZip, list_all}
+use Rattle.std.proofs.Common.{◌≡◌, ◌≢◌, ℕ, ◌+◌, ◌<◌, ◌≤◌, ◌^◌, Bool, true, false, not, List, [], ◌∷◌, ◌++◌, map, flat_map, codes, bytes_eq, length}
+use Rattle.std.proofs.Common.{Option, Some, None, refl, sym, ap, subst, ◌∙◌, arith, true≢false, nat_cmp}
+use Rattle.std.specs.Prelude.{◌==◌, ◌||◌, IsTrue}
+use Rattle.std.specs.List.{AllByRecursion, AllZip, list_all, list_any}
 use Rattle.std.specs.Cmp.Lexicographic.{slice_cmp}
 use Rattle.std.specs.FinMap.{find, get-from_entries}
 use Rattle.std.proofs.lemmas.Cmp.{nat_list_cmp_total}
 use Rattle.std.proofs.lemmas.Bool.{and_parts, not-true, eqb-false}
+use Rattle.std.proofs.lemmas.List.Folds.{list_any-append}
 use Rattle.std.proofs.lemmas.Slice.Eq.{bytes_eq-Decides}
 use Rattle.std.proofs.lemmas.Map.Text.{is_eq-slice_cmp}
 use Rattle.bi_base.specs.Cells.{cell, AreBytes}
+use Rattle.bi_base.specs.Strings.{text_before_nul}
+use Rattle.bi_base.proofs.NulLaws.{before_nul-append}
 use Rattle.bi_base.proofs.ByteLists.{AreBytes-none, AreBytes-cons, AreBytes-append, AreBytes-cell}
 use Rattle.bi_base.proofs.EqualBytes.{other_bytes}
-use Rattle.bi_base.proofs.ListMembers.{each-append}
-use Rattle.bi_blob.specs.Tree.{Property, names, depth, depth_of, IsChildName, IsNew, AreDistinct, AreNodes}
-use Rattle.bi_blob.specs.Layout.{strings_of}
-use Rattle.bi_hash.specs.declared.algo.Algo.TheVariants.{Sha256}
+use Rattle.bi_base.proofs.ListMembers.{each-append, each-map, each-weaker, each-contains}
+use Rattle.bi_blob.specs.Tree.{Property, names, depth, depth_of, HasNoZero, IsChildName, IsNew, AreDistinct, AreNodes}
+use Rattle.bi_blob.specs.Layout.{strings_of, is_among}
+use Rattle.bi_blob.proofs.Texts.FirstUse.{among_found}
+use Rattle.bi_blob.proofs.Texts.TextBytes.{AreBytes-strings_of}
+use Rattle.bi_hash.specs.declared.algo.Algo.{Algo}
+use Rattle.bi_hash.specs.declared.algo.Algo.TheVariants.{Crc32, Md5, Sha1, Sha256, Sha384, Sha512}
 use Rattle.bi_hash.specs.Algos.{algorithm_name}
 use Rattle.bi_hash.specs.Digests.{digest_of}
 use Rattle.bi_hash.proofs.DigestBytes.{AreBytes-digest_of}
@@ -22,10 +28,11 @@ use Rattle.bi_fit.specs.declared.key.Key.{Key}
 use Rattle.bi_fit.specs.declared.key.Key.TheVariants.{Kernel, Fdt, Ramdisk, Firmware, Loadables, Script}
 use Rattle.bi_fit.specs.Names.{is_payload_name, all_keys, images_name, configurations_name, default_name}
 use Rattle.bi_fit.specs.ImageTree.{IsProperty, ArePropertiesByName, HaveByteNames, IsApart, IsImageTree, each_own}
-use Rattle.bi_fit.specs.Building.{HeadModel, ImageSpecModel, text_value, type_name, cell_property, built_root_properties}
-use Rattle.bi_fit.specs.Building.{built_image_properties}
-use Rattle.bi_fit.specs.Building.{built_hash_properties, configuration_name, built_images, key_eq, names_under, list_property}
-use Rattle.bi_fit.specs.Building.{built_configuration_properties, built_tree, IsText, IsImageSpec, CanBeBuilt}
+use Rattle.bi_fit.specs.Building.{HeadModel, ImageSpecModel, ConfigurationSpecModel, PlanModel, text_value, cell_property}
+use Rattle.bi_fit.specs.Building.{built_root_properties, built_image_properties, built_hash_properties, built_hash_nodes, built_images}
+use Rattle.bi_fit.specs.Building.{list_property, built_configuration_properties, built_configurations, built_tree}
+use Rattle.bi_fit.specs.Building.{names_of_images, configuration_names, IsText, IsImageSpec, CanBeBuilt, IsConfigurationSpec, IsPlanFor}
+use Rattle.bi_fit.proofs.HashNames.{bytes-hash_node_name, hash_node_name_is_child, new_hash_node_name}
 use Rattle.bi_fit.proofs.TreeContents.{may_be_in_name, tested_name, tested_property, AreBlobProperties, properties-empty}
 use Rattle.bi_fit.proofs.TreeContents.{properties-from_entries}
 
@@ -47,6 +54,18 @@ tested_child byte later passes slash =
 -- A text as a value is bytes.
 pub bytes-text_value : (text : List ℕ) → AreBytes text → AreBytes (text_value text)
 bytes-text_value text bytes = AreBytes-append text (0 ∷ []) bytes (AreBytes-cons 0 [] (omega arith) AreBytes-none)
+
+-- The text of such a value is the text.
+pub text_before_nul-text_value : (text : List ℕ) → HasNoZero text → text_before_nul (text_value text) ≡ Some text
+unfolding text_before_nul
+text_before_nul-text_value text no_zero =
+    let zero_is_there : list_any (λ byte. byte == 0) (text ++ 0 ∷ []) ≡ true =
+    list_any-append (λ byte. byte == 0) text (0 ∷ []) ∙ or_true (list_any (λ byte. byte == 0) text) in
+    rw (zero_is_there, before_nul-append text (0 ∷ []) no_zero refl) refl
+  where
+    or_true : (b : Bool) → (b || true) ≡ true
+    or_true true = refl
+    or_true false = refl
 
 -- A name that passes the test is bytes.
 tested_bytes : (name : List ℕ) → list_all may_be_in_name name ≡ true → AreBytes name
@@ -71,15 +90,6 @@ good_entry : (number : Option ℕ) → AreBlobProperties (cell_property (codes "
 good_entry None = tt
 good_entry (Some number) = (tested_property _ _ (cell number) refl (AreBytes-cell number), tt)
 
--- The name of a type is bytes.
-type_bytes : (key : Key) → AreBytes (type_name key)
-type_bytes Kernel = tested_bytes _ refl
-type_bytes Fdt = tested_bytes _ refl
-type_bytes Ramdisk = tested_bytes _ refl
-type_bytes Firmware = tested_bytes _ refl
-type_bytes Loadables = tested_bytes _ refl
-type_bytes Script = tested_bytes _ refl
-
 -- The properties of an image node are good.
 good_image : (head : HeadModel) (image : ImageSpecModel) → IsText head.description → IsImageSpec image →
     AreBlobProperties (built_image_properties head image)
@@ -92,7 +102,7 @@ good_image head image description is = (
       (
         tested_property _ _ (text_value image.os) refl (bytes-text_value image.os is.os.bytes),
         (
-          tested_property _ _ (text_value (type_name image.key)) refl (bytes-text_value (type_name image.key) (type_bytes image.key)),
+          tested_property _ _ (text_value image.image_type) refl (bytes-text_value image.image_type is.image_type.bytes),
           each-append (λ property. IsProperty property.0 property.1) (cell_property (codes "load") image.load)
               (cell_property (codes "entry") image.entry)
               (good_load image.load) (good_entry image.entry),
@@ -102,26 +112,57 @@ good_image head image description is = (
   ),
 )
 
+-- The name of an algorithm is bytes, and none of them is zero.
+pub algorithm_text : (algo : Algo) → AreBytes (algorithm_name algo) × HasNoZero (algorithm_name algo)
+algorithm_text Crc32 = tested_name _ refl
+algorithm_text Md5 = tested_name _ refl
+algorithm_text Sha1 = tested_name _ refl
+algorithm_text Sha256 = tested_name _ refl
+algorithm_text Sha384 = tested_name _ refl
+algorithm_text Sha512 = tested_name _ refl
+
 -- The properties of a hash node are good.
-good_hash_properties : (payload : List ℕ) → AreBlobProperties (built_hash_properties payload)
-good_hash_properties payload = (
-  tested_property _ _ (text_value (algorithm_name Sha256)) refl (bytes-text_value (algorithm_name Sha256) (tested_bytes _ refl)),
-  (tested_property _ _ (digest_of Sha256 payload) refl (AreBytes-digest_of Sha256 payload), tt),
+good_hash_properties : (algo : Algo) (payload : List ℕ) → AreBlobProperties (built_hash_properties algo (digest_of algo payload))
+good_hash_properties algo payload = (
+  tested_property _ _ (text_value (algorithm_name algo)) refl (bytes-text_value (algorithm_name algo) (algorithm_text algo).0),
+  (tested_property _ _ (digest_of algo payload) refl (AreBytes-digest_of algo payload), tt),
 )
 
--- The names of images under a key are listed in bytes.
-listed_bytes : (key : Key) (images : List ImageSpecModel) → AllByRecursion IsImageSpec images →
-    AreBytes (strings_of (names_under key images))
-listed_bytes key [] each = AreBytes-none
-listed_bytes key (image ∷ later) each =
-    where_first (key_eq key image.key) refl (listed_bytes key later each.1)
-  where
-    where_first : (b : Bool) → key_eq key image.key ≡ b → AreBytes (strings_of (names_under key later)) →
-        AreBytes (strings_of (names_under key (image ∷ later)))
-    where_first true is rest =
-        rw is (AreBytes-append (text_value image.name) (strings_of (names_under key later))
-        (bytes-text_value image.name each.0.name_bytes) rest)
-    where_first false is rest = rw is rest
+-- Hash nodes are nodes.
+hash_nodes_are : (number : ℕ) (algorithms : List Algo) (payload : List ℕ) → number + length algorithms ≤ 2 ^ 64 →
+    AreNodes ArePropertiesByName (built_hash_nodes number algorithms payload)
+hash_nodes_are number [] payload fits = tt
+hash_nodes_are number (algo ∷ later) payload fits = (
+  record {
+    is_name = hash_node_name_is_child number (omega arith);
+    is_own = properties-from_entries (built_hash_properties algo (digest_of algo payload)) (good_hash_properties algo payload);
+    is_new = new_hash_node_name number (number + 1) later payload (omega arith) (omega arith);
+  },
+  tt,
+  hash_nodes_are (number + 1) later payload (omega arith),
+)
+
+-- Their names are bytes.
+hash_nodes_bytes : (number : ℕ) (algorithms : List Algo) (payload : List ℕ) → number + length algorithms ≤ 2 ^ 64 →
+    HaveByteNames (built_hash_nodes number algorithms payload)
+hash_nodes_bytes number [] payload fits = tt
+hash_nodes_bytes number (algo ∷ later) payload fits =
+    (bytes-hash_node_name number (omega arith), tt, hash_nodes_bytes (number + 1) later payload (omega arith))
+
+-- What holds of each name holds of one of them.
+pub among_each : (P : List ℕ → Type 0) (names : List (List ℕ)) (name : List ℕ) → AllByRecursion P names →
+    is_among name names ≡ true → P name
+among_each P names name each among = each-contains P names name each (among_found names name among)
+
+-- Names of images are listed in bytes.
+listed_bytes : (images : List ImageSpecModel) → AllByRecursion IsImageSpec images → (listed : List (List ℕ)) →
+    AllByRecursion (λ name. IsTrue (is_among name (names_of_images images))) listed → AreBytes (strings_of listed)
+listed_bytes images each listed are =
+    AreBytes-strings_of listed
+    (each-weaker (λ name. IsTrue (is_among name (names_of_images images))) AreBytes
+    (λ name among. among_each AreBytes (names_of_images images) name
+    (each-map AreBytes (λ (image : ImageSpecModel). image.name) images
+    (each-weaker IsImageSpec (λ image. AreBytes image.name) (λ image is. is.name_bytes) images each)) among) listed are)
 
 -- The property of a key is good.
 good_list : (key : Key) (listed : List (List ℕ)) → AreBytes (strings_of listed) → AreBlobProperties (list_property key listed)
@@ -134,55 +175,91 @@ good_list Loadables (name ∷ later) bytes = (tested_property _ _ (strings_of (n
 good_list Script (name ∷ later) bytes = (tested_property _ _ (strings_of (name ∷ later)) refl bytes, tt)
 
 -- The properties of these keys are good.
-good_lists : (keys : List Key) (images : List ImageSpecModel) → AllByRecursion IsImageSpec images →
-    AreBlobProperties (flat_map (λ key. list_property key (names_under key images)) keys)
-good_lists [] images each = tt
-good_lists (key ∷ later) images each =
-    each-append (λ property. IsProperty property.0 property.1) (list_property key (names_under key images))
-    (flat_map (λ key. list_property key (names_under key images)) later)
-    (good_list key (names_under key images) (listed_bytes key images each)) (good_lists later images each)
+good_lists : (keys : List Key) (images : List ImageSpecModel) (configuration : ConfigurationSpecModel) →
+    AllByRecursion IsImageSpec images → IsConfigurationSpec (names_of_images images) configuration →
+    AreBlobProperties (flat_map (λ key. list_property key (configuration.lists key)) keys)
+good_lists [] images configuration each is = tt
+good_lists (key ∷ later) images configuration each is =
+    each-append (λ property. IsProperty property.0 property.1) (list_property key (configuration.lists key))
+    (flat_map (λ key. list_property key (configuration.lists key)) later)
+    (good_list key (configuration.lists key) (listed_bytes images each (configuration.lists key) (is.of_images key)))
+    (good_lists later images configuration each is)
 
--- The properties of the configuration are good.
-good_configuration : (head : HeadModel) (images : List ImageSpecModel) → CanBeBuilt head images →
-    AreBlobProperties (built_configuration_properties head images)
-good_configuration head images can = (
+-- The properties of a configuration are good.
+good_configuration : (head : HeadModel) (images : List ImageSpecModel) (configuration : ConfigurationSpecModel) → CanBeBuilt head images →
+    IsConfigurationSpec (names_of_images images) configuration → AreBlobProperties (built_configuration_properties head configuration)
+good_configuration head images configuration can is = (
   tested_property _ _ (text_value head.description) refl (bytes-text_value head.description can.description.bytes),
-  good_lists all_keys images can.each,
+  good_lists all_keys images configuration can.each is,
 )
 
--- The names of the image nodes are those of the images.
-names-built_images : (head : HeadModel) (images : List ImageSpecModel) → names (built_images head images) ≡ map (λ image. image.name) images
-names-built_images head [] = refl
-names-built_images head (image ∷ later) = ap (λ l. image.name ∷ l) (names-built_images head later)
+-- The names of the configuration nodes are those of the configurations.
+pub names-built_configurations : (head : HeadModel) (configurations : List ConfigurationSpecModel) →
+    names (built_configurations head configurations) ≡ configuration_names configurations
+names-built_configurations head [] = refl
+names-built_configurations head (configuration ∷ later) = ap (λ l. configuration.name ∷ l) (names-built_configurations head later)
 
--- The image nodes are nodes.
-built_images_are : (head : HeadModel) (images : List ImageSpecModel) → IsText head.description → AllByRecursion IsImageSpec images →
-    AreDistinct (map (λ image. image.name) images) → AreNodes ArePropertiesByName (built_images head images)
-built_images_are head [] description each distinct = tt
-built_images_are head (image ∷ later) description each distinct = (
+-- The configuration nodes are nodes.
+configurations_are : (head : HeadModel) (images : List ImageSpecModel) (configurations : List ConfigurationSpecModel) →
+    CanBeBuilt head images → AllByRecursion (IsConfigurationSpec (names_of_images images)) configurations →
+    AreDistinct (configuration_names configurations) → AreNodes ArePropertiesByName (built_configurations head configurations)
+configurations_are head images [] can each distinct = tt
+configurations_are head images (configuration ∷ later) can each distinct = (
   record {
     is_name = each.0.is_name;
-    is_own = properties-from_entries (built_image_properties head image) (good_image head image description each.0);
-    is_new = subst (IsNew image.name) (sym (names-built_images head later)) distinct.0;
+    is_own = properties-from_entries (built_configuration_properties head configuration)
+        (good_configuration head images configuration can each.0);
+    is_new = subst (IsNew configuration.name) (sym (names-built_configurations head later)) distinct.0;
   },
-  (
-    record {
-      is_name = tested_child _ _ refl refl;
-      is_own = properties-from_entries (built_hash_properties image.payload) (good_hash_properties image.payload);
-      is_new = tt;
-    },
-    tt,
-    tt,
-  ),
-  built_images_are head later description each.1 distinct.1,
+  tt,
+  configurations_are head images later can each.1 distinct.1,
 )
 
 -- Their names are bytes.
-built_images_bytes : (head : HeadModel) (images : List ImageSpecModel) → AllByRecursion IsImageSpec images →
-    HaveByteNames (built_images head images)
-built_images_bytes head [] each = tt
-built_images_bytes head (image ∷ later) each =
-    (each.0.name_bytes, (tested_bytes _ refl, tt, tt), built_images_bytes head later each.1)
+configurations_bytes : (head : HeadModel) (image_names : List (List ℕ)) (configurations : List ConfigurationSpecModel) →
+    AllByRecursion (IsConfigurationSpec image_names) configurations → HaveByteNames (built_configurations head configurations)
+configurations_bytes head image_names [] each = tt
+configurations_bytes head image_names (configuration ∷ later) each =
+    (each.0.name_bytes, tt, configurations_bytes head image_names later each.1)
+
+-- The name of the default configuration is bytes.
+default_bytes : (image_names : List (List ℕ)) (plan : PlanModel) → IsPlanFor image_names plan → AreBytes plan.default
+default_bytes image_names plan is =
+    among_each AreBytes (configuration_names plan.configurations) plan.default
+    (each-map AreBytes (λ (configuration : ConfigurationSpecModel). configuration.name) plan.configurations
+    (each-weaker (IsConfigurationSpec image_names) (λ configuration. AreBytes configuration.name) (λ configuration is. is.name_bytes)
+    plan.configurations is.each)) is.default
+
+-- The names of the image nodes are those of the images.
+names-built_images : (head : HeadModel) (algorithms : List Algo) (images : List ImageSpecModel) →
+    names (built_images head algorithms images) ≡ names_of_images images
+names-built_images head algorithms [] = refl
+names-built_images head algorithms (image ∷ later) = ap (λ l. image.name ∷ l) (names-built_images head algorithms later)
+
+-- The image nodes are nodes.
+built_images_are : (head : HeadModel) (algorithms : List Algo) (images : List ImageSpecModel) → length algorithms < 2 ^ 64 →
+    IsText head.description → AllByRecursion IsImageSpec images → AreDistinct (names_of_images images) →
+    AreNodes ArePropertiesByName (built_images head algorithms images)
+built_images_are head algorithms [] few description each distinct = tt
+built_images_are head algorithms (image ∷ later) few description each distinct = (
+  record {
+    is_name = each.0.is_name;
+    is_own = properties-from_entries (built_image_properties head image) (good_image head image description each.0);
+    is_new = subst (IsNew image.name) (sym (names-built_images head algorithms later)) distinct.0;
+  },
+  hash_nodes_are 1 algorithms image.payload (omega (arith, few)),
+  built_images_are head algorithms later few description each.1 distinct.1,
+)
+
+-- Their names are bytes.
+built_images_bytes : (head : HeadModel) (algorithms : List Algo) (images : List ImageSpecModel) → length algorithms < 2 ^ 64 →
+    AllByRecursion IsImageSpec images → HaveByteNames (built_images head algorithms images)
+built_images_bytes head algorithms [] few each = tt
+built_images_bytes head algorithms (image ∷ later) few each = (
+  each.0.name_bytes,
+  hash_nodes_bytes 1 algorithms image.payload (omega (arith, few)),
+  built_images_bytes head algorithms later few each.1,
+)
 
 -- No property is found under a name that passes a test which no property passes.
 pub none_found : (test : List ℕ → Bool) (name : List ℕ) (properties : List Property) → test name ≡ true →
@@ -210,10 +287,10 @@ entry_is_no_payload None = tt
 entry_is_no_payload (Some number) = (refl, tt)
 
 -- The image nodes and their payloads are apart.
-built_images_apart : (head : HeadModel) (images : List ImageSpecModel) → AllByRecursion IsImageSpec images →
-    AllZip IsApart (each_own (built_images head images)) (map (λ image. Some image.payload) images)
-built_images_apart head [] each = tt
-built_images_apart head (image ∷ later) each = (
+built_images_apart : (head : HeadModel) (algorithms : List Algo) (images : List ImageSpecModel) → AllByRecursion IsImageSpec images →
+    AllZip IsApart (each_own (built_images head algorithms images)) (map (λ image. Some image.payload) images)
+built_images_apart head algorithms [] each = tt
+built_images_apart head algorithms (image ∷ later) each = (
   record {
     no_payload_name = λ name is.
         get-from_entries nat_list_cmp_total (built_image_properties head image) name
@@ -236,12 +313,13 @@ built_images_apart head (image ∷ later) each = (
         );
     bytes = each.0.payload_bytes;
   },
-  built_images_apart head later each.1,
+  built_images_apart head algorithms later each.1,
 )
 
 -- What can be built is an image tree.
-pub built_is_image_tree : (head : HeadModel) (images : List ImageSpecModel) → CanBeBuilt head images → IsImageTree (built_tree head images)
-built_is_image_tree head images can = record {
+pub built_is_image_tree : (head : HeadModel) (plan : PlanModel) (images : List ImageSpecModel) → CanBeBuilt head images →
+    IsPlanFor (names_of_images images) plan → IsImageTree (built_tree head plan images)
+built_is_image_tree head plan images can is = record {
   cpu_fits = omega arith;
   are_reservations = tt;
   is_tree = record {
@@ -252,39 +330,56 @@ built_is_image_tree head images can = record {
         is_own = properties-empty;
         is_new = (other_bytes configurations_name images_name refl, tt);
       },
-      built_images_are head images can.description can.each can.distinct,
+      built_images_are head plan.algorithms images is.few can.description can.each can.distinct,
       (
         record {
           is_name = tested_child _ _ refl refl;
-          is_own = properties-from_entries ((default_name, text_value configuration_name) ∷ [])
-              (tested_property _ _ (text_value configuration_name) refl (bytes-text_value configuration_name (tested_bytes _ refl)), tt);
+          is_own = properties-from_entries ((default_name, text_value plan.default) ∷ []) (
+            tested_property _ _ (text_value plan.default) refl
+                (bytes-text_value plan.default (default_bytes (names_of_images images) plan is)),
+            tt,
+          );
           is_new = tt;
         },
-        (
-          record {
-            is_name = tested_child _ _ refl refl;
-            is_own = properties-from_entries (built_configuration_properties head images) (good_configuration head images can);
-            is_new = tt;
-          },
-          tt,
-          tt,
-        ),
+        configurations_are head images plan.configurations can is.each is.distinct,
         tt,
       ),
     );
   };
-  name_bytes = (tested_bytes _ refl, built_images_bytes head images can.each, (tested_bytes _ refl, (tested_bytes _ refl, tt, tt), tt));
-  images = built_images head images;
+  name_bytes = (
+    tested_bytes _ refl,
+    built_images_bytes head plan.algorithms images is.few can.each,
+    (tested_bytes _ refl, configurations_bytes head (names_of_images images) plan.configurations is.each, tt),
+  );
+  images = built_images head plan.algorithms images;
   has_images = refl;
-  apart = built_images_apart head images can.each;
+  apart = built_images_apart head plan.algorithms images can.each;
 }
 
--- Image nodes and their hash nodes are two deep.
-depth-built_images : (head : HeadModel) (images : List ImageSpecModel) → depth (built_images head images) ≤ 2
-depth-built_images head [] = omega arith
-depth-built_images head (image ∷ later) = let rest : depth
-    (built_images head later) ≤ 2 = depth-built_images head later in omega (arith, rest)
+-- Hash nodes are one deep,
+depth-built_hash_nodes : (number : ℕ) (algorithms : List Algo) (payload : List ℕ) → depth (built_hash_nodes number algorithms payload) ≤ 1
+depth-built_hash_nodes number [] payload = omega arith
+depth-built_hash_nodes number (algo ∷ later) payload = let rest : depth (built_hash_nodes (number + 1) later payload) ≤ 1 =
+    depth-built_hash_nodes (number + 1) later payload in omega (arith, rest)
+
+-- so that image nodes and their hash nodes are two deep.
+depth-built_images : (head : HeadModel) (algorithms : List Algo) (images : List ImageSpecModel) →
+    depth (built_images head algorithms images) ≤ 2
+depth-built_images head algorithms [] = omega arith
+depth-built_images head algorithms (image ∷ later) =
+    let first : depth (built_hash_nodes 1 algorithms image.payload) ≤ 1 = depth-built_hash_nodes 1 algorithms image.payload in
+    let rest : depth (built_images head algorithms later) ≤ 2 = depth-built_images head algorithms later in
+    omega (arith, first, rest)
+
+-- Configuration nodes are one deep.
+depth-built_configurations : (head : HeadModel) (configurations : List ConfigurationSpecModel) →
+    depth (built_configurations head configurations) ≤ 1
+depth-built_configurations head [] = omega arith
+depth-built_configurations head (configuration ∷ later) =
+    let rest : depth (built_configurations head later) ≤ 1 = depth-built_configurations head later in omega (arith, rest)
 
 -- A built tree is four deep at most.
-pub depth-built : (head : HeadModel) (images : List ImageSpecModel) → depth_of (built_tree head images).root ≤ 4
-depth-built head images = omega (arith, depth-built_images head images)
+pub depth-built : (head : HeadModel) (plan : PlanModel) (images : List ImageSpecModel) →
+    depth_of (built_tree head plan images).root ≤ 4
+depth-built head plan images =
+    omega (arith, depth-built_images head plan.algorithms images, depth-built_configurations head plan.configurations)

@@ -1,5 +1,5 @@
 use Rattle.std.proofs.Common.{◌≡◌, ◌≢◌, ℕ, suc, ◌+◌, ◌<◌, ◌≤◌, List, [], ◌∷◌, ◌++◌, length, drop, get_or, Option, Some, None}
-use Rattle.std.proofs.Common.{refl, sym, ap, subst, ◌∙◌, add-one, arith, append_assoc}
+use Rattle.std.proofs.Common.{refl, sym, ap, subst, ◌∙◌, arith, append_assoc}
 use Rattle.std.specs.List.{AllByRecursion, AllZip}
 use Rattle.std.proofs.Math.ListN.{drop_of_length-le}
 use Rattle.std.proofs.Math.Seq.{drop-cons}
@@ -120,25 +120,6 @@ module _ (found : List (Option ℕ)) (count index next : ℕ) (numbers more : Li
   -- What is left begins with this.
   here : numbers ++ numbers_from next (get_or found index d ∷ drop (suc index) found) ≡ numbers_from count found
   here = ap (λ l. numbers ++ numbers_from next l) (sym (drop-cons found index d within)) ∙ begun
-
-  -- A number that is found,
-  pub common_more : (number : ℕ) → get_or found index d ≡ Some number → more ≡ numbers ++ number ∷ [] →
-      AreBegun found count (index + 1) next more
-  common_more number is pushed =
-      ap (λ l. l ++ numbers_from next (drop (index + 1) found)) pushed
-      ∙ append_assoc numbers (number ∷ []) (numbers_from next (drop (index + 1) found))
-      ∙ ap (λ k. numbers ++ number ∷ numbers_from next (drop k found)) (add-one index)
-      ∙ ap (λ o. numbers ++ numbers_from next (o ∷ drop (suc index) found)) (sym is)
-      ∙ here
-
-  -- or the next one.
-  pub next_more : get_or found index d ≡ None → more ≡ numbers ++ next ∷ [] → AreBegun found count (index + 1) (next + 1) more
-  next_more is pushed =
-      ap (λ l. l ++ numbers_from (next + 1) (drop (index + 1) found)) pushed
-      ∙ append_assoc numbers (next ∷ []) (numbers_from (next + 1) (drop (index + 1) found))
-      ∙ ap (λ k. numbers ++ next ∷ numbers_from (next + 1) (drop k found)) (add-one index)
-      ∙ ap (λ o. numbers ++ numbers_from next (o ∷ drop (suc index) found)) (sym is)
-      ∙ here
 
 -- In the end they are all.
 pub all_begun : (found : List (Option ℕ)) (count index next : ℕ) (numbers : List ℕ) → length found ≤ index →

@@ -20,11 +20,11 @@ use Rattle.bi_fit.proofs.FileFacts.{blob_by_test}
 
 -- The file of a tested tree, within the widest limits, has the first fault of its checks.
 in_tree : (root : Root (List Property)) (rest : List ℕ) (fault : Fault) → is_tree root ≡ true →
-    list_all (λ byte. ltb byte 256) rest ≡ true → length (text_of_tree 0 [] root) ≤ longest_text →
-    length (text_of_tree 0 [] root ++ rest) ≤ longest_text → depth_of (tree_with_places [] root) ≤ 64 →
-    IsFirstFault (FitPasses (text_of_tree 0 [] root ++ rest)) fit_fault
-    (fit_checks (text_of_tree 0 [] root ++ rest) (tree_with_places [] root)) fault →
-    IsFitFault widest (text_of_tree 0 [] root ++ rest) fault
+    list_all (λ byte. ltb byte 256) rest ≡ true → length (text_of_tree 4 0 [] root) ≤ longest_text →
+    length (text_of_tree 4 0 [] root ++ rest) ≤ longest_text → depth_of (tree_with_places [] root) ≤ 64 →
+    IsFirstFault (FitPasses (text_of_tree 4 0 [] root ++ rest)) fit_fault
+    (fit_checks (text_of_tree 4 0 [] root ++ rest) (tree_with_places [] root)) fault →
+    IsFitFault widest (text_of_tree 4 0 [] root ++ rest) fault
 in_tree root rest fault tree bytes short fits shallow first =
     InTree 0 [] (tree_with_places [] root) (blob_by_test root rest tree bytes short) (record { short = fits; shallow = shallow }) first
 

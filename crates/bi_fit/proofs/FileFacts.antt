@@ -5,7 +5,10 @@ use Rattle.std.specs.List.{AllByRecursion, list_all}
 use Rattle.std.specs.Cmp.Lexicographic.{slice_cmp}
 use Rattle.std.specs.FinMap.{insert, empty, entries, from_entries, put, len-empty, len-entries, entries-insert, get-empty, get-from_entries}
 use Rattle.std.proofs.lemmas.Cmp.{nat_list_cmp_total}
-use Rattle.bi_base.specs.Cells.{cell, cell8, u32_at, up4}
+use Rattle.bi_base.specs.declared.align.Align.{Align}
+use Rattle.bi_base.specs.Aligns.{align_bytes}
+use Rattle.bi_base.specs.Cells.{cell, cell8, u32_at, up_to}
+use Rattle.bi_base.proofs.AlignmentLaws.{IsAlignment-four}
 use Rattle.bi_blob.specs.Tree.{Nodes, none, node, Root, Property, PropertyMap, with_each}
 use Rattle.bi_blob.specs.Blob.{IsBlob}
 use Rattle.bi_blob.specs.Layout.{text_of_tree, text_of_events, text_of_blocks, tree_with_places, tokens_of, structure_block, longest_text}
@@ -17,13 +20,13 @@ use Rattle.bi_blob.proofs.Blobs.Headers.{HasNoHeaderFault-Header}
 use Rattle.bi_blob.proofs.Texts.Structure.{says_tree}
 use Rattle.bi_blob.proofs.Texts.TextBlob.{text_blob}
 use Rattle.bi_fit.specs.declared.form.Form.{Form}
-use Rattle.bi_fit.specs.declared.form.Form.TheVariants.{Embedded, External}
+use Rattle.bi_fit.specs.declared.form.Form.TheVariants.{Embedded, External, Aligned}
 use Rattle.bi_fit.specs.Names.{is_payload_name, images_name, data_name, data_offset_name, data_position_name, data_size_name}
 use Rattle.bi_fit.specs.ImageTree.{without_payload, without_payloads}
-use Rattle.bi_fit.specs.Text.{with_payload, with_payloads, end_after, normal_tree, blob_of, after_blob, fit_text}
-use Rattle.bi_fit.specs.KnownFiles.{tree_with_images, file_of_images, plain_images, plain_tree, SmallestIsFit, NoneIsNotEmpty, only_data}
+use Rattle.bi_fit.specs.Text.{alignment_of, blob_alignment, with_payload, with_payloads, end_after, normal_tree, blob_of, after_blob, payloads_after, fit_text}
+use Rattle.bi_fit.specs.KnownFiles.{tree_with_images, plain_images, plain_tree, SmallestIsFit, NoneIsNotEmpty, only_data}
 use Rattle.bi_fit.specs.KnownFiles.{nested_tree, nested_image_tree, OnlyImagesHavePayloads, UnusedHaveNoMeaning, region_of, shared_region}
-use Rattle.bi_fit.specs.KnownFiles.{SharedRegionIsRepeated, ThreeImagesHaveTexts, ChildrenKeepOrder, PositionIsBeforeData}
+use Rattle.bi_fit.specs.KnownFiles.{three_tree, ThreeImagesAreAligned, SharedRegionIsRepeated, ThreeImagesHaveTexts, ChildrenKeepOrder, PositionIsBeforeData}
 use Rattle.bi_fit.specs.KnownFiles.{OffsetIsBeforeData, PositionIsBeforeOffset, PayloadsAreAligned, offset_file, OffsetIsFromAlignedEnd}
 use Rattle.bi_fit.proofs.PayloadProperties.{taken_out}
 use Rattle.bi_fit.proofs.BuiltTrees.{none_found}
@@ -43,8 +46,8 @@ no_entries = by_length (entries empty) (sym (len-entries empty) ∙ len-empty (s
 
 -- The text of a tested tree, with bytes after it, is a blob of it.
 pub blob_by_test : (root : Root (List Property)) (rest : List ℕ) → is_tree root ≡ true → list_all (λ byte. ltb byte 256) rest ≡ true →
-    length (text_of_tree 0 [] root) ≤ longest_text → IsBlob (text_of_tree 0 [] root ++ rest) 0 [] (tree_with_places [] root)
-blob_by_test root rest tree bytes short = text_blob 0 [] root rest (content_by_test root tree) short (bytes_by_test rest bytes)
+    length (text_of_tree 4 0 [] root) ≤ longest_text → IsBlob (text_of_tree 4 0 [] root ++ rest) 0 [] (tree_with_places [] root)
+blob_by_test root rest tree bytes short = text_blob 4 0 [] root rest IsAlignment-four (content_by_test root tree) short (bytes_by_test rest bytes)
 
 -- Only properties of payloads leave none.
 all_taken_out : (properties : List Property) → AllByRecursion (λ property. not (is_payload_name property.0) ≡ false) properties →
@@ -60,51 +63,55 @@ all_taken_out properties are =
     by_name = from_entries properties
 
 -- The properties that give a payload, in byte order.
-abbrev listed_properties : Form → ℕ → Option (List ℕ) → List Property
-listed_properties form begin None = []
-listed_properties Embedded begin (Some payload) = (data_name, payload) ∷ []
-listed_properties External begin (Some payload) = (data_offset_name, cell begin) ∷ (data_size_name, cell (length payload)) ∷ []
+abbrev listed_properties : (alignment : Option ℕ) → ℕ → Option (List ℕ) → List Property
+listed_properties alignment begin None = []
+listed_properties None begin (Some payload) = (data_name, payload) ∷ []
+listed_properties (Some align) begin (Some payload) = (data_offset_name, cell begin) ∷ (data_size_name, cell (length payload)) ∷ []
 
-entries_listed : (form : Form) (begin : ℕ) (payload : Option (List ℕ)) →
-    entries (with_payload form begin payload empty) ≡ listed_properties form begin payload
-entries_listed form begin None = no_entries
-entries_listed Embedded begin (Some payload) =
+entries_listed : (alignment : Option ℕ) (begin : ℕ) (payload : Option (List ℕ)) →
+    entries (with_payload alignment begin payload empty) ≡ listed_properties alignment begin payload
+entries_listed alignment begin None = no_entries
+entries_listed None begin (Some payload) =
     entries-insert nat_list_cmp_total empty data_name payload ∙ ap (put (slice_cmp nat_cmp) data_name payload) no_entries
-entries_listed External begin (Some payload) =
+entries_listed (Some align) begin (Some payload) =
     entries-insert nat_list_cmp_total (insert empty data_offset_name (cell begin)) data_size_name (cell (length payload))
     ∙ ap (put (slice_cmp nat_cmp) data_size_name (cell (length payload)))
     (entries-insert nat_list_cmp_total empty data_offset_name (cell begin)
     ∙ ap (put (slice_cmp nat_cmp) data_offset_name (cell begin)) no_entries)
 
 -- Image nodes that have no other properties, as lists.
-abbrev listed_images : Form → ℕ → List (Option (List ℕ)) → List (List ℕ) → Nodes (List Property)
-listed_images form end [] [] = none
-listed_images form end [] (name ∷ names) = node name [] none (listed_images form end [] names)
-listed_images form end (payload ∷ payloads) [] = none
-listed_images form end (payload ∷ payloads) (name ∷ names) =
-    node name (listed_properties form (up4 end) payload) none (listed_images form (end_after end payload) payloads names)
+abbrev listed_images : (alignment : Option ℕ) → ℕ → List (Option (List ℕ)) → List (List ℕ) → Nodes (List Property)
+listed_images alignment end [] [] = none
+listed_images alignment end [] (name ∷ names) = node name [] none (listed_images alignment end [] names)
+listed_images alignment end (payload ∷ payloads) [] = none
+listed_images alignment end (payload ∷ payloads) (name ∷ names) =
+    node name (listed_properties alignment (up_to (blob_alignment alignment) end) payload) none
+    (listed_images alignment (end_after (blob_alignment alignment) end payload) payloads names)
 
-images_listed : (form : Form) (end : ℕ) (payloads : List (Option (List ℕ))) (names : List (List ℕ)) →
-    with_each entries (with_payloads form end payloads (plain_images names)) ≡ listed_images form end payloads names
-images_listed form end [] [] = refl
-images_listed form end [] (name ∷ names) =
-    ap₂ (λ own later. node name own none later) no_entries (images_listed form end [] names)
-images_listed form end (payload ∷ payloads) [] = refl
-images_listed form end (payload ∷ payloads) (name ∷ names) =
-    ap₂ (λ own later. node name own none later) (entries_listed form (up4 end) payload)
-    (images_listed form (end_after end payload) payloads names)
+images_listed : (alignment : Option ℕ) (end : ℕ) (payloads : List (Option (List ℕ))) (names : List (List ℕ)) →
+    with_each entries (with_payloads alignment end payloads (plain_images names)) ≡ listed_images alignment end payloads names
+images_listed alignment end [] [] = refl
+images_listed alignment end [] (name ∷ names) =
+    ap₂ (λ own later. node name own none later) no_entries (images_listed alignment end [] names)
+images_listed alignment end (payload ∷ payloads) [] = refl
+images_listed alignment end (payload ∷ payloads) (name ∷ names) =
+    ap₂ (λ own later. node name own none later) (entries_listed alignment (up_to (blob_alignment alignment) end) payload)
+    (images_listed alignment (end_after (blob_alignment alignment) end payload) payloads names)
 
 -- The blob of image nodes that have no other properties.
 plain_blob : (form : Form) (names : List (List ℕ)) (payloads : List (Option (List ℕ))) →
-    blob_of form (plain_tree names payloads) ≡ text_of_tree 0 [] (tree_with_images (listed_images form 0 payloads names))
+    blob_of form (plain_tree names payloads)
+    ≡ text_of_tree (blob_alignment (alignment_of form)) 0 [] (tree_with_images (listed_images (alignment_of form) 0 payloads names))
 plain_blob form names payloads =
-    ap₂ (λ own images. text_of_tree 0 [] (record { own = own; children = node images_name own images none }))
-    no_entries (images_listed form 0 payloads names)
+    ap₂ (λ own images. text_of_tree (blob_alignment (alignment_of form)) 0 []
+    (record { own = own; children = node images_name own images none }))
+    no_entries (images_listed (alignment_of form) 0 payloads names)
 
 -- The text of image nodes that have no other properties.
 plain_text : (form : Form) (names : List (List ℕ)) (payloads : List (Option (List ℕ))) →
     fit_text form (plain_tree names payloads)
-    ≡ file_of_images (listed_images form 0 payloads names) (after_blob form (plain_tree names payloads))
+    ≡ text_of_tree (blob_alignment (alignment_of form)) 0 [] (tree_with_images (listed_images (alignment_of form) 0 payloads names))
+    ++ after_blob form (plain_tree names payloads)
 plain_text form names payloads = ap (λ blob. blob ++ after_blob form (plain_tree names payloads)) (plain_blob form names payloads)
 
 pub smallest_is_fit : SmallestIsFit
@@ -207,6 +214,27 @@ three_images_have_texts = record {
       (Some (codes "hello") ∷ Some [] ∷ Some (codes "x") ∷ []));
   external_length = refl;
   places = refl;
+}
+
+-- A text of the three images with an alignment.
+aligned_text : (form : Align) (align : ℕ) → align_bytes form ≡ align →
+    fit_text (Aligned form) three_tree
+    ≡ text_of_tree align 0 [] (tree_with_images (listed_images (Some align) 0 three_tree.payloads (codes "a" ∷ codes "b" ∷ codes "c" ∷ [])))
+    ++ payloads_after (Some align) three_tree.payloads
+aligned_text form align is =
+    plain_text (Aligned form) (codes "a" ∷ codes "b" ∷ codes "c" ∷ []) three_tree.payloads
+    ∙ ap (λ n. text_of_tree n 0 []
+    (tree_with_images (listed_images (Some n) 0 three_tree.payloads (codes "a" ∷ codes "b" ∷ codes "c" ∷ [])))
+    ++ payloads_after (Some n) three_tree.payloads) is
+
+pub three_images_are_aligned : ThreeImagesAreAligned
+unfolding text_of_events text_of_blocks cell cell8 u32_at
+three_images_are_aligned = record {
+  by_4 = record { is_text = λ form is. aligned_text form 4 is; is_total = refl; is_length = refl; places = refl };
+  by_8 = record { is_text = λ form is. aligned_text form 8 is; is_total = refl; is_length = refl; places = refl };
+  by_16 = record { is_text = λ form is. aligned_text form 16 is; is_total = refl; is_length = refl; places = refl };
+  by_4096 = record { is_text = λ form is. aligned_text form 4096 is; is_total = refl; is_length = refl; places = refl };
+  same = refl;
 }
 
 pub payloads_are_aligned : PayloadsAreAligned
@@ -334,8 +362,8 @@ offset_blob = record {
     structure = structure_block (events_of offset_root);
     trailing = [];
     is_at = refl;
-    is_encoded = (says_tree 0 [] offset_root (content_by_test offset_root refl) (lit≤ tt)).is_encoded;
-    encodes = (says_tree 0 [] offset_root (content_by_test offset_root refl) (lit≤ tt)).encodes;
+    is_encoded = (says_tree 4 0 [] offset_root IsAlignment-four (content_by_test offset_root refl) (lit≤ tt)).is_encoded;
+    encodes = (says_tree 4 0 [] offset_root IsAlignment-four (content_by_test offset_root refl) (lit≤ tt)).encodes;
     is_tree = (content_by_test offset_root refl).is_tree;
   };
 }
@@ -409,7 +437,7 @@ nested_nodes own =
 
 -- One property in byte order.
 entries_data : (value : List ℕ) → entries (only_data value) ≡ (data_name, value) ∷ []
-entries_data value = entries_listed Embedded 0 (Some value)
+entries_data value = entries_listed None 0 (Some value)
 
 -- The tree of the text is that of the file.
 nested_normal : normal_tree Embedded nested_image_tree ≡ nested_tree
@@ -435,7 +463,7 @@ only_images_have_payloads = record {
     is_root = ap (λ own. record { own = only_data (codes "r"); children = nested_nodes own })
         (sym (all_taken_out ((data_name, codes "q") ∷ []) (refl, tt)));
   };
-  embedded = ap (λ root. text_of_tree 0 [] root ++ []) nested_normal;
+  embedded = ap (λ root. text_of_tree 4 0 [] root ++ []) nested_normal;
 }
 
 pub unused_have_no_meaning : UnusedHaveNoMeaning

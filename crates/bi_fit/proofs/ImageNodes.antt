@@ -1,19 +1,19 @@
 use Rattle.std.proofs.Common.{◌≡◌, ℕ, ◌+◌, ◌≤◌, Bool, List, [], ◌∷◌, length, Option, Some, None, refl, ap, ◌∙◌, arith}
 use Rattle.std.specs.FinMap.{insert, entries}
-use Rattle.bi_base.specs.Cells.{up4}
 use Rattle.bi_blob.specs.Tree.{Nodes, none, node, Property, PropertyMap, FileNode, with_each}
 use Rattle.bi_blob.specs.Lookups.{Sibling}
 use Rattle.bi_blob.specs.Events.{Event}
 use Rattle.bi_blob.specs.Layout.{longest_text}
 use Rattle.bi_hash.specs.declared.algo.Algo.{Algo}
 use Rattle.bi_fit.specs.declared.form.Form.{Form}
-use Rattle.bi_fit.specs.declared.form.Form.TheVariants.{Embedded, External}
+use Rattle.bi_fit.specs.declared.form.Form.TheVariants.{Embedded}
 use Rattle.bi_fit.specs.Names.{data_name}
 use Rattle.bi_fit.specs.ImageTree.{without_payload, without_payloads}
-use Rattle.bi_fit.specs.Text.{with_payload, with_payloads, end_after, payloads_end}
+use Rattle.bi_fit.specs.Text.{alignment_of, blob_alignment, with_payload, with_payloads, end_after}
 use Rattle.bi_fit.specs.TakenDigests.{algorithm_if_hashed, with_first_digest, images_with_digests_from}
-use Rattle.bi_fit.specs.NormalNodes.{HasCellSize, next_end, AreWithin, properties_by_name, nodes_by_name, begin_events, image_properties}
+use Rattle.bi_fit.specs.NormalNodes.{HasCellSize, next_begin, next_end, AreWithin, properties_by_name, nodes_by_name, begin_events, image_properties}
 use Rattle.bi_fit.specs.NormalNodes.{sorted_image_children, sorted_images}
+use Rattle.bi_fit.proofs.FormAlignments.{form-positive}
 use Rattle.bi_fit.proofs.PayloadAreas.{payloads_end-le}
 use Rattle.bi_fit.proofs.AddedEvents.{begin_events-same}
 
@@ -47,62 +47,68 @@ child_begins hashed digests s algo name read set same_algo same_name is_read is_
 
 -- Embedded payloads have no offsets.
 embedded_anywhere : (one other : ℕ) (payloads : List (Option (List ℕ))) (nodes : Nodes PropertyMap) →
-    with_payloads Embedded one payloads nodes ≡ with_payloads Embedded other payloads nodes
+    with_payloads None one payloads nodes ≡ with_payloads None other payloads nodes
 embedded_anywhere one other [] nodes = refl
 embedded_anywhere one other (payload ∷ payloads) none = refl
 embedded_anywhere one other (None ∷ payloads) (node name own children later) =
     ap (node name own children) (embedded_anywhere one other payloads later)
 embedded_anywhere one other (Some payload ∷ payloads) (node name own children later) =
     ap (node name (insert own data_name payload) children)
-    (embedded_anywhere (end_after one (Some payload)) (end_after other (Some payload)) payloads later)
+    (embedded_anywhere (end_after 4 one (Some payload)) (end_after 4 other (Some payload)) payloads later)
 
 -- The image nodes after the first.
 pub images-later : (hashes : Bool) (form : Form) (end : ℕ) (payload : Option (List ℕ)) (payloads : List (Option (List ℕ)))
     (digests : List ℕ) (nodes : Nodes FileNode) →
-    sorted_images hashes form (end_after end payload) payloads digests nodes
+    sorted_images hashes form (end_after (blob_alignment (alignment_of form)) end payload) payloads digests nodes
     ≡ sorted_images hashes form (next_end form end payload) payloads digests nodes
 images-later hashes Embedded end payload payloads digests nodes =
     ap (with_each entries)
-    (embedded_anywhere (end_after end payload) end payloads
+    (embedded_anywhere (end_after 4 end payload) end payloads
     (images_with_digests_from hashes payloads digests (without_payloads (nodes_by_name nodes))))
-images-later hashes External end payload payloads digests nodes = refl
+images-later hashes form end payload payloads digests nodes = refl
 
 -- Where payloads are within the longest text, the size of the first fits a cell,
 pub within_sized : (form : Form) (end : ℕ) (payload : Option (List ℕ)) (payloads : List (Option (List ℕ))) →
     AreWithin form end (payload ∷ payloads) → HasCellSize form payload
 within_sized Embedded end payload payloads within = tt
-within_sized External end None payloads within = tt
-within_sized External end (Some payload) payloads within =
-    let least : up4 end + length payload ≤ payloads_end (up4 end + length payload) payloads = payloads_end-le
-    (up4 end + length payload) payloads in
-    omega (arith, within)
+within_sized form end None payloads within = tt
+within_sized form end (Some payload) payloads within =
+    omega (
+      arith,
+      within,
+      payloads_end-le (blob_alignment (alignment_of form)) (next_begin form end + length payload) payloads
+          (form-positive form),
+    )
 
 -- the first ends within it,
 pub within_first : (form : Form) (end : ℕ) (payload : Option (List ℕ)) (payloads : List (Option (List ℕ))) →
     AreWithin form end (payload ∷ payloads) → end ≤ longest_text → next_end form end payload ≤ longest_text
 within_first Embedded end payload payloads within small = small
-within_first External end payload payloads within small =
-    let least : end_after end payload ≤ payloads_end (end_after end payload) payloads = payloads_end-le (end_after end payload) payloads in
-    omega (arith, within)
+within_first form end payload payloads within small =
+    omega (arith, within, payloads_end-le (blob_alignment (alignment_of form)) (next_end form end payload) payloads (form-positive form))
 
 -- and the others are too.
 pub within_later : (form : Form) (end : ℕ) (payload : Option (List ℕ)) (payloads : List (Option (List ℕ))) →
     AreWithin form end (payload ∷ payloads) → AreWithin form (next_end form end payload) payloads
 within_later Embedded end payload payloads within = tt
-within_later External end payload payloads within = within
+within_later form end payload payloads within = within
 
 -- An image node of a file that is added is that of the text.
-pub added_is_sorted : (one form : Form) (begin : ℕ) (payload : Option (List ℕ)) (digests : List ℕ)
+pub added_is_sorted : (one form : Form) (end : ℕ) (payload : Option (List ℕ)) (digests : List ℕ)
     (s : Sibling FileNode) (name : List ℕ) (own : PropertyMap) (was hashed : Bool) →
     one ≡ form → name ≡ s.name → own ≡ properties_by_name s.own → was ≡ hashed →
-    node name (entries (with_payload one begin payload (without_payload own))) (sorted_image_children was digests s.children) none
-    ≡ sorted_image (image_properties form begin payload s.own) hashed digests s
-added_is_sorted one form begin payload digests s name own was hashed same_form same_name same_own same_hashed =
-    ap (λ one. node name (entries (with_payload one begin payload (without_payload own)))
+    node name (entries (with_payload (alignment_of one) (next_begin one end) payload (without_payload own)))
+    (sorted_image_children was digests s.children) none
+    ≡ sorted_image (image_properties form (next_begin form end) payload s.own) hashed digests s
+added_is_sorted one form end payload digests s name own was hashed same_form same_name same_own same_hashed =
+    ap (λ one. node name (entries (with_payload (alignment_of one) (next_begin one end) payload (without_payload own)))
     (sorted_image_children was digests s.children) none) same_form
-    ∙ ap (λ name. node name (entries (with_payload form begin payload (without_payload own)))
+    ∙ ap (λ name. node name (entries (with_payload (alignment_of form) begin payload (without_payload own)))
     (sorted_image_children was digests s.children) none) same_name
-    ∙ ap (λ own. node s.name (entries (with_payload form begin payload (without_payload own)))
+    ∙ ap (λ own. node s.name (entries (with_payload (alignment_of form) begin payload (without_payload own)))
     (sorted_image_children was digests s.children) none) same_own
     ∙ ap (λ was. node s.name (entries (image_properties form begin payload s.own))
     (sorted_image_children was digests s.children) none) same_hashed
+  where
+    begin : ℕ
+    begin = next_begin form end

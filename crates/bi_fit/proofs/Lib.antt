@@ -2,6 +2,7 @@ pub mod Meanings
 pub mod Faults
 pub mod Trees
 pub mod PayloadProperties
+pub mod FormAlignments
 pub mod PayloadSources
 pub mod PayloadAreas
 pub mod TreeShapes
@@ -11,6 +12,7 @@ pub mod Texts
 pub mod TextLaws
 pub mod PayloadPlaces
 pub mod FilePayloads
+pub mod HashNames
 pub mod BuiltTrees
 pub mod BuiltVerdicts
 pub mod TestedTrees
@@ -59,9 +61,12 @@ pub mod UpdateChanges
 pub mod AppendedTexts
 pub mod WholeTexts
 pub mod AppendedPayloads
-pub mod ListedNames
 pub mod PassedResults
+pub mod Zips
+pub mod BuiltLeaves
 pub mod BuiltPayloads
 pub mod BuiltProperties
 pub mod BuiltNames
 pub mod BuiltDocuments
+pub mod PowersOfTwo
+pub mod KeptPayloads

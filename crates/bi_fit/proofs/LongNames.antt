@@ -25,7 +25,8 @@ use Rattle.bi_blob.specs.Tree.{Nodes, none, node, with_each, as_nodes, IsNew, Ar
 use Rattle.bi_blob.specs.Tree.{property_of, properties_of}
 use Rattle.bi_blob.specs.Events.{Event, NodeProperty, NodeEnd, events, events_of}
 use Rattle.bi_blob.specs.Events.{FileEvent, FileNodeStart, FileNodeProperty, FileNodeEnd, file_events}
-use Rattle.bi_blob.specs.Layout.{event_names, used_names, distinct_names}
+use Rattle.bi_blob.specs.Blob.{reservation_block}
+use Rattle.bi_blob.specs.Layout.{event_names, used_names, distinct_names, structure_block, strings_block, length_before_padding}
 use Rattle.bi_blob.proofs.Texts.EventLengths.{text_of_events_has_length}
 use Rattle.bi_blob.proofs.Texts.NamesOnce.{distinct_names-all}
 use Rattle.bi_fdt.specs.Content.{Blob, root_of}
@@ -34,18 +35,19 @@ use Rattle.bi_hash.specs.declared.algo.Algo.{Algo}
 use Rattle.bi_hash.specs.Digests.{digest_of}
 use Rattle.bi_fit.specs.declared.changes.Changes.{Changes}
 use Rattle.bi_fit.specs.declared.form.Form.{Form}
-use Rattle.bi_fit.specs.declared.form.Form.TheVariants.{Embedded, External}
 use Rattle.bi_fit.specs.Content.{FitModel, tree_of}
 use Rattle.bi_fit.specs.ImageTree.{with_children_of, without_payload, without_payloads}
 use Rattle.bi_fit.specs.Documents.{IsTextFault}
 use Rattle.bi_fit.specs.LongNames.{name_if_long, HasLongerNames}
 use Rattle.bi_fit.specs.Names.{images_name, timestamp_name, value_name, is_hash_name, is_payload_name, payload_names}
-use Rattle.bi_fit.specs.Text.{with_payload, with_payloads, end_after, normal_tree, fit_text}
+use Rattle.bi_fit.specs.Text.{alignment_of, blob_alignment, with_payload, with_payloads, end_after, normal_tree, fit_text}
 use Rattle.bi_fit.specs.Updating.{with_time, known_algorithm, with_digest_by, with_digest, with_digests, with_digests_of}
 use Rattle.bi_fit.specs.Updating.{images_with_digests, with_new_digests, with_changes}
 use Rattle.bi_fit.proofs.NormalTrees.{length-fit_text}
+use Rattle.bi_fit.proofs.FormAlignments.{form-aligned, form-positive}
 use Rattle.bi_fit.proofs.PayloadProperties.{get-without}
-use Rattle.bi_base.specs.Cells.{cell, up4}
+use Rattle.bi_base.specs.Cells.{cell, up_to}
+use Rattle.bi_base.proofs.AlignmentLaws.{up_to-le}
 use Rattle.bi_base.specs.declared.fault.Fault.{Fault}
 use Rattle.bi_base.specs.Limits.{Limits}
 use Rattle.bi_base.specs.Reading.{too_large}
@@ -226,21 +228,21 @@ key_with_time name None properties has = has
 key_with_time name (Some time) properties has = key_put name timestamp_name (cell time) properties has
 
 -- what gives a payload,
-key_with_payload : (name : List ℕ) (form : Form) (begin : ℕ) (payload : Option (List ℕ)) (properties : PropertyMap) →
-    HasKey name properties → HasKey name (with_payload form begin payload properties)
-key_with_payload name form begin None properties has = has
-key_with_payload name Embedded begin (Some payload) properties has = key_put name _ _ properties has
-key_with_payload name External begin (Some payload) properties has = key_put name _ _ _ (key_put name _ _ properties has)
+key_with_payload : (name : List ℕ) (alignment : Option ℕ) (begin : ℕ) (payload : Option (List ℕ)) (properties : PropertyMap) →
+    HasKey name properties → HasKey name (with_payload alignment begin payload properties)
+key_with_payload name alignment begin None properties has = has
+key_with_payload name None begin (Some payload) properties has = key_put name _ _ properties has
+key_with_payload name (Some align) begin (Some payload) properties has = key_put name _ _ _ (key_put name _ _ properties has)
 
-some_with_payloads : (name : List ℕ) (form : Form) (end : ℕ) (payloads : List (Option (List ℕ))) (nodes : Nodes PropertyMap) →
-    SomeOwn (HasKey name) nodes → SomeOwn (HasKey name) (with_payloads form end payloads nodes)
-some_with_payloads name form end [] nodes some = some
-some_with_payloads name form end (payload ∷ payloads) none some = some
-some_with_payloads name form end (payload ∷ payloads) (node n own children later) (inl here) =
-    inl (key_with_payload name form (up4 end) payload own here)
-some_with_payloads name form end (payload ∷ payloads) (node n own children later) (inr (inl below)) = inr (inl below)
-some_with_payloads name form end (payload ∷ payloads) (node n own children later) (inr (inr after)) =
-    inr (inr (some_with_payloads name form (end_after end payload) payloads later after))
+some_with_payloads : (name : List ℕ) (alignment : Option ℕ) (end : ℕ) (payloads : List (Option (List ℕ))) (nodes : Nodes PropertyMap) →
+    SomeOwn (HasKey name) nodes → SomeOwn (HasKey name) (with_payloads alignment end payloads nodes)
+some_with_payloads name alignment end [] nodes some = some
+some_with_payloads name alignment end (payload ∷ payloads) none some = some
+some_with_payloads name alignment end (payload ∷ payloads) (node n own children later) (inl here) =
+    inl (key_with_payload name alignment (up_to (blob_alignment alignment) end) payload own here)
+some_with_payloads name alignment end (payload ∷ payloads) (node n own children later) (inr (inl below)) = inr (inl below)
+some_with_payloads name alignment end (payload ∷ payloads) (node n own children later) (inr (inr after)) =
+    inr (inr (some_with_payloads name alignment (end_after (blob_alignment alignment) end payload) payloads later after))
 
 -- or a digest.
 key_with_digest_by : (name : List ℕ) (algo : Option Algo) (payload : List ℕ) (properties : PropertyMap) → HasKey name properties →
@@ -324,8 +326,8 @@ some_in_text form changes content name (inr (inr after)) = absurd after
 some_in_text form changes content name (inr (inl below)) =
     let payloads = (tree_of content).payloads in
     let changed = some_with_new_digests name changes.hashes payloads _ below in
-    let whole = some_with_children_of (HasKey name) images_name (with_payloads form 0 payloads)
-    (some_with_payloads name form 0 payloads) _ changed in
+    let whole = some_with_children_of (HasKey name) images_name (with_payloads (alignment_of form) 0 payloads)
+    (some_with_payloads name (alignment_of form) 0 payloads) _ changed in
     inr (inl (some_with_each (HasKey name) (HasName name) entries (name_in_order name) _ whole))
 
 -- A property among the events of a node's properties is one of these.
@@ -488,7 +490,8 @@ module _ (content : FitModel) (form : Form) (changes : Changes) where
       length (flat_map name_if_long names) ≤ length (fit_text form (with_changes changes (tree_of content)))
   long_names_within names distinct are =
       let tree = with_changes changes (tree_of content) in
-      let lengths = text_of_events_has_length tree.cpu tree.reservations text_events in
+      let lengths = text_of_events_has_length (blob_alignment (alignment_of form)) tree.cpu tree.reservations text_events
+      (form-aligned form) in
       let long_ones = no_longer_than_others names text_names distinct (short_or_among content text_names in_text names are) in
       omega (
         arith,
@@ -497,6 +500,8 @@ module _ (content : FitModel) (form : Form) (changes : Changes) where
         no_longer_than_all text_names,
         lengths.strings,
         lengths.is_length,
+        up_to-le (blob_alignment (alignment_of form)) (length_before_padding (length (reservation_block tree.reservations))
+            (length (structure_block text_events)) (length (strings_block text_events))) (form-positive form),
         length-fit_text form tree,
       )
 

@@ -17,10 +17,10 @@ first_listed (byte ∷ later) rest no_zero =
     rw (ne_eqb byte 0 no_zero.0) (ap (with_byte byte) (first_listed later rest no_zero.1))
 
 -- Names with a zero after each are listed.
-pub names_listed : (names : List (List ℕ)) → AllByRecursion HasNoZero names → listed_names (strings_of names) ≡ names
-names_listed [] no_zero = refl
-names_listed (name ∷ later) no_zero =
-    first_listed name (strings_of later) no_zero.0 ∙ ap (λ l. name ∷ l) (names_listed later no_zero.1)
+pub list_of_names : (names : List (List ℕ)) → AllByRecursion HasNoZero names → listed_names (strings_of names) ≡ names
+list_of_names [] no_zero = refl
+list_of_names (name ∷ later) no_zero =
+    first_listed name (strings_of later) no_zero.0 ∙ ap (λ l. name ∷ l) (list_of_names later no_zero.1)
 
 -- Where something is listed, a byte more is before it.
 byte_before : (byte : ℕ) (names : List (List ℕ)) (value : List ℕ) → strings_of names ≡ value → value ≢ [] →
@@ -72,4 +72,4 @@ listed_no_zero (byte ∷ later) = where_first (byte == 0) refl (listed_no_zero l
     where_first false is rest = rw is (before (listed_names later) (eqb-false byte 0 is) rest)
 
 pub reads_names : ReadsNames
-reads_names = record { listed = names_listed; whole = whole_listed; no_zero = listed_no_zero }
+reads_names = record { listed = list_of_names; whole = whole_listed; no_zero = listed_no_zero }

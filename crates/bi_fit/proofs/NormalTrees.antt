@@ -2,7 +2,6 @@ use Rattle.std.proofs.Common.{◌≡◌, ℕ, ◌+◌, ◌≤◌, Bool, true, fa
 use Rattle.std.proofs.Common.{subst, ◌∙◌, true≢false, arith, length-append}
 use Rattle.std.proofs.lemmas.List.{length-map}
 use Rattle.std.specs.Prelude.{IsSome}
-use Rattle.std.specs.List.{AllByRecursion}
 use Rattle.std.specs.FinMap.{entries}
 use Rattle.std.proofs.lemmas.Slice.Eq.{bytes_eq-Decides}
 use Rattle.std.proofs.lemmas.Slice.Zip.{AllZip-long}
@@ -11,7 +10,6 @@ use Rattle.bi_blob.specs.Tree.{AreNodes, EachOwn}
 use Rattle.bi_blob.specs.Lookups.{siblings, root_node}
 use Rattle.bi_blob.specs.Events.{events, events_of}
 use Rattle.bi_blob.specs.Following.{most_open_nodes, AreClosedEvents, MayFollowInText}
-use Rattle.bi_blob.specs.Blob.{IsReservation}
 use Rattle.bi_blob.proofs.Texts.TextContent.{blob_has_content}
 use Rattle.bi_blob.proofs.Blobs.EventTrees.{same_events}
 use Rattle.bi_blob.proofs.Texts.NormalEvents.{normal_events_have_one_tree}
@@ -19,13 +17,14 @@ use Rattle.bi_blob.proofs.Texts.NormalOrder.{has_one_order}
 use Rattle.bi_fdt.specs.Content.{root_of}
 use Rattle.bi_fit.specs.declared.changes.Changes.{Changes}
 use Rattle.bi_fit.specs.declared.form.Form.{Form}
-use Rattle.bi_fit.specs.declared.form.Form.TheVariants.{Embedded, External}
+use Rattle.bi_fit.specs.declared.form.Form.TheVariants.{Embedded}
 use Rattle.bi_fit.specs.declared.image.Image.{Image}
 use Rattle.bi_fit.specs.Names.{images_name}
 use Rattle.bi_fit.specs.ImageTree.{ImageTree, children_of, image_nodes, nodes_or_none, with_children_of, with_image_nodes, without_payloads}
 use Rattle.bi_fit.specs.File.{IsFitFile}
 use Rattle.bi_fit.specs.Documents.{length_after_blob}
-use Rattle.bi_fit.specs.Text.{with_payloads, normal_tree, blob_of, after_blob, fit_text}
+use Rattle.bi_fit.specs.Text.{alignment_of, blob_alignment, with_payloads, normal_tree, blob_of, after_blob, fit_text}
+use Rattle.bi_fit.proofs.FormAlignments.{form-positive}
 use Rattle.bi_fit.specs.Content.{FitModel, image_model, tree_of, IsReadImage, IsHeld}
 use Rattle.bi_fit.specs.Updating.{with_time, with_new_digests, with_changes}
 use Rattle.bi_fit.specs.NewDigests.{digests_if_changed, new_digests}
@@ -71,7 +70,7 @@ module _ (hashes : Bool) (form : Form) (payloads : List (Option (List ℕ))) (di
   changed : Nodes FileNode → Nodes (List Property)
   changed nodes =
       with_each entries
-      (with_children_of images_name (with_payloads form 0 payloads)
+      (with_children_of images_name (with_payloads (alignment_of form) 0 payloads)
       (with_children_of images_name (new_images hashes payloads) (with_children_of images_name without_payloads (nodes_by_name nodes))))
 
   root_children : (IsOwn : FileNode → Type 0) (nodes : Nodes FileNode) → AreNodes IsOwn nodes →
@@ -96,7 +95,7 @@ module _ (hashes : Bool) (form : Form) (payloads : List (Option (List ℕ))) (di
           (are_taken hashes payloads (without_payloads (nodes_by_name children)) digests here).same in
           rw (is, is, is)
           (ap₂ (node name (entries (properties_by_name own)))
-          (ap (λ images. with_each entries (with_payloads form 0 payloads images)) (sym taken))
+          (ap (λ images. with_each entries (with_payloads (alignment_of form) 0 payloads images)) (sym taken))
           (sym (others_sorted hashes form payloads digests later new)))
       where_first false is is_digests rest =
           rw (is, is, is) (ap (node name (entries (properties_by_name own)) (sorted_nodes children)) (rest (rw (is, is) at is_digests)))
@@ -190,10 +189,6 @@ module _ (content : FitModel) (held : IsHeld content) where
     tt,
   )
 
-  -- The memory reservations are reservations.
-  pub held_reservations : AllByRecursion IsReservation content.blob.reservations
-  held_reservations = (is_image_tree content.blob.file (tree_of content) held_means).are_reservations
-
   module _ (changes : Changes) (digests : List ℕ) (is_digests : digests ≡ new_digests changes (tree_of content)) where
     -- The image nodes are those of the images, and the bytes hold their digests.
     pub held_images : (images : List Image) → map image_model images ≡ content.images →
@@ -222,7 +217,7 @@ module _ (content : FitModel) (held : IsHeld content) where
           ap (λ children. events (node [] (entries (with_time changes.time (properties_by_name (root_of content.blob).own))) children none))
           (sym (root_children changes.hashes form (tree_of content).payloads digests (λ own. AreProperties (properties_of own))
           (root_of content.blob).children held_nodes is_digests)
-          ∙ ap (λ nodes. with_each entries (with_children_of images_name (with_payloads form 0 (tree_of content).payloads) nodes))
+          ∙ ap (λ nodes. with_each entries (with_children_of images_name (with_payloads (alignment_of form) 0 (tree_of content).payloads) nodes))
           (sym (with_new_images changes.hashes (tree_of content).payloads (tree_of content).root.children)))
 
       -- They may follow one another, and they end the root.
@@ -239,7 +234,7 @@ module _ (content : FitModel) (held : IsHeld content) where
               (sym (depth-normal_tree form (with_changes changes (tree_of content)) ∙ depth-updated changes (tree_of content)
               ∙ depth-image_tree content.blob.file (tree_of content) held_means)) held.shallow;
         };
-        is_normal = (has_one_order (with_image_nodes (with_payloads form 0 (tree_of content).payloads)
+        is_normal = (has_one_order (with_image_nodes (with_payloads (alignment_of form) 0 (tree_of content).payloads)
             (with_changes changes (tree_of content)).root)).is_normal;
       })
 
@@ -247,5 +242,9 @@ module _ (content : FitModel) (held : IsHeld content) where
 pub length-fit_text : (form : Form) (tree : ImageTree) →
     length (fit_text form tree) ≡ length (blob_of form tree) + length_after_blob form tree.payloads
 length-fit_text Embedded tree = length-append (blob_of Embedded tree) []
-length-fit_text External tree =
-    omega (arith, length-append (blob_of External tree) (after_blob External tree), length-payload_area 0 tree.payloads)
+length-fit_text form tree =
+    omega (
+      arith,
+      length-append (blob_of form tree) (after_blob form tree),
+      length-payload_area (blob_alignment (alignment_of form)) 0 tree.payloads (form-positive form),
+    )

@@ -23,8 +23,9 @@ module _ (images : List Image) (index : ℕ) (within : index < length images) wh
       ap payloads_of cons
 
   -- Where they end is not before the end of this payload.
-  pub one_end-le : (end : ℕ) → end_after end (image_model (get_or images index no_image)).payload
-      ≤ payloads_end end (payloads_of (drop index images))
-  one_end-le end =
-      subst (λ payloads. end_after end (image_model (get_or images index no_image)).payload ≤ payloads_end end payloads) (sym payloads_from)
-      (payloads_end-le (end_after end (image_model (get_or images index no_image)).payload) (payloads_of (drop (index + 1) images)))
+  pub one_end-le : (align end : ℕ) → 0 < align → end_after align end (image_model (get_or images index no_image)).payload
+      ≤ payloads_end align end (payloads_of (drop index images))
+  one_end-le align end positive =
+      let payload = (image_model (get_or images index no_image)).payload in
+      subst (λ payloads. end_after align end payload ≤ payloads_end align end payloads) (sym payloads_from)
+      (payloads_end-le align (end_after align end payload) (payloads_of (drop (index + 1) images)) positive)

@@ -5,8 +5,6 @@ use Rattle.std.proofs.lemmas.Slice.Eq.{bytes_eq-Decides}
 use Rattle.std.proofs.lemmas.Map.Text.{is_eq-slice_cmp}
 use Rattle.bi_blob.specs.Tree.{PropertyMap}
 use Rattle.bi_blob.proofs.Texts.PropertyOrder.{order_tells}
-use Rattle.bi_fit.specs.declared.form.Form.{Form}
-use Rattle.bi_fit.specs.declared.form.Form.TheVariants.{Embedded, External}
 use Rattle.bi_fit.specs.Names.{is_payload_name, data_name, data_offset_name, data_size_name}
 use Rattle.bi_fit.specs.ImageTree.{without_payload, IsApart}
 use Rattle.bi_fit.specs.Text.{with_payload}
@@ -64,16 +62,16 @@ get-put_payload properties payload_name value name is is_other =
     get-put_other properties payload_name value name (tests_differ is_payload_name payload_name name is is_other)
 
 -- The properties that give a payload change no other.
-pub get-with_payload : (form : Form) (begin : ℕ) (payload : Option (List ℕ)) (properties : PropertyMap) (name : List ℕ) →
-    is_payload_name name ≡ false → get (with_payload form begin payload properties) name ≡ get properties name
-get-with_payload form begin None properties name is = refl
-get-with_payload Embedded begin (Some payload) properties name is = get-put_payload properties data_name payload name refl is
-get-with_payload External begin (Some payload) properties name is =
+pub get-with_payload : (alignment : Option ℕ) (begin : ℕ) (payload : Option (List ℕ)) (properties : PropertyMap) (name : List ℕ) →
+    is_payload_name name ≡ false → get (with_payload alignment begin payload properties) name ≡ get properties name
+get-with_payload alignment begin None properties name is = refl
+get-with_payload None begin (Some payload) properties name is = get-put_payload properties data_name payload name refl is
+get-with_payload (Some align) begin (Some payload) properties name is =
     get-put_payload _ data_size_name _ name refl is ∙ get-put_payload properties data_offset_name _ name refl is
 
 -- Put in and taken out again, they leave the properties as they were.
-pub without-with_payload : (form : Form) (begin : ℕ) (payload : Option (List ℕ)) (properties : PropertyMap) → IsApart properties payload →
-    without_payload (with_payload form begin payload properties) ≡ properties
-without-with_payload form begin payload properties apart =
-    taken_out (with_payload form begin payload properties) properties apart.no_payload_name
-    (λ name is. get-with_payload form begin payload properties name is)
+pub without-with_payload : (alignment : Option ℕ) (begin : ℕ) (payload : Option (List ℕ)) (properties : PropertyMap) →
+    IsApart properties payload → without_payload (with_payload alignment begin payload properties) ≡ properties
+without-with_payload alignment begin payload properties apart =
+    taken_out (with_payload alignment begin payload properties) properties apart.no_payload_name
+    (λ name is. get-with_payload alignment begin payload properties name is)

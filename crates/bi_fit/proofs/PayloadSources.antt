@@ -14,8 +14,6 @@ use Rattle.bi_blob.specs.Tree.{Property, PropertyMap, FileProperty, FileNode}
 use Rattle.bi_blob.specs.Events.{NodeProperty}
 use Rattle.bi_blob.specs.Layout.{event_width, properties_with_places}
 use Rattle.bi_blob.specs.Lookups.{property_named}
-use Rattle.bi_fit.specs.declared.form.Form.{Form}
-use Rattle.bi_fit.specs.declared.form.Form.TheVariants.{Embedded, External}
 use Rattle.bi_fit.specs.Names.{data_name, data_offset_name, data_position_name, data_size_name}
 use Rattle.bi_fit.specs.ImageTree.{IsApart}
 use Rattle.bi_fit.specs.Payloads.{source_of, cell_number, external_base, payload_place, HasPayload}
@@ -82,10 +80,10 @@ abbrev pub IsExternalAt : List ℕ → ℕ → Option (List ℕ) → Type 0
 IsExternalAt file begin None = ⊤
 IsExternalAt file begin (Some payload) = IsPayloadAt file begin payload
 
--- What a file must have of a payload in a form.
-abbrev pub IsThere : Form → List ℕ → ℕ → Option (List ℕ) → Type 0
-IsThere Embedded file begin payload = ⊤
-IsThere External file begin payload = IsExternalAt file begin payload
+-- What a file must have of a payload, which follows the blob if there is an alignment.
+abbrev pub IsThere : (alignment : Option ℕ) → List ℕ → ℕ → Option (List ℕ) → Type 0
+IsThere None file begin payload = ⊤
+IsThere (Some align) file begin payload = IsExternalAt file begin payload
 
 -- The number of a cell.
 number-cell : (property : FileProperty) (n : ℕ) → n < 2 ^ 32 → property.value ≡ cell n → cell_number property ≡ n
@@ -108,9 +106,9 @@ module _ (file : List ℕ) (place at begin : ℕ) where
 
   -- The payload is the value of `data`.
   embedded_payload : (properties : PropertyMap) (payload : List ℕ) → IsApart properties (Some payload) →
-      HasPayload file (node_with (with_payload Embedded begin (Some payload) properties)) (Some payload)
+      HasPayload file (node_with (with_payload None begin (Some payload) properties)) (Some payload)
   embedded_payload properties payload apart =
-      let new = with_payload Embedded begin (Some payload) properties in
+      let new = with_payload None begin (Some payload) properties in
       let found = is_placed data_name at new payload (get-put properties data_name payload) in
       rw (
         not_placed data_position_name at new
@@ -122,10 +120,11 @@ module _ (file : List ℕ) (place at begin : ℕ) where
       (ap Some (sym found.2))
 
   -- The payload is a region.
-  external_payload : (properties : PropertyMap) (payload : List ℕ) → IsApart properties (Some payload) → IsPayloadAt file begin payload →
-      HasPayload file (node_with (with_payload External begin (Some payload) properties)) (Some payload)
-  external_payload properties payload apart there =
-      let new = with_payload External begin (Some payload) properties in
+  external_payload : (align : ℕ) (properties : PropertyMap) (payload : List ℕ) → IsApart properties (Some payload) →
+      IsPayloadAt file begin payload →
+      HasPayload file (node_with (with_payload (Some align) begin (Some payload) properties)) (Some payload)
+  external_payload align properties payload apart there =
+      let new = with_payload (Some align) begin (Some payload) properties in
       let offset = is_placed data_offset_name at new (cell begin)
       (get-put_other _ data_size_name _ data_offset_name refl ∙ get-put properties data_offset_name (cell begin)) in
       let size = is_placed data_size_name at new (cell (length payload)) (get-put _ data_size_name (cell (length payload))) in
@@ -147,25 +146,25 @@ module _ (file : List ℕ) (place at begin : ℕ) where
       })
 
   -- An image node of a text has its payload.
-  pub has_payload : (form : Form) (properties : PropertyMap) (payload : Option (List ℕ)) → IsApart properties payload →
-      IsThere form file begin payload → HasPayload file (node_with (with_payload form begin payload properties)) payload
-  has_payload form properties None apart there = no_payload properties apart
-  has_payload Embedded properties (Some payload) apart there = embedded_payload properties payload apart
-  has_payload External properties (Some payload) apart there = external_payload properties payload apart there
+  pub has_payload : (alignment : Option ℕ) (properties : PropertyMap) (payload : Option (List ℕ)) → IsApart properties payload →
+      IsThere alignment file begin payload → HasPayload file (node_with (with_payload alignment begin payload properties)) payload
+  has_payload alignment properties None apart there = no_payload properties apart
+  has_payload None properties (Some payload) apart there = embedded_payload properties payload apart
+  has_payload (Some align) properties (Some payload) apart there = external_payload align properties payload apart there
 
   -- An image node of an external text places its payload.
-  pub external_place : (properties : PropertyMap) (payload : Option (List ℕ)) → IsApart properties payload →
-      IsThere External file begin payload →
-      payload_place file (source_of (node_with (with_payload External begin payload properties)))
+  pub external_place : (align : ℕ) (properties : PropertyMap) (payload : Option (List ℕ)) → IsApart properties payload →
+      IsThere (Some align) file begin payload →
+      payload_place file (source_of (node_with (with_payload (Some align) begin payload properties)))
       ≡ option_map (λ payload. external_base file + begin) payload
-  external_place properties None apart there =
+  external_place align properties None apart there =
       rw (
         not_placed data_position_name at properties (apart.no_payload_name data_position_name refl),
         not_placed data_offset_name at properties (apart.no_payload_name data_offset_name refl),
         not_placed data_name at properties (apart.no_payload_name data_name refl),
       ) refl
-  external_place properties (Some payload) apart there =
-      let new = with_payload External begin (Some payload) properties in
+  external_place align properties (Some payload) apart there =
+      let new = with_payload (Some align) begin (Some payload) properties in
       let offset = is_placed data_offset_name at new (cell begin)
       (get-put_other _ data_size_name _ data_offset_name refl ∙ get-put properties data_offset_name (cell begin)) in
       rw (

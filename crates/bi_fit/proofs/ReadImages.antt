@@ -44,10 +44,6 @@ none_read file nodes left same have_data = record {
 
 module _ (file : List ℕ) (nodes : Nodes FileNode) (images : List ImageModel) (all left : List (Sibling FileNode)) (child : Sibling FileNode)
     (is_first : all ≡ child ∷ left) (are : AreReadTo file nodes images all) where
-  -- The first of them begins its `data` in the file.
-  pub has_data : HasDataInFile file child.own
-  has_data = (subst (AllByRecursion (λ sibling. HasDataInFile file sibling.own)) is_first are.have_data).0
-
   -- A fault of the first of them is that of all.
   pub child_fault : (fault : Fault) → IsFirstFault (FitPasses file) fit_fault (source_checks file (source_of child.own)) fault →
       IsFirstFault (FitPasses file) fit_fault (image_checks file nodes) fault

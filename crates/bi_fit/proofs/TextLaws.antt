@@ -1,17 +1,19 @@
-use Rattle.std.proofs.Common.{◌≡◌, ℕ, ◌≤◌, List, [], ◌∷◌, ◌++◌, length, Option, refl, sym, ap, subst, ◌∙◌, arith, length-append}
+use Rattle.std.proofs.Common.{◌≡◌, ℕ, ◌%◌, ◌<◌, ◌≤◌, List, [], ◌∷◌, ◌++◌, length, Option, Some, refl, sym, ap, subst, ◌∙◌, arith, length-append}
 use Rattle.bi_base.specs.Limits.{Limits}
+use Rattle.bi_base.proofs.AlignmentLaws.{alignment-positive}
 use Rattle.bi_blob.specs.Tree.{depth_of}
 use Rattle.bi_blob.specs.Blob.{IsWithin}
-use Rattle.bi_blob.specs.Layout.{longest_text}
+use Rattle.bi_blob.specs.Layout.{text_of_tree, in_byte_order, longest_text}
 use Rattle.bi_blob.proofs.Texts.TextBlob.{has_text_length}
 use Rattle.bi_fit.specs.declared.form.Form.{Form}
-use Rattle.bi_fit.specs.declared.form.Form.TheVariants.{External}
-use Rattle.bi_fit.specs.ImageTree.{ImageTree, IsImageTree}
+use Rattle.bi_fit.specs.ImageTree.{ImageTree, IsImageTree, with_image_nodes}
 use Rattle.bi_fit.specs.File.{IsFitFile, FitMeans}
-use Rattle.bi_fit.specs.Text.{normal_tree, blob_of, payloads_end, end_after, after_blob, fit_text}
+use Rattle.bi_fit.specs.Text.{alignment_of, blob_alignment, with_payloads, normal_tree, blob_of, payloads_end, end_after, payloads_after}
+use Rattle.bi_fit.specs.Text.{after_blob, fit_text}
 use Rattle.bi_fit.specs.Judgement.{judgement}
 use Rattle.bi_fit.specs.Laws.{FileMeansImageTree, FitTextIsAccepted, NormalFitTextIsAccepted, SameTextSameTree, TextKeepsJudgement}
-use Rattle.bi_fit.specs.Laws.{SameTextSameJudgement, EachExternalTextHasItsLength, PayloadsEndLater}
+use Rattle.bi_fit.specs.Laws.{SameTextSameJudgement, AlignedByFourIsExternal, EachExternalTextHasItsLength, PayloadsEndLater}
+use Rattle.bi_fit.proofs.FormAlignments.{form-aligned, form-positive}
 use Rattle.bi_fit.proofs.Meanings.{one_fit_meaning}
 use Rattle.bi_fit.proofs.Faults.{fit_has_no_fault}
 use Rattle.bi_fit.proofs.PayloadAreas.{length-payload_area, payloads_end-le}
@@ -66,17 +68,30 @@ same_text_same_judgement form file other_file tree other is is_other short same 
     ap judgement ((same_text_same_tree form tree other (is_image_tree file tree is) (is_image_tree other_file other is_other) short).0 same)
 
 pub each_external_text_has_its_length : EachExternalTextHasItsLength
-each_external_text_has_its_length tree = record {
-  is_length = omega (arith, length-append (blob_of External tree) (after_blob External tree), length-payload_area 0 tree.payloads);
-  blob_is_whole = (has_text_length tree.cpu tree.reservations (normal_tree External tree)).is_whole;
+each_external_text_has_its_length form align tree aligned = record {
+  is_length = omega (
+    arith,
+    length-append (blob_of form tree) (after_blob form tree),
+    ap (λ alignment. length (payloads_after alignment tree.payloads)) aligned,
+    length-payload_area align 0 tree.payloads (subst (λ n. 0 < n) (ap blob_alignment aligned) (form-positive form)),
+  );
+  blob_is_whole = subst (λ n. length (blob_of form tree) % n ≡ 0) (ap blob_alignment aligned)
+      (has_text_length (blob_alignment (alignment_of form)) tree.cpu tree.reservations (normal_tree form tree) (form-aligned form)).is_whole;
 }
 
+-- The text in a form is made with the alignment of the form alone.
+pub aligned_by_four_is_external : AlignedByFourIsExternal
+aligned_by_four_is_external align tree is =
+    ap (λ n. text_of_tree n tree.cpu tree.reservations
+    (in_byte_order (with_image_nodes (with_payloads (Some n) 0 tree.payloads) tree.root)) ++ payloads_after (Some n) tree.payloads) is
+
 -- Payloads end where the last of them do.
-pub payloads_end-append : (end : ℕ) (first later : List (Option (List ℕ))) →
-    payloads_end end (first ++ later) ≡ payloads_end (payloads_end end first) later
-payloads_end-append end [] later = refl
-payloads_end-append end (payload ∷ first) later = payloads_end-append (end_after end payload) first later
+pub payloads_end-append : (align end : ℕ) (first later : List (Option (List ℕ))) →
+    payloads_end align end (first ++ later) ≡ payloads_end align (payloads_end align end first) later
+payloads_end-append align end [] later = refl
+payloads_end-append align end (payload ∷ first) later = payloads_end-append align (end_after align end payload) first later
 
 pub payloads_end_later : PayloadsEndLater
-payloads_end_later first later =
-    subst (λ n. payloads_end 0 first ≤ n) (sym (payloads_end-append 0 first later)) (payloads_end-le (payloads_end 0 first) later)
+payloads_end_later align first later aligned =
+    subst (λ n. payloads_end align 0 first ≤ n) (sym (payloads_end-append align 0 first later))
+    (payloads_end-le align (payloads_end align 0 first) later (omega (arith, alignment-positive align aligned)))

@@ -7,7 +7,7 @@ use Rattle.std.specs.FinMap.{get, insert, empty, entries, from_entries, entries_
 use Rattle.std.proofs.lemmas.Cmp.{nat_list_cmp_total}
 use Rattle.std.proofs.lemmas.Bool.{and_parts, not-true, eqb-false, ltb-true}
 use Rattle.std.proofs.lemmas.Slice.Eq.{bytes_eq-Decides}
-use Rattle.bi_base.specs.Cells.{cell, up4, AreBytes}
+use Rattle.bi_base.specs.Cells.{cell, up_to, AreBytes}
 use Rattle.bi_base.proofs.ByteLists.{AreBytes-none, AreBytes-cons, AreBytes-cell}
 use Rattle.bi_base.proofs.ListMembers.{each-append, each-map, each-weaker}
 use Rattle.bi_blob.specs.Tree.{Nodes, none, node, Root, Property, PropertyMap, HasNoZero, IsPropertyName, IsNew, AreProperties, AreNodes}
@@ -17,11 +17,10 @@ use Rattle.bi_blob.specs.Blob.{Reservation, IsReservation}
 use Rattle.bi_blob.specs.Layout.{AreEventBytes, IsContent, in_byte_order}
 use Rattle.bi_blob.proofs.Texts.PropertyOrder.{ordered_distinct, each-entries, found-each}
 use Rattle.bi_fit.specs.declared.form.Form.{Form}
-use Rattle.bi_fit.specs.declared.form.Form.TheVariants.{Embedded, External}
 use Rattle.bi_fit.specs.Names.{is_payload_name, data_name, data_offset_name, data_size_name, images_name}
 use Rattle.bi_fit.specs.ImageTree.{ImageTree, each_own, with_image_nodes, without_payload, without_payloads, IsProperty}
 use Rattle.bi_fit.specs.ImageTree.{ArePropertiesByName, HaveByteNames, IsApart, IsImageTree}
-use Rattle.bi_fit.specs.Text.{with_payload, with_payloads, end_after, normal_tree}
+use Rattle.bi_fit.specs.Text.{alignment_of, blob_alignment, with_payload, with_payloads, end_after, normal_tree}
 use Rattle.bi_fit.proofs.Meanings.{same_in_some}
 use Rattle.bi_fit.proofs.PayloadProperties.{get-put, get-put_other, get-without}
 use Rattle.bi_fit.proofs.TreeShapes.{names-with_payloads, bytes-with_payloads, names-without_payloads, AreNodes-with_each, bytes-with_each}
@@ -69,12 +68,12 @@ properties-put properties name value are is other found there = by_name (bytes_e
     by_name false differ = are other found (sym (get-put_other properties name value other differ) ∙ there)
 
 -- Properties that give a payload.
-pub properties-with_payload : (form : Form) (begin : ℕ) (payload : Option (List ℕ)) (properties : PropertyMap) → IfSome payload AreBytes →
-    ArePropertiesByName properties → ArePropertiesByName (with_payload form begin payload properties)
-properties-with_payload form begin None properties bytes are = are
-properties-with_payload Embedded begin (Some payload) properties bytes are =
+pub properties-with_payload : (alignment : Option ℕ) (begin : ℕ) (payload : Option (List ℕ)) (properties : PropertyMap) →
+    IfSome payload AreBytes → ArePropertiesByName properties → ArePropertiesByName (with_payload alignment begin payload properties)
+properties-with_payload alignment begin None properties bytes are = are
+properties-with_payload None begin (Some payload) properties bytes are =
     properties-put properties data_name payload are (tested_property _ _ payload refl bytes)
-properties-with_payload External begin (Some payload) properties bytes are =
+properties-with_payload (Some align) begin (Some payload) properties bytes are =
     properties-put (insert properties data_offset_name (cell begin)) data_size_name (cell (length payload))
     (properties-put properties data_offset_name (cell begin) are (tested_property _ _ (cell begin) refl (AreBytes-cell begin)))
     (tested_property _ _ (cell (length payload)) refl (AreBytes-cell (length payload)))
@@ -150,19 +149,19 @@ content-in_byte_order cpu reservations root fits are is bytes = record {
 }
 
 -- Image nodes that give payloads are nodes.
-nodes-with_payloads : (form : Form) (end : ℕ) (payloads : List (Option (List ℕ))) (nodes : Nodes PropertyMap) →
+nodes-with_payloads : (alignment : Option ℕ) (end : ℕ) (payloads : List (Option (List ℕ))) (nodes : Nodes PropertyMap) →
     AllZip IsApart (each_own nodes) payloads → AreNodes ArePropertiesByName nodes →
-    AreNodes ArePropertiesByName (with_payloads form end payloads nodes)
-nodes-with_payloads form end [] nodes apart are = are
-nodes-with_payloads form end (payload ∷ payloads) none apart are = tt
-nodes-with_payloads form end (payload ∷ payloads) (node name own children later) apart are = (
+    AreNodes ArePropertiesByName (with_payloads alignment end payloads nodes)
+nodes-with_payloads alignment end [] nodes apart are = are
+nodes-with_payloads alignment end (payload ∷ payloads) none apart are = tt
+nodes-with_payloads alignment end (payload ∷ payloads) (node name own children later) apart are = (
   record {
     is_name = are.0.is_name;
-    is_own = properties-with_payload form (up4 end) payload own apart.0.bytes are.0.is_own;
-    is_new = subst (IsNew name) (sym (names-with_payloads form (end_after end payload) payloads later)) are.0.is_new;
+    is_own = properties-with_payload alignment (up_to (blob_alignment alignment) end) payload own apart.0.bytes are.0.is_own;
+    is_new = subst (IsNew name) (sym (names-with_payloads alignment (end_after (blob_alignment alignment) end payload) payloads later)) are.0.is_new;
   },
   are.1,
-  nodes-with_payloads form (end_after end payload) payloads later apart.1 are.2,
+  nodes-with_payloads alignment (end_after (blob_alignment alignment) end payload) payloads later apart.1 are.2,
 )
 
 -- Image nodes without what gives their payloads are nodes.
@@ -183,14 +182,14 @@ nodes-without_payloads (node name own children later) are = (
 pub content-normal_tree : (form : Form) (tree : ImageTree) → IsImageTree tree → IsContent tree.cpu tree.reservations (normal_tree form tree)
 content-normal_tree form tree is =
     content-in_byte_order tree.cpu tree.reservations
-    (with_image_nodes (with_payloads form 0 tree.payloads) tree.root) is.cpu_fits is.are_reservations
+    (with_image_nodes (with_payloads (alignment_of form) 0 tree.payloads) tree.root) is.cpu_fits is.are_reservations
     (record {
       is_own = is.is_tree.is_own;
       children = AreNodes-with_children_of images_name
-          (with_payloads form 0 tree.payloads) ArePropertiesByName tree.root.children is.images is.has_images
-          (nodes-with_payloads form 0 tree.payloads is.images is.apart
+          (with_payloads (alignment_of form) 0 tree.payloads) ArePropertiesByName tree.root.children is.images is.has_images
+          (nodes-with_payloads (alignment_of form) 0 tree.payloads is.images is.apart
           (AreNodes-children_of ArePropertiesByName images_name tree.root.children is.images is.has_images is.is_tree.children))
           is.is_tree.children;
     })
-    (bytes-with_children_of images_name (with_payloads form 0 tree.payloads)
-    (bytes-with_payloads form 0 tree.payloads) tree.root.children is.name_bytes)
+    (bytes-with_children_of images_name (with_payloads (alignment_of form) 0 tree.payloads)
+    (bytes-with_payloads (alignment_of form) 0 tree.payloads) tree.root.children is.name_bytes)

@@ -1,9 +1,8 @@
 use Rattle.std.proofs.Common.{◌≡◌, ℕ, ◌+◌, max, Bool, true, false, List, [], ◌∷◌, bytes_eq, Option, Some, refl, sym, ap, subst}
 use Rattle.bi_blob.specs.Tree.{Nodes, none, node, PropertyMap, names, with_each, depth, IsNew, AreNodes}
 use Rattle.bi_blob.proofs.Blobs.Lookups.{names-with_each}
-use Rattle.bi_fit.specs.declared.form.Form.{Form}
 use Rattle.bi_fit.specs.ImageTree.{children_of, with_children_of, without_payloads, HaveByteNames}
-use Rattle.bi_fit.specs.Text.{with_payloads, end_after}
+use Rattle.bi_fit.specs.Text.{blob_alignment, with_payloads, end_after}
 use Rattle.bi_fit.proofs.Meanings.{same_in_some}
 
 -- Payloads change no name and no depth of nodes, and what holds of each node of a tree holds of the nodes that are found in it.
@@ -115,26 +114,26 @@ module _ {Own : Type 0} (wanted : List ℕ) (change : Nodes Own → Nodes Own) w
       where_first false is rest = rw is (are.0, are.1, rest)
 
 -- Payloads change no name and no depth.
-pub names-with_payloads : (form : Form) (end : ℕ) (payloads : List (Option (List ℕ))) (nodes : Nodes PropertyMap) →
-    names (with_payloads form end payloads nodes) ≡ names nodes
-names-with_payloads form end [] nodes = refl
-names-with_payloads form end (payload ∷ payloads) none = refl
-names-with_payloads form end (payload ∷ payloads) (node name own children later) =
-    ap (λ l. name ∷ l) (names-with_payloads form (end_after end payload) payloads later)
+pub names-with_payloads : (alignment : Option ℕ) (end : ℕ) (payloads : List (Option (List ℕ))) (nodes : Nodes PropertyMap) →
+    names (with_payloads alignment end payloads nodes) ≡ names nodes
+names-with_payloads alignment end [] nodes = refl
+names-with_payloads alignment end (payload ∷ payloads) none = refl
+names-with_payloads alignment end (payload ∷ payloads) (node name own children later) =
+    ap (λ l. name ∷ l) (names-with_payloads alignment (end_after (blob_alignment alignment) end payload) payloads later)
 
-pub depth-with_payloads : (form : Form) (end : ℕ) (payloads : List (Option (List ℕ))) (nodes : Nodes PropertyMap) →
-    depth (with_payloads form end payloads nodes) ≡ depth nodes
-depth-with_payloads form end [] nodes = refl
-depth-with_payloads form end (payload ∷ payloads) none = refl
-depth-with_payloads form end (payload ∷ payloads) (node name own children later) =
-    ap (λ n. max (depth children + 1) n) (depth-with_payloads form (end_after end payload) payloads later)
+pub depth-with_payloads : (alignment : Option ℕ) (end : ℕ) (payloads : List (Option (List ℕ))) (nodes : Nodes PropertyMap) →
+    depth (with_payloads alignment end payloads nodes) ≡ depth nodes
+depth-with_payloads alignment end [] nodes = refl
+depth-with_payloads alignment end (payload ∷ payloads) none = refl
+depth-with_payloads alignment end (payload ∷ payloads) (node name own children later) =
+    ap (λ n. max (depth children + 1) n) (depth-with_payloads alignment (end_after (blob_alignment alignment) end payload) payloads later)
 
-pub bytes-with_payloads : (form : Form) (end : ℕ) (payloads : List (Option (List ℕ))) (nodes : Nodes PropertyMap) → HaveByteNames nodes →
-    HaveByteNames (with_payloads form end payloads nodes)
-bytes-with_payloads form end [] nodes are = are
-bytes-with_payloads form end (payload ∷ payloads) none are = tt
-bytes-with_payloads form end (payload ∷ payloads) (node name own children later) are =
-    (are.0, are.1, bytes-with_payloads form (end_after end payload) payloads later are.2)
+pub bytes-with_payloads : (alignment : Option ℕ) (end : ℕ) (payloads : List (Option (List ℕ))) (nodes : Nodes PropertyMap) →
+    HaveByteNames nodes → HaveByteNames (with_payloads alignment end payloads nodes)
+bytes-with_payloads alignment end [] nodes are = are
+bytes-with_payloads alignment end (payload ∷ payloads) none are = tt
+bytes-with_payloads alignment end (payload ∷ payloads) (node name own children later) are =
+    (are.0, are.1, bytes-with_payloads alignment (end_after (blob_alignment alignment) end payload) payloads later are.2)
 
 -- Nor does leaving them out.
 pub names-without_payloads : (nodes : Nodes PropertyMap) → names (without_payloads nodes) ≡ names nodes

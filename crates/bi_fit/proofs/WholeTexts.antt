@@ -10,10 +10,11 @@ use Rattle.bi_base.proofs.Refusals.{error_passed_on}
 use Rattle.bi_blob.specs.Layout.{text_of_events}
 use Rattle.bi_lay.specs.Contents.{Doc, text_of, HaveSameContent}
 use Rattle.bi_fit.specs.declared.form.Form.{Form}
-use Rattle.bi_fit.specs.declared.form.Form.TheVariants.{Embedded, External}
+use Rattle.bi_fit.specs.declared.form.Form.TheVariants.{Embedded}
 use Rattle.bi_fit.specs.Documents.{document_of, length_after_blob, whole_text, IsTextOfTree, IsTextFault, IsTextError}
 use Rattle.bi_fit.specs.ImageTree.{ImageTree}
-use Rattle.bi_fit.specs.Text.{blob_of, after_blob, fit_text, payloads_after}
+use Rattle.bi_fit.specs.Text.{alignment_of, blob_alignment, fit_text, payloads_after}
+use Rattle.bi_fit.proofs.FormAlignments.{form-positive}
 use Rattle.bi_fit.proofs.NormalTrees.{length-fit_text}
 use Rattle.bi_fit.proofs.PayloadAreas.{length-payload_area}
 
@@ -22,36 +23,37 @@ use Rattle.bi_fit.proofs.PayloadAreas.{length-payload_area}
 
 -- How long what follows the blob is.
 length-payloads_after : (form : Form) (payloads : List (Option (List ℕ))) →
-    length (payloads_after form payloads) ≡ length_after_blob form payloads
+    length (payloads_after (alignment_of form) payloads) ≡ length_after_blob form payloads
 length-payloads_after Embedded payloads = refl
-length-payloads_after External payloads = omega (arith, length-payload_area 0 payloads)
+length-payloads_after form payloads =
+    omega (arith, length-payload_area (blob_alignment (alignment_of form)) 0 payloads (form-positive form))
 
 -- How long the text is.
 pub length-whole_text : (form : Form) (document : Doc) (payloads : List (Option (List ℕ))) →
-    length (whole_text form document payloads) ≡ length (text_of document) + length_after_blob form payloads
+    length (whole_text form document payloads)
+    ≡ length (text_of (blob_alignment (alignment_of form)) document) + length_after_blob form payloads
 length-whole_text form document payloads =
-    omega (arith, length-append (text_of document) (payloads_after form payloads), length-payloads_after form payloads)
-
--- What follows the blob of a tree's text.
-after_of : (form : Form) (tree : ImageTree) → payloads_after form tree.payloads ≡ after_blob form tree
-after_of Embedded tree = refl
-after_of External tree = refl
+    omega (
+      arith,
+      length-append (text_of (blob_alignment (alignment_of form)) document) (payloads_after (alignment_of form) payloads),
+      length-payloads_after form payloads,
+    )
 
 -- Documents with the same content have the same text.
-same_text : (one other : Doc) → HaveSameContent one other → text_of one ≡ text_of other
-same_text one other same =
-    ap (λ boot_cpu. text_of_events boot_cpu one.reservations one.events) same.0
-    ∙ ap (λ reservations. text_of_events other.boot_cpu reservations one.events) same.1
-    ∙ ap (text_of_events other.boot_cpu other.reservations) same.2
+same_text : (align : ℕ) (one other : Doc) → HaveSameContent one other → text_of align one ≡ text_of align other
+same_text align one other same =
+    ap (λ boot_cpu. text_of_events align boot_cpu one.reservations one.events) same.0
+    ∙ ap (λ reservations. text_of_events align other.boot_cpu reservations one.events) same.1
+    ∙ ap (text_of_events align other.boot_cpu other.reservations) same.2
 
 module _ (form : Form) (tree : ImageTree) (payloads : List (Option (List ℕ))) (same : payloads ≡ tree.payloads) where
   -- The document of a tree, with its payloads, has the tree's text.
   pub whole_text_of_tree : (document : Doc) → HaveSameContent document (document_of form tree) →
       whole_text form document payloads ≡ fit_text form tree
   whole_text_of_tree document is =
-      ap (λ text. text ++ payloads_after form payloads) (same_text document (document_of form tree) is)
+      ap (λ text. text ++ payloads_after (alignment_of form) payloads)
+      (same_text (blob_alignment (alignment_of form)) document (document_of form tree) is)
       ∙ ap (whole_text form (document_of form tree)) same
-      ∙ ap (λ l. blob_of form tree ++ l) (after_of form tree)
 
   -- The text of a tree is too long where what follows its blob is.
   pub late_payloads : (limit : ℕ) → limit < length_after_blob form payloads → limit < length (fit_text form tree)

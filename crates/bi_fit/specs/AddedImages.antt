@@ -1,23 +1,23 @@
-use Rattle.std.specs.Prelude.{◌≡◌, ℕ, ◌≤◌, List, [], Option, option_map}
+use Rattle.std.specs.Prelude.{◌≡◌, ℕ, ◌≤◌, List, [], map, Option, option_map}
+use Rattle.std.specs.List.{AllByRecursion}
 use Rattle.std.specs.FinMap.{entries}
-use Rattle.bi_base.specs.Cells.{up4}
 use Rattle.bi_blob.specs.Tree.{Nodes, none, node, Property, PropertyMap, EachOwn}
 use Rattle.bi_blob.specs.Events.{events}
 use Rattle.bi_blob.specs.Layout.{longest_text}
 use Rattle.bi_fdt.specs.Views.{node_of}
 use Rattle.bi_lay.specs.Contents.{Doc}
 use Rattle.bi_fit.specs.declared.document.image_node.ImageChildren.{ImageChildren}
-use Rattle.bi_fit.specs.declared.document.image_node.ImageChildren.TheVariants.{OfNode, Hash}
+use Rattle.bi_fit.specs.declared.document.image_node.ImageChildren.TheVariants.{OfNode, Leaves}
 use Rattle.bi_fit.specs.declared.document.image_node.ImageNode.{ImageNode}
 use Rattle.bi_fit.specs.declared.form.Form.{Form}
 use Rattle.bi_fit.specs.declared.payload_area.PayloadArea.{PayloadArea}
 use Rattle.bi_fit.specs.ImageTree.{without_payload}
-use Rattle.bi_fit.specs.NormalNodes.{MayAdd, HasDistinctNames, HasCellSize, nodes_by_name}
-use Rattle.bi_fit.specs.NormalNodes.{sorted_image_children, leaf}
-use Rattle.bi_fit.specs.Building.{hash_node_name}
+use Rattle.bi_fit.specs.NormalNodes.{MayAdd, HasDistinctNames, HasCellSize, next_begin, nodes_by_name}
+use Rattle.bi_fit.specs.NormalNodes.{sorted_image_children, leaf_nodes}
+use Rattle.bi_fit.specs.Leaves.{leaf_model}
 use Rattle.bi_fit.specs.NameOrders.{HasOrder}
 use Rattle.bi_fit.specs.TakenDigests.{HaveDigests, after_digests}
-use Rattle.bi_fit.specs.Text.{with_payload}
+use Rattle.bi_fit.specs.Text.{alignment_of, with_payload}
 
 -- Image nodes that are added to a document, from a file or from a specification.
 
@@ -29,29 +29,30 @@ added_payload image = option_map (λ payload. payload.now) image.payload
 abbrev pub added_children : ImageChildren → Nodes (List Property)
 added_children (OfNode parent) =
     sorted_image_children parent.hashed parent.digests.now (node_of parent.node).children
-added_children (Hash properties) = leaf hash_node_name properties.now.by_name
+added_children (Leaves nodes) = leaf_nodes (map leaf_model nodes.now)
 
--- The digests after those of the hash nodes of a file. There are none if the hash node is given.
+-- The digests after those of the hash nodes of a file. There are none if the children are given.
 abbrev pub digests_left : ImageChildren → List ℕ
 digests_left (OfNode parent) =
     after_digests parent.hashed parent.digests.now (nodes_by_name (node_of parent.node).children)
-digests_left (Hash properties) = []
+digests_left (Leaves nodes) = []
 
 -- The children may be added to a document with these names. The order of a file, or the properties
--- of the hash node, are by these names. There are digests for the hash nodes of the file, and none
+-- of the given nodes, are by these names. There are digests for the hash nodes of the file, and none
 -- of its nodes has two properties with the same name.
 abbrev pub AreAddable : List (List ℕ) → ImageChildren → Type 0
 AreAddable names (OfNode parent) =
     HasOrder names parent.order.now parent.node
     × HaveDigests parent.hashed parent.digests.now (nodes_by_name (node_of parent.node).children)
     × EachOwn HasDistinctNames (node_of parent.node).children
-AreAddable names (Hash properties) = names ≡ properties.now.names
+AreAddable names (Leaves nodes) = AllByRecursion (λ leaf. names ≡ leaf.properties.names) nodes.now
 
 -- The properties that are added, with those that give the payload. `begin` is the offset of an
 -- external payload from the end of the blob.
 abbrev pub added_properties : Form → (begin : ℕ) → ImageNode → PropertyMap
 added_properties form begin image =
-    with_payload form begin (added_payload image) (without_payload image.properties.by_name)
+    with_payload (alignment_of form) begin (added_payload image)
+    (without_payload image.properties.by_name)
 
 -- The image node that is added, without its siblings.
 abbrev pub added_image : Form → (begin : ℕ) → ImageNode → Nodes (List Property)
@@ -65,4 +66,5 @@ pub record IsAddable (document : Doc) (area : PayloadArea) (image : ImageNode) :
   pub small : area.end ≤ longest_text
   pub sized : HasCellSize area.form (added_payload image)
   pub children : AreAddable document.names image.children
-  pub may : MayAdd document (events (added_image area.form (up4 area.end) image))
+  pub may : MayAdd document
+      (events (added_image area.form (next_begin area.form area.end) image))

@@ -7,12 +7,13 @@ use Rattle.bi_base.specs.Reading.{too_large}
 use Rattle.bi_blob.specs.Events.{events_of}
 use Rattle.bi_lay.specs.Contents.{Doc, text_of}
 use Rattle.bi_fit.specs.declared.form.Form.{Form}
-use Rattle.bi_fit.specs.declared.form.Form.TheVariants.{Embedded, External}
+use Rattle.bi_fit.specs.declared.form.Form.TheVariants.{Embedded}
 use Rattle.bi_fit.specs.ImageTree.{ImageTree}
-use Rattle.bi_fit.specs.Text.{normal_tree, payloads_after, payloads_end, fit_text}
+use Rattle.bi_fit.specs.Text.{alignment_of, blob_alignment, normal_tree, payloads_after}
+use Rattle.bi_fit.specs.Text.{payloads_end, fit_text}
 
--- The document of an image tree in a form: its text is the blob of the normal text. The whole text
--- has the payloads after it (profile of this project).
+-- The document of an image tree in a form: its text with the alignment of the form is the blob of
+-- the normal text. The whole text has the payloads after it (profile of this project).
 
 -- What the document holds.
 abbrev pub document_of : Form → ImageTree → Doc
@@ -26,11 +27,13 @@ document_of form tree = record {
 -- How many bytes follow the blob in a form: all of these payloads, if they are external.
 abbrev pub length_after_blob : Form → List (Option (List ℕ)) → ℕ
 length_after_blob Embedded payloads = 0
-length_after_blob External payloads = payloads_end 0 payloads
+length_after_blob form payloads = payloads_end (blob_alignment (alignment_of form)) 0 payloads
 
--- The text of a document and what follows its blob.
+-- The text of a document in a form, and what follows its blob.
 abbrev pub whole_text : Form → Doc → List (Option (List ℕ)) → List ℕ
-whole_text form document payloads = text_of document ++ payloads_after form payloads
+whole_text form document payloads =
+    text_of (blob_alignment (alignment_of form)) document
+    ++ payloads_after (alignment_of form) payloads
 
 -- The text is that of the tree, and is no longer than the limit.
 pub record IsTextOfTree (limits : Limits) (form : Form) (tree : ImageTree) (text : List ℕ) : Type 0

@@ -21,7 +21,7 @@ HasFitFault bounds file cause offset =
 
 -- A file with a tree of a root with these nodes.
 abbrev pub file_of_nodes : Nodes (List Property) → List ℕ
-file_of_nodes nodes = text_of_tree 0 [] (record { own = []; children = nodes }) ++ []
+file_of_nodes nodes = text_of_tree 4 0 [] (record { own = []; children = nodes }) ++ []
 
 -- A file with one image node, which has these properties.
 abbrev pub file_of_image : List Property → List ℕ

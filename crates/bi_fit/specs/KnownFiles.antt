@@ -1,12 +1,15 @@
-use Rattle.std.specs.Prelude.{◌≡◌, ℕ, List, [], ◌∷◌, ◌++◌, length, map, replicate, codes}
+use Rattle.std.specs.Prelude.{◌≡◌, ℕ, ◌+◌, ◌-◌, List, [], ◌∷◌, ◌++◌, length, map, replicate, codes}
 use Rattle.std.specs.Prelude.{Option, Some, None}
 use Rattle.std.specs.FinMap.{empty, insert}
+use Rattle.bi_base.specs.declared.align.Align.{Align}
+use Rattle.bi_base.specs.Aligns.{align_bytes}
 use Rattle.bi_base.specs.Cells.{cell}
 use Rattle.bi_blob.specs.Tree.{Nodes, none, node, Root, Property, PropertyMap}
+use Rattle.bi_blob.specs.Blob.{totalsize}
 use Rattle.bi_blob.specs.Layout.{text_of_tree}
 use Rattle.bi_blob.specs.KnownTexts.{smallest_text}
 use Rattle.bi_blob.specs.KnownFaults.{with_cell}
-use Rattle.bi_fit.specs.declared.form.Form.TheVariants.{Embedded, External}
+use Rattle.bi_fit.specs.declared.form.Form.TheVariants.{Embedded, External, Aligned}
 use Rattle.bi_fit.specs.Names.{images_name, data_name, data_offset_name, data_position_name}
 use Rattle.bi_fit.specs.Names.{data_size_name}
 use Rattle.bi_fit.specs.ImageTree.{ImageTree}
@@ -22,7 +25,7 @@ tree_with_images images = record { own = []; children = node images_name [] imag
 -- A file with this tree, boot processor 0 and no memory reservations, and with these bytes after
 -- its blob.
 abbrev pub file_of_images : Nodes (List Property) → List ℕ → List ℕ
-file_of_images images rest = text_of_tree 0 [] (tree_with_images images) ++ rest
+file_of_images images rest = text_of_tree 4 0 [] (tree_with_images images) ++ rest
 
 -- Image nodes with these names, without properties.
 abbrev pub plain_images : List (List ℕ) → Nodes PropertyMap
@@ -139,15 +142,19 @@ three_embedded =
     (node (codes "c") ((data_name, codes "x") ∷ []) none none)))
     []
 
+-- Image nodes of three external payloads, of 5, 0 and 1 bytes. The second and the third begin at
+-- this offset.
+abbrev pub three_external_nodes : (offset : ℕ) → Nodes (List Property)
+three_external_nodes offset =
+    node (codes "a") ((data_offset_name, cell 0) ∷ (data_size_name, cell 5) ∷ []) none
+    (node (codes "b") ((data_offset_name, cell offset) ∷ (data_size_name, cell 0) ∷ []) none
+    (node (codes "c") ((data_offset_name, cell offset) ∷ (data_size_name, cell 1) ∷ []) none none))
+
 -- Three images, with the payload `hello`, an empty one, and `x`, in the form External: the offsets
 -- are 0, 8 and 8, and three zeros follow `hello`.
 abbrev pub three_external : List ℕ
 three_external =
-    file_of_images
-    (node (codes "a") ((data_offset_name, cell 0) ∷ (data_size_name, cell 5) ∷ []) none
-    (node (codes "b") ((data_offset_name, cell 8) ∷ (data_size_name, cell 0) ∷ []) none
-    (node (codes "c") ((data_offset_name, cell 8) ∷ (data_size_name, cell 1) ∷ []) none none)))
-    (codes "hello" ++ 0 ∷ 0 ∷ 0 ∷ codes "x")
+    file_of_images (three_external_nodes 8) (codes "hello" ++ 0 ∷ 0 ∷ 0 ∷ codes "x")
 
 -- What both mean.
 abbrev pub three_tree : ImageTree
@@ -165,7 +172,32 @@ pub record ThreeImagesHaveTexts : Type 0 where
   pub embedded_length : length three_embedded ≡ 180
   pub external_blob : length (blob_of External three_tree) ≡ 244
   pub external_length : length three_external ≡ 253
-  pub places : payload_places 244 0 three_tree.payloads ≡ Some 244 ∷ Some 252 ∷ Some 252 ∷ []
+  pub places : payload_places 4 244 0 three_tree.payloads ≡ Some 244 ∷ Some 252 ∷ Some 252 ∷ []
+
+-- The text of these images with this alignment. The second and the third payload begin at this
+-- offset from the end of the blob.
+abbrev pub three_aligned : (align offset : ℕ) → List ℕ
+three_aligned align offset =
+    text_of_tree align 0 [] (tree_with_images (three_external_nodes offset))
+    ++ (codes "hello" ++ (replicate (offset - 5) 0 ++ codes "x"))
+
+-- It is their text in the form with this alignment. The blob has `total` bytes, and the text has
+-- `size` bytes.
+pub record AreAlignedTo (align offset total size : ℕ) : Type 0 where
+  pub is_text : (chosen : Align) → align_bytes chosen ≡ align
+      → fit_text (Aligned chosen) three_tree ≡ three_aligned align offset
+  pub is_total : totalsize (three_aligned align offset) ≡ total
+  pub is_length : length (three_aligned align offset) ≡ size
+  pub places : payload_places align total 0 three_tree.payloads
+      ≡ Some total ∷ Some (total + offset) ∷ Some (total + offset) ∷ []
+
+-- With the alignments 4, 8, 16 and 4096.
+pub record ThreeImagesAreAligned : Type 0 where
+  pub by_4 : AreAlignedTo 4 8 244 253
+  pub by_8 : AreAlignedTo 8 8 248 257
+  pub by_16 : AreAlignedTo 16 16 256 273
+  pub by_4096 : AreAlignedTo 4096 4096 4096 8193
+  pub same : three_aligned 4 8 ≡ three_external
 
 -- Three images with the payload `x`, an empty one, and `y`, in the form External: the offsets are
 -- 0, 4 and 4, and three zeros follow `x`.
@@ -190,8 +222,9 @@ pub record PayloadsAreAligned : Type 0 where
   pub means : IsFitFile aligned_external aligned_tree
   pub external : fit_text External aligned_tree ≡ aligned_external
   pub external_length : length aligned_external ≡ 249
-  pub places : payload_places 244 0 aligned_tree.payloads ≡ Some 244 ∷ Some 248 ∷ Some 248 ∷ []
-  pub areas : map (payload_area 0)
+  pub places : payload_places 4 244 0 aligned_tree.payloads
+      ≡ Some 244 ∷ Some 248 ∷ Some 248 ∷ []
+  pub areas : map (payload_area 4 0)
       ((Some (codes "x") ∷ Some (codes "y") ∷ [])
       ∷ (Some (codes "x") ∷ Some [] ∷ [])
       ∷ (Some (codes "x") ∷ None ∷ [])
@@ -271,7 +304,7 @@ nested_tree = record {
 
 -- A file with this tree.
 abbrev pub nested_file : List ℕ
-nested_file = text_of_tree 0 [] nested_tree ++ []
+nested_file = text_of_tree 4 0 [] nested_tree ++ []
 
 -- One property by its name.
 abbrev pub only_data : List ℕ → PropertyMap

@@ -1,28 +1,34 @@
 use Rattle.std.specs.Prelude.{◌≡◌, ◌⊎◌, ◌↔◌, ℕ, ◌+◌, ◌%◌, ◌≤◌, List, ◌++◌, Option, Some, length}
-use Rattle.std.specs.Prelude.{map, [], ◌∷◌, nat_eq, IsTrue, filter}
-use Rattle.std.specs.List.{AllByRecursion, AllZip, ends_with}
+use Rattle.std.specs.Prelude.{map, flat_map, [], ◌∷◌, nat_eq, bytes_eq, IsTrue, IfSome, filter}
+use Rattle.std.specs.List.{AllByRecursion, AllZip, ends_with, find}
+use Rattle.std.specs.Option.{option_map}
+use Rattle.bi_base.specs.declared.align.Align.{Align}
 use Rattle.bi_base.specs.declared.fault.Fault.{Fault}
+use Rattle.bi_base.specs.Aligns.{align_bytes}
+use Rattle.bi_base.specs.Alignments.{IsAlignment}
 use Rattle.bi_base.specs.Cells.{AreBytes}
 use Rattle.bi_base.specs.Limits.{Limits}
-use Rattle.bi_hash.specs.declared.algo.Algo.TheVariants.{Sha256}
+use Rattle.bi_hash.specs.declared.algo.Algo.{Algo}
 use Rattle.bi_hash.specs.declared.verdicts.Verdict.TheVariants.{Good}
 use Rattle.bi_hash.specs.Algos.{algorithm_name}
 use Rattle.bi_hash.specs.Digests.{digest_of}
-use Rattle.bi_blob.specs.Tree.{HasNoZero, depth_of}
+use Rattle.bi_blob.specs.Tree.{HasNoZero, names, depth_of}
 use Rattle.bi_blob.specs.Blob.{magic, blob_magic}
 use Rattle.bi_blob.specs.Layout.{strings_of, longest_text}
 use Rattle.bi_fit.specs.declared.key.Key.{Key}
 use Rattle.bi_fit.specs.declared.form.Form.{Form}
-use Rattle.bi_fit.specs.declared.form.Form.TheVariants.{External}
+use Rattle.bi_fit.specs.declared.form.Form.TheVariants.{External, Aligned}
 use Rattle.bi_fit.specs.ImageTree.{ImageTree, IsImageTree, each_own}
 use Rattle.bi_fit.specs.Payloads.{source_of, payload_place, IsAtPlace}
 use Rattle.bi_fit.specs.File.{IsFitFile, FitMeans}
 use Rattle.bi_fit.specs.Faults.{IsFitFault}
-use Rattle.bi_fit.specs.Text.{blob_of, payloads_end, payload_places, fit_text}
+use Rattle.bi_fit.specs.Text.{alignment_of, blob_of, payloads_end, payload_places, fit_text}
 use Rattle.bi_fit.specs.Judgement.{judgement, CheckedHash, verdicts_of, ListResult, NoKey}
-use Rattle.bi_fit.specs.Judgement.{ListedImages, listed_names, listed_of, default_of}
-use Rattle.bi_fit.specs.Building.{HeadModel, ImageSpecModel, CanBeBuilt, hash_node_name, built_tree}
-use Rattle.bi_fit.specs.Building.{configuration_name, key_eq}
+use Rattle.bi_fit.specs.Judgement.{ListedImage, ListedImages, listed_names, listed_of, default_of}
+use Rattle.bi_fit.specs.Judgement.{configuration_nodes, images_of, checked_hash, hash_nodes}
+use Rattle.bi_fit.specs.Building.{HeadModel, ImageSpecModel, PlanModel, CanBeBuilt, IsPlanFor}
+use Rattle.bi_fit.specs.Building.{hash_node_name, built_tree, configuration_names, type_name}
+use Rattle.bi_fit.specs.Building.{configuration_name, plan_by_types, names_of_images}
 
 -- Laws of what a flattened image tree is (Flattened Image Tree Specification), and of its faults
 -- and texts (profile of this project). Each is the contract of a function in `laws`.
@@ -121,62 +127,85 @@ SameTextSameJudgement =
     → length (fit_text form tree) ≤ longest_text → fit_text form tree ≡ fit_text form other
     → judgement tree ≡ judgement other
 
--- The length of an external text follows from the length of its blob and the sizes of its
--- payloads. The blob ends at a multiple of four.
-pub record HasExternalLength (tree : ImageTree) : Type 0 where
-  pub is_length : length (fit_text External tree)
-      ≡ length (blob_of External tree) + payloads_end 0 tree.payloads
-  pub blob_is_whole : length (blob_of External tree) % 4 ≡ 0
+-- The form with the alignment 4 is the form External.
+abbrev pub AlignedByFourIsExternal : Type 0
+AlignedByFourIsExternal =
+    (align : Align) (tree : ImageTree) → align_bytes align ≡ 4
+    → fit_text (Aligned align) tree ≡ fit_text External tree
 
--- Each external text is that long.
+-- The length of a text in a form with this alignment follows from the length of its blob and the
+-- sizes of its payloads. The length of the blob is a multiple of the alignment.
+pub record HasExternalLength (form : Form) (align : ℕ) (tree : ImageTree) : Type 0 where
+  pub is_length : length (fit_text form tree)
+      ≡ length (blob_of form tree) + payloads_end align 0 tree.payloads
+  pub blob_is_whole : length (blob_of form tree) % align ≡ 0
+
+-- Each text with external payloads is that long.
 abbrev pub EachExternalTextHasItsLength : Type 0
-EachExternalTextHasItsLength = (tree : ImageTree) → HasExternalLength tree
+EachExternalTextHasItsLength =
+    (form : Form) (align : ℕ) (tree : ImageTree) → alignment_of form ≡ Some align
+    → HasExternalLength form align tree
 
 -- Payloads end no earlier than the first few of them: a text is too long as soon as the first few
 -- of its payloads are.
 abbrev pub PayloadsEndLater : Type 0
 PayloadsEndLater =
-    (first later : List (Option (List ℕ))) → payloads_end 0 first ≤ payloads_end 0 (first ++ later)
+    (align : ℕ) (first later : List (Option (List ℕ))) → IsAlignment align
+    → payloads_end align 0 first ≤ payloads_end align 0 (first ++ later)
 
--- The payloads of an external text are where the layout has them.
+-- The payloads of an external text are where the layout has them, and each begins at a multiple of
+-- the alignment.
 abbrev pub ExternalPayloadsArePlaced : Type 0
 ExternalPayloadsArePlaced =
-    (tree : ImageTree) → length (fit_text External tree) ≤ longest_text
-    → (is : IsFitFile (fit_text External tree) tree)
+    (form : Form) (align : ℕ) (tree : ImageTree) → alignment_of form ≡ Some align
+    → length (fit_text form tree) ≤ longest_text
+    → (is : IsFitFile (fit_text form tree) tree)
     → AllZip
-    (λ own place. payload_place (fit_text External tree) (source_of own) ≡ place)
-    (each_own is.images) (payload_places (length (blob_of External tree)) 0 tree.payloads)
+    (λ own place. (payload_place (fit_text form tree) (source_of own) ≡ place)
+    × IfSome place (λ offset. offset % align ≡ 0))
+    (each_own is.images) (payload_places align (length (blob_of form tree)) 0 tree.payloads)
 
--- The text of a built tree, in either form, is accepted under limits that hold it and four open
+-- The text of a built tree, in any form, is accepted under limits that hold it and four open
 -- nodes, and means the tree.
 abbrev pub BuiltIsAccepted : Type 0
 BuiltIsAccepted =
-    (bounds : Limits) (form : Form) (head : HeadModel) (images : List ImageSpecModel)
-    → CanBeBuilt head images
-    → 4 ≤ bounds.depth → length (fit_text form (built_tree head images)) ≤ bounds.file
+    (bounds : Limits) (form : Form) (head : HeadModel) (plan : PlanModel)
+    (images : List ImageSpecModel)
+    → CanBeBuilt head images → IsPlanFor (names_of_images images) plan
+    → 4 ≤ bounds.depth → length (fit_text form (built_tree head plan images)) ≤ bounds.file
     → bounds.file ≤ longest_text
-    → IsAcceptedAs bounds (fit_text form (built_tree head images)) (built_tree head images)
+    → IsAcceptedAs bounds (fit_text form (built_tree head plan images))
+    (built_tree head plan images)
 
--- The hash node of a built image: it has the SHA-256 of the payload, and its verdict is Good.
-abbrev pub good_hash : ImageSpecModel → CheckedHash
-good_hash image = record {
-  image = image.name;
-  node_name = hash_node_name;
-  algo = Some (algorithm_name Sha256);
-  value = Some (digest_of Sha256 image.payload);
-  verdict = Good;
-}
+-- The hash nodes of a built image with these algorithms, the first of which has this number: each
+-- has the digest of the payload, and its verdict is Good.
+abbrev pub good_hashes : (number : ℕ) → List Algo → ImageSpecModel → List CheckedHash
+good_hashes number [] image = []
+good_hashes number (algo ∷ later) image =
+    record {
+      image = image.name;
+      node_name = hash_node_name number;
+      algo = Some (algorithm_name algo);
+      value = Some (digest_of algo image.payload);
+      verdict = Good;
+    }
+    ∷ good_hashes (number + 1) later image
 
 -- The payloads of a built tree are those of its images in their order, and each image has one hash
--- node, with the verdict Good.
-pub record HasGoodPayloads (head : HeadModel) (images : List ImageSpecModel) : Type 0 where
-  pub payloads : (built_tree head images).payloads ≡ map (λ image. Some image.payload) images
-  pub verdicts : verdicts_of (built_tree head images) ≡ map good_hash images
+-- node with each algorithm of the plan, in their order, with the verdict Good.
+pub record HasGoodPayloads (head : HeadModel) (plan : PlanModel) (images : List ImageSpecModel)
+    : Type 0 where
+  pub payloads : (built_tree head plan images).payloads ≡ map (λ image. Some image.payload) images
+  pub each : map (λ image. map (checked_hash image) (hash_nodes image))
+      (images_of (built_tree head plan images))
+      ≡ map (good_hashes 1 plan.algorithms) images
+  pub verdicts : verdicts_of (built_tree head plan images)
+      ≡ flat_map (good_hashes 1 plan.algorithms) images
 
 -- Each built tree does.
 abbrev pub BuiltHasGoodPayloads : Type 0
-BuiltHasGoodPayloads = (head : HeadModel) (images : List ImageSpecModel)
-    → HasGoodPayloads head images
+BuiltHasGoodPayloads = (head : HeadModel) (plan : PlanModel) (images : List ImageSpecModel)
+    → HasGoodPayloads head plan images
 
 -- How a value lists names: each name is followed by a zero. If the last byte of a value is a zero,
 -- all of it is names.
@@ -187,6 +216,36 @@ pub record ReadsNames : Type 0 where
       → strings_of (listed_names value) ≡ value
   pub no_zero : (value : List ℕ) → AllByRecursion HasNoZero (listed_names value)
 
+-- The image with this name, with its payload, as a configuration lists it.
+abbrev pub listed_by_name : List ImageSpecModel → List ℕ → ListedImage
+listed_by_name images name = record {
+  name = name;
+  payload = option_map (λ image. image.payload) (find (λ image. bytes_eq image.name name) images);
+}
+
+-- What a list of these names is: none if there is no name.
+abbrev pub list_by_names : List ImageSpecModel → List (List ℕ) → ListResult
+list_by_names images [] = NoKey
+list_by_names images (name ∷ later) = ListedImages (map (listed_by_name images) (name ∷ later))
+
+-- A built tree has the configurations of the plan, in their order. Each lists the images with the
+-- names under each key in their order, and the default is that of the plan.
+pub record HasConfigurations (head : HeadModel) (plan : PlanModel) (images : List ImageSpecModel)
+    : Type 0 where
+  pub are_all : names (configuration_nodes (built_tree head plan images))
+      ≡ configuration_names plan.configurations
+  pub listed : AllByRecursion
+      (λ configuration. (key : Key) → listed_of (built_tree head plan images) configuration.name key
+      ≡ list_by_names images (configuration.lists key))
+      plan.configurations
+  pub default : default_of (built_tree head plan images) ≡ Some plan.default
+
+-- Each tree that can be built has.
+abbrev pub BuiltHasConfigurations : Type 0
+BuiltHasConfigurations =
+    (head : HeadModel) (plan : PlanModel) (images : List ImageSpecModel) → CanBeBuilt head images
+    → IsPlanFor (names_of_images images) plan → HasConfigurations head plan images
+
 -- What a list of these images is: none if there is no image.
 abbrev pub list_of_built : List ImageSpecModel → ListResult
 list_of_built [] = NoKey
@@ -194,15 +253,18 @@ list_of_built (image ∷ later) =
     ListedImages
     (map (λ image. record { name = image.name; payload = Some image.payload }) (image ∷ later))
 
--- The configuration of a built tree lists the images of each key in their order, and it is the
--- default.
-pub record HasConfiguration (head : HeadModel) (images : List ImageSpecModel) : Type 0 where
-  pub listed : (key : Key) → listed_of (built_tree head images) configuration_name key
-      ≡ list_of_built (filter (λ image. key_eq key image.key) images)
-  pub default : default_of (built_tree head images) ≡ Some configuration_name
+-- The configuration of a tree that is built by types lists the images of each type under its key,
+-- in their order, and it is the default.
+pub record HasConfiguration (head : HeadModel) (algorithms : List Algo)
+    (images : List ImageSpecModel) : Type 0 where
+  pub listed : (key : Key)
+      → listed_of (built_tree head (plan_by_types algorithms images) images) configuration_name key
+      ≡ list_of_built (filter (λ image. bytes_eq image.image_type (type_name key)) images)
+  pub default : default_of (built_tree head (plan_by_types algorithms images) images)
+      ≡ Some configuration_name
 
--- Each tree that can be built has.
+-- Each tree that can be built by types has.
 abbrev pub BuiltHasConfiguration : Type 0
 BuiltHasConfiguration =
-    (head : HeadModel) (images : List ImageSpecModel) → CanBeBuilt head images
-    → HasConfiguration head images
+    (head : HeadModel) (algorithms : List Algo) (images : List ImageSpecModel)
+    → CanBeBuilt head images → HasConfiguration head algorithms images

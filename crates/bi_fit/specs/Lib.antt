@@ -15,6 +15,8 @@ pub mod Fields
 pub mod Images
 pub mod Reading
 pub mod Documents
+pub mod Kept
+pub mod KeptImages
 pub mod PayloadRegions
 pub mod RegionPairs
 pub mod HashNodes
@@ -34,6 +36,7 @@ pub mod PropertyMaps
 pub mod ChangedNames
 pub mod NameOrders
 pub mod TextNodes
+pub mod Leaves
 pub mod AddedImages
 pub mod Laws
 pub mod KnownFiles

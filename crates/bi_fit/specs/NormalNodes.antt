@@ -1,6 +1,7 @@
-use Rattle.std.specs.Prelude.{◌≡◌, ℕ, ◌<◌, ◌≤◌, ◌^◌, ⊤, Bool, List, ◌∷◌, ◌++◌, map, length}
-use Rattle.std.specs.Prelude.{Option, Some, bytes_eq, if◌then◌else◌}
+use Rattle.std.specs.Prelude.{◌≡◌, ℕ, ◌<◌, ◌≤◌, ◌^◌, ⊤, Bool, List, [], ◌∷◌, ◌++◌, map, length}
+use Rattle.std.specs.Prelude.{Option, Some, None, bytes_eq, if◌then◌else◌}
 use Rattle.std.specs.FinMap.{from_entries, entries}
+use Rattle.bi_base.specs.Cells.{up_to}
 use Rattle.bi_blob.specs.Tree.{Nodes, none, node, Property, PropertyMap, FileNode, AreDistinct}
 use Rattle.bi_blob.specs.Tree.{properties_of, with_each}
 use Rattle.bi_blob.specs.Lookups.{Sibling, siblings}
@@ -11,11 +12,12 @@ use Rattle.bi_blob.specs.Following.{AllFollow, MayFollowInText, stage_of_events}
 use Rattle.bi_lay.specs.Contents.{Doc}
 use Rattle.bi_fit.specs.declared.changes.Changes.{Changes}
 use Rattle.bi_fit.specs.declared.form.Form.{Form}
-use Rattle.bi_fit.specs.declared.form.Form.TheVariants.{Embedded, External}
+use Rattle.bi_fit.specs.declared.form.Form.TheVariants.{Embedded}
 use Rattle.bi_fit.specs.declared.image.Image.{Image}
 use Rattle.bi_fit.specs.Names.{images_name}
 use Rattle.bi_fit.specs.ImageTree.{without_payload, without_payloads}
-use Rattle.bi_fit.specs.Text.{with_payload, with_payloads, end_after, payloads_end}
+use Rattle.bi_fit.specs.Text.{alignment_of, blob_alignment, with_payload, with_payloads}
+use Rattle.bi_fit.specs.Text.{end_after, payloads_end}
 use Rattle.bi_fit.specs.Content.{image_model}
 use Rattle.bi_fit.specs.Updating.{with_time}
 use Rattle.bi_fit.specs.TakenDigests.{HaveImageDigests, with_digests_from}
@@ -59,6 +61,11 @@ begin_events name properties = NodeStart name ∷ map NodeProperty (entries prop
 abbrev pub leaf : List ℕ → PropertyMap → Nodes (List Property)
 leaf name properties = node name (entries properties) none none
 
+-- Nodes without children: the name and the properties of each.
+abbrev pub leaf_nodes : List (List ℕ × PropertyMap) → Nodes (List Property)
+leaf_nodes [] = none
+leaf_nodes (first ∷ later) = node first.0 (entries first.1) none (leaf_nodes later)
+
 -- The payload of each of these images, if it has one.
 abbrev pub payloads_of : List Image → List (Option (List ℕ))
 payloads_of images = map (λ image. image.payload) (map image_model images)
@@ -66,7 +73,7 @@ payloads_of images = map (λ image. image.payload) (map image_model images)
 -- The properties of an image node by name, with those that give its payload.
 abbrev pub image_properties : Form → (begin : ℕ) → Option (List ℕ) → FileNode → PropertyMap
 image_properties form begin payload own =
-    with_payload form begin payload (without_payload (properties_by_name own))
+    with_payload (alignment_of form) begin payload (without_payload (properties_by_name own))
 
 -- The children of an image node, with the properties of each in byte order.
 abbrev pub sorted_image_children : (hashed : Bool) → (digests : List ℕ) → Nodes FileNode
@@ -79,7 +86,7 @@ abbrev pub sorted_images : (hashes : Bool) → Form → (end : ℕ) → List (Op
     → (digests : List ℕ) → Nodes FileNode → Nodes (List Property)
 sorted_images hashes form end payloads digests nodes =
     with_each entries
-    (with_payloads form end payloads
+    (with_payloads (alignment_of form) end payloads
     (images_with_digests_from hashes payloads digests (without_payloads (nodes_by_name nodes))))
 
 -- The node that has the image nodes as children, without its siblings.
@@ -91,19 +98,26 @@ sorted_images_node hashes form payloads digests sibling =
 
 -- The size of a payload fits a cell, if the form has it in one.
 abbrev pub HasCellSize : Form → Option (List ℕ) → Type 0
-HasCellSize External (Some payload) = length payload < 2 ^ 32
-HasCellSize form payload = ⊤
+HasCellSize Embedded payload = ⊤
+HasCellSize form None = ⊤
+HasCellSize form (Some payload) = length payload < 2 ^ 32
+
+-- Where the next payload begins, if those before it end at `end`. That matters only for external
+-- payloads.
+abbrev pub next_begin : Form → (end : ℕ) → ℕ
+next_begin form end = up_to (blob_alignment (alignment_of form)) end
 
 -- Where the payloads end once there is one more, if they ended at `end` before it. That matters
 -- only for external payloads.
 abbrev pub next_end : Form → (end : ℕ) → Option (List ℕ) → ℕ
 next_end Embedded end payload = end
-next_end External end payload = end_after end payload
+next_end form end payload = end_after (blob_alignment (alignment_of form)) end payload
 
 -- The payloads end within the longest text, if the form has them after the blob.
 abbrev pub AreWithin : Form → (end : ℕ) → List (Option (List ℕ)) → Type 0
 AreWithin Embedded end payloads = ⊤
-AreWithin External end payloads = payloads_end end payloads ≤ longest_text
+AreWithin form end payloads =
+    payloads_end (blob_alignment (alignment_of form)) end payloads ≤ longest_text
 
 -- These are the nodes of these images, and the bytes hold the digests of their hash nodes.
 pub record AreImageNodes (hashes : Bool) (images : List Image) (digests : List ℕ)

@@ -2,6 +2,7 @@
 
 ghost use Rattle.std.specs.Prelude.{◌≡◌, ◌+◌, ◌<◌, ◌≤◌, length, OnOk, IfOk, IfErr};
 ghost use Rattle.std.specs.List.{AllByRecursion};
+ghost use Rattle.bi_base.specs.Aligns.{align_bytes};
 ghost use Rattle.bi_base.specs.Errors.{IsFaultOrNoMemory};
 ghost use Rattle.bi_base.specs.Reading.{too_large};
 ghost use Rattle.bi_blob.specs.Blob.{IsReservation};
@@ -26,7 +27,7 @@ mod tree;
 
 use crate::changes::Changes;
 pub(crate) use crate::document::image_node::{ImageChildren, ImageNode, add_image_node};
-pub(crate) use crate::document::nodes::{add_leaf, begin_with};
+pub(crate) use crate::document::nodes::{Leaf, add_leaves, begin_with};
 pub(crate) use crate::document::property_map::PropertyMap;
 use crate::document::text_parts::TextParts;
 use crate::document::tree::add_tree;
@@ -37,7 +38,7 @@ use crate::memory::only_memory;
 use crate::name_order::NameOrder;
 use crate::payload_area::length_after_blob;
 use crate::text::FitText;
-use bi_base::{Cause, Error, Fault, Limits, refuse};
+use bi_base::{Align, Cause, Error, Fault, Limits, refuse};
 use bi_fdt::Blob;
 use bi_lay::Doc;
 use std::alloc::{AllocError, Global};
@@ -49,8 +50,8 @@ impl<'a> Fit<'a> {
     ///
     /// Image nodes with a payload have the properties of the form instead of `data`, `data-offset`,
     /// `data-position` and `data-size`. Image nodes without a payload have none of the four. In the
-    /// form External the payloads follow the blob. The text borrows names, values and payloads, and
-    /// copies none.
+    /// form External the payloads follow the blob, and in the form Aligned too. The text borrows
+    /// names, values and payloads, and copies none.
     ///
     /// Takes n log n steps for n nodes and properties. The different names of properties are put in
     /// byte order once, which takes m log m comparisons for m names; names of 64 bytes or more are
@@ -71,9 +72,10 @@ impl<'a> Fit<'a> {
         self.updated_text(alloc, Changes::default(), b"", form, limits)
     }
 
-    /// Returns the document of the normal text in a form. The document is closed, and its text is
-    /// the blob of the normal text. In the form External, the payloads that follow the blob are not
-    /// part of it. The document borrows names, values and payloads of the file.
+    /// Returns the document of the normal text in a form. The document is closed, and its text,
+    /// with the alignment of the form, is the blob of the normal text. The payloads that follow the
+    /// blob, unless the form is Embedded, are not part of it. The document borrows names, values
+    /// and payloads of the file.
     ///
     /// The errors are those of `text`: the limit is on the whole text, including payloads after the
     /// blob.
@@ -87,7 +89,7 @@ impl<'a> Fit<'a> {
         let limit = limits.file();
         let after = length_after_blob(self.images(), form, limit)?;
         let document = self.build_updated_doc(alloc, Changes::default(), b"", form, limits)?;
-        check_length(&document, after, limit)?;
+        check_length(&document, form.align(), after, limit)?;
         Ok(document)
     }
 
@@ -159,17 +161,17 @@ impl<'a> Fit<'a> {
     }
 }
 
-/// Fails with TooLarge at the limit if the text of a document and `after` more bytes are longer
-/// than that.
-fn check_length(document: &Doc<'_>, after: u32, limit: u32) -> Result<(), Fault>
+/// Fails with TooLarge at the limit if the text of a document with this alignment and `after` more
+/// bytes are longer than that.
+fn check_length(document: &Doc<'_>, align: Align, after: u32, limit: u32) -> Result<(), Fault>
     requires closed { stage_of_events document.now.events ≡ AfterRoot }
     requires within { after ≤ limit }
     requires small { limit ≤ longest_text }
-    ensures ok { OnOk result (length (text_of document.now) + after ≤ limit) }
+    ensures ok { OnOk result (length (text_of (align_bytes align) document.now) + after ≤ limit) }
     ensures fault { IfErr result (λ fault. (fault ≡ too_large limit)
-        × (limit < length (text_of document.now) + after)) }
+        × (limit < length (text_of (align_bytes align) document.now) + after)) }
 {
-    match document.size() {
+    match document.aligned_size(align) {
         Some(size) if size <= limit - after => Ok(()),
         _ => refuse(Cause::TooLarge, limit),
     }

@@ -5,12 +5,13 @@ ghost use Rattle.bi_fit.specs.KnownFiles.{SmallestIsFit, OffsetIsFromAlignedEnd}
 ghost use Rattle.bi_fit.specs.KnownFiles.{PositionIsBeforeData, OffsetIsBeforeData};
 ghost use Rattle.bi_fit.specs.KnownFiles.{PositionIsBeforeOffset, NoneIsNotEmpty};
 ghost use Rattle.bi_fit.specs.KnownFiles.{ThreeImagesHaveTexts, SharedRegionIsRepeated};
-ghost use Rattle.bi_fit.specs.KnownFiles.{PayloadsAreAligned};
+ghost use Rattle.bi_fit.specs.KnownFiles.{ThreeImagesAreAligned, PayloadsAreAligned};
 ghost use Rattle.bi_fit.specs.KnownFiles.{ChildrenKeepOrder, OnlyImagesHavePayloads};
 ghost use Rattle.bi_fit.specs.KnownFiles.{UnusedHaveNoMeaning};
 ghost use Rattle.bi_fit.specs.KnownFaults.{WithoutImages, RegionsHaveFaults, FirstFaultCounts};
 ghost use Rattle.bi_fit.specs.KnownJudgements.{ListsAreRead, HashesAreJudged};
-ghost use Rattle.bi_fit.specs.KnownBuilds.{BuiltIsKnown, EachKeyIsKnown};
+ghost use Rattle.bi_fit.specs.KnownBuilds.{BuiltIsKnown, EachKeyIsKnown, BoardsAreKnown};
+ghost use Rattle.bi_fit.specs.KnownBuilds.{HashNodesAreKnown};
 ghost use Rattle.bi_fit.specs.KnownUpdates.{UpdatesAreKnown};
 
 /// A file of 88 bytes with a root and its child `images` is a flattened image tree, and is its own
@@ -49,6 +50,13 @@ pub fn none_is_not_empty()
 /// one the payloads are at offsets 0, 8 and 8 from the end of the blob.
 pub fn three_images_have_texts()
     ensures three { ThreeImagesHaveTexts }
+{}
+
+/// With the alignment 8 the texts of the same three images have a blob of 248 bytes and payloads at
+/// offsets 0, 8 and 8 from its end: 257 bytes. With the alignment 4 they are those in the form
+/// External.
+pub fn three_images_are_aligned()
+    ensures aligned { ThreeImagesAreAligned }
 {}
 
 /// External payloads begin at multiples of four: those of 1, 0 and 1 bytes are at offsets 0, 4 and
@@ -112,10 +120,21 @@ pub fn built_is_known()
     ensures built { BuiltIsKnown }
 {}
 
-/// The keys have known names, types of images and an order, and the configuration of a built tree
-/// lists the images of each of them in this order.
+/// The keys have known names, types of images and an order, and the configuration of a tree that is
+/// built by types lists the images of each of them in this order.
 pub fn each_key_is_known()
     ensures keys { EachKeyIsKnown }
+{}
+
+/// The tree of two boards that share a kernel has known nodes and properties. Each configuration
+/// lists the images that it names, and the second is the default.
+pub fn boards_are_known()
+    ensures boards { BoardsAreKnown }
+{}
+
+/// An image has as many hash nodes as there are algorithms, with known names.
+pub fn hash_nodes_are_known()
+    ensures hashes { HashNodesAreKnown }
 {}
 
 /// A small tree has known nodes and properties after an update of the time, of the digests and of

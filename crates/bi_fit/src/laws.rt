@@ -4,10 +4,11 @@ ghost use Rattle.bi_fit.specs.Laws.{OneFitMeaning, FitBeginsWithMagic, FitHasNoF
 ghost use Rattle.bi_fit.specs.Laws.{FitMeaningOrFault, FitMeaningWhereNoFault, FileMeansImageTree};
 ghost use Rattle.bi_fit.specs.Laws.{FitTextIsAccepted, NormalFitTextIsAccepted, SameTextSameTree};
 ghost use Rattle.bi_fit.specs.Laws.{TextKeepsJudgement, SameTextSameJudgement};
-ghost use Rattle.bi_fit.specs.Laws.{EachExternalTextHasItsLength, PayloadsEndLater};
+ghost use Rattle.bi_fit.specs.Laws.{AlignedByFourIsExternal, EachExternalTextHasItsLength};
+ghost use Rattle.bi_fit.specs.Laws.{PayloadsEndLater};
 ghost use Rattle.bi_fit.specs.Laws.{ExternalPayloadsArePlaced, PayloadsAreAtPlaces};
 ghost use Rattle.bi_fit.specs.Laws.{BuiltIsAccepted, BuiltHasGoodPayloads, ReadsNames};
-ghost use Rattle.bi_fit.specs.Laws.{BuiltHasConfiguration};
+ghost use Rattle.bi_fit.specs.Laws.{BuiltHasConfigurations, BuiltHasConfiguration};
 
 /// As a flattened image tree, a file has at most one meaning.
 pub fn one_meaning()
@@ -55,14 +56,14 @@ pub fn file_means_image_tree()
     ensures { FileMeansImageTree }
 {}
 
-/// The text of an image tree in either form, if it is no longer than the limit on files, is
+/// The text of an image tree in any form, if it is no longer than the limit on files, is
 /// accepted under limits of at least the depth of the tree, and means the tree. The limit on files
 /// is at most 0x7fffffff.
 pub fn text_is_accepted()
     ensures { FitTextIsAccepted }
 {}
 
-/// The normal text of a file in either form, if it is no longer than the limit on files, is
+/// The normal text of a file in any form, if it is no longer than the limit on files, is
 /// accepted under the limits under which the file is, and means what the file means.
 pub fn normal_text_is_accepted()
     ensures { NormalFitTextIsAccepted }
@@ -75,7 +76,7 @@ pub fn same_text_same_tree()
     ensures { SameTextSameTree }
 {}
 
-/// The normal text of a file in either form, if it has at most 0x7fffffff bytes, has the verdicts,
+/// The normal text of a file in any form, if it has at most 0x7fffffff bytes, has the verdicts,
 /// configurations, default and signatures of the file.
 pub fn text_keeps_judgement()
     ensures { TextKeepsJudgement }
@@ -87,8 +88,14 @@ pub fn same_text_same_judgement()
     ensures { SameTextSameJudgement }
 {}
 
+/// The text in the form Aligned with the alignment 4 is the text in the form External.
+pub fn aligned_by_four_is_external()
+    ensures { AlignedByFourIsExternal }
+{}
+
 /// An external text is as long as its blob and, after it, its payloads: the length depends only on
-/// the length of the blob and the sizes of the payloads.
+/// the length of the blob and the sizes of the payloads. The length of the blob is a multiple of
+/// the alignment, which is 4 in the form External.
 pub fn each_external_text_has_its_length()
     ensures { EachExternalTextHasItsLength }
 {}
@@ -100,20 +107,23 @@ pub fn payloads_end_later()
 {}
 
 /// Each payload of an external text is at the offset that the layout gives it: the first multiple
-/// of four after the blob and the payloads before it. The text has at most 0x7fffffff bytes.
+/// of the alignment, counted from the end of the blob, that is not before the end of the payloads
+/// before it. The offset in the text is a multiple of the alignment too. The text has at most
+/// 0x7fffffff bytes.
 pub fn external_payloads_are_placed()
     ensures { ExternalPayloadsArePlaced }
 {}
 
-/// The text of a built tree in either form, if it is no longer than the limit on files, is
+/// The text of a built tree in any form, if it is no longer than the limit on files, is
 /// accepted under limits that allow four open nodes, and means the tree that was to be built. The
 /// limit on files is at most 0x7fffffff.
 pub fn built_is_accepted()
     ensures { BuiltIsAccepted }
 {}
 
-/// The payloads of a built tree are those of its images in their order. Each image has one hash
-/// node, with the SHA-256 of its payload, and the verdict on it is Good.
+/// The payloads of a built tree are those of its images in their order. Each image has a hash node
+/// with each algorithm of the plan, which has the digest of its payload, and the verdict on it is
+/// Good.
 pub fn built_has_good_payloads()
     ensures { BuiltHasGoodPayloads }
 {}
@@ -124,8 +134,15 @@ pub fn reads_names()
     ensures names { ReadsNames }
 {}
 
-/// The configuration of a built tree lists, under each key, the images of that key in their order.
-/// It is the default.
+/// A built tree has the configurations of the plan in their order. Each of them lists, under each
+/// key, the images with the names that the plan has there, in their order. The default is that of
+/// the plan.
+pub fn built_has_configurations()
+    ensures { BuiltHasConfigurations }
+{}
+
+/// The configuration of a tree that is built by types lists, under each key, the images with the
+/// type of that key in their order. It is the default.
 pub fn built_has_configuration()
     ensures { BuiltHasConfiguration }
 {}

@@ -12,6 +12,7 @@ mod form;
 mod hashes;
 mod image;
 mod images;
+mod kept;
 mod key;
 pub mod known_files;
 pub mod laws;
@@ -20,7 +21,7 @@ mod long_names;
 mod memory;
 mod name_order;
 mod new_digests;
-mod nodes;
+pub mod nodes;
 mod payload_area;
 mod payload_names;
 mod property_names;
@@ -28,13 +29,16 @@ mod signatures;
 mod text;
 pub mod update_laws;
 
-pub use building::{Head, NamedImage, append_built};
+pub use building::{
+    ConfigurationSpec, Head, NamedImage, Plan, append_built, append_built_by_types, few_algorithms,
+};
 pub use changes::Changes;
 pub use configurations::{ConfigError, Configuration, Configurations, Named};
 pub use fit::Fit;
 pub use form::Form;
 pub use hashes::Checked;
 pub use image::{Image, Place};
+pub use kept::Kept;
 pub use key::Key;
 pub use lists::split_name;
 pub use name_order::NameOrder;

@@ -13,7 +13,7 @@ use bi_fdt::NodeRef;
 
 /// An iterator over sibling nodes, in their order in the file.
 #[derive(Drop)]
-pub(crate) struct Siblings<'a, 'b> {
+pub struct Siblings<'a, 'b> {
     next: Option<NodeRef<'a, 'b>>,
 }
 
@@ -21,7 +21,7 @@ impl<'a, 'b> Siblings<'a, 'b> {
     ghost use Rattle.bi_fit.specs.Siblings.{siblings_left};
 
     /// Returns the children of a node.
-    pub(crate) fn children(parent: NodeRef<'a, 'b>) -> Siblings<'a, 'b>
+    pub fn children(parent: NodeRef<'a, 'b>) -> Siblings<'a, 'b>
         ensures { siblings_left result ≡ siblings (node_of parent.entry).children }
     {
         Siblings {
@@ -51,7 +51,7 @@ impl<'a> Fit<'a> {
     ghost use Rattle.bi_fit.specs.Siblings.{siblings_left};
 
     /// Returns the image nodes, in their order in the file.
-    pub(crate) fn image_nodes<'b>(&'b self) -> Siblings<'a, 'b>
+    pub fn image_nodes<'b>(&'b self) -> Siblings<'a, 'b>
         ensures { siblings_left result ≡ siblings (file_images self.now.blob) }
     {
         Siblings::children(self.images_node())
@@ -66,7 +66,7 @@ impl<'a> Fit<'a> {
     }
 
     /// Returns the configuration nodes, in their order in the file.
-    pub(crate) fn configuration_nodes<'b>(&'b self) -> Siblings<'a, 'b>
+    pub fn configuration_nodes<'b>(&'b self) -> Siblings<'a, 'b>
         ensures { siblings_left result ≡ siblings (file_configurations self.now.blob) }
     {
         match self.configurations_node() {

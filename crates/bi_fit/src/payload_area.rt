@@ -2,18 +2,19 @@
 
 ghost use Rattle.std.specs.Prelude.{◌≡◌, ◌+◌, ◌-◌, ◌^◌, ◌<◌, ◌≤◌, ◌++◌, length, min, IfOk, IfErr};
 ghost use Rattle.std.specs.Option.{option_map};
-ghost use Rattle.bi_base.specs.Cells.{up4 as up4_of};
+ghost use Rattle.bi_base.specs.Aligns.{align_bytes};
+ghost use Rattle.bi_base.specs.Cells.{up_to};
 ghost use Rattle.bi_base.specs.Reading.{too_large};
 ghost use Rattle.bi_base.specs.Sinks.{Wrote};
-ghost use Rattle.bi_blob.specs.Layout.{longest_text, padding_to_4};
-ghost use Rattle.bi_fit.specs.declared.form.Form.TheVariants.{External};
+ghost use Rattle.bi_blob.specs.Layout.{longest_text, padding_to};
+ghost use Rattle.bi_fit.specs.declared.form.Form.TheVariants.{Aligned};
 ghost use Rattle.bi_fit.specs.Documents.{length_after_blob as length_after_blob_of};
 ghost use Rattle.bi_fit.specs.Text.{payload_area, payloads_end as payloads_end_of};
-ghost use Rattle.bi_fit.specs.NormalNodes.{payloads_of, next_end};
+ghost use Rattle.bi_fit.specs.NormalNodes.{payloads_of, next_begin, next_end};
 
 use crate::form::Form;
 use crate::image::Image;
-use bi_base::{Cause, Error, Fault, Sink, refuse, up4};
+use bi_base::{Align, Cause, Error, Fault, Sink, put_zeros, refuse};
 
 /// The area of the payloads after the blob, which grows payload by payload. In the form Embedded it
 /// stays empty.
@@ -34,25 +35,25 @@ impl PayloadArea {
         PayloadArea { form, end: 0 }
     }
 
-    /// Places the payload of one more image, and returns where it begins in the form External.
+    /// Places the payload of one more image, and returns where it begins if it follows the blob.
     /// Changes nothing for an image without a payload. The end saturates at `usize::MAX`.
     pub(crate) fn place(&mut self, payload: Option<&[u8]>) -> usize
-        requires { self.old.end + 3 < 2 ^ 64 }
-        ensures begin { result ≡ up4_of self.old.end }
+        requires { self.old.end + 0xfffff < 2 ^ 64 }
+        ensures begin { result ≡ next_begin self.old.form self.old.end }
         ensures form { self.new.form ≡ self.old.form }
         ensures end { let given = option_map (λ payload. payload.now) payload.entry in
             self.new.end ≡ min (next_end self.old.form self.old.end given) (2 ^ 64 - 1) }
     {
-        let begin = up4(self.end);
-        if let (Form::External, Some(payload)) = (self.form, payload) {
+        let begin = self.form.align().up_to(self.end);
+        if let (Form::External | Form::Aligned(_), Some(payload)) = (self.form, payload) {
             self.end = begin.saturating_add(payload.len());
         }
         begin
     }
 }
 
-/// Returns how many bytes follow the blob: the payloads of these images in the form External, none
-/// in the form Embedded. Fails with TooLarge at the limit, if there are more bytes than that.
+/// Returns how many bytes follow the blob: none in the form Embedded, else the payloads of these
+/// images. Fails with TooLarge at the limit, if there are more bytes than that.
 pub(crate) fn length_after_blob(images: &[Image<'_>], form: Form, limit: u32) -> Result<u32, Fault>
     ensures length { IfOk result (λ length.
         length ≡ length_after_blob_of form (payloads_of images.now)) }
@@ -62,18 +63,20 @@ pub(crate) fn length_after_blob(images: &[Image<'_>], form: Form, limit: u32) ->
 {
     match form {
         Form::Embedded => Ok(0),
-        Form::External => payloads_end(images, limit),
+        Form::External | Form::Aligned(_) => payloads_end(images, form.align(), limit),
     }
 }
 
-/// Returns where the payloads of images end. Fails with TooLarge at the limit, if that is after it.
-fn payloads_end(images: &[Image<'_>], limit: u32) -> Result<u32, Fault>
-    ensures end { IfOk result (λ end. end ≡ payloads_end_of 0 (payloads_of images.now)) }
+/// Returns where the payloads of images end with this alignment. Fails with TooLarge at the limit,
+/// if that is after it.
+fn payloads_end(images: &[Image<'_>], align: Align, limit: u32) -> Result<u32, Fault>
+    ensures end { IfOk result (λ end.
+        end ≡ payloads_end_of (align_bytes align) 0 (payloads_of images.now)) }
     ensures within { IfOk result (λ end. end ≤ limit) }
     ensures fault { IfErr result (λ fault. (fault ≡ too_large limit)
-        × (limit < payloads_end_of 0 (payloads_of images.now))) }
+        × (limit < payloads_end_of (align_bytes align) 0 (payloads_of images.now))) }
 {
-    let mut area = PayloadArea::new(Form::External);
+    let mut area = PayloadArea::new(Form::Aligned(align));
     for image in images {
         area.place(image.payload);
         if area.end > limit as usize {
@@ -83,34 +86,43 @@ fn payloads_end(images: &[Image<'_>], limit: u32) -> Result<u32, Fault>
     Ok(area.end as u32)
 }
 
-/// Appends the payloads of images in their order, each after zeros up to a multiple of four, even
-/// an empty payload. Fails as the sink does.
-pub(crate) fn put_payloads<S: Sink>(images: &[Image<'_>], sink: &mut S) -> Result<(), Error>
-    requires { payloads_end_of 0 (payloads_of images.now) ≤ longest_text }
-    ensures { Wrote S.appends S.fails sink.old (payload_area 0 (payloads_of images.now)) result
-        sink.new }
+/// Appends the payloads of images in their order, each after zeros up to a multiple of this
+/// alignment, even an empty payload. Fails as the sink does.
+pub(crate) fn put_payloads<S: Sink>(
+    images: &[Image<'_>],
+    align: Align,
+    sink: &mut S,
+) -> Result<(), Error>
+    requires { payloads_end_of (align_bytes align) 0 (payloads_of images.now) ≤ longest_text }
+    ensures { Wrote S.appends S.fails sink.old
+        (payload_area (align_bytes align) 0 (payloads_of images.now)) result sink.new }
 {
-    let mut area = PayloadArea::new(Form::External);
+    let mut area = PayloadArea::new(Form::Aligned(align));
     for image in images {
         if let Some(payload) = image.payload {
-            put_payload(&mut area, payload, sink)?;
+            put_payload(&mut area, align, payload, sink)?;
         }
     }
     Ok(())
 }
 
-/// Places one more payload, and appends it after zeros up to a multiple of four. Fails as the sink
-/// does.
-fn put_payload<S: Sink>(area: &mut PayloadArea, payload: &[u8], sink: &mut S) -> Result<(), Error>
-    requires external { area.old.form ≡ External }
-    requires within { up4_of area.old.end + length payload.now ≤ longest_text }
-    ensures external { area.new.form ≡ External }
-    ensures end { area.new.end ≡ up4_of area.old.end + length payload.now }
+/// Places one more payload in an area with this alignment, and appends it after zeros up to a
+/// multiple of the alignment. Fails as the sink does.
+fn put_payload<S: Sink>(
+    area: &mut PayloadArea,
+    align: Align,
+    payload: &[u8],
+    sink: &mut S,
+) -> Result<(), Error>
+    requires aligned { area.old.form ≡ Aligned align }
+    requires within { up_to (align_bytes align) area.old.end + length payload.now ≤ longest_text }
+    ensures aligned { area.new.form ≡ Aligned align }
+    ensures end { area.new.end ≡ up_to (align_bytes align) area.old.end + length payload.now }
     ensures written { Wrote S.appends S.fails sink.old
-        (padding_to_4 area.old.end ++ payload.now) result sink.new }
+        (padding_to (align_bytes align) area.old.end ++ payload.now) result sink.new }
 {
     let end = area.end;
     let begin = area.place(Some(payload));
-    sink.put(&[0; 3][..begin - end])?;
+    put_zeros(begin - end, sink)?;
     sink.put(payload)
 }

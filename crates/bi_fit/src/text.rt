@@ -16,13 +16,13 @@ use bi_base::{Cause, Error, Fault, Sink, refuse};
 use bi_lay::{ClosedDoc, Doc};
 use std::marker::Model;
 
-/// The text of a flattened image tree, laid out and measured: a blob, and in the form External the
-/// payloads after it. Names, values and payloads are borrowed, not copied.
+/// The text of a flattened image tree, laid out and measured: a blob, and unless the form is
+/// Embedded the payloads after it. Names, values and payloads are borrowed, not copied.
 #[derive(Drop)]
 pub struct FitText<'a> {
     blob: ClosedDoc<'a>,
     form: Form,
-    /// The images with the payloads that follow the blob in the form External.
+    /// The images with the payloads that follow the blob, unless the form is Embedded.
     images: &'a [Image<'a>],
     size: u32,
 }
@@ -40,8 +40,8 @@ impl<'a> Model for FitText<'a> {
 }
 
 impl<'a> FitText<'a> {
-    /// Lays out a document and, in the form External, the payloads of these images after it, which
-    /// take `after` bytes. Takes time linear in the number of the document's events.
+    /// Lays out a document and, unless the form is Embedded, the payloads of these images after it,
+    /// which take `after` bytes. Takes time linear in the number of the document's events.
     ///
     /// Error: TooLarge at the limit, if the text is longer than that.
     pub(crate) fn new(
@@ -61,7 +61,7 @@ impl<'a> FitText<'a> {
         ensures fault { IfErr result (λ fault. (fault ≡ too_large limit)
             × (limit < length (whole_text form document.entry (payloads_of images.entry.now)))) }
     {
-        let Some(blob) = document.close() else {
+        let Some(blob) = document.close_aligned(form.align()) else {
             return refuse(Cause::TooLarge, limit);
         };
         let size = blob.size() + after;
@@ -92,9 +92,11 @@ impl<'a> FitText<'a> {
         ensures { Wrote S.appends S.fails sink.old self.now result sink.new }
     {
         self.blob.emit(sink)?;
-        if self.form == Form::External {
-            put_payloads(self.images, sink)?;
+        match self.form {
+            Form::Embedded => Ok(()),
+            Form::External | Form::Aligned(_) => {
+                put_payloads(self.images, self.form.align(), sink)
+            }
         }
-        Ok(())
     }
 }

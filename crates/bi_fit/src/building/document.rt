@@ -11,21 +11,20 @@ ghost use Rattle.bi_lay.specs.Contents.{HaveSameContent};
 ghost use Rattle.bi_fit.specs.NormalNodes.{MayAdd, with_events, AreWithin};
 ghost use Rattle.bi_fit.specs.Documents.{document_of};
 ghost use Rattle.bi_fit.specs.Building.{built_tree};
-ghost use Rattle.bi_fit.specs.NamedImages.{head_model, named_models};
+ghost use Rattle.bi_fit.specs.NamedImages.{head_model, named_models, plan_model};
 ghost use Rattle.bi_fit.specs.BuiltNodes.{built_image_nodes, built_images_node};
 ghost use Rattle.bi_fit.specs.BuiltNodes.{built_configurations_node, built_payloads};
 ghost use Rattle.bi_fit.specs.BuiltNodes.{ArePrepared};
 ghost use Rattle.bi_fit.specs.BuiltNames.{built_names as built_names_of};
 
+use crate::building::configurations::configuration_leaves;
+use crate::building::hash_nodes::hash_leaves;
 use crate::building::lists::KeyLists;
 use crate::building::names::built_names;
-use crate::building::properties::{
-    CONFIGURATION_NAME, configuration_properties, default_properties, image_properties,
-    root_properties, sha256_properties,
-};
-use crate::building::{Head, NamedImage};
+use crate::building::properties::{default_properties, image_properties, root_properties};
+use crate::building::{Head, NamedImage, Plan};
 use crate::document::{
-    ImageChildren, ImageNode, PropertyMap, add_image_node, add_leaf, begin_with,
+    ImageChildren, ImageNode, PropertyMap, add_image_node, add_leaves, begin_with,
 };
 use crate::form::Form;
 use crate::memory::only_memory;
@@ -39,10 +38,13 @@ use std::alloc::{AllocError, Global};
 pub(super) struct BuiltParts<'a> {
     pub(super) head: Head<'a>,
     pub(super) images: &'a [NamedImage<'a>],
-    /// The SHA-256 of the payload of each image.
-    pub(super) digests: &'a [[u8; 32]],
-    /// The names of the images, by the keys that list them.
-    pub(super) lists: &'a KeyLists,
+    pub(super) plan: Plan<'a>,
+    /// The digests of the payload of each image with the algorithms of the plan, one after another.
+    pub(super) digests: &'a [Vec<u8>],
+    /// The names of the hash nodes of an image.
+    pub(super) hash_names: &'a [String],
+    /// What each configuration lists.
+    pub(super) lists: &'a [KeyLists],
 }
 
 /// Returns the document of a tree to be built in a form, however long its text is. The document
@@ -55,8 +57,9 @@ pub(super) fn build_doc<'a>(
     requires prepared { ArePrepared parts }
     requires within { AreWithin form 0 (built_payloads (named_models parts.images.now)) }
     ensures document { let images = named_models parts.entry.images.now in
+        let plan = plan_model parts.entry.plan in
         IfOk result (λ doc. HaveSameContent doc
-        (document_of form (built_tree (head_model parts.entry.head) images))) }
+        (document_of form (built_tree (head_model parts.entry.head) plan images))) }
     ensures closed { IfOk result (λ doc. stage_of_events doc.events ≡ AfterRoot) }
 {
     let names = built_names(alloc)?;
@@ -83,10 +86,13 @@ fn add_built_images<'a>(
     requires names { names.now ≡ built_names_of }
     requires doc_names { doc.old.names ≡ built_names_of }
     requires may { let images = named_models parts.images.now in
-        MayAdd doc.old (events (built_images_node form (head_model parts.head) images)) }
+        let algorithms = parts.plan.algorithms.now in
+        MayAdd doc.old
+        (events (built_images_node form (head_model parts.head) algorithms images)) }
     ensures added { let images = named_models parts.entry.images.now in
+        let algorithms = parts.entry.plan.algorithms.now in
         OnOk result (doc.new ≡ with_events doc.old
-        (events (built_images_node form (head_model parts.entry.head) images))) }
+        (events (built_images_node form (head_model parts.entry.head) algorithms images))) }
 {
     let properties = PropertyMap::new(alloc, names);
     begin_with(doc, b"images", &properties)?;
@@ -108,26 +114,36 @@ fn add_built_image_nodes<'a>(
     requires names { names.now ≡ built_names_of }
     requires doc_names { doc.old.names ≡ built_names_of }
     requires may { let images = named_models parts.images.now in
-        MayAdd doc.old (events (built_image_nodes form 0 (head_model parts.head) images)) }
+        let algorithms = parts.plan.algorithms.now in
+        MayAdd doc.old
+        (events (built_image_nodes form 0 (head_model parts.head) algorithms images)) }
     ensures added { let images = named_models parts.entry.images.now in
+        let algorithms = parts.entry.plan.algorithms.now in
         OnOk result (doc.new ≡ with_events doc.old
-        (events (built_image_nodes form 0 (head_model parts.entry.head) images))) }
+        (events (built_image_nodes form 0 (head_model parts.entry.head) algorithms images))) }
 {
     let mut area = PayloadArea::new(form);
     for (index, image) in parts.images.iter().enumerate() {
-        let hash = sha256_properties(alloc, names, &parts.digests[index])?;
+        let digests = &parts.digests[index];
+        let hashes = hash_leaves(
+            alloc,
+            names,
+            parts.hash_names,
+            parts.plan.algorithms,
+            digests,
+        )?;
         let added = ImageNode {
             name: image.name,
             properties: image_properties(alloc, names, parts.head, image)?,
             payload: Some(image.payload),
-            children: ImageChildren::Hash(&hash),
+            children: ImageChildren::Leaves(&hashes),
         };
         add_image_node(alloc, doc, &mut area, added)?;
     }
     Ok(())
 }
 
-/// Adds the node of the configuration, with the configuration.
+/// Adds the node of the configurations, with all of them.
 fn add_configurations<'a>(
     alloc: Global,
     doc: &mut Doc<'a>,
@@ -137,16 +153,17 @@ fn add_configurations<'a>(
     requires prepared { ArePrepared parts }
     requires names { names.now ≡ built_names_of }
     requires doc_names { doc.old.names ≡ built_names_of }
-    requires may { let images = named_models parts.images.now in
-        MayAdd doc.old (events (built_configurations_node (head_model parts.head) images)) }
-    ensures added { let images = named_models parts.entry.images.now in
+    requires may { let plan = plan_model parts.plan in
+        MayAdd doc.old (events (built_configurations_node (head_model parts.head) plan)) }
+    ensures added { let plan = plan_model parts.entry.plan in
         OnOk result (doc.new ≡ with_events doc.old
-        (events (built_configurations_node (head_model parts.entry.head) images))) }
+        (events (built_configurations_node (head_model parts.entry.head) plan))) }
 {
-    let properties = default_properties(alloc, names)?;
+    let plan = parts.plan;
+    let properties = default_properties(alloc, names, plan.default)?;
     begin_with(doc, b"configurations", &properties)?;
-    let properties = configuration_properties(alloc, names, parts.head, parts.lists)?;
-    add_leaf(doc, CONFIGURATION_NAME, &properties)?;
+    let leaves = configuration_leaves(alloc, names, parts.head, plan.configurations, parts.lists)?;
+    add_leaves(doc, &leaves)?;
     doc.end();
     Ok(())
 }

@@ -4,17 +4,16 @@ ghost use Rattle.std.specs.Prelude.{◌≡◌, IsTrue, ◌++◌, ◌∷◌, [], 
 ghost use Rattle.std.specs.FinMap.{from_entries};
 ghost use Rattle.bi_blob.specs.Layout.{is_among, strings_of};
 ghost use Rattle.bi_blob.specs.Tree.{Property};
-ghost use Rattle.bi_fit.specs.Building.{ImageSpecModel, list_property};
+ghost use Rattle.bi_fit.specs.Building.{ConfigurationSpecModel, list_property};
 ghost use Rattle.bi_fit.specs.Building.{built_root_properties, built_image_properties};
-ghost use Rattle.bi_fit.specs.Building.{built_configuration_properties};
-ghost use Rattle.bi_fit.specs.Building.{configuration_name, text_value};
+ghost use Rattle.bi_fit.specs.Building.{built_configuration_properties, built_hash_properties};
+ghost use Rattle.bi_fit.specs.Building.{text_value};
 ghost use Rattle.bi_fit.specs.Names.{default_name};
 ghost use Rattle.bi_fit.specs.BuiltNodes.{AreKeyLists, with_cell_property};
 ghost use Rattle.bi_fit.specs.NamedImages.{head_model, named_model};
 ghost use Rattle.bi_fit.specs.PropertyMapModels.{among, with_property_value};
 ghost use Rattle.bi_lay.specs.Values.{value_bytes};
 ghost use Rattle.bi_fit.specs.BuiltNames.{built_names};
-ghost use Rattle.bi_fit.specs.Building.{sha256_properties as sha256_properties_of};
 
 use crate::building::lists::KeyLists;
 use crate::building::names::index_of;
@@ -25,9 +24,6 @@ use crate::property_names::PropertyNames;
 use bi_hash::Algo;
 use bi_lay::Value;
 use std::alloc::{AllocError, Global};
-
-/// The name of the one configuration.
-pub(super) const CONFIGURATION_NAME: &[u8] = b"conf-1";
 
 /// Returns the properties of the root.
 pub(super) fn root_properties<'a, 'b>(
@@ -65,12 +61,8 @@ pub(super) fn image_properties<'a, 'b>(
     let mut properties = PropertyMap::new(alloc, names);
     insert_cell(&mut properties, b"entry", image.entry)?;
     insert_cell(&mut properties, b"load", image.load)?;
-    insert(
-        &mut properties,
-        b"type",
-        Value::Text(image.key.type_name().as_bytes()),
-    )?;
-    insert(&mut properties, b"os", Value::Text(image.os.as_bytes()))?;
+    insert(&mut properties, b"type", Value::Text(image.image_type))?;
+    insert(&mut properties, b"os", Value::Text(image.os))?;
     insert(
         &mut properties,
         b"description",
@@ -79,27 +71,28 @@ pub(super) fn image_properties<'a, 'b>(
     insert(
         &mut properties,
         b"compression",
-        Value::Text(image.compression.as_bytes()),
+        Value::Text(image.compression),
     )?;
-    insert(&mut properties, b"arch", Value::Text(image.arch.as_bytes()))?;
+    insert(&mut properties, b"arch", Value::Text(image.arch))?;
     Ok(properties)
 }
 
-/// Returns the properties of the node of the configuration.
+/// Returns the properties of the node of the configurations, of which this is the default.
 pub(super) fn default_properties<'a, 'b>(
     alloc: Global,
     names: &'b PropertyNames<'a>,
+    default: &'a [u8],
 ) -> Result<PropertyMap<'a, 'b>, AllocError>
     requires { names.now ≡ built_names }
     ensures { IfOk result (λ properties. properties
-        ≡ among built_names (from_entries ((default_name, text_value configuration_name) ∷ []))) }
+        ≡ among built_names (from_entries ((default_name, text_value default.entry.now) ∷ []))) }
 {
     let mut properties = PropertyMap::new(alloc, names);
-    insert(&mut properties, b"default", Value::Text(CONFIGURATION_NAME))?;
+    insert(&mut properties, b"default", Value::Text(default))?;
     Ok(properties)
 }
 
-/// Returns the properties of the configuration with these lists.
+/// Returns the properties of a configuration with these lists.
 pub(super) fn configuration_properties<'a, 'b>(
     alloc: Global,
     names: &'b PropertyNames<'a>,
@@ -107,10 +100,10 @@ pub(super) fn configuration_properties<'a, 'b>(
     lists: &'a KeyLists,
 ) -> Result<PropertyMap<'a, 'b>, AllocError>
     requires { names.now ≡ built_names }
-    ensures { (images : List ImageSpecModel) → AreKeyLists images lists.entry.now →
+    ensures { (configuration : ConfigurationSpecModel) → AreKeyLists configuration lists.entry.now →
         IfOk result (λ properties. properties
         ≡ among built_names (from_entries
-        (built_configuration_properties (head_model head.entry) images))) }
+        (built_configuration_properties (head_model head.entry) configuration))) }
 {
     let mut properties = PropertyMap::new(alloc, names);
     insert_list(&mut properties, Key::Script, &lists.script)?;
@@ -127,22 +120,23 @@ pub(super) fn configuration_properties<'a, 'b>(
     Ok(properties)
 }
 
-/// Returns the properties of a hash node with this SHA-256.
-pub(super) fn sha256_properties<'a, 'b>(
+/// Returns the properties of a hash node with this algorithm and this digest.
+pub(super) fn hash_properties<'a, 'b>(
     alloc: Global,
     names: &'b PropertyNames<'a>,
-    digest: &'a [u8; 32],
+    algo: Algo,
+    digest: &'a [u8],
 ) -> Result<PropertyMap<'a, 'b>, AllocError>
     requires { names.now ≡ built_names }
     ensures { IfOk result (λ properties. properties
-        ≡ among built_names (from_entries (sha256_properties_of digest.entry.now))) }
+        ≡ among built_names (from_entries (built_hash_properties algo digest.entry.now))) }
 {
     let mut properties = PropertyMap::new(alloc, names);
     insert(&mut properties, b"value", Value::Slice(digest))?;
     insert(
         &mut properties,
         b"algo",
-        Value::Text(Algo::Sha256.name().as_bytes()),
+        Value::Text(algo.name().as_bytes()),
     )?;
     Ok(properties)
 }

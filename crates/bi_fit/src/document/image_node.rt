@@ -1,14 +1,13 @@
 //! Adding an image node to a document, from a file or from a specification.
 
 ghost use Rattle.std.specs.Prelude.{◌≡◌, ◌-◌, ◌^◌, min, OnOk, IfOk};
-ghost use Rattle.bi_base.specs.Cells.{up4 as up4_of};
 ghost use Rattle.bi_blob.specs.Events.{events};
-ghost use Rattle.bi_fit.specs.NormalNodes.{MayAdd, with_events, next_end};
+ghost use Rattle.bi_fit.specs.NormalNodes.{MayAdd, with_events, next_begin, next_end};
 ghost use Rattle.bi_fit.specs.AddedImages.{IsAddable, added_image, added_payload};
 ghost use Rattle.bi_fit.specs.AddedImages.{AreAddable, added_children, digests_left};
 
 use crate::document::hash_nodes::add_children_with_digests;
-use crate::document::nodes::{add_leaf, begin_with};
+use crate::document::nodes::{Leaf, add_leaves, begin_with};
 use crate::document::property_map::PropertyMap;
 use crate::name_order::NameOrder;
 use crate::payload_area::PayloadArea;
@@ -34,8 +33,8 @@ pub(crate) struct ImageNode<'a, 'b> {
 pub(crate) enum ImageChildren<'a, 'b> {
     /// The children of a node of a file.
     OfNode(NodeChildren<'a, 'b>),
-    /// One hash node, `hash-1`, with these properties.
-    Hash(&'b PropertyMap<'a, 'b>),
+    /// These nodes, which have no children.
+    Leaves(&'b [Leaf<'a, 'b>]),
 }
 
 /// The children of an image node of a file, with the digests for its hash nodes.
@@ -53,7 +52,7 @@ pub(crate) struct NodeChildren<'a, 'b> {
 
 /// Adds an image node, with all nodes below it, as a child of the innermost open node. Its payload
 /// follows those of the area, and the node has the properties that give the payload. Returns the
-/// digests after those of its hash nodes, or no digests if the hash node is given.
+/// digests after those of its hash nodes, or no digests if the children are given.
 ///
 /// Fails if memory runs out. What the document then has is not specified. The area has the payload.
 pub(crate) fn add_image_node<'a>(
@@ -64,7 +63,8 @@ pub(crate) fn add_image_node<'a>(
 ) -> Result<&'a [u8], AllocError>
     requires { IsAddable doc.old area.old image }
     ensures left { IfOk result (λ left. left.now ≡ digests_left image.entry.children) }
-    ensures added { let image = added_image area.old.form (up4_of area.old.end) image.entry in
+    ensures added { let begin = next_begin area.old.form area.old.end in
+        let image = added_image area.old.form begin image.entry in
         OnOk result (doc.new ≡ with_events doc.old (events image)) }
     ensures form { area.new.form ≡ area.old.form }
     ensures end { let end = next_end area.old.form area.old.end (added_payload image.entry) in
@@ -107,8 +107,8 @@ fn add_image_children<'a>(
                 digests,
             },
         ) => add_children_with_digests(alloc, doc, node, order, hashed, digests),
-        ImageChildren::Hash(properties) => {
-            add_leaf(doc, b"hash-1", properties)?;
+        ImageChildren::Leaves(leaves) => {
+            add_leaves(doc, leaves)?;
             Ok(&[])
         }
     }

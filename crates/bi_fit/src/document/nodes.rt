@@ -3,11 +3,14 @@
 //! Each function that adds to a document fails if memory runs out. What the document then has is
 //! not specified.
 
-ghost use Rattle.std.specs.Prelude.{◌≡◌, OnOk};
+ghost use Rattle.std.specs.Prelude.{◌≡◌, map, OnOk};
+ghost use Rattle.std.specs.List.{AllByRecursion};
 ghost use Rattle.bi_blob.specs.Tree.{EachOwn};
 ghost use Rattle.bi_blob.specs.Events.{events};
 ghost use Rattle.bi_fit.specs.NormalNodes.{MayAdd, with_events, HasDistinctNames, alone};
-ghost use Rattle.bi_fit.specs.NormalNodes.{begin_events, properties_by_name, sorted_nodes, leaf};
+ghost use Rattle.bi_fit.specs.NormalNodes.{begin_events, properties_by_name, sorted_nodes};
+ghost use Rattle.bi_fit.specs.NormalNodes.{leaf, leaf_nodes};
+ghost use Rattle.bi_fit.specs.Leaves.{leaf_model};
 ghost use Rattle.bi_fdt.specs.Views.{node_of};
 ghost use Rattle.bi_fit.specs.NameOrders.{HasOrder};
 
@@ -17,6 +20,15 @@ use crate::name_order::NameOrder;
 use bi_fdt::NodeRef;
 use bi_lay::Doc;
 use std::alloc::{AllocError, Global};
+
+/// A node without children that a document gets.
+#[derive(Drop)]
+pub(crate) struct Leaf<'a, 'b> {
+    /// The name.
+    pub(crate) name: &'a [u8],
+    /// The properties.
+    pub(crate) properties: PropertyMap<'a, 'b>,
+}
 
 /// Begins a node with its properties, as a child of the innermost open node or as the root.
 pub(super) fn begin_node<'a>(
@@ -57,9 +69,22 @@ pub(crate) fn begin_with<'a>(
     properties.add_to(doc)
 }
 
+/// Adds nodes without children, in their order, as children of the innermost open node.
+pub(crate) fn add_leaves<'a>(doc: &mut Doc<'a>, leaves: &[Leaf<'a, '_>]) -> Result<(), AllocError>
+    requires names { AllByRecursion (λ leaf. doc.old.names ≡ leaf.properties.names) leaves.now }
+    requires may { MayAdd doc.old (events (leaf_nodes (map leaf_model leaves.now))) }
+    ensures added { OnOk result (doc.new ≡ with_events doc.old
+        (events (leaf_nodes (map leaf_model leaves.entry.now)))) }
+{
+    for leaf in leaves {
+        add_leaf(doc, leaf.name, &leaf.properties)?;
+    }
+    Ok(())
+}
+
 /// Adds a node with the given name, the given properties and no children, as a child of the
 /// innermost open node.
-pub(crate) fn add_leaf<'a>(
+fn add_leaf<'a>(
     doc: &mut Doc<'a>,
     name: &'a [u8],
     properties: &PropertyMap<'a, '_>,

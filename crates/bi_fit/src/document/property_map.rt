@@ -11,7 +11,7 @@ ghost use Rattle.bi_lay.specs.Values.{value_bytes};
 ghost use Rattle.bi_fdt.specs.Numbers.{IsNumberOf};
 ghost use Rattle.bi_fdt.specs.Views.{node_of, table_of_node};
 ghost use Rattle.bi_fit.specs.ImageTree.{without_payload};
-ghost use Rattle.bi_fit.specs.Text.{with_payload};
+ghost use Rattle.bi_fit.specs.Text.{alignment_of, with_payload};
 ghost use Rattle.bi_fit.specs.Updating.{with_time};
 ghost use Rattle.bi_fit.specs.TakenDigests.{HasDigest, with_first_digest, after_digest};
 ghost use Rattle.bi_fit.specs.NormalNodes.{MayAdd, with_events, HasDistinctNames, HasCellSize};
@@ -113,7 +113,7 @@ impl<'a, 'b> PropertyMap<'a, 'b> {
 
     /// Gives an image node this payload instead of any other, or none. Removes `data`,
     /// `data-offset`, `data-position` and `data-size`, and adds the properties of the payload. In
-    /// the form Embedded, that is `data`, which has its bytes. In the form External, these are
+    /// the form Embedded, that is `data`, which has its bytes. In the other forms, these are
     /// `data-offset`, which is `begin`, and `data-size`; the payload has fewer than 2^32 bytes.
     /// `begin` is the offset of an external payload in bytes from the end of the blob.
     ///
@@ -127,7 +127,7 @@ impl<'a, 'b> PropertyMap<'a, 'b> {
         requires { HasCellSize form (option_map (λ payload. payload.now) payload) }
         ensures set { let given = option_map (λ payload. payload.now) payload.entry in
             OnOk result (self.new.by_name
-            ≡ with_payload form begin given (without_payload self.old.by_name)) }
+            ≡ with_payload (alignment_of form) begin given (without_payload self.old.by_name)) }
         ensures same_names { OnOk result (self.new.names ≡ self.old.names) }
     {
         self.remove_payload();
@@ -137,7 +137,7 @@ impl<'a, 'b> PropertyMap<'a, 'b> {
         let ranks = self.names.ranks();
         match form {
             Form::Embedded => self.insert(ranks.payload, Value::Slice(payload)),
-            Form::External => {
+            Form::External | Form::Aligned(_) => {
                 self.insert(ranks.offset, Value::Cell(begin))?;
                 self.insert(ranks.size, Value::Cell(payload.len() as u32))
             }

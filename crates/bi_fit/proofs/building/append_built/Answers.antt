@@ -5,7 +5,7 @@ use Rattle.bi_base.specs.Errors.{IsFaultOrNoMemory}
 use Rattle.bi_fit.specs.Building.{built_tree}
 use Rattle.bi_fit.specs.BuiltNodes.{built_payloads}
 use Rattle.bi_fit.specs.Documents.{length_after_blob, IsTextOfTree, IsTextFault}
-use Rattle.bi_fit.specs.NamedImages.{head_model, named_models}
+use Rattle.bi_fit.specs.NamedImages.{head_model, named_models, plan_model}
 use Rattle.bi_fit.specs.NormalNodes.{payloads_of}
 use Rattle.bi_fit.proofs.AppendedTexts.{wrote_of_kind, wrote_none_of_kind}
 use Rattle.bi_fit.proofs.BuiltPayloads.{are_within, payloads_to_place}
@@ -14,7 +14,7 @@ use Rattle.bi_fit.proofs.building.append_built.Goals as goal
 
 pub returns-in_err-after-clause-failed : goal.returns-in_err-after-clause-failed
 returns-in_err-after-clause-failed g c =
-    let tree = built_tree (head_model c.args.head) (named_models c.args.images.now) in
+    let tree = built_tree (head_model c.args.head) (plan_model c.args.plan) (named_models c.args.images.now) in
     let list = c.deref.result.now in
     let same = payloads_to_place list c.args.images.now (c.deref.ensures.value ∙ c.in_ok-placed.ensures) in
     let refused = c.in_err-after.ensures.fault in
@@ -32,9 +32,9 @@ build_doc-requires-clause-within g c =
 
 pub returns-in_err-text-clause-failed : goal.returns-in_err-text-clause-failed
 returns-in_err-text-clause-failed g c =
-    let tree = built_tree (head_model c.args.head) (named_models c.args.images.now) in
-    let list = c.deref-3.result.now in
-    let same = payloads_to_place list c.args.images.now (c.deref-3.ensures.value ∙ c.in_ok-placed.ensures) in
+    let tree = built_tree (head_model c.args.head) (plan_model c.args.plan) (named_models c.args.images.now) in
+    let list = c.deref-5.result.now in
+    let same = payloads_to_place list c.args.images.now (c.deref-5.ensures.value ∙ c.in_ok-placed.ensures) in
     let refused = c.in_err-text.ensures.fault in
     let p = err_from_is_err_and c.from_residual-in_err-text.result c.from_residual-in_err-text.ensures.1 in
     rw (p.1, p.2)
@@ -44,9 +44,9 @@ returns-in_err-text-clause-failed g c =
 
 pub returns-clause-appended : goal.returns-clause-appended
 returns-clause-appended g c =
-    let tree = built_tree (head_model c.args.head) (named_models c.args.images.now) in
-    let list = c.deref-3.result.now in
-    let same = payloads_to_place list c.args.images.now (c.deref-3.ensures.value ∙ c.in_ok-placed.ensures) in
+    let tree = built_tree (head_model c.args.head) (plan_model c.args.plan) (named_models c.args.images.now) in
+    let list = c.deref-5.result.now in
+    let same = payloads_to_place list c.args.images.now (c.deref-5.ensures.value ∙ c.in_ok-placed.ensures) in
     let is = is_text_of_tree c.args.form tree
     (payloads_of list) same c.args.limits c.file-2.result c.file-2.ensures.value c.in_ok-document.document c.in_ok-document.ensures.document
     c.in_ok-text.text c.in_ok-text.ensures.text c.in_ok-text.ensures.short in
@@ -55,9 +55,9 @@ returns-clause-appended g c =
 
 pub returns-clause-failed : goal.returns-clause-failed
 returns-clause-failed g c =
-    let tree = built_tree (head_model c.args.head) (named_models c.args.images.now) in
-    let list = c.deref-3.result.now in
-    let same = payloads_to_place list c.args.images.now (c.deref-3.ensures.value ∙ c.in_ok-placed.ensures) in
+    let tree = built_tree (head_model c.args.head) (plan_model c.args.plan) (named_models c.args.images.now) in
+    let list = c.deref-5.result.now in
+    let same = payloads_to_place list c.args.images.now (c.deref-5.ensures.value ∙ c.in_ok-placed.ensures) in
     let is = is_text_of_tree c.args.form tree
     (payloads_of list) same c.args.limits c.file-2.result c.file-2.ensures.value c.in_ok-document.document c.in_ok-document.ensures.document
     c.in_ok-text.text c.in_ok-text.ensures.text c.in_ok-text.ensures.short in

@@ -19,14 +19,16 @@ begin_with-requires-clause-names c = c.requires.doc_names ∙ sym c.requires.nam
 
 pub begin_with-requires-clause-may : goal.begin_with-requires-clause-may
 begin_with-requires-clause-may c =
-    let children = events (built_image_nodes c.args.form 0 (head_model c.args.parts.head) (named_models c.args.parts.images.now)) in
+    let children = events (built_image_nodes c.args.form 0 (head_model c.args.parts.head) c.args.parts.plan.algorithms.now
+    (named_models c.args.parts.images.now)) in
     let begins : begin_events images_name c.new-properties.result.by_name
     ≡ begin_events images_name own = ap (λ properties. begin_events images_name properties.by_name) c.new-properties.ensures in
     subst (MayAdd c.args.doc.now) (sym begins) (may_begin c.args.doc.now (begin_events images_name own) children c.requires.may)
 
 pub add_built_image_nodes-requires-clause-may : goal.add_built_image_nodes-requires-clause-may
 add_built_image_nodes-requires-clause-may c =
-    let children = events (built_image_nodes c.args.form 0 (head_model c.args.parts.head) (named_models c.args.parts.images.now)) in
+    let children = events (built_image_nodes c.args.form 0 (head_model c.args.parts.head) c.args.parts.plan.algorithms.now
+    (named_models c.args.parts.images.now)) in
     let begins : begin_events images_name c.new-properties.result.by_name
     ≡ begin_events images_name own = ap (λ properties. begin_events images_name properties.by_name) c.new-properties.ensures in
     let begun : c.begin_with.new.doc ≡ with_events c.args.doc.now (begin_events images_name own) =
@@ -35,7 +37,8 @@ add_built_image_nodes-requires-clause-may c =
 
 pub end-requires : goal.end-requires
 end-requires c =
-    let children = events (built_image_nodes c.args.form 0 (head_model c.args.parts.head) (named_models c.args.parts.images.now)) in
+    let children = events (built_image_nodes c.args.form 0 (head_model c.args.parts.head) c.args.parts.plan.algorithms.now
+    (named_models c.args.parts.images.now)) in
     let begins : begin_events images_name c.new-properties.result.by_name
     ≡ begin_events images_name own = ap (λ properties. begin_events images_name properties.by_name) c.new-properties.ensures in
     let begun : c.begin_with.new.doc ≡ with_events c.args.doc.now (begin_events images_name own) =
@@ -45,7 +48,8 @@ end-requires c =
 
 pub returns : goal.returns
 returns c =
-    let children = events (built_image_nodes c.args.form 0 (head_model c.args.parts.head) (named_models c.args.parts.images.now)) in
+    let children = events (built_image_nodes c.args.form 0 (head_model c.args.parts.head) c.args.parts.plan.algorithms.now
+    (named_models c.args.parts.images.now)) in
     let begins : begin_events images_name c.new-properties.result.by_name
     ≡ begin_events images_name own = ap (λ properties. begin_events images_name properties.by_name) c.new-properties.ensures in
     let begun : c.begin_with.new.doc ≡ with_events c.args.doc.now (begin_events images_name own) =

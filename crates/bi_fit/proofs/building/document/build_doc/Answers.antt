@@ -2,7 +2,7 @@ use Rattle.std.proofs.Common.{◌≡◌, [], sym, ap, subst, ◌∙◌}
 use Rattle.std.specs.FinMap.{from_entries}
 use Rattle.bi_fit.specs.Building.{built_root_properties}
 use Rattle.bi_fit.specs.NormalNodes.{MayAdd, with_events, begin_events}
-use Rattle.bi_fit.specs.NamedImages.{head_model, named_models}
+use Rattle.bi_fit.specs.NamedImages.{head_model, named_models, plan_model}
 use Rattle.bi_fit.proofs.BuiltDocuments.{root_begin, may_begin_root, may_add_images, may_add_configurations, may_end_root, is_document}
 use Rattle.bi_fit.proofs.BuiltDocuments.{is_closed, same_built_names}
 use Rattle.bi_lay.specs.Contents.{empty_with_names}
@@ -29,51 +29,56 @@ pub begin_with-requires-clause-may : goal.begin_with-requires-clause-may
 begin_with-requires-clause-may c =
     let head = head_model c.args.parts.head in
     let images = named_models c.args.parts.images.now in
+    let plan = plan_model c.args.parts.plan in
     subst (λ properties. MayAdd c.in_ok-doc.doc (begin_events [] properties.by_name)) (sym c.in_ok-properties.ensures)
-    (may_begin_root c.args.form head images c.in_ok-doc.doc
-    (started (goal.at.begin_with-requires-clause-may c).In_ok-doc) c.requires.prepared.can)
+    (may_begin_root c.args.form head plan images c.in_ok-doc.doc
+    (started (goal.at.begin_with-requires-clause-may c).In_ok-doc) c.requires.prepared.can c.requires.prepared.is_plan)
 
 pub add_built_images-requires-clause-may : goal.add_built_images-requires-clause-may
 add_built_images-requires-clause-may c =
     let head = head_model c.args.parts.head in
     let images = named_models c.args.parts.images.now in
-    let begun : c.begin_with.new.doc ≡ with_events c.in_ok-doc.doc (root_begin c.args.form head images) =
+    let plan = plan_model c.args.parts.plan in
+    let begun : c.begin_with.new.doc ≡ with_events c.in_ok-doc.doc (root_begin c.args.form head plan images) =
     c.in_ok-begin_with.ensures.added
     ∙ ap (λ properties. with_events c.in_ok-doc.doc (begin_events [] properties.by_name)) c.in_ok-properties.ensures in
-    may_add_images c.args.form head images c.in_ok-doc.doc
-    (started (goal.at.add_built_images-requires-clause-may c).In_ok-doc) c.requires.prepared.can c.begin_with.new.doc begun
+    may_add_images c.args.form head plan images c.in_ok-doc.doc
+    (started (goal.at.add_built_images-requires-clause-may c).In_ok-doc) c.requires.prepared.can c.requires.prepared.is_plan c.begin_with.new.doc begun
 
 pub add_configurations-requires-clause-may : goal.add_configurations-requires-clause-may
 add_configurations-requires-clause-may c =
     let head = head_model c.args.parts.head in
     let images = named_models c.args.parts.images.now in
-    let begun : c.begin_with.new.doc ≡ with_events c.in_ok-doc.doc (root_begin c.args.form head images) =
+    let plan = plan_model c.args.parts.plan in
+    let begun : c.begin_with.new.doc ≡ with_events c.in_ok-doc.doc (root_begin c.args.form head plan images) =
     c.in_ok-begin_with.ensures.added
     ∙ ap (λ properties. with_events c.in_ok-doc.doc (begin_events [] properties.by_name)) c.in_ok-properties.ensures in
-    may_add_configurations c.args.form head images c.in_ok-doc.doc
-    (started (goal.at.add_configurations-requires-clause-may c).In_ok-doc) c.requires.prepared.can c.begin_with.new.doc begun
+    may_add_configurations c.args.form head plan images c.in_ok-doc.doc
+    (started (goal.at.add_configurations-requires-clause-may c).In_ok-doc) c.requires.prepared.can c.requires.prepared.is_plan c.begin_with.new.doc begun
     c.add_built_images.new.doc c.in_ok-add_built_images.ensures.added
 
 pub end-requires : goal.end-requires
 end-requires c =
     let head = head_model c.args.parts.head in
     let images = named_models c.args.parts.images.now in
-    let begun : c.begin_with.new.doc ≡ with_events c.in_ok-doc.doc (root_begin c.args.form head images) =
+    let plan = plan_model c.args.parts.plan in
+    let begun : c.begin_with.new.doc ≡ with_events c.in_ok-doc.doc (root_begin c.args.form head plan images) =
     c.in_ok-begin_with.ensures.added
     ∙ ap (λ properties. with_events c.in_ok-doc.doc (begin_events [] properties.by_name)) c.in_ok-properties.ensures in
-    may_end_root c.args.form head images c.in_ok-doc.doc
-    (started (goal.at.end-requires c).In_ok-doc) c.requires.prepared.can c.begin_with.new.doc begun
+    may_end_root c.args.form head plan images c.in_ok-doc.doc
+    (started (goal.at.end-requires c).In_ok-doc) c.requires.prepared.can c.requires.prepared.is_plan c.begin_with.new.doc begun
     c.add_built_images.new.doc c.in_ok-add_built_images.ensures.added c.add_configurations.new.doc c.in_ok-add_configurations.ensures.added
 
 pub returns-clause-document : goal.returns-clause-document
 returns-clause-document c =
     let head = head_model c.args.parts.head in
     let images = named_models c.args.parts.images.now in
-    let begun : c.begin_with.new.doc ≡ with_events c.in_ok-doc.doc (root_begin c.args.form head images) =
+    let plan = plan_model c.args.parts.plan in
+    let begun : c.begin_with.new.doc ≡ with_events c.in_ok-doc.doc (root_begin c.args.form head plan images) =
     c.in_ok-begin_with.ensures.added
     ∙ ap (λ properties. with_events c.in_ok-doc.doc (begin_events [] properties.by_name)) c.in_ok-properties.ensures in
-    (is_document c.args.form head images c.in_ok-doc.doc
-    (started (goal.at.returns-clause-document c).In_ok-doc) c.requires.prepared.can c.begin_with.new.doc begun
+    (is_document c.args.form head plan images c.in_ok-doc.doc
+    (started (goal.at.returns-clause-document c).In_ok-doc) c.requires.prepared.can c.requires.prepared.is_plan c.begin_with.new.doc begun
     c.add_built_images.new.doc c.in_ok-add_built_images.ensures.added c.add_configurations.new.doc
     c.in_ok-add_configurations.ensures.added c.end.new.self c.end.ensures)
 
@@ -81,10 +86,11 @@ pub returns-clause-closed : goal.returns-clause-closed
 returns-clause-closed c =
     let head = head_model c.args.parts.head in
     let images = named_models c.args.parts.images.now in
-    let begun : c.begin_with.new.doc ≡ with_events c.in_ok-doc.doc (root_begin c.args.form head images) =
+    let plan = plan_model c.args.parts.plan in
+    let begun : c.begin_with.new.doc ≡ with_events c.in_ok-doc.doc (root_begin c.args.form head plan images) =
     c.in_ok-begin_with.ensures.added
     ∙ ap (λ properties. with_events c.in_ok-doc.doc (begin_events [] properties.by_name)) c.in_ok-properties.ensures in
-    is_closed c.args.form head images c.in_ok-doc.doc
-    (started (goal.at.returns-clause-closed c).In_ok-doc) c.requires.prepared.can c.begin_with.new.doc begun
+    is_closed c.args.form head plan images c.in_ok-doc.doc
+    (started (goal.at.returns-clause-closed c).In_ok-doc) c.requires.prepared.can c.requires.prepared.is_plan c.begin_with.new.doc begun
     c.add_built_images.new.doc c.in_ok-add_built_images.ensures.added c.add_configurations.new.doc
     c.in_ok-add_configurations.ensures.added c.end.new.self c.end.ensures

@@ -1,6 +1,6 @@
 use Rattle.std.proofs.Common.{◌≡◌, ◌++◌, codes, ap, ◌∙◌, rules}
 use Rattle.std.specs.FinMap.{empty, from_entries}
-use Rattle.bi_fit.specs.Building.{text_value, type_name, cell_property}
+use Rattle.bi_fit.specs.Building.{cell_property}
 use Rattle.bi_fit.specs.NamedImages.{named_model}
 use Rattle.bi_fit.specs.PropertyMapModels.{among}
 use Rattle.bi_fit.specs.BuiltNames.{built_names}
@@ -18,7 +18,6 @@ returns c =
     (c.in_ok-insert_cell.ensures ∙ ap (with_cell_property (codes "entry") image.entry)
     (c.new-properties.ensures ∙ ap (λ names. among names empty) c.requires))
     ∙ addresses built_names image.load image.entry in
-    let type : text_value c.type_name.result.now ≡ text_value (type_name image.key) = ap text_value c.type_name.ensures in
     let with_type = c.in_ok-insert.ensures in
     let with_os = c.in_ok-insert-2.ensures in
     let with_description = c.in_ok-insert-3.ensures in

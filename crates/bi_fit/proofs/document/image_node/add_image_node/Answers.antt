@@ -1,26 +1,25 @@
 use Rattle.std.proofs.Common.{◌≡◌, ℕ, List, sym, ap, subst, ◌∙◌}
-use Rattle.bi_base.specs.Cells.{up4}
 use Rattle.bi_blob.specs.Tree.{PropertyMap}
 use Rattle.bi_blob.specs.Events.{Event, events}
 use Rattle.bi_fit.specs.declared.document.image_node.ImageNode.{ImageNode}
 use Rattle.bi_fit.specs.declared.payload_area.PayloadArea.{PayloadArea}
 use Rattle.bi_fit.specs.ImageTree.{without_payload}
-use Rattle.bi_fit.specs.Text.{with_payload}
-use Rattle.bi_fit.specs.NormalNodes.{MayAdd, with_events, begin_events}
+use Rattle.bi_fit.specs.Text.{alignment_of, with_payload}
+use Rattle.bi_fit.specs.NormalNodes.{MayAdd, with_events, begin_events, next_begin}
 use Rattle.bi_fit.specs.AddedImages.{AreAddable, added_payload, added_children, added_properties}
 use Rattle.bi_fit.proofs.AddedEvents.{document_keeps_names, may_begin, may_have_children, may_end, whole_added}
 use Rattle.bi_fit.proofs.document.image_node.add_image_node.Goals as goal
 
 -- The events with which the node begins.
 abbrev begin : PayloadArea → ImageNode → List Event
-begin area image = begin_events image.name.now (added_properties area.form (up4 area.end) image)
+begin area image = begin_events image.name.now (added_properties area.form (next_begin area.form area.end) image)
 
-begins : (area : PayloadArea) (image : ImageNode) (at : ℕ) (set : PropertyMap) → at ≡ up4 area.end →
-    set ≡ with_payload area.form at (added_payload image) (without_payload image.properties.by_name) →
+begins : (area : PayloadArea) (image : ImageNode) (at : ℕ) (set : PropertyMap) → at ≡ next_begin area.form area.end →
+    set ≡ with_payload (alignment_of area.form) at (added_payload image) (without_payload image.properties.by_name) →
     begin_events image.name.now set ≡ begin area image
 begins area image at set is_at is_set =
     ap (begin_events image.name.now)
-    (is_set ∙ ap (λ at. with_payload area.form at (added_payload image) (without_payload image.properties.by_name)) is_at)
+    (is_set ∙ ap (λ at. with_payload (alignment_of area.form) at (added_payload image) (without_payload image.properties.by_name)) is_at)
 
 pub begin_with-requires-clause-names : goal.begin_with-requires-clause-names
 begin_with-requires-clause-names c = c.requires.names ∙ sym c.in_ok-set_payload.ensures.same_names

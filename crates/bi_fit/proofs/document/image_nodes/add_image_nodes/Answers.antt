@@ -1,17 +1,16 @@
 use Rattle.std.proofs.Common.{◌≡◌, ℕ, ◌+◌, ◌≤◌, suc, List, ◌∷◌, drop, get_or, length, Option, Some, sym, ap, subst, ◌∙◌, arith}
 use Rattle.std.specs.Option.{option_map}
 use Rattle.std.specs.FinMap.{entries}
-use Rattle.bi_base.specs.Cells.{up4}
 use Rattle.bi_blob.specs.Tree.{EachOwn}
 use Rattle.bi_blob.specs.Lookups.{siblings}
 use Rattle.bi_blob.specs.Events.{events}
 use Rattle.bi_blob.specs.Layout.{longest_text}
 use Rattle.bi_fdt.specs.Views.{node_of}
-use Rattle.bi_fit.specs.Text.{end_after}
+use Rattle.bi_fit.specs.Text.{alignment_of, blob_alignment, end_after}
 use Rattle.bi_fit.specs.Content.{image_model}
 use Rattle.bi_fit.specs.TakenDigests.{is_hashed, after_digests, HaveDigests, HaveImageDigests}
 use Rattle.bi_fit.specs.NormalNodes.{MayAdd, with_events, HasDistinctNames, HasCellSize, next_end, AreWithin, payloads_of, nodes_by_name}
-use Rattle.bi_fit.specs.NormalNodes.{image_properties}
+use Rattle.bi_fit.specs.NormalNodes.{image_properties, next_begin}
 use Rattle.bi_fit.specs.NormalNodes.{sorted_image_children, sorted_images}
 use Rattle.bi_fit.proofs.AddedEvents.{ordered_next, still_ordered_next, HasNextOrder}
 use Rattle.bi_fit.proofs.NodeEvents.{nodes_from, nodes_from_first, IsAdding, adding_all, may_add_first, adding_later}
@@ -71,7 +70,7 @@ add_image_node-requires c =
     (sorted_images hashes c.args.parts.form end (payloads_of (drop c.loop-image.image-index c.args.parts.images.now)) left nodes)) here
     c.loop-image.invariant.adding) in
     let same = added_is_sorted c.loop-image.area.form c.args.parts.form
-    (up4 end) payload left s c.name.result.now c.in_ok-from_node.field-0.by_name c.is_hashed.result (is_hashed hashes payload)
+    end payload left s c.name.result.now c.in_ok-from_node.field-0.by_name c.is_hashed.result (is_hashed hashes payload)
     c.loop-image.invariant.form c.name.ensures (ap (λ m. m.by_name) c.in_ok-from_node.ensures) c.is_hashed.ensures in
     let sized : HasCellSize c.args.parts.form payload =
     within_sized c.args.parts.form end payload later (subst (AreWithin c.args.parts.form end) payloads c.loop-image.invariant.within) in
@@ -81,9 +80,10 @@ add_image_node-requires c =
       sized = subst (λ form. HasCellSize form payload) (sym c.loop-image.invariant.form) sized;
       children = (order, subst (λ hashed. HaveDigests hashed left (nodes_by_name s.children)) (sym c.is_hashed.ensures) has.0, distinct.1);
       may = subst (λ nodes. MayAdd c.loop-image.doc (events nodes)) (sym same)
-          (may_add_first c.loop-image.doc target s.name (entries (image_properties c.args.parts.form (up4 end) payload s.own))
+          (may_add_first c.loop-image.doc target s.name
+          (entries (image_properties c.args.parts.form (next_begin c.args.parts.form end) payload s.own))
           (sorted_image_children (is_hashed hashes payload) left s.children)
-          (sorted_images hashes c.args.parts.form (end_after end payload) later
+          (sorted_images hashes c.args.parts.form (end_after (blob_alignment (alignment_of c.args.parts.form)) end payload) later
           (after_digests (is_hashed hashes payload) left (nodes_by_name s.children)) s.later) adding);
     }
 
@@ -129,12 +129,13 @@ loop-image-preserved c =
     subst (λ nodes. c.loop-image.image-index + length (siblings nodes) ≡ length c.args.parts.images.now) here
     c.loop-image.invariant.same_count in
     let same = added_is_sorted c.loop-image.area.form c.args.parts.form
-    (up4 c.loop-image.area.end) payload left s c.name.result.now c.in_ok-from_node.field-0.by_name
+    c.loop-image.area.end payload left s c.name.result.now c.in_ok-from_node.field-0.by_name
     c.is_hashed.result (is_hashed hashes payload)
     c.loop-image.invariant.form c.name.ensures (ap (λ m. m.by_name) c.in_ok-from_node.ensures) c.is_hashed.ensures in
     let added : c.add_image_node.new.doc
     ≡ with_events c.loop-image.doc (events
-    (sorted_image (image_properties c.args.parts.form (up4 c.loop-image.area.end) payload s.own) (is_hashed hashes payload) left s)) =
+    (sorted_image (image_properties c.args.parts.form (next_begin c.args.parts.form c.loop-image.area.end) payload s.own)
+    (is_hashed hashes payload) left s)) =
     c.in_ok-left.ensures.added ∙ ap (λ nodes. with_events c.loop-image.doc (events nodes)) same in
     let after : c.in_ok-left.left.now ≡ after_digests (is_hashed hashes payload) left (nodes_by_name s.children) =
     c.in_ok-left.ensures.left ∙ ap (λ hashed. after_digests hashed left (nodes_by_name s.children)) c.is_hashed.ensures in
@@ -143,9 +144,10 @@ loop-image-preserved c =
           (images-later hashes c.args.parts.form c.loop-image.area.end payload later
           (after_digests (is_hashed hashes payload) left (nodes_by_name s.children)) s.later)
           (adding_later c.loop-image.doc target s.name
-          (entries (image_properties c.args.parts.form (up4 c.loop-image.area.end) payload s.own))
+          (entries (image_properties c.args.parts.form (next_begin c.args.parts.form c.loop-image.area.end) payload s.own))
           (sorted_image_children (is_hashed hashes payload) left s.children)
-          (sorted_images hashes c.args.parts.form (end_after c.loop-image.area.end payload) later
+          (sorted_images hashes c.args.parts.form
+          (end_after (blob_alignment (alignment_of c.args.parts.form)) c.loop-image.area.end payload) later
           (after_digests (is_hashed hashes payload) left (nodes_by_name s.children)) s.later) adding c.add_image_node.new.doc added);
       order = still_ordered_next c.args.parts.order.now c.in-Some.child c.next_sibling-next.result c.loop-image.doc c.add_image_node.new.doc
           _ c.in_ok-left.ensures.added c.next_sibling-next.ensures.same_table

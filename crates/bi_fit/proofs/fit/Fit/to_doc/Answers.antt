@@ -1,6 +1,6 @@
 use Rattle.std.proofs.Common.{◌≡◌, length, map, ap, subst, arith, None, false}
 use Rattle.bi_base.specs.Errors.{IsFaultOrNoMemory}
-use Rattle.bi_lay.specs.Contents.{HaveSameContent}
+use Rattle.bi_lay.specs.Contents.{HaveSameContent, text_of}
 use Rattle.bi_fit.specs.declared.changes.Changes.{Changes}
 use Rattle.bi_fit.specs.Content.{tree_of}
 use Rattle.bi_fit.specs.Documents.{length_after_blob, IsTextFault, document_of}
@@ -51,7 +51,13 @@ returns-in_err-check_length-clause-failed c =
     c.from_residual-in_err-check_length.ensures.1
     (too_long_text c.args.form tree payloads (ap (map (λ image. image.payload)) c.images.ensures)
     c.args.limits c.file-limit.result c.file-limit.ensures.value c.in_err-check_length.field-0.0 refused.0 document content
-    (omega (arith, length-whole_text c.args.form document payloads, c.in_ok-after.ensures.length, refused.1)))
+    (omega (
+      arith,
+      length-whole_text c.args.form document payloads,
+      c.in_ok-after.ensures.length,
+      refused.1,
+      ap (λ n. length (text_of n document)) c.align.ensures,
+    )))
 
 pub returns-clause-short : goal.returns-clause-short
 returns-clause-short c =
@@ -67,5 +73,6 @@ returns-clause-short c =
       length-whole_text c.args.form document payloads,
       c.in_ok-after.ensures.length,
       c.in_ok-check_length.ensures.ok,
+      ap (λ n. length (text_of n document)) c.align.ensures,
       c.file-limit.ensures.value,
     )
