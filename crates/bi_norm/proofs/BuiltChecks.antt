@@ -1,96 +1,168 @@
-use Rattle.std.proofs.Common.{◌≡◌, ◌≢◌, ℕ, ◌+◌, ◌≤◌, List, [], ◌∷◌, ◌++◌, map, length, refl, sym, ap, subst, inr, append_assoc}
+use Rattle.std.proofs.Common.{◌≡◌, ◌<◌, ◌≤◌, ◌^◌, ℕ, true, List, [], ◌∷◌, ◌++◌, map, length, Option, None, Some, refl, sym, ap, subst}
+use Rattle.std.proofs.Common.{◌∙◌, inl, inr, append-nil}
+use Rattle.std.specs.Prelude.{◌||◌}
 use Rattle.std.specs.List.{AllByRecursion}
+use Rattle.std.proofs.lemmas.Slice.Eq.{bytes_eq-Decides}
 use Rattle.bi_base.specs.declared.fault.Error.{Error}
 use Rattle.bi_base.specs.declared.fault.Error.TheVariants.{Refused, OutOfMemory, ReadFailed, WriteFailed}
-use Rattle.bi_base.specs.Checks.{HasNoFault}
+use Rattle.bi_base.specs.declared.fault.Fault.{Fault}
+use Rattle.bi_base.specs.Checks.{IsFirstFault, HasNoFault}
+use Rattle.bi_base.specs.Errors.{IsFaultOrNoMemory}
 use Rattle.bi_base.specs.Limits.{Limits}
-use Rattle.bi_blob.specs.Tree.{HasNoZero, IsNew, AreDistinct}
-use Rattle.bi_legacy.specs.Codes.{os_names, arch_names, compression_names}
+use Rattle.bi_base.proofs.FirstFault.{IsFirstFault-front, IsFirstFault-after}
+use Rattle.bi_base.proofs.ListMembers.{each-append}
+use Rattle.bi_blob.specs.Layout.{is_among}
+use Rattle.bi_blob.specs.Tree.{HasNoZero, AreDistinct}
+use Rattle.bi_hash.specs.declared.algo.Algo.{Algo}
 use Rattle.bi_fit.specs.declared.form.Form.{Form}
-use Rattle.bi_fit.specs.Building.{ImageSpecModel, IsText, IsImageSpec, CanBeBuilt}
 use Rattle.bi_fit.specs.declared.building.Head.{Head}
-use Rattle.bi_norm.specs.declared.fit_building.ImageSpec.{ImageSpec}
+use Rattle.bi_fit.specs.Building.{ImageSpecModel, ConfigurationSpecModel, IsText, IsImageSpec, CanBeBuilt, IsConfigurationSpec, IsPlanFor}
+use Rattle.bi_fit.specs.Building.{names_of_images, configuration_names}
 use Rattle.bi_fit.specs.NamedImages.{head_model}
-use Rattle.bi_norm.specs.FitBuilding.{spec_models, spec_checks, BuildPasses, build_fault, FitsLimit, IsBuildError}
-use Rattle.bi_norm.specs.BuildChecks.{IsImagesError, HasBytes}
-use Rattle.bi_norm.proofs.ConvertedImages.{code_text, os_texts, arch_texts, compression_texts}
-use Rattle.bi_norm.proofs.ImageChecks.{names_of_specs}
-use Rattle.bi_base.proofs.FirstFault.{IsFirstFault-front}
+use Rattle.bi_fit.proofs.BuiltConfigurations.{by_types_is_plan}
+use Rattle.bi_norm.specs.declared.fit_building.ImageSpec.{ImageSpec}
+use Rattle.bi_norm.specs.FitBuilding.{PlanSpecModel, GivenImage, given_images, spec_model, spec_models, whole_plan, plan_of_tree, BuildCheck}
+use Rattle.bi_norm.specs.FitBuilding.{HasDefault, FitsLimit, HasKnownDefault, BuildPasses, build_fault, spec_checks, configuration_checks}
+use Rattle.bi_norm.specs.FitBuilding.{names_of_specs, early_checks, first_image_checks, IsBuildFaultAs, IsBuildErrorAs}
+use Rattle.bi_norm.specs.BuildChecks.{AllPass, IsFirstFailure, IsImagesError}
+use Rattle.bi_norm.proofs.ImageChecks.{names_of_given, names-given_images}
 
--- What passes the checks can be built.
+-- What passes the checks can be built, and an error of some checks is one of building, after the checks before them.
 
--- What holds of each of some names holds of one of them.
-at_name : (P : List ℕ → Type 0) (before : List (List ℕ)) (name : List ℕ) (after : List (List ℕ)) →
-    AllByRecursion P (before ++ name ∷ after) → P name
-at_name P [] name after all = all.0
-at_name P (other ∷ before) name after all = at_name P before name after all.1
+-- The names of the images to be built are those of their specifications.
+names-spec_model : (given : List GivenImage) → names_of_images (map spec_model given) ≡ names_of_given given
+names-spec_model [] = refl
+names-spec_model (image ∷ later) = ap (λ l. image.spec.name.now ∷ l) (names-spec_model later)
 
--- The names of images are those of their specifications.
-same_names : (images : List ImageSpec) → map (λ (image : ImageSpecModel). image.name) (spec_models images) ≡ names_of_specs images
-same_names [] = refl
-same_names (image ∷ images) = ap (λ l. image.name.now ∷ l) (same_names images)
+pub names-spec_models : (plan : PlanSpecModel) (images : List ImageSpec) → names_of_images (spec_models plan images) ≡ names_of_specs images
+names-spec_models plan images = names-spec_model (given_images plan.texts images) ∙ names-given_images plan.texts images
 
-module _ (limits : Limits) (form : Form) (head : Head) (all : List ImageSpec) where
-  -- Images pass their checks.
-  abbrev Pass : ℕ → List (List ℕ) → List ImageSpec → Type 0
-  Pass index earlier images = HasNoFault (BuildPasses limits form head all) (spec_checks index earlier images)
+-- Images that pass can be built.
+pub can_be_built : (head : Head) (plan : PlanSpecModel) (images : List ImageSpec) → IsText head.description.now →
+    AllByRecursion IsImageSpec (spec_models plan images) → AreDistinct (names_of_specs images) →
+    CanBeBuilt (head_model head) (spec_models plan images)
+can_be_built head plan images text each distinct =
+    record { description = text; each = each; distinct = subst AreDistinct (sym (names-spec_models plan images)) distinct }
 
-  -- A name that images come after is none of theirs.
-  earlier_new : (index : ℕ) (before : List (List ℕ)) (name : List ℕ) (after : List (List ℕ)) (images : List ImageSpec) →
-      Pass index (before ++ name ∷ after) images → IsNew name (names_of_specs images)
-  earlier_new index before name after [] pass = tt
-  earlier_new index before name after (image ∷ images) pass = (
-    (λ same. at_name (λ other. other ≢ image.name.now) before name after pass.1.1.0 (sym same)),
-    earlier_new (index + 1) before name (after ++ image.name.now ∷ []) images
-        (subst (λ earlier. Pass (index + 1) earlier images) (append_assoc before (name ∷ after) (image.name.now ∷ [])) pass.1.1.1),
-  )
+-- The default is one of the configurations, also if it is the first.
+default_is : (first : ConfigurationSpecModel) (later : List ConfigurationSpecModel) (default : Option (List ℕ)) (algorithms : List Algo)
+    (images : List ImageSpecModel) → HasKnownDefault (first ∷ later) default →
+    is_among (whole_plan (first ∷ later) default algorithms images).default (configuration_names (first ∷ later)) ≡ true
+default_is first later None algorithms images known =
+    ap (λ b. b || is_among first.name (configuration_names later)) ((bytes_eq-Decides first.name first.name).1 refl)
+default_is first later (Some name) algorithms images known = known
 
-  -- So the names are distinct.
-  distinct : (index : ℕ) (earlier : List (List ℕ)) (images : List ImageSpec) → Pass index earlier images →
-      AreDistinct (names_of_specs images)
-  distinct index earlier [] pass = tt
-  distinct index earlier (image ∷ images) pass = (
-    earlier_new (index + 1) earlier image.name.now [] images pass.1.1.1,
-    distinct (index + 1) (earlier ++ image.name.now ∷ []) images pass.1.1.1,
-  )
+-- A plan that passes is one for the images.
+whole_is_plan : (configurations : List ConfigurationSpecModel) (default : Option (List ℕ)) (algorithms : List Algo)
+    (images : List ImageSpecModel) → AllByRecursion (IsConfigurationSpec (names_of_images images)) configurations →
+    AreDistinct (configuration_names configurations) → HasKnownDefault configurations default → length algorithms < 2 ^ 64 →
+    IsPlanFor (names_of_images images) (whole_plan configurations default algorithms images)
+whole_is_plan [] default algorithms images each distinct known few = by_types_is_plan algorithms images few
+whole_is_plan (first ∷ later) default algorithms images each distinct known few =
+    record { each = each; distinct = distinct; default = default_is first later default algorithms images known; few = few }
 
-  -- Each image can be built,
-  each_can : (index : ℕ) (earlier : List (List ℕ)) (images : List ImageSpec) → Pass index earlier images → AllByRecursion HasBytes images →
-      AllByRecursion IsImageSpec (spec_models images)
-  each_can index earlier [] pass bytes = tt
-  each_can index earlier (image ∷ images) pass bytes = (
-    record {
-      is_name = pass.0.0;
-      name_bytes = bytes.0.name;
-      arch = code_text arch_names image.arch arch_texts;
-      os = code_text os_names image.os os_texts;
-      compression = code_text compression_names image.compression compression_texts;
-      payload_bytes = bytes.0.payload;
-    },
-    each_can (index + 1) (earlier ++ image.name.now ∷ []) images pass.1.1.1 bytes.1,
-  )
+pub plan_is : (plan : PlanSpecModel) (images : List ImageSpec) →
+    AllByRecursion (IsConfigurationSpec (names_of_specs images)) plan.configurations →
+    AreDistinct (configuration_names plan.configurations) → HasKnownDefault plan.configurations plan.default →
+    length plan.algorithms < 2 ^ 64 → IsPlanFor (names_of_images (spec_models plan images)) (plan_of_tree plan images)
+plan_is plan images each distinct known few =
+    whole_is_plan plan.configurations plan.default plan.algorithms (spec_models plan images)
+    (subst (λ names. AllByRecursion (IsConfigurationSpec names) plan.configurations) (sym (names-spec_models plan images)) each)
+    distinct known few
 
-  -- What passes can be built.
-  pub can_be_built : (images : List ImageSpec) → IsText head.description.now → Pass 0 [] images → AllByRecursion HasBytes images →
-      CanBeBuilt (head_model head) (spec_models images)
-  can_be_built images text pass bytes = record {
-    description = text;
-    each = each_can 0 [] images pass bytes;
-    distinct = subst AreDistinct (sym (same_names images)) (distinct 0 [] images pass);
-  }
+-- Checks of the first image pass where all checks of images do.
+pub first_of_images : (limits : Limits) (form : Form) (head : Head) (plan : PlanSpecModel) (all : List ImageSpec) (given : List GivenImage)
+    (later : List BuildCheck) → HasNoFault (BuildPasses limits form head plan all) (spec_checks 0 [] given ++ later) →
+    HasNoFault (BuildPasses limits form head plan all) (first_image_checks given)
+first_of_images limits form head plan all [] later fine = tt
+first_of_images limits form head plan all (image ∷ images) later fine = (fine.0, (fine.1.0, tt))
 
--- An error of the checks of images is one of building, after the checks before them.
-pub image_error : (limits : Limits) (form : Form) (head : Head) (images : List ImageSpec) (error : Error) → length images ≤ limits.file →
-    HasNoZero head.description.now → IsImagesError images error → IsBuildError limits form head images error
-image_error limits form head images (Refused fault) few text is =
-    inr (
-      few,
-      inr (
+module _ (limits : Limits) (form : Form) (head : Head) (plan : PlanSpecModel) (images : List ImageSpec) where
+  abbrev Passes : BuildCheck → Type 0
+  Passes = BuildPasses limits form head plan images
+
+  abbrev of_images : List BuildCheck
+  of_images = spec_checks 0 [] (given_images plan.texts images)
+
+  abbrev of_configurations : List BuildCheck
+  of_configurations = configuration_checks (names_of_specs images) 0 [] plan.configurations
+
+  -- All pass.
+  pub early_pass : length images ≤ limits.file → length plan.configurations ≤ limits.file → HasNoZero head.description.now →
+      AllPass of_images → AllPass of_configurations → HasKnownDefault plan.configurations plan.default →
+      HasNoFault Passes (early_checks plan images)
+  early_pass few few_configurations text image_pass configuration_pass known = (
+    few,
+    (
+      few_configurations,
+      (
         text,
-        IsFirstFault-front (BuildPasses limits form head images) (build_fault limits) (spec_checks 0 [] images)
-            (FitsLimit ∷ []) fault (is limits form head images),
+        each-append Passes of_images (of_configurations ++ HasDefault ∷ []) (image_pass limits form head plan images)
+            (each-append Passes of_configurations (HasDefault ∷ []) (configuration_pass limits form head plan images) (known, tt)),
       ),
-    )
-image_error limits form head images OutOfMemory few text is = (few, (text, is limits form head images))
-image_error limits form head images ReadFailed few text is = is
-image_error limits form head images WriteFailed few text is = is
+    ),
+  )
+
+  -- A fault of images, configurations or the default is one of building, after the checks before them.
+  module _ (few : length images ≤ limits.file) (few_configurations : length plan.configurations ≤ limits.file)
+      (text : HasNoZero head.description.now) where
+    later_fault : (fault : Fault) →
+        IsFirstFault Passes (build_fault limits plan) (of_images ++ (of_configurations ++ HasDefault ∷ [])) fault →
+        IsBuildFaultAs limits form head plan images fault
+    later_fault fault first =
+        inr (
+          few,
+          inr (
+            few_configurations,
+            inr (
+              text,
+              IsFirstFault-front Passes (build_fault limits plan) (of_images ++ (of_configurations ++ HasDefault ∷ []))
+                  (FitsLimit ∷ []) fault first,
+            ),
+          ),
+        )
+
+    -- An error of the checks of images.
+    pub image_error : (error : Error) → IsImagesError (given_images plan.texts images) error →
+        IsBuildErrorAs limits form head plan images error
+    image_error (Refused fault) is =
+        later_fault fault
+        (IsFirstFault-front Passes (build_fault limits plan) of_images (of_configurations ++ HasDefault ∷ []) fault
+        (is limits form head plan images))
+    image_error OutOfMemory is = (few, (few_configurations, (text, is limits form head plan images)))
+    image_error ReadFailed is = is
+    image_error WriteFailed is = is
+
+    module _ (pass : AllPass of_images) where
+      -- An error of those of configurations.
+      pub configuration_error : (error : Error) → IsFaultOrNoMemory (IsFirstFailure of_configurations) error →
+          IsBuildErrorAs limits form head plan images error
+      configuration_error (Refused fault) is =
+          later_fault fault
+          (IsFirstFault-after Passes (build_fault limits plan) of_images (of_configurations ++ HasDefault ∷ []) fault
+          (pass limits form head plan images)
+          (IsFirstFault-front Passes (build_fault limits plan) of_configurations (HasDefault ∷ []) fault
+          (is limits form head plan images)))
+      configuration_error OutOfMemory is = (
+        few,
+        (
+          few_configurations,
+          (
+            text,
+            first_of_images limits form head plan images (given_images plan.texts images) []
+                (subst (HasNoFault Passes) (sym (append-nil of_images)) (pass limits form head plan images)),
+          ),
+        ),
+      )
+      configuration_error ReadFailed is = is
+      configuration_error WriteFailed is = is
+
+      -- The fault of the default.
+      pub default_fault : (fault : Fault) → AllPass of_configurations → ¬ (HasKnownDefault plan.configurations plan.default) →
+          fault ≡ build_fault limits plan HasDefault → IsBuildFaultAs limits form head plan images fault
+      default_fault fault configuration_pass fails is =
+          later_fault fault
+          (IsFirstFault-after Passes (build_fault limits plan) of_images (of_configurations ++ HasDefault ∷ []) fault
+          (pass limits form head plan images)
+          (IsFirstFault-after Passes (build_fault limits plan) of_configurations (HasDefault ∷ []) fault
+          (configuration_pass limits form head plan images) (inl (fails, is))))

@@ -1,10 +1,11 @@
-use Rattle.std.proofs.Common.{◌≡◌, ◌≤◌, ℕ, List, length, ap, subst, sym, ◌∙◌, arith}
+use Rattle.std.proofs.Common.{◌≡◌, ◌≤◌, ℕ, List, [], ◌∷◌, length, ap, subst, sym, ◌∙◌, arith}
 use Rattle.bi_base.specs.declared.fault.Error.{Error}
 use Rattle.bi_base.specs.declared.fault.Error.TheVariants.{Refused, OutOfMemory, ReadFailed, WriteFailed}
 use Rattle.bi_base.specs.Limits.{Limits}
 use Rattle.bi_blob.specs.Layout.{longest_text}
 use Rattle.bi_fit.specs.declared.form.Form.TheVariants.{Embedded}
-use Rattle.bi_fit.specs.Building.{HeadModel, ImageSpecModel, CanBeBuilt, built_tree}
+use Rattle.bi_hash.specs.declared.algo.Algo.TheVariants.{Sha256}
+use Rattle.bi_fit.specs.Building.{HeadModel, ImageSpecModel, CanBeBuilt, built_tree, plan_by_types}
 use Rattle.bi_fit.specs.ImageTree.{ImageTree}
 use Rattle.bi_fit.specs.Text.{fit_text}
 use Rattle.bi_legacy.specs.File.{LegacyMeans}
@@ -27,9 +28,11 @@ conversion_can_be_built limits file image head images means same are =
     (converted_can_be_built image (image_of_file file image means.is_file)))
 
 pub tree_is : (image : LegacyImage) (head : HeadModel) (images : List ImageSpecModel) → head ≡ head_of_image image →
-    images ≡ converted_images image → built_tree head images ≡ fit_of image
-tree_is image head images same are = ap (λ (images : List ImageSpecModel). built_tree head images) are
-    ∙ ap (λ (head : HeadModel). built_tree head (converted_images image)) same
+    images ≡ converted_images image → built_tree head (plan_by_types (Sha256 ∷ []) images) images ≡ fit_of image
+tree_is image head images same are =
+    let images_of = converted_images image in
+    ap (λ (images : List ImageSpecModel). built_tree head (plan_by_types (Sha256 ∷ []) images) images) are
+    ∙ ap (λ (head : HeadModel). built_tree head (plan_by_types (Sha256 ∷ []) images_of) images_of) same
 
 -- The text of this tree is that of the converted file.
 pub is_converted : (limits : Limits) (file : List ℕ) (parsed : LegacyModel) (tree : ImageTree) (text : List ℕ) →

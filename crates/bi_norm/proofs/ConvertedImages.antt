@@ -1,4 +1,4 @@
-use Rattle.std.proofs.Common.{◌≡◌, ℕ, ◌≤◌, Bool, true, false, List, [], ◌∷◌, length, map, Option, Some, refl, sym, ap, ◌∙◌, subst, arith}
+use Rattle.std.proofs.Common.{◌≡◌, ℕ, ◌≤◌, Bool, true, false, List, [], ◌∷◌, length, map, flat_map, Option, Some, refl, sym, ap, ◌∙◌, subst, arith}
 use Rattle.std.proofs.Common.{if◌then◌else◌}
 use Rattle.std.specs.Prelude.{◌==◌, unwrap_or}
 use Rattle.std.specs.List.{AllByRecursion}
@@ -8,15 +8,16 @@ use Rattle.bi_base.proofs.EqualBytes.{other_bytes}
 use Rattle.bi_blob.specs.Tree.{IsNew, AreDistinct, IsChildName, HasNoZero}
 use Rattle.bi_fit.specs.declared.key.Key.{Key}
 use Rattle.bi_fit.specs.declared.key.Key.TheVariants.{Kernel, Fdt, Ramdisk, Firmware, Loadables, Script}
-use Rattle.bi_fit.specs.Building.{ImageSpecModel, IsText, IsImageSpec, CanBeBuilt}
+use Rattle.bi_fit.specs.Building.{ImageSpecModel, type_name, plan_by_types, IsText, IsImageSpec, CanBeBuilt}
 use Rattle.bi_fit.specs.Judgement.{CheckedHash}
-use Rattle.bi_fit.specs.Laws.{good_hash}
+use Rattle.bi_fit.specs.Laws.{good_hashes}
 use Rattle.bi_fit.proofs.BuiltVerdicts.{built_is_accepted, built_has_good_payloads}
-use Rattle.bi_fit.proofs.BuiltConfigurations.{built_has_configuration}
+use Rattle.bi_fit.proofs.BuiltConfigurations.{by_types_is_plan, built_has_configuration}
 use Rattle.bi_fit.proofs.BuiltTrees.{tested_child}
 use Rattle.bi_fit.proofs.TreeContents.{tested_name}
+use Rattle.bi_hash.specs.declared.algo.Algo.TheVariants.{Sha256}
 use Rattle.bi_hash.specs.declared.verdicts.Verdict.TheVariants.{Good}
-use Rattle.bi_legacy.specs.Codes.{CodeName, os_names, arch_names, compression_names, name_of_code}
+use Rattle.bi_legacy.specs.Codes.{CodeName, os_names, type_names, arch_names, compression_names, name_of_code}
 use Rattle.bi_legacy.specs.Meaning.{LegacyImage}
 use Rattle.bi_legacy.specs.Text.{IsLegacyImage}
 use Rattle.bi_norm.specs.Converting.{Conversion, conversions, keys_in, keys_of_type, image_name, code_name, later_images, images_of_parts}
@@ -46,6 +47,21 @@ pub os_texts : AllByRecursion (λ (entry : CodeName). IsText entry.name) os_name
 os_texts = (
   tested_text _ (tested_name _ refl),
   (tested_text _ (tested_name _ refl), (tested_text _ (tested_name _ refl), (tested_text _ (tested_name _ refl), tt))),
+)
+
+pub type_texts : AllByRecursion (λ (entry : CodeName). IsText entry.name) type_names
+type_texts = (
+  tested_text _ (tested_name _ refl),
+  (
+    tested_text _ (tested_name _ refl),
+    (
+      tested_text _ (tested_name _ refl),
+      (
+        tested_text _ (tested_name _ refl),
+        (tested_text _ (tested_name _ refl), (tested_text _ (tested_name _ refl), (tested_text _ (tested_name _ refl), tt))),
+      ),
+    ),
+  ),
 )
 
 pub arch_texts : AllByRecursion (λ (entry : CodeName). IsText entry.name) arch_names
@@ -96,6 +112,15 @@ name_is_bytes Firmware = (tested_name (image_name Firmware) refl).0
 name_is_bytes Loadables = (tested_name (image_name Loadables) refl).0
 name_is_bytes Script = (tested_name (image_name Script) refl).0
 
+-- The name of the type of a key is a text.
+type_is_text : (key : Key) → IsText (type_name key)
+type_is_text Kernel = tested_text _ (tested_name _ refl)
+type_is_text Fdt = tested_text _ (tested_name _ refl)
+type_is_text Ramdisk = tested_text _ (tested_name _ refl)
+type_is_text Firmware = tested_text _ (tested_name _ refl)
+type_is_text Loadables = tested_text _ (tested_name _ refl)
+type_is_text Script = tested_text _ (tested_name _ refl)
+
 -- The images of later parts can be built.
 later_can : (image : LegacyImage) (keys : List Key) (parts : List (List ℕ)) → AllByRecursion AreBytes parts →
     AllByRecursion IsImageSpec (later_images image keys parts)
@@ -105,6 +130,7 @@ later_can image (key ∷ keys) (part ∷ parts) bytes = (
   record {
     is_name = name_is_child key;
     name_bytes = name_is_bytes key;
+    image_type = type_is_text key;
     arch = code_text arch_names image.arch arch_texts;
     os = code_text os_names image.os os_texts;
     compression = code_text compression_names 0 compression_texts;
@@ -122,6 +148,7 @@ each_can image (key ∷ keys) (part ∷ parts) bytes = (
   record {
     is_name = name_is_child key;
     name_bytes = name_is_bytes key;
+    image_type = type_is_text key;
     arch = code_text arch_names image.arch arch_texts;
     os = code_text os_names image.os os_texts;
     compression = code_text compression_names image.compression compression_texts;
@@ -209,7 +236,8 @@ payloads_are_parts image (key ∷ keys) [] few = refl
 payloads_are_parts image (key ∷ keys) (part ∷ parts) few = ap (λ l. Some part ∷ l) (later_payloads image keys parts (omega arith))
 
 -- The verdicts of good hash nodes are Good.
-all_good : (images : List ImageSpecModel) → AllByRecursion (λ (hash : CheckedHash). hash.verdict ≡ Good) (map good_hash images)
+all_good : (images : List ImageSpecModel) →
+    AllByRecursion (λ (hash : CheckedHash). hash.verdict ≡ Good) (flat_map (good_hashes 1 (Sha256 ∷ [])) images)
 all_good [] = tt
 all_good (image ∷ images) = (refl, all_good images)
 
@@ -226,17 +254,19 @@ pub converted_has_its_parts : ConvertedHasItsParts
 converted_has_its_parts image is can =
     let head = head_of_image image in
     let images = converted_images image in
-    let good = built_has_good_payloads head images in
+    let good = built_has_good_payloads head (plan_by_types (Sha256 ∷ []) images) images in
     record {
       payloads = good.payloads ∙ payloads_are_parts image (keys_of_type image.image_type) image.parts can.1.1.1.1.1.0;
       verdicts = subst (AllByRecursion (λ (hash : CheckedHash). hash.verdict ≡ Good)) (sym good.verdicts) (all_good images);
-      configuration = built_has_configuration head images (converted_can_be_built image is);
+      configuration = built_has_configuration head (Sha256 ∷ []) images (converted_can_be_built image is);
     }
 
 -- The text of a converted image is accepted.
 pub converted_is_accepted : ConvertedIsAccepted
-converted_is_accepted bounds form image is can deep short small = record {
-  accepted = built_is_accepted bounds form (head_of_image image) (converted_images image)
-      (converted_can_be_built image is) deep short small;
-  parts = converted_has_its_parts image is can;
-}
+converted_is_accepted bounds form image is can deep short small =
+    let images = converted_images image in
+    record {
+      accepted = built_is_accepted bounds form (head_of_image image) (plan_by_types (Sha256 ∷ []) images) images
+          (converted_can_be_built image is) (by_types_is_plan (Sha256 ∷ []) images (omega arith)) deep short small;
+      parts = converted_has_its_parts image is can;
+    }

@@ -1,25 +1,46 @@
-use Rattle.std.proofs.Common.{◌≡◌, ℕ, ◌+◌, ◌<◌, ◌≤◌, List, [], ◌∷◌, ◌++◌, map, take, drop, get_or, length, None, refl, sym, ap, subst, ◌∙◌}
-use Rattle.std.proofs.Common.{inl, inr, arith}
+use Rattle.std.proofs.Common.{◌≡◌, ℕ, zero, suc, ◌+◌, ◌<◌, ◌≤◌, List, [], ◌∷◌, ◌++◌, map, take, drop, get_or, slice_get, length, Option, None, Some}
+use Rattle.std.proofs.Common.{refl, sym, ap, subst, ◌∙◌, inl, inr, arith}
+use Rattle.std.specs.Prelude.{unwrap_or}
+use Rattle.std.specs.List.{AllByRecursion}
+use Rattle.std.specs.Option.{option_map}
 use Rattle.std.proofs.lemmas.Bool.{cases_lt}
 use Rattle.std.proofs.lemmas.List.{drop_more, drop_all, take_more, map-append}
-use Rattle.std.specs.List.{AllByRecursion}
+use Rattle.std.proofs.lemmas.Option.{slice_get-map}
 use Rattle.bi_base.specs.declared.fault.Fault.{Fault}
 use Rattle.bi_base.specs.declared.fault.Cause.TheVariants.{DuplicateNode}
 use Rattle.bi_blob.specs.Tree.{IsNew}
 use Rattle.bi_fit.specs.declared.building.NamedImage.{NamedImage}
-use Rattle.bi_fit.specs.Building.{ImageSpecModel}
+use Rattle.bi_fit.specs.Building.{ImageSpecModel, IsImageSpec}
 use Rattle.bi_fit.specs.NamedImages.{named_model, named_models}
 use Rattle.bi_norm.specs.declared.fit_building.ImageSpec.{ImageSpec}
-use Rattle.bi_norm.specs.FitBuilding.{spec_model, spec_models, BuildCheck, HasFields, HasCodeNames, HasNewName, spec_checks}
-use Rattle.bi_norm.specs.FitBuilding.{first_image_checks}
-use Rattle.bi_norm.specs.BuildChecks.{AllPass, IsFirstFailure, at_index, fields_and_names, HasBytes}
+use Rattle.bi_norm.specs.declared.fit_building.ImageTexts.{ImageTexts}
+use Rattle.bi_norm.specs.FitBuilding.{ImageTextsModel, image_texts_model, texts_models, GivenImage, given_images, spec_model, BuildCheck}
+use Rattle.bi_norm.specs.FitBuilding.{HasFields, HasCodeNames, HasNewName, spec_checks, first_image_checks, names_of_specs}
+use Rattle.bi_norm.specs.BuildChecks.{AllPass, IsFirstFailure, at_index, given_image, fields_and_names}
+use Rattle.bi_norm.proofs.LeftChecks.{AreLeftChecks, all_checks_left, fails_first, left_after}
 
 -- If the images before one pass their checks, a fault of its fields, codes or name is the first of all, and otherwise the images after it
 -- decide.
 
+-- ---- images with their texts
+
 -- The names of images.
-abbrev pub names_of_specs : List ImageSpec → List (List ℕ)
-names_of_specs images = map (λ image. image.name.now) images
+abbrev pub names_of_given : List GivenImage → List (List ℕ)
+names_of_given images = map (λ image. image.spec.name.now) images
+
+-- Texts change no name,
+pub names-given_images : (texts : List (Option ImageTextsModel)) (images : List ImageSpec) →
+    names_of_given (given_images texts images) ≡ names_of_specs images
+names-given_images texts [] = refl
+names-given_images [] (spec ∷ later) = ap (λ l. spec.name.now ∷ l) (names-given_images [] later)
+names-given_images (first ∷ texts) (spec ∷ later) = ap (λ l. spec.name.now ∷ l) (names-given_images texts later)
+
+-- and there are as many images with them.
+pub length-given_images : (texts : List (Option ImageTextsModel)) (images : List ImageSpec) →
+    length (given_images texts images) ≡ length images
+length-given_images texts [] = refl
+length-given_images [] (spec ∷ later) = ap suc (length-given_images [] later)
+length-given_images (first ∷ texts) (spec ∷ later) = ap suc (length-given_images texts later)
 
 -- What a list of images gives past its end.
 abbrev pub no_spec : ImageSpec
@@ -34,81 +55,106 @@ no_spec = record {
   payload = record { ref_ptr = (0, 0); now = [] };
 }
 
+abbrev pub no_given : GivenImage
+no_given = record { spec = no_spec; texts = None }
+
+-- The image at an index has the texts at the index, if there are any.
+given_at : (texts : List (Option ImageTextsModel)) (images : List ImageSpec) (index : ℕ) → index < length images →
+    get_or (given_images texts images) index no_given
+    ≡ record { spec = get_or images index no_spec; texts = unwrap_or (slice_get texts index) None }
+given_at texts [] index within = absurd (omega (arith, within))
+given_at [] (spec ∷ later) zero within = refl
+given_at [] (spec ∷ later) (suc index) within = given_at [] later index (omega (arith, within))
+given_at (first ∷ texts) (spec ∷ later) zero within = refl
+given_at (first ∷ texts) (spec ∷ later) (suc index) within = given_at texts later index (omega (arith, within))
+
+-- The same for the texts of the code.
+found_texts : (found : Option (Option ImageTexts)) →
+    unwrap_or (option_map (option_map image_texts_model) found) None ≡ option_map image_texts_model (unwrap_or found None)
+found_texts None = refl
+found_texts (Some texts) = refl
+
+pub given_here : (texts : List (Option ImageTexts)) (images : List ImageSpec) (index : ℕ) (found : Option ImageTexts) →
+    index < length images → found ≡ unwrap_or (slice_get texts index) None →
+    given_image (get_or images index no_spec) found ≡ get_or (given_images (texts_models texts) images) index no_given
+given_here texts images index found within is =
+    let spec = get_or images index no_spec in
+    ap (given_image spec) is
+    ∙ ap (λ (texts : Option ImageTextsModel). record { spec = spec; texts = texts })
+    (sym (found_texts (slice_get texts index))
+    ∙ ap (λ o. unwrap_or o None) (sym (slice_get-map (option_map image_texts_model) texts index)))
+    ∙ sym (given_at (texts_models texts) images index within)
+
+-- ---- the checks from one image on
+
 -- The checks of the images from one on.
-abbrev pub checks_from : List ImageSpec → ℕ → List BuildCheck
-checks_from images index = spec_checks index (names_of_specs (take index images)) (drop index images)
+abbrev pub checks_from : List GivenImage → ℕ → List BuildCheck
+checks_from images index = spec_checks index (names_of_given (take index images)) (drop index images)
 
 -- The images before one passed their checks, so those from it on decide.
-pub record ArePassedTo (images : List ImageSpec) (index : ℕ) : Type 0 where
-  pub passes : AllPass (checks_from images index) → AllPass (spec_checks 0 [] images)
-  pub fails : (fault : Fault) → IsFirstFailure (checks_from images index) fault → IsFirstFailure (spec_checks 0 [] images) fault
-  pub bytes : AllByRecursion HasBytes (drop index images) → AllByRecursion HasBytes images
+pub record ArePassedTo (images : List GivenImage) (index : ℕ) : Type 0 where
+  pub left : AreLeftChecks (spec_checks 0 [] images) (checks_from images index)
+  pub can : AllByRecursion (λ image. IsImageSpec (spec_model image)) (drop index images) →
+      AllByRecursion (λ image. IsImageSpec (spec_model image)) images
   pub first : 0 < index → AllPass (first_image_checks images)
 
 -- None was made.
-pub passed_none : (images : List ImageSpec) → ArePassedTo images 0
+pub passed_none : (images : List GivenImage) → ArePassedTo images 0
 passed_none images = record {
-  passes = λ all. all;
-  fails = λ fault first. first;
-  bytes = λ all. all;
+  left = all_checks_left (spec_checks 0 [] images);
+  can = λ all. all;
   first = λ some. absurd (omega (arith, some));
 }
 
 -- The checks of an image that look at no other, if it is the first.
-first_fine : (images : List ImageSpec) (index : ℕ) (d : ImageSpec) → index < length images → index ≡ 0 →
+first_fine : (images : List GivenImage) (index : ℕ) (d : GivenImage) → index < length images → index ≡ 0 →
     AllPass (fields_and_names index (get_or images index d)) → AllPass (first_image_checks images)
 first_fine images index d within none fine = by images within
     (subst (λ index. AllPass (fields_and_names index (get_or images index d))) none fine) where
-      by : (images : List ImageSpec) → index < length images → AllPass (fields_and_names 0 (get_or images 0 d)) →
+      by : (images : List GivenImage) → index < length images → AllPass (fields_and_names 0 (get_or images 0 d)) →
           AllPass (first_image_checks images)
-      by [] within fine = λ limits form head all. tt
+      by [] within fine = λ limits form head plan images. tt
       by (image ∷ later) within fine = fine
 
-module _ (images : List ImageSpec) (index : ℕ) (d : ImageSpec) (within : index < length images) (passed : ArePassedTo images index) where
-  abbrev image : ImageSpec
+module _ (images : List GivenImage) (index : ℕ) (d : GivenImage) (within : index < length images) (passed : ArePassedTo images index) where
+  abbrev image : GivenImage
   image = get_or images index d
 
   -- The names before the next image.
-  pub names_more : names_of_specs (take (index + 1) images) ≡ names_of_specs (take index images) ++ image.name.now ∷ []
-  names_more =
-      ap names_of_specs (take_more images index d within)
-      ∙ map-append (λ (image : ImageSpec). image.name.now) (take index images) (image ∷ [])
+  pub image_names_more : names_of_given (take (index + 1) images) ≡ names_of_given (take index images) ++ image.spec.name.now ∷ []
+  image_names_more =
+      ap names_of_given (take_more images index d within)
+      ∙ map-append (λ (image : GivenImage). image.spec.name.now) (take index images) (image ∷ [])
 
   -- The checks of this image come first.
-  first_checks : checks_from images index
-      ≡ HasFields (at_index index (names_of_specs (take index images)) image)
-      ∷ HasCodeNames (at_index index (names_of_specs (take index images)) image)
-      ∷ HasNewName (at_index index (names_of_specs (take index images)) image) ∷ checks_from images (index + 1)
+  abbrev own_checks : List BuildCheck
+  own_checks =
+      let at = at_index index (names_of_given (take index images)) image in
+      HasFields at ∷ HasCodeNames at ∷ HasNewName at ∷ []
+
+  first_checks : checks_from images index ≡ own_checks ++ checks_from images (index + 1)
   first_checks =
-      let at = at_index index (names_of_specs (take index images)) image in
-      ap (spec_checks index (names_of_specs (take index images))) (drop_more images index d within)
-      ∙ ap (λ names. HasFields at ∷ HasCodeNames at ∷ HasNewName at
-      ∷ spec_checks (index + 1) names (drop (index + 1) images)) (sym names_more)
+      ap (spec_checks index (names_of_given (take index images))) (drop_more images index d within)
+      ∙ ap (λ names. own_checks ++ spec_checks (index + 1) names (drop (index + 1) images)) (sym image_names_more)
+
+  left : AreLeftChecks (spec_checks 0 [] images) (own_checks ++ checks_from images (index + 1))
+  left = subst (AreLeftChecks (spec_checks 0 [] images)) first_checks passed.left
 
   -- A fault of its fields or codes is the first of all.
   pub image_fails : (fault : Fault) → IsFirstFailure (fields_and_names index image) fault → IsFirstFailure (spec_checks 0 [] images) fault
   image_fails fault first =
-      passed.fails fault (subst (λ checks. IsFirstFailure checks fault) (sym first_checks) (λ limits form head all.
-      elim (first limits form head all) [
-        | inl fields ↦ inl fields
-        | inr codes ↦ inr (
-          codes.0,
-          elim codes.1 [
-            | inl fails ↦ inl fails
-            | inr passes ↦ absurd passes.1
-          ],
-        )
-      ]))
+      let at = at_index index (names_of_given (take index images)) image in
+      fails_first (spec_checks 0 [] images) (HasFields at ∷ HasCodeNames at ∷ []) (HasNewName at ∷ checks_from images (index + 1)) fault
+      left first
 
   -- So is a name that is not new, after fields and codes without a fault.
-  pub name_fails : AllPass (fields_and_names index image) → ¬ (IsNew image.name.now (names_of_specs (take index images))) →
+  pub name_fails : AllPass (fields_and_names index image) → ¬ (IsNew image.spec.name.now (names_of_given (take index images))) →
       IsFirstFailure (spec_checks 0 [] images) (record { cause = DuplicateNode; offset = index })
   name_fails fine held =
-      passed.fails (record { cause = DuplicateNode; offset = index })
-      (subst (λ checks. IsFirstFailure checks (record { cause = DuplicateNode; offset = index }))
-      (sym first_checks) (λ limits form head all.
-      let both = fine limits form head all in
-      inr (both.0, inr (both.1.0, inl (held, refl)))))
+      fails_first (spec_checks 0 [] images) own_checks (checks_from images (index + 1)) (record { cause = DuplicateNode; offset = index })
+      left (λ limits form head plan all.
+      let both = fine limits form head plan all in
+      inr (both.0, inr (both.1.0, inl (held, refl))))
 
   -- Once its fields and codes have no fault, those of the first image have none.
   pub first_passed : AllPass (fields_and_names index image) → AllPass (first_image_checks images)
@@ -118,34 +164,34 @@ module _ (images : List ImageSpec) (index : ℕ) (d : ImageSpec) (within : index
   ]
 
   -- Else the images after it decide.
-  pub passed_more : AllPass (fields_and_names index image) → HasBytes image → IsNew image.name.now (names_of_specs (take index images)) →
-      ArePassedTo images (index + 1)
-  passed_more fine bytes new = record {
-    passes = λ later.
-        passed.passes (subst AllPass (sym first_checks) (λ limits form head all.
-        let both = fine limits form head all in
-        (both.0, (both.1.0, (new, later limits form head all)))));
-    fails = λ fault later.
-        passed.fails fault (subst (λ checks. IsFirstFailure checks fault) (sym first_checks) (λ limits form head all.
-        let both = fine limits form head all in
-        inr (both.0, inr (both.1.0, inr (new, later limits form head all)))));
-    bytes = λ later. passed.bytes (subst (AllByRecursion HasBytes) (sym (drop_more images index d within)) (bytes, later));
+  pub passed_more : AllPass (fields_and_names index image) → IsImageSpec (spec_model image) →
+      IsNew image.spec.name.now (names_of_given (take index images)) → ArePassedTo images (index + 1)
+  passed_more fine can new = record {
+    left = left_after (spec_checks 0 [] images) own_checks (checks_from images (index + 1)) left (λ limits form head plan all.
+        let both = fine limits form head plan all in
+        (both.0, (both.1.0, (new, tt))));
+    can = λ later.
+        passed.can (subst (AllByRecursion (λ image. IsImageSpec (spec_model image))) (sym (drop_more images index d within)) (can, later));
     first = λ some. first_passed fine;
   }
 
 -- After the last image none are left.
-pub passed_all : (images : List ImageSpec) (index : ℕ) → length images ≤ index → AllPass (checks_from images index)
+pub passed_all : (images : List GivenImage) (index : ℕ) → length images ≤ index → AllPass (checks_from images index)
 passed_all images index past =
-    subst (λ left. AllPass (spec_checks index (names_of_specs (take index images)) left))
-    (sym (drop_all index images past)) (λ limits form head all. tt)
+    subst (λ left. AllPass (spec_checks index (names_of_given (take index images)) left))
+    (sym (drop_all index images past)) (λ limits form head plan all. tt)
 
--- The images with the names of their codes, and one more.
-pub named_more : (images : List ImageSpec) (index : ℕ) (d : ImageSpec) → index < length images →
+pub can_all : (images : List GivenImage) (index : ℕ) → length images ≤ index →
+    AllByRecursion (λ image. IsImageSpec (spec_model image)) (drop index images)
+can_all images index past = subst (AllByRecursion (λ image. IsImageSpec (spec_model image))) (sym (drop_all index images past)) tt
+
+-- The images with their texts, and one more.
+pub named_more : (images : List GivenImage) (index : ℕ) (d : GivenImage) → index < length images →
     (named : List NamedImage) (next : NamedImage) →
-    named_models named ≡ spec_models (take index images) → named_model next ≡ spec_model (get_or images index d) →
-    named_models (named ++ next ∷ []) ≡ spec_models (take (index + 1) images)
+    named_models named ≡ map spec_model (take index images) → named_model next ≡ spec_model (get_or images index d) →
+    named_models (named ++ next ∷ []) ≡ map spec_model (take (index + 1) images)
 named_more images index d within named next same is =
     map-append named_model named (next ∷ [])
     ∙ ap (λ (l : List ImageSpecModel). l ++ (named_model next ∷ [])) same
-    ∙ ap (λ (model : ImageSpecModel). spec_models (take index images) ++ (model ∷ [])) is
-    ∙ sym (ap spec_models (take_more images index d within) ∙ map-append spec_model (take index images) (get_or images index d ∷ []))
+    ∙ ap (λ (model : ImageSpecModel). map spec_model (take index images) ++ (model ∷ [])) is
+    ∙ sym (ap (map spec_model) (take_more images index d within) ∙ map-append spec_model (take index images) (get_or images index d ∷ []))

@@ -1,4 +1,4 @@
-use Rattle.std.proofs.Common.{◌≡◌, ◌≤◌, ℕ, List, length, ap, sym, inl, inr, arith}
+use Rattle.std.proofs.Common.{◌≡◌, ◌≤◌, ℕ, List, length, refl, ap, sym, inl, inr, arith}
 use Rattle.bi_base.specs.Limits.{Limits}
 use Rattle.bi_blob.specs.Layout.{longest_text}
 use Rattle.bi_legacy.specs.Laws.{OneLegacyMeaning, LegacyMeaningOrFault}
@@ -10,10 +10,10 @@ use Rattle.bi_fit.specs.declared.form.Form.{Form}
 use Rattle.bi_fit.proofs.Faults.{one_fit_fault as one_tree_fault, fit_has_no_fault as tree_has_no_fault}
 use Rattle.bi_fit.proofs.Faults.{fit_meaning_or_fault as tree_or_fault}
 use Rattle.bi_fit.proofs.Meanings.{begins_with_magic, one_fit_meaning as one_tree_meaning}
-use Rattle.bi_fit.proofs.TextLaws.{file_means_image_tree, same_text_same_tree}
+use Rattle.bi_fit.proofs.TextLaws.{aligned_by_four_is_external, file_means_image_tree, same_text_same_tree}
 use Rattle.bi_norm.specs.Faults.{OfLegacyImage, OfTree}
 use Rattle.bi_norm.specs.Laws.{OneKind, OneFileMeaning, OneFileFault, FileHasNoFault, FileMeaningOrFault, FileMeaningWhereNoFault}
-use Rattle.bi_norm.specs.Laws.{TextsOfKindsDiffer, NormalTextsDiffer}
+use Rattle.bi_norm.specs.Laws.{TextsOfKindsDiffer, NormalTextsDiffer, MeaningAlignedByFourIsExternal}
 use Rattle.bi_norm.specs.Meaning.{Meaning, Means, OfLegacy, OfFit, normal_text}
 use Rattle.bi_norm.proofs.NormalForms.{texts_differ}
 use Rattle.bi_norm.proofs.FilesWithoutMeaning.{legacy_or_not, means_legacy, means_tree}
@@ -99,3 +99,8 @@ normal_texts_differ form limits other_limits file other_file one other means oth
   same_meaning form limits other_limits file other_file one other means other_means short,
   λ same. ap (normal_text form) same,
 )
+
+-- The form with the alignment 4 is the form External. It has no effect on a legacy image.
+pub meaning_aligned_by_four : MeaningAlignedByFourIsExternal
+meaning_aligned_by_four align (OfLegacy image) is = refl
+meaning_aligned_by_four align (OfFit tree) is = aligned_by_four_is_external align tree is

@@ -7,8 +7,12 @@ pub mod BuiltLegacy
 pub mod ConvertedParts
 pub mod Conversions
 pub mod Comparisons
+pub mod LeftChecks
 pub mod ImageChecks
+pub mod ConfigurationChecks
+pub mod BuildTests
 pub mod BuildFaultFacts
+pub mod PlanFaultFacts
 pub mod ComparisonFacts
 pub mod TextBoundFacts
 pub mod BuiltChecks

@@ -14,6 +14,8 @@ use Rattle.bi_legacy.specs.Meaning.{LegacyImage}
 use Rattle.bi_legacy.specs.Reading.{LegacyModel, IsReadLegacy}
 use Rattle.bi_legacy.specs.Text.{legacy_text}
 use Rattle.bi_fit.specs.declared.form.Form.{Form}
+use Rattle.bi_fit.specs.declared.kept.Kept.{Kept}
+use Rattle.bi_fit.specs.Kept.{IsKept, SaysNothing}
 use Rattle.bi_fit.specs.Content.{FitModel, tree_of}
 use Rattle.bi_fit.specs.Documents.{IsTextError}
 use Rattle.bi_fit.specs.Faults.{InBlob}
@@ -25,7 +27,7 @@ use Rattle.bi_fit.specs.Text.{fit_text}
 use Rattle.bi_fit.proofs.Faults.{fit_has_no_fault}
 use Rattle.bi_fit.proofs.TextLaws.{file_means_image_tree, normal_fit_text_is_accepted, same_text_same_tree, text_keeps_judgement}
 use Rattle.bi_norm.specs.Meaning.{Meaning, OfLegacy, OfFit, Means, normal_text}
-use Rattle.bi_norm.specs.NormalForm.{IsNormalForm, IsNormaliseError, IsNormaliseOutput}
+use Rattle.bi_norm.specs.NormalForm.{IsNormalForm, IsNormaliseError, IsNormaliseKept}
 use Rattle.bi_norm.specs.Reading.{IsBootImageReadError, NeedsMemory, ForLegacyImage, ForTree}
 use Rattle.bi_norm.proofs.FilesWithoutMeaning.{means_legacy, means_tree}
 
@@ -88,11 +90,14 @@ legacy_normal_form limits form file parsed opened = record {
       (means_tree limits file tree means (means_legacy limits file parsed.image opened.means));
 }
 
--- It has no signature nodes.
-pub legacy_normalised : (limits : Limits) (form : Form) (file : List ℕ) (parsed : LegacyModel) → IsReadLegacy limits file parsed →
-    IsNormaliseOutput limits form 0 file (legacy_text parsed.image)
+-- Nothing is said of it.
+pub legacy_kept : (limits : Limits) (form : Form) (file : List ℕ) (parsed : LegacyModel) (kept : Kept) → IsReadLegacy limits file parsed →
+    kept.signatures ≡ 0 → SaysNothing kept → IsNormaliseKept limits form kept file (legacy_text parsed.image)
 unfolding legacy_normal_form
-legacy_normalised limits form file parsed opened = record { normal = legacy_normal_form limits form file parsed opened; signatures = refl }
+legacy_kept limits form file parsed kept opened none says = record {
+  output = record { normal = legacy_normal_form limits form file parsed opened; signatures = none };
+  is_kept = says;
+}
 
 -- A file that means a flattened image tree means nothing else.
 pub only_tree : (limits : Limits) (file : List ℕ) (content : FitModel) → IsReadFit limits file content → (other : Meaning) →
@@ -135,13 +140,17 @@ tree_normal_form limits form file content opened fits most =
           ∙ ap judgement (sym (opened.only one means));
     }
 
--- It has as many signature nodes as the tree.
-pub tree_normalised : (limits : Limits) (form : Form) (file : List ℕ) (content : FitModel) (count : ℕ) → IsReadFit limits file content →
-    length (fit_text form (tree_of content)) ≤ limits.file → limits.file ≤ longest_text → count ≡ signatures_of_tree (tree_of content) →
-    IsNormaliseOutput limits form count file (fit_text form (tree_of content))
+-- It keeps what the text of its tree does.
+pub tree_kept : (limits : Limits) (form : Form) (file : List ℕ) (content : FitModel) (kept : Kept) → IsReadFit limits file content →
+    length (fit_text form (tree_of content)) ≤ limits.file → limits.file ≤ longest_text →
+    kept.signatures ≡ signatures_of_tree (tree_of content) →
+    IsKept form content.blob.file (tree_of content) (tree_of content) kept →
+    IsNormaliseKept limits form kept file (fit_text form (tree_of content))
 unfolding tree_normal_form
-tree_normalised limits form file content count opened fits most is = record
-    { normal = tree_normal_form limits form file content opened fits most; signatures = is }
+tree_kept limits form file content kept opened fits most is says = record {
+  output = record { normal = tree_normal_form limits form file content opened fits most; signatures = is };
+  is_kept = subst (λ file. IsKept form file (tree_of content) (tree_of content) kept) opened.is_file says;
+}
 
 -- A file that means something needs memory.
 pub needs_memory : (limits : Limits) (file : List ℕ) (meaning : Meaning) → Means limits file meaning → NeedsMemory limits file

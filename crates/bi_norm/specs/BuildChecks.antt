@@ -1,4 +1,10 @@
-use Rattle.std.specs.Prelude.{ℕ, List, [], ◌∷◌}
+use Rattle.std.specs.Prelude.{ℕ, Bool, List, [], ◌∷◌, Option}
+use Rattle.std.specs.Borrow.{Bor}
+use Rattle.std.specs.BTreeSet.{BTreeSet, contains}
+use Rattle.std.specs.Cmp.Lexicographic.{slice_cmp}
+use Rattle.std.specs.List.{list_all}
+use Rattle.std.specs.Option.{option_map}
+use Rattle.std.specs.Ordering.{nat_cmp}
 use Rattle.bi_base.specs.Errors.{FailsWith}
 use Rattle.bi_base.specs.declared.fault.Fault.{Fault}
 use Rattle.bi_base.specs.declared.fault.Error.{Error}
@@ -6,46 +12,63 @@ use Rattle.bi_base.specs.Cells.{AreBytes}
 use Rattle.bi_base.specs.Checks.{IsFirstFault, HasNoFault}
 use Rattle.bi_base.specs.Limits.{Limits}
 use Rattle.bi_fit.specs.declared.form.Form.{Form}
+use Rattle.bi_fit.specs.declared.building.ConfigurationSpec.{ConfigurationSpec}
 use Rattle.bi_fit.specs.declared.building.Head.{Head}
 use Rattle.bi_norm.specs.declared.fit_building.ImageSpec.{ImageSpec}
-use Rattle.bi_norm.specs.FitBuilding.{BuildCheck, HasFewImages, HasTextDescription, HasFields}
-use Rattle.bi_norm.specs.FitBuilding.{HasCodeNames, BuildPasses, build_fault, spec_checks}
-use Rattle.bi_norm.specs.FitBuilding.{IndexedImage, first_image_checks}
+use Rattle.bi_norm.specs.declared.fit_building.ImageTexts.{ImageTexts}
+use Rattle.bi_norm.specs.FitBuilding.{BuildCheck, HasFields, HasCodeNames, BuildPasses, build_fault}
+use Rattle.bi_norm.specs.FitBuilding.{PlanSpecModel, ImageTextsModel, image_texts_model}
+use Rattle.bi_norm.specs.FitBuilding.{GivenImage, IndexedImage}
+use Rattle.bi_norm.specs.FitBuilding.{spec_checks, first_image_checks}
 
 -- The checks of what is to be built, one after the other.
 
--- All checks, except that of the text's length.
-abbrev pub early_checks : List ImageSpec → List BuildCheck
-early_checks images = HasFewImages ∷ HasTextDescription ∷ spec_checks 0 [] images
-
--- Checks of images pass, which is so for any limits, form and head.
+-- Checks of images or of configurations pass, which is so for any limits, form, head and plan.
 abbrev pub AllPass : List BuildCheck → Type 0
 AllPass checks =
-    (limits : Limits) (form : Form) (head : Head) (images : List ImageSpec)
-    → HasNoFault (BuildPasses limits form head images) checks
+    (limits : Limits) (form : Form) (head : Head) (plan : PlanSpecModel) (images : List ImageSpec)
+    → HasNoFault (BuildPasses limits form head plan images) checks
 
--- This is the fault of the first check of images that fails, for any limits, form and head.
+-- This is the fault of the first check of images or of configurations that fails, for any limits,
+-- form, head and plan.
 abbrev pub IsFirstFailure : List BuildCheck → Fault → Type 0
 IsFirstFailure checks fault =
-    (limits : Limits) (form : Form) (head : Head) (images : List ImageSpec)
-    → IsFirstFault (BuildPasses limits form head images) (build_fault limits) checks fault
+    (limits : Limits) (form : Form) (head : Head) (plan : PlanSpecModel) (images : List ImageSpec)
+    → IsFirstFault (BuildPasses limits form head plan images) (build_fault limits plan) checks fault
 
 -- The error that the checks of images can have. Memory is needed only after the checks of the first
 -- image that look at no other.
-abbrev pub IsImagesError : List ImageSpec → Error → Type 0
+abbrev pub IsImagesError : List GivenImage → Error → Type 0
 IsImagesError images =
     FailsWith (IsFirstFailure (spec_checks 0 [] images)) (AllPass (first_image_checks images))
 
 -- An image at an index after images with these names.
-abbrev pub at_index : ℕ → List (List ℕ) → ImageSpec → IndexedImage
+abbrev pub at_index : ℕ → List (List ℕ) → GivenImage → IndexedImage
 at_index index earlier image = record { index = index; earlier = earlier; image = image }
 
 -- The checks of an image that look at no other image.
-abbrev pub fields_and_names : ℕ → ImageSpec → List BuildCheck
+abbrev pub fields_and_names : ℕ → GivenImage → List BuildCheck
 fields_and_names index image =
     HasFields (at_index index [] image) ∷ HasCodeNames (at_index index [] image) ∷ []
 
--- The name and the payload of an image are bytes.
-pub record HasBytes (image : ImageSpec) : Type 0 where
-  pub name : AreBytes image.name.now
-  pub payload : AreBytes image.payload.now
+-- An image with its texts, if there are any.
+abbrev pub given_image : ImageSpec → Option ImageTexts → GivenImage
+given_image spec texts = record { spec = spec; texts = option_map image_texts_model texts }
+
+-- Whether a set has a name.
+abbrev pub holds_name : BTreeSet (Bor (List ℕ)) → Bor (List ℕ) → Bool
+holds_name set name = contains (λ x y. slice_cmp nat_cmp x.now y.now) set name
+
+-- Whether a set has each name that a configuration lists.
+abbrev pub lists_only : BTreeSet (Bor (List ℕ)) → ConfigurationSpec → Bool
+lists_only set configuration =
+    list_all (λ names. list_all (holds_name set) names.now)
+    (configuration.kernel ∷ configuration.fdt ∷ configuration.ramdisk ∷ configuration.firmware
+    ∷ configuration.loadables ∷ configuration.script ∷ [])
+
+-- Texts are bytes.
+pub record TextsAreBytes (texts : ImageTextsModel) : Type 0 where
+  pub image_type : AreBytes texts.image_type
+  pub arch : AreBytes texts.arch
+  pub os : AreBytes texts.os
+  pub compression : AreBytes texts.compression

@@ -14,11 +14,12 @@ use Rattle.bi_fit.specs.declared.form.Form.TheVariants.{Embedded}
 use Rattle.bi_fit.specs.declared.key.Key.{Key}
 use Rattle.bi_fit.specs.declared.key.Key.TheVariants.{Kernel, Fdt, Ramdisk, Firmware, Loadables}
 use Rattle.bi_fit.specs.declared.key.Key.TheVariants.{Script}
-use Rattle.bi_fit.specs.Building.{HeadModel, ImageSpecModel, built_tree}
+use Rattle.bi_fit.specs.Building.{HeadModel, ImageSpecModel, type_name, built_tree, plan_by_types}
 use Rattle.bi_fit.specs.ImageTree.{ImageTree}
 use Rattle.bi_fit.specs.Judgement.{verdicts_of}
 use Rattle.bi_fit.specs.Laws.{IsAcceptedAs, HasConfiguration}
 use Rattle.bi_fit.specs.Text.{fit_text}
+use Rattle.bi_hash.specs.declared.algo.Algo.TheVariants.{Sha256}
 use Rattle.bi_hash.specs.declared.verdicts.Verdict.TheVariants.{Good}
 use Rattle.bi_legacy.specs.Codes.{CodeName, os_names, arch_names, type_names, compression_names}
 use Rattle.bi_legacy.specs.Codes.{name_of_code}
@@ -87,7 +88,7 @@ code_name names code = unwrap_or (name_of_code names code) []
 abbrev pub first_image : LegacyImage → Key → List ℕ → ImageSpecModel
 first_image image key part = record {
   name = image_name key;
-  key = key;
+  image_type = type_name key;
   arch = code_name arch_names image.arch;
   os = code_name os_names image.os;
   compression = code_name compression_names image.compression;
@@ -100,7 +101,7 @@ first_image image key part = record {
 abbrev pub later_image : LegacyImage → Key → List ℕ → ImageSpecModel
 later_image image key part = record {
   name = image_name key;
-  key = key;
+  image_type = type_name key;
   arch = code_name arch_names image.arch;
   os = code_name os_names image.os;
   compression = code_name compression_names 0;
@@ -130,9 +131,12 @@ converted_images image = images_of_parts image (keys_of_type image.image_type) i
 abbrev pub head_of_image : LegacyImage → HeadModel
 head_of_image image = record { description = image.name; time = image.time }
 
--- The tree that a legacy image is converted to.
+-- The tree that a legacy image is converted to: its configuration lists the images by their types,
+-- and each image has a SHA-256.
 abbrev pub fit_of : LegacyImage → ImageTree
-fit_of image = built_tree (head_of_image image) (converted_images image)
+fit_of image =
+    built_tree (head_of_image image) (plan_by_types (Sha256 ∷ []) (converted_images image))
+    (converted_images image)
 
 -- The checks of a legacy image to be converted.
 pub data ConvertCheck : Type 0 where
@@ -179,7 +183,8 @@ CanBeConverted image = HasNoFault (ConvertPasses image) convert_checks
 pub record HasConvertedParts (image : LegacyImage) : Type 0 where
   pub payloads : (fit_of image).payloads ≡ map Some image.parts
   pub verdicts : AllByRecursion (λ hash. hash.verdict ≡ Good) (verdicts_of (fit_of image))
-  pub configuration : HasConfiguration (head_of_image image) (converted_images image)
+  pub configuration :
+      HasConfiguration (head_of_image image) (Sha256 ∷ []) (converted_images image)
 
 -- The law that each legacy image that can be converted has such a tree.
 abbrev pub ConvertedHasItsParts : Type 0

@@ -1,14 +1,13 @@
-use Rattle.std.specs.Prelude.{◌≡◌, ◌≢◌, ℕ, List, [], ◌∷◌, codes}
+use Rattle.std.specs.Prelude.{◌≡◌, ◌≢◌, ℕ, List, [], ◌∷◌, map, codes}
 use Rattle.std.specs.List.{AllByRecursion}
 use Rattle.bi_base.specs.declared.fault.Cause.{Cause}
 use Rattle.bi_base.specs.declared.fault.Cause.TheVariants.{NoCodeName, TooManyParts, EmptyPart}
-use Rattle.bi_fit.specs.declared.key.Key.TheVariants.{Fdt, Firmware, Loadables}
-use Rattle.bi_fit.specs.declared.key.Key.TheVariants.{Script}
 use Rattle.bi_fit.specs.Building.{built_tree, type_name}
-use Rattle.bi_fit.specs.KnownBuilds.{known_head, known_kernel, known_ramdisk}
+use Rattle.bi_fit.specs.KnownBuilds.{known_head, known_kernel, known_ramdisk, known_images}
+use Rattle.bi_fit.specs.KnownBuilds.{known_plan}
 use Rattle.bi_legacy.specs.Codes.{type_names}
 use Rattle.bi_legacy.specs.Meaning.{LegacyImage}
-use Rattle.bi_norm.specs.FitBuilding.{first_key, multi}
+use Rattle.bi_norm.specs.FitBuilding.{multi}
 use Rattle.bi_norm.specs.Converting.{converted_images, fit_of, keys_of_type, IsConvertFault}
 
 -- Small legacy images with the images that they are converted to, or with the fault of those that
@@ -33,25 +32,34 @@ known_image image_type compression parts = record {
 abbrev pub known_parts : List (List ℕ)
 known_parts = codes "hello" ∷ codes "abc" ∷ codes "x" ∷ []
 
--- Each type of image becomes images of known names, keys, compressions and addresses.
+-- Each type of image becomes images of known names, types, compressions and addresses.
 pub record ConversionsAreKnown : Type 0 where
   pub two_parts : fit_of (known_image 4 0 (codes "hello" ∷ codes "abc" ∷ []))
-      ≡ built_tree known_head (known_kernel ∷ known_ramdisk ∷ [])
+      ≡ built_tree known_head (known_plan known_images) known_images
   pub three_parts : converted_images (known_image 4 1 known_parts)
       ≡ record known_kernel { compression = codes "gzip" }
       ∷ known_ramdisk
-      ∷ record known_ramdisk { name = codes "fdt-1"; key = Fdt; payload = codes "x" }
+      ∷ record known_ramdisk {
+        name = codes "fdt-1";
+        image_type = codes "flat_dt";
+        payload = codes "x";
+      }
       ∷ []
   pub standalone : converted_images (known_image 1 0 (codes "hello" ∷ []))
-      ≡ record known_kernel { name = codes "standalone-1"; key = Loadables } ∷ []
+      ≡ record known_kernel { name = codes "standalone-1"; image_type = codes "standalone" } ∷ []
   pub kernel : converted_images (known_image 2 0 (codes "hello" ∷ [])) ≡ known_kernel ∷ []
   pub ramdisk : converted_images (known_image 3 0 (codes "abc" ∷ [])) ≡ known_ramdisk ∷ []
   pub firmware : converted_images (known_image 5 0 (codes "hello" ∷ []))
-      ≡ record known_kernel { name = codes "firmware-1"; key = Firmware } ∷ []
+      ≡ record known_kernel { name = codes "firmware-1"; image_type = codes "firmware" } ∷ []
   pub script : converted_images (known_image 6 0 (codes "abc" ∷ []))
-      ≡ record known_ramdisk { name = codes "script-1"; key = Script } ∷ []
+      ≡ record known_ramdisk { name = codes "script-1"; image_type = codes "script" } ∷ []
   pub devicetree : converted_images (known_image 8 3 (codes "abc" ∷ []))
-      ≡ record known_ramdisk { name = codes "fdt-1"; key = Fdt; compression = codes "lzma" } ∷ []
+      ≡ record known_ramdisk {
+        name = codes "fdt-1";
+        image_type = codes "flat_dt";
+        compression = codes "lzma";
+      }
+      ∷ []
 
 -- An image cannot be converted, and this is why.
 abbrev pub HasConvertFault : LegacyImage → Cause → ℕ → Type 0
@@ -68,10 +76,10 @@ pub record ConvertFaultsAreKnown : Type 0 where
   pub four_parts : HasConvertFault (known_image 4 0 (codes "y" ∷ known_parts)) TooManyParts 64
   pub two_scripts : HasConvertFault (known_image 6 0 (codes "x" ∷ codes "y" ∷ [])) TooManyParts 64
 
--- The images of each type with a name, except multi-file images, are listed under the key for
--- images of this type.
+-- The image of each type with a name, except multi-file images, becomes an image of this type: the
+-- type has one key, under which images of this type are listed.
 abbrev pub TypesHaveTheirKeys : Type 0
 TypesHaveTheirKeys =
     AllByRecursion
-    (λ entry. entry.code ≢ multi → type_name (first_key (keys_of_type entry.code)) ≡ entry.name)
+    (λ entry. entry.code ≢ multi → map type_name (keys_of_type entry.code) ≡ entry.name ∷ [])
     type_names

@@ -1,10 +1,13 @@
 use Rattle.std.specs.Prelude.{◌≡◌, ◌⊎◌, ◌↔◌, ℕ, ◌≤◌, ◌<◌, List, length}
+use Rattle.bi_base.specs.declared.align.Align.{Align}
 use Rattle.bi_base.specs.declared.fault.Fault.{Fault}
+use Rattle.bi_base.specs.Aligns.{align_bytes}
 use Rattle.bi_base.specs.Cells.{AreBytes}
 use Rattle.bi_base.specs.Limits.{Limits}
 use Rattle.bi_base.specs.Reading.{too_large}
 use Rattle.bi_blob.specs.Layout.{longest_text}
 use Rattle.bi_fit.specs.declared.form.Form.{Form}
+use Rattle.bi_fit.specs.declared.form.Form.TheVariants.{External, Aligned}
 use Rattle.bi_fit.specs.File.{IsFitFile}
 use Rattle.bi_fit.specs.ImageTree.{ImageTree}
 use Rattle.bi_fit.specs.Text.{fit_text}
@@ -68,6 +71,12 @@ NormalTextsDiffer =
     → Means limits file one → Means other_limits other_file other
     → length (normal_text form one) ≤ longest_text
     → (normal_text form one ≡ normal_text form other) ↔ (one ≡ other)
+
+-- The text of a meaning in the form with the alignment 4 is that in the form External.
+abbrev pub MeaningAlignedByFourIsExternal : Type 0
+MeaningAlignedByFourIsExternal =
+    (align : Align) (meaning : Meaning) → align_bytes align ≡ 4
+    → normal_text (Aligned align) meaning ≡ normal_text External meaning
 
 -- A file that is longer than the limit has the fault TooLarge at the limit and means nothing. A
 -- conversion of the file has the same fault.

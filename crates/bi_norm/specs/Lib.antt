@@ -13,6 +13,7 @@ pub mod Comparing
 pub mod KnownConversions
 pub mod KnownPieces
 pub mod KnownBuildFaults
+pub mod KnownPlans
 pub mod KnownBounds
 pub mod KnownComparisons
 pub mod Laws

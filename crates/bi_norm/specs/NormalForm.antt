@@ -3,11 +3,13 @@ use Rattle.bi_base.specs.declared.fault.Error.{Error}
 use Rattle.bi_base.specs.Commands.{CommandPromise, PromiseLaws}
 use Rattle.bi_base.specs.Limits.{Limits}
 use Rattle.bi_fit.specs.declared.form.Form.{Form}
+use Rattle.bi_fit.specs.declared.kept.Kept.{Kept}
 use Rattle.bi_fit.specs.File.{FitMeans}
 use Rattle.bi_fit.specs.ImageTree.{ImageTree}
 use Rattle.bi_fit.specs.Judgement.{judgement}
+use Rattle.bi_fit.specs.Kept.{IsKept, SaysNothing}
 use Rattle.bi_fit.specs.Text.{fit_text}
-use Rattle.bi_norm.specs.Meaning.{Meaning, Means, normal_text, meaning_signature_count}
+use Rattle.bi_norm.specs.Meaning.{Meaning, OfFit, Means, normal_text, meaning_signature_count}
 use Rattle.bi_norm.specs.Reading.{IsReadErrorOrTooLarge}
 
 -- What normalising promises: two accepted files have the same normal form if and only if they mean
@@ -40,6 +42,20 @@ pub record IsNormaliseOutput (limits : Limits) (form : Form) (count : ℕ) (file
     pub normal : IsNormalForm limits form file text
     pub signatures : count ≡ meaning_signature_count normal.meaning
 
+-- What the text of `new` in a form keeps of where the payloads of a file are that means `old`.
+-- Nothing is said of them for a legacy image.
+abbrev pub IsKeptOfImage : Form → (file : List ℕ) → (old new : Meaning) → Kept → Type 0
+IsKeptOfImage form file (OfFit old) (OfFit new) kept = IsKept form file old new kept
+IsKeptOfImage form file old new kept = SaysNothing kept
+
+-- The text is the normal form of the file, and this is what it keeps of the file: the number counts
+-- the signature nodes.
+pub record IsNormaliseKept (limits : Limits) (form : Form) (kept : Kept) (file text : List ℕ)
+    : Type 0
+  where
+    pub output : IsNormaliseOutput limits form kept.signatures file text
+    pub is_kept : IsKeptOfImage form file output.normal.meaning output.normal.meaning kept
+
 -- The file means a FIT, and its normal text in this form is longer than the limit. The normal text
 -- of a legacy image is never longer than its file.
 pub record IsTooLong (limits : Limits) (form : Form) (file : List ℕ) : Type 0 where
@@ -64,6 +80,24 @@ normalise_promise form limits = record {
 pub normalise_laws : (form : Form) (limits : Limits) → PromiseLaws (normalise_promise form limits)
 normalise_laws form limits = record {
   is_text = λ count file text is. is.normal;
+  wraps_once = λ a b same. same;
+  no_read_error = λ file is. is;
+  no_write_error = λ file is. is;
+}
+
+-- What normalising promises as a command that says what is kept.
+abbrev pub normalise_with_kept_promise : Form → Limits → CommandPromise Kept Error
+normalise_with_kept_promise form limits = record {
+  is_output = λ kept file text. IsNormaliseKept limits form kept file text;
+  is_text = IsNormalForm limits form;
+  has_error = IsNormaliseError limits form;
+  wraps = λ error. error;
+}
+
+pub normalise_with_kept_laws : (form : Form) (limits : Limits)
+    → PromiseLaws (normalise_with_kept_promise form limits)
+normalise_with_kept_laws form limits = record {
+  is_text = λ kept file text is. is.output.normal;
   wraps_once = λ a b same. same;
   no_read_error = λ file is. is;
   no_write_error = λ file is. is;

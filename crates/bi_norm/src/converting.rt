@@ -10,7 +10,8 @@ mod images;
 
 use crate::keys::keys_of_type;
 use bi_base::{Cause, Error, Fault, Limits, Sink, VecSink, refuse};
-use bi_fit::{Form, Head, append_built};
+use bi_fit::{Form, Head, append_built_by_types};
+use bi_hash::Algo;
 use bi_legacy::codes::{arch_name, compression_name, os_name, type_name};
 use bi_legacy::offsets::{IH_ARCH, IH_COMP, IH_OS, IH_TYPE};
 use bi_legacy::{HEADER_SIZE, Legacy};
@@ -62,7 +63,16 @@ pub fn convert_into<S: Sink>(
         description: fields.name,
         time: fields.time,
     };
-    append_built(alloc, head, &images, Form::Embedded, limits, sink)
+    let algorithms = &[Algo::Sha256];
+    append_built_by_types(
+        alloc,
+        head,
+        &images,
+        algorithms,
+        Form::Embedded,
+        limits,
+        sink,
+    )
 }
 
 /// Checks that a legacy image can be converted, and returns the names of its codes. Fails with

@@ -1,7 +1,7 @@
-//! Small legacy images with what they are converted to, small inputs with their pieces, small trees
-//! that cannot be built, and small files that are compared or whose normal texts are too long. Each
-//! function does nothing: what it ensures is a fact about the definitions. One of them calls the
-//! function of a law, from which its fact follows.
+//! Small legacy images with what they are converted to, small inputs with their pieces, small plans,
+//! small trees that cannot be built, and small files that are compared or whose normal texts are too
+//! long. Each function does nothing: what it ensures is a fact about the definitions. One of them
+//! calls the function of a law, from which its fact follows.
 
 ghost use Rattle.bi_norm.specs.KnownConversions.{ConversionsAreKnown, ConvertFaultsAreKnown};
 ghost use Rattle.bi_norm.specs.KnownConversions.{TypesHaveTheirKeys};
@@ -9,6 +9,8 @@ ghost use Rattle.bi_norm.specs.KnownBounds.{TextBoundsAreKnown};
 ghost use Rattle.bi_norm.specs.KnownComparisons.{ComparedFilesAreKnown, CompareErrorsAreKnown};
 ghost use Rattle.bi_norm.specs.KnownPieces.{CutsAreKnown, CutFaultsAreKnown};
 ghost use Rattle.bi_norm.specs.KnownBuildFaults.{BuildFaultsAreKnown, RefusalsAreKnown};
+ghost use Rattle.bi_norm.specs.KnownPlans.{BuildPlansAreKnown, PlanFaultsAreKnown};
+ghost use Rattle.bi_norm.specs.KnownPlans.{PlanRefusalsAreKnown};
 
 /// Small legacy images of each type become images of known names, keys, compressions and addresses.
 pub fn conversions_are_known()
@@ -43,10 +45,24 @@ pub fn build_faults_are_known()
     ensures { BuildFaultsAreKnown }
 {}
 
-/// Building never runs out of memory if there are too many images, the description has a zero byte,
-/// or the first image has a type or code that is refused.
+/// Small plans have known defaults, and images of known texts. Without a default it is the first
+/// configuration.
+pub fn build_plans_are_known()
+    ensures { BuildPlansAreKnown }
+{}
+
+/// Small plans that cannot be built have known faults: each check of texts, of configurations and
+/// of the default is the first that fails for one of them. Of two checks that fail, the first in
+/// their order gives the fault.
+pub fn plan_faults_are_known()
+    ensures { PlanFaultsAreKnown }
+{}
+
+/// Building never runs out of memory if there are too many images or configurations, the
+/// description has a zero byte, or the first image has a type, a code or a text that is refused.
 pub fn refusals_need_no_memory()
-    ensures { RefusalsAreKnown }
+    ensures refusals { RefusalsAreKnown }
+    ensures plans { PlanRefusalsAreKnown }
 {}
 
 /// A kernel image means the same as one with bytes after it, and not the same as a multi-file

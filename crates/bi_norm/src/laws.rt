@@ -5,6 +5,7 @@ ghost use Rattle.bi_norm.specs.Converting.{ConvertedHasItsParts, ConvertedIsAcce
 ghost use Rattle.bi_norm.specs.Laws.{OneKind, OneFileMeaning, OneFileFault, FileHasNoFault};
 ghost use Rattle.bi_norm.specs.Laws.{FileMeaningOrFault, FileMeaningWhereNoFault};
 ghost use Rattle.bi_norm.specs.Laws.{NormalTextsDiffer, TextsOfKindsDiffer, TooLongIsRefused};
+ghost use Rattle.bi_norm.specs.Laws.{MeaningAlignedByFourIsExternal};
 
 /// No file is both a legacy image and a flattened image tree.
 pub fn one_kind()
@@ -61,13 +62,19 @@ pub fn normal_texts_differ()
     ensures { NormalTextsDiffer }
 {}
 
+/// The text of what a file means in the form Aligned, with the alignment 4, is its text in the form
+/// External.
+pub fn aligned_by_four_is_external()
+    ensures { MeaningAlignedByFourIsExternal }
+{}
+
 /// The flattened image tree that a legacy image is converted to has the parts as its payloads, in
 /// their order. Each verdict in it is Good, and its configuration lists its images.
 pub fn converted_has_its_parts()
     ensures { ConvertedHasItsParts }
 {}
 
-/// The text of this tree in either form, if it is no longer than the limit on files, is accepted
+/// The text of this tree in any form, if it is no longer than the limit on files, is accepted
 /// under limits that allow four open nodes, and means the tree. The limit on files is at most
 /// 0x7fffffff.
 pub fn converted_is_accepted()

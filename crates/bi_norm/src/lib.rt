@@ -15,13 +15,19 @@ mod legacy;
 mod legacy_text;
 mod normal_form;
 
-pub use bi_fit::{Form, Head};
+pub use bi_fit::{ConfigurationSpec, Form, Head, Kept};
 pub use comparing::same_meaning;
 pub use converting::{convert, convert_into};
 pub use cutting::cut;
-pub use fit_building::{ImageSpec, build_fit, build_fit_into};
+pub use fit_building::{
+    ImageSpec, ImageTexts, PlanSpec, build_fit, build_fit_aligned, build_fit_as, build_fit_as_into,
+    build_fit_into, lists_only,
+};
 pub use image::BootImage;
 pub use kind::{Kind, kind_of};
 pub use legacy::build_legacy;
 pub use legacy_text::append_legacy;
-pub use normal_form::{Normaliser, normalise, normalise_into, normalise_to};
+pub use normal_form::{
+    Normaliser, NormaliserWithKept, normalise, normalise_aligned, normalise_into, normalise_to,
+    normalise_with_kept,
+};

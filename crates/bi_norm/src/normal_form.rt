@@ -4,15 +4,17 @@ ghost use Rattle.std.specs.Prelude.{ℕ, List, ⊤, IfOk, IfErr};
 ghost use Rattle.bi_base.specs.Commands.{Appended, AppendFailed};
 ghost use Rattle.bi_base.specs.Pipes.{IsPiped};
 ghost use Rattle.bi_fit.specs.declared.form.Form.{Form};
+ghost use Rattle.bi_fit.specs.declared.form.Form.TheVariants.{Aligned};
 ghost use Rattle.bi_fit.specs.Reading.{IsReadFit};
 ghost use Rattle.bi_legacy.specs.Reading.{IsReadLegacy};
 ghost use Rattle.bi_norm.specs.NormalForm.{IsNormalForm, IsNormaliseError, IsNormaliseOutput};
-ghost use Rattle.bi_norm.specs.NormalForm.{normalise_promise, normalise_laws};
+ghost use Rattle.bi_norm.specs.NormalForm.{IsNormaliseKept, normalise_promise, normalise_laws};
+ghost use Rattle.bi_norm.specs.NormalForm.{normalise_with_kept_promise, normalise_with_kept_laws};
 
 use crate::image::BootImage;
 use crate::legacy_text::append_legacy;
-use bi_base::{Command, Error, Limits, Sink, VecSink, pipe_to};
-use bi_fit::{Fit, Form};
+use bi_base::{Align, Command, Error, Limits, Sink, VecSink, pipe_to};
+use bi_fit::{Fit, Form, Kept};
 use bi_legacy::Legacy;
 use std::alloc::Global;
 use std::io::{Read, Write};
@@ -53,6 +55,25 @@ pub fn normalise(alloc: Global, file: &[u8], form: Form, limits: Limits) -> Resu
     Ok(sink.into_vec())
 }
 
+/// Returns the text that `normalise` returns in the form External, but with this alignment instead
+/// of four: the length of the blob is a multiple of it, and each payload, even an empty one, begins
+/// at a multiple of it in the text. With the alignment 4 it is the text in the form External; with
+/// any other it is not a normal form. `align` has no effect on a legacy image.
+///
+/// The errors are those of `normalise`, for this text.
+pub fn normalise_aligned(
+    alloc: Global,
+    file: &[u8],
+    align: Align,
+    limits: Limits,
+) -> Result<Vec<u8>, Error>
+    ensures text { IfOk result (λ text.
+        IsNormalForm limits (Aligned align) file.now text.items) }
+    ensures failed { IfErr result (IsNormaliseError limits (Aligned align) file.now) }
+{
+    normalise(alloc, file, Form::Aligned(align), limits)
+}
+
 /// Appends the normal form of a boot image to a sink. Returns the number of signature nodes, which
 /// is 0 for a legacy image. No signature is checked.
 ///
@@ -72,42 +93,63 @@ pub fn normalise_into<S: Sink>(
     ensures failed { IfErr result (AppendFailed S.fails (IsNormalForm limits form file.now)
         (IsNormaliseError limits form file.now) sink.old sink.new) }
 {
+    let kept = normalise_with_kept(alloc, file, form, limits, sink)?;
+    Ok(kept.signatures)
+}
+
+/// Appends the normal form of a boot image to a sink, as `normalise_into` does. Returns what it
+/// keeps of the file that is no part of what the file means. Of a legacy image that is nothing: no
+/// signature nodes, no alignment and no positions.
+///
+/// The errors are those of `normalise_into`.
+pub fn normalise_with_kept<S: Sink>(
+    alloc: Global,
+    file: &[u8],
+    form: Form,
+    limits: Limits,
+    sink: &mut S,
+) -> Result<Kept, Error>
+    ensures appended { IfOk result (λ kept. Appended S.appends
+        (IsNormaliseKept limits form kept file.now) sink.old sink.new) }
+    ensures failed { IfErr result (AppendFailed S.fails (IsNormalForm limits form file.now)
+        (IsNormaliseError limits form file.now) sink.old sink.new) }
+{
     match BootImage::read(alloc, file, limits)? {
         BootImage::Legacy(image) => emit_legacy(alloc, &image, limits, sink),
         BootImage::Fit(fit) => emit_fit(alloc, &fit, form, limits, sink),
     }
 }
 
-/// Appends the normal form of a legacy image that was read under the limits, and returns 0, since
-/// it has no signature nodes.
+/// Appends the normal form of a legacy image that was read under the limits, and returns that
+/// nothing is said of it.
 fn emit_legacy<S: Sink>(
     alloc: Global,
     image: &Legacy<'_>,
     limits: Limits,
     sink: &mut S,
-) -> Result<usize, Error>
+) -> Result<Kept, Error>
     ensures appended { (form : Form) (file : List ℕ) → IsReadLegacy limits file image.now →
-        IfOk result (λ count. Appended S.appends (IsNormaliseOutput limits form count file)
+        IfOk result (λ kept. Appended S.appends (IsNormaliseKept limits form kept file)
         sink.old sink.new) }
     ensures failed { (form : Form) (file : List ℕ) → IsReadLegacy limits file image.now →
         IfErr result (AppendFailed S.fails (IsNormalForm limits form file)
         (IsNormaliseError limits form file) sink.old sink.new) }
 {
     append_legacy(alloc, image, image.fields().time, limits, sink)?;
-    Ok(0)
+    Ok(Kept::default())
 }
 
 /// Appends the normal form of a flattened image tree that was read under the limits, and returns
-/// the number of its signature nodes. All allocations are made before the first byte is appended.
+/// what it keeps. All allocations are made before the first byte is appended.
 fn emit_fit<S: Sink>(
     alloc: Global,
     fit: &Fit<'_>,
     form: Form,
     limits: Limits,
     sink: &mut S,
-) -> Result<usize, Error>
+) -> Result<Kept, Error>
     ensures appended { (file : List ℕ) → IsReadFit limits file fit.now →
-        IfOk result (λ count. Appended S.appends (IsNormaliseOutput limits form count file)
+        IfOk result (λ kept. Appended S.appends (IsNormaliseKept limits form kept file)
         sink.old sink.new) }
     ensures failed { (file : List ℕ) → IsReadFit limits file fit.now →
         IfErr result (AppendFailed S.fails (IsNormalForm limits form file)
@@ -115,7 +157,7 @@ fn emit_fit<S: Sink>(
 {
     let text = fit.text(alloc, form, limits)?;
     text.emit(sink)?;
-    Ok(fit.signature_count())
+    Ok(fit.kept(form, text.size()))
 }
 
 /// Normalising, as a command: `normalise_into` with `form`.
@@ -147,6 +189,37 @@ impl Command for Normaliser {
     ghost wraps_from = { λ _ _ _ _ same. same };
 
     ghost laws = { λ normaliser. normalise_laws normaliser.form };
+}
+
+/// Normalising, as a command that returns what is kept: `normalise_with_kept` with `form`.
+#[derive(Clone, Copy, Debug, PartialEq, Eq)]
+pub struct NormaliserWithKept {
+    /// Where the normal form of a flattened image tree has the payloads.
+    pub form: Form,
+}
+
+impl Command for NormaliserWithKept {
+    type Value = Kept;
+
+    type Failure = Error;
+
+    ghost can_run = { λ _. ⊤ };
+
+    ghost promise = { λ normaliser. normalise_with_kept_promise normaliser.form };
+
+    fn run<S: Sink>(
+        &self,
+        alloc: Global,
+        input: &[u8],
+        limits: Limits,
+        sink: &mut S,
+    ) -> Result<Kept, Error> {
+        normalise_with_kept(alloc, input, self.form, limits, sink)
+    }
+
+    ghost wraps_from = { λ _ _ _ _ same. same };
+
+    ghost laws = { λ normaliser. normalise_with_kept_laws normaliser.form };
 }
 
 /// Reads a boot image to its end, writes its normal form, and flushes: `pipe_to` with a

@@ -60,10 +60,10 @@ fn first_image<'a>(fields: Fields<'a>, names: CodeNames, key: Key, part: &'a [u8
     let has_addresses = has_addresses(key);
     NamedImage {
         name: image_name(key),
-        key,
-        arch: names.arch,
-        os: names.os,
-        compression: names.compression,
+        image_type: key.type_name().as_bytes(),
+        arch: names.arch.as_bytes(),
+        os: names.os.as_bytes(),
+        compression: names.compression.as_bytes(),
         load: has_addresses.then_some(fields.load),
         entry: has_addresses.then_some(fields.entry),
         payload: part,
@@ -78,10 +78,10 @@ fn later_image<'a>(names: CodeNames, key: Key, part: &'a [u8]) -> NamedImage<'a>
 {
     NamedImage {
         name: image_name(key),
-        key,
-        arch: names.arch,
-        os: names.os,
-        compression: "none",
+        image_type: key.type_name().as_bytes(),
+        arch: names.arch.as_bytes(),
+        os: names.os.as_bytes(),
+        compression: b"none",
         load: None,
         entry: None,
         payload: part,

@@ -1,10 +1,10 @@
-use Rattle.std.proofs.lemmas.Result.{err_from_is_err_and}
-use Rattle.bi_norm.proofs.BuiltTexts.{memory_build_error}
+use Rattle.std.proofs.Common.{subst, IfErr}
+use Rattle.bi_norm.specs.FitBuilding.{PlanSpecModel, IsBuildErrorAs}
 use Rattle.bi_norm.proofs.fit_building.build_fit.Goals as goal
 
-pub returns-in_err-build_fit_into-clause-failed : goal.returns-in_err-build_fit_into-clause-failed
-returns-in_err-build_fit_into-clause-failed c =
-    let p = err_from_is_err_and c.from_residual.result c.from_residual.ensures.1 in
-    rw (p.1, p.2)
-    (memory_build_error _ c.args.limits c.args.form c.args.head c.args.images.now _ _ c.in_err-build_fit_into.field-0.0
-    (λ text failed. failed.1) c.in_err-build_fit_into.ensures.failed)
+pub returns-clause-failed : goal.returns-clause-failed
+returns-clause-failed c =
+    subst
+    (λ (plan : PlanSpecModel). IfErr c.build_fit_as.result
+    (IsBuildErrorAs c.args.limits c.args.form c.args.head plan c.args.images.now))
+    c.new.ensures c.build_fit_as.ensures.failed

@@ -1,9 +1,11 @@
-use Rattle.std.proofs.Common.{◌≤◌, length, refl, sym, subst, arith}
+use Rattle.std.proofs.Common.{◌≤◌, length, refl, sym, ap, subst, ◌∙◌, arith}
 use Rattle.std.proofs.lemmas.Result.{err_from_is_err_and}
 use Rattle.bi_base.specs.Commands.{WasRefused, SinkFailed}
 use Rattle.bi_blob.specs.Layout.{longest_text}
-use Rattle.bi_norm.specs.NormalForm.{IsNormalForm, IsNormaliseOutput}
-use Rattle.bi_norm.proofs.NormalForms.{text_error, tree_normal_form, tree_normalised}
+use Rattle.bi_fit.specs.Content.{tree_of}
+use Rattle.bi_fit.proofs.KeptPayloads.{after_within}
+use Rattle.bi_norm.specs.NormalForm.{IsNormalForm, IsNormaliseKept}
+use Rattle.bi_norm.proofs.NormalForms.{text_error, tree_normal_form, tree_kept}
 use Rattle.bi_norm.proofs.normal_form.emit_fit.Goals as goal
 
 pub returns-in_err-text-clause-failed : goal.returns-in_err-text-clause-failed
@@ -22,6 +24,12 @@ returns-in_err-emit-clause-failed g c file opened =
     (tree_normal_form c.args.limits c.args.form file c.args.fit.now opened fits most) in
     rw (p.1, p.2) (SinkFailed c.in_ok-text.text c.in_err-emit.field-0.0 normal c.in_err-emit.ensures refl)
 
+pub kept-requires-clause-after : goal.kept-requires-clause-after
+kept-requires-clause-after g c =
+    let tree = tree_of c.args.fit.now in
+    let same = ap length c.in_ok-text.ensures.text.is_text in
+    omega (arith, after_within c.args.form tree, same, c.size.ensures.size)
+
 pub returns-clause-appended : goal.returns-clause-appended
 returns-clause-appended g c file opened =
     let most : c.args.limits.file ≤ longest_text = omega arith in
@@ -29,8 +37,8 @@ returns-clause-appended g c file opened =
     let fits = subst (λ text. length text ≤ c.args.limits.file) made.is_text made.short in
     record {
       text = c.in_ok-text.text;
-      is_text = subst (IsNormaliseOutput c.args.limits c.args.form c.signature_count.result file) (sym made.is_text)
-          (tree_normalised c.args.limits c.args.form file c.args.fit.now c.signature_count.result opened fits
-          most c.signature_count.ensures);
+      is_text = subst (IsNormaliseKept c.args.limits c.args.form c.kept.result file) (sym made.is_text)
+          (tree_kept c.args.limits c.args.form file c.args.fit.now c.kept.result opened fits most c.kept.ensures.signatures
+          (c.kept.ensures.kept (tree_of c.args.fit.now) refl (ap length (sym made.is_text) ∙ sym c.size.ensures.size)));
       appended = c.in_ok-emit.ensures;
     }

@@ -2,7 +2,7 @@ use Rattle.std.proofs.Common.{◌≡◌, List, ℕ, ap, subst}
 use Rattle.std.proofs.lemmas.Result.{err_from_is_err_and}
 use Rattle.bi_legacy.specs.Meaning.{with_new_time}
 use Rattle.bi_legacy.specs.Text.{legacy_text}
-use Rattle.bi_norm.proofs.NormalForms.{legacy_normalised, legacy_not_written}
+use Rattle.bi_norm.proofs.NormalForms.{legacy_kept, legacy_not_written}
 use Rattle.bi_norm.proofs.normal_form.emit_legacy.Goals as goal
 
 pub returns-in_err-append_legacy-clause-failed : goal.returns-in_err-append_legacy-clause-failed
@@ -24,7 +24,8 @@ returns-clause-appended g c form file opened =
     ≡ legacy_text parsed.image = ap (λ (time : ℕ). legacy_text (with_new_time time parsed.image)) is_time in
     record {
       text = legacy_text parsed.image;
-      is_text = legacy_normalised c.args.limits form file parsed opened;
+      is_text = legacy_kept c.args.limits form file parsed c.default.result opened c.default.ensures.0
+          (record { alignment = c.default.ensures.1.0; positions = c.default.ensures.1.1 });
       appended = subst (λ (text : List ℕ). appends c.args.sink.now text c.append_legacy.new.sink) same
           (c.in_ok-append_legacy.ensures.appended file opened);
     }
