@@ -4,3 +4,4 @@ pub mod CleanImages
 pub mod CleanConfigurations
 pub mod ContentEnds
 pub mod EmptyIsClean
+pub mod BuiltIsClean

@@ -18,6 +18,7 @@ pub mod ListedResults
 pub mod LinesLeft
 pub mod ConcernTexts
 pub mod OffsetLists
+pub mod ImageStarts
 pub mod ScanClaims
 pub mod ScannedLines
 pub mod ScanLaws

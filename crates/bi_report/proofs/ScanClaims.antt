@@ -1,5 +1,5 @@
 use Rattle.std.proofs.Common.{◌≡◌, ◌⊎◌, ℕ, zero, suc, ◌+◌, ◌-◌, ◌<◌, ◌≤◌, List, [], ◌∷◌, ◌++◌, length, inl, inr}
-use Rattle.std.proofs.Common.{refl, sym, ap, ap₂, subst, ◌∙◌, arith}
+use Rattle.std.proofs.Common.{refl, sym, ap, ap₂, subst, subst₂, ◌∙◌, arith}
 use Rattle.std.specs.List.{AllZip, range_with_len, sum}
 use Rattle.std.proofs.lemmas.List.Sums.{sum_by_push}
 use Rattle.std.proofs.lemmas.Bool.{cases_eq}
@@ -16,7 +16,9 @@ use Rattle.bi_norm.specs.declared.kind.Kind.{Kind}
 use Rattle.bi_norm.specs.declared.kind.Kind.TheVariants as kind
 use Rattle.bi_norm.specs.Kinds.{BeginsAs, IsKindFault, TooShort, OfNoKind, magic_of}
 use Rattle.bi_common.specs.Offsets.{input_from}
-use Rattle.bi_report.specs.Scanning.{HasBlobClaim, HasLegacyClaim, IsClaim, IsOverClaims, OfBlob, OfData, OfNothing}
+use Rattle.bi_report.specs.Scanning.{ClaimsNothing, HasBlobClaim, HasLegacyClaim, IsClaim, IsOverClaims, IsWithinClaims, OfBlob, OfData}
+use Rattle.bi_report.specs.Scanning.{OfNothing}
+use Rattle.bi_report.specs.ImageStarts.{HasNoStart, IsNextStart, ImageStartsModel}
 use Rattle.bi_report.specs.ScanLaws.{ScanHasNoFault}
 use Rattle.bi_report.specs.Scanning.{blob_claim_checks, input_offsets, legacy_claim_checks}
 use Rattle.bi_report.proofs.OffsetLists.{next_offset}
@@ -90,6 +92,112 @@ next_claim input image count total claim (claims, are, same) is claimed = (
       (subst (λ (image : List ℕ). IsClaim image claim) is claimed),
   sum_by_push (λ (each : ℕ). each) claims claim ∙ ap (λ (n : ℕ). n + claim) same,
 )
+
+-- Images that claim nothing add nothing.
+claims_of_more : (input : List ℕ) (count total more : ℕ) → HasFirstClaims input count total → ClaimsNothing input count (count + more) →
+    HasFirstClaims input (count + more) total
+claims_of_more input count total zero first nothing =
+    subst (λ (count : ℕ). HasFirstClaims input count total) (let same : count ≡ count + zero = omega arith in same) first
+claims_of_more input count total (suc more) first nothing =
+    subst₂ (HasFirstClaims input) (let same : count + 1 + more ≡ count + suc more = omega arith in same)
+    (let same : total + 0 ≡ total = omega arith in same)
+    (claims_of_more input (count + 1) (total + 0) more
+    (next_claim input (input_from count input) count total 0 first refl (nothing count (omega arith) (omega arith)))
+    (λ offset after before. nothing offset (omega (arith, after)) (omega (arith, before))))
+
+claims_to : (input : List ℕ) (count total end : ℕ) → count ≤ end → HasFirstClaims input count total → ClaimsNothing input count end →
+    HasFirstClaims input end total
+claims_to input count total end order first nothing =
+    let same : count + (end - count) ≡ end = omega (arith, order) in
+    subst (λ (count : ℕ). HasFirstClaims input count total) same
+    (claims_of_more input count total (end - count) first (λ offset after before. nothing offset after (omega (arith, before, order))))
+
+-- Images in a row claim nothing if the first ones and the later ones do not.
+nothing_in_row : (input : List ℕ) (from middle end : ℕ) → ClaimsNothing input from middle → ClaimsNothing input middle end →
+    ClaimsNothing input from end
+nothing_in_row input from middle end first later offset after before = by (le_decided middle offset) where
+  by : IsDecided (middle ≤ offset) → IsClaim (input_from offset input) 0
+  by (inl late) = later offset late before
+  by (inr early) = first offset after (omega (arith, early))
+
+-- No image claims anything where none begins.
+no_start_claims_nothing : (input : List ℕ) (from end : ℕ) → HasNoStart input from end → ClaimsNothing input from end
+no_start_claims_nothing input from end none offset after before =
+    OfNothing (λ claim. none offset after before kind.Legacy claim.begins) (λ claim. none offset after before kind.Fit claim.begins) refl
+
+-- The claims of the images before the offsets that are left have this many bytes together, and those from `end` on claim nothing.
+pub record HasCounted (input : List ℕ) (left : ImageStartsModel) (total end : ℕ) : Type 0 where
+  pub counted : HasFirstClaims input left.from total
+  pub nothing : ClaimsNothing input end left.from
+  pub is_input : left.input ≡ input
+  pub is_end : left.end ≡ length input
+  pub are_left : left.from ≤ left.end
+  pub passed : end ≤ left.from
+
+pub before_claims : (input : List ℕ) (left : ImageStartsModel) → left ≡ record { input = input; from = 0; end = length input } →
+    HasCounted input left 0 0
+before_claims input left is =
+    subst (λ (left : ImageStartsModel). HasCounted input left 0 0) (sym is)
+    (record {
+      counted = ([], tt, refl);
+      nothing = λ offset after before. absurd (omega (arith, before));
+      is_input = refl;
+      is_end = refl;
+      are_left = omega arith;
+      passed = omega arith;
+    })
+
+-- The next image adds its claim.
+pub counted_next : (input image : List ℕ) (left after : ImageStartsModel) (total end offset claim new_end : ℕ) →
+    HasCounted input left total end → IsNextStart left offset after → image ≡ input_from offset input → IsClaim image claim →
+    (0 < claim → new_end ≡ offset + 1) → (claim ≡ 0 → new_end ≡ end) → HasCounted input after (total + claim) new_end
+counted_next input image left after total end offset claim new_end old next is claimed with_claim without =
+    subst (λ (left : ImageStartsModel). HasCounted input left (total + claim) new_end) (sym next.is_after)
+    (record {
+      counted = next_claim input image offset total claim (claims_to input left.from total offset next.is_left old.counted between) is
+          claimed;
+      nothing = nothing_from claim claimed with_claim without;
+      is_input = old.is_input;
+      is_end = old.is_end;
+      are_left = omega (arith, next.within);
+      passed = passed_by claim with_claim without;
+    })
+  where
+    between : ClaimsNothing input left.from offset
+    between =
+        no_start_claims_nothing input left.from offset
+        (subst (λ (input : List ℕ). HasNoStart input left.from offset) old.is_input next.no_start)
+
+    passed_by : (claim : ℕ) → (0 < claim → new_end ≡ offset + 1) → (claim ≡ 0 → new_end ≡ end) → new_end ≤ offset + 1
+    passed_by zero with_claim without = omega (arith, without refl, old.passed, next.is_left)
+    passed_by (suc more) with_claim without = omega (arith, with_claim (omega arith))
+
+    nothing_from : (claim : ℕ) → IsClaim image claim → (0 < claim → new_end ≡ offset + 1) → (claim ≡ 0 → new_end ≡ end) →
+        ClaimsNothing input new_end (offset + 1)
+    nothing_from zero claimed with_claim without =
+        subst (λ (end : ℕ). ClaimsNothing input end (offset + 1)) (sym (without refl))
+        (nothing_in_row input end left.from (offset + 1) old.nothing
+        (nothing_in_row input left.from offset (offset + 1) between
+        (λ at from before. subst (λ (image : List ℕ). IsClaim image 0)
+        (is ∙ ap (λ (at : ℕ). input_from at input) (let same : offset ≡ at = omega (arith, from, before) in same)) claimed)))
+    nothing_from (suc more) claimed with_claim without =
+        λ at from before. absurd (omega (arith, from, before, with_claim (omega arith)))
+
+-- These are the claims of all images if no image begins at an offset that is left.
+pub all_claims_counted : (limits : Limits) (input : List ℕ) (left : ImageStartsModel) (total end : ℕ) → HasCounted input left total end →
+    HasNoStart left.input left.from left.end → total ≤ limits.file → IsWithinClaims limits input × ClaimsNothing input end (length input)
+all_claims_counted limits input left total end old none within = (
+  record { claims = all.0; are_claims = all.1; within = omega (arith, within, all.2) },
+  nothing_in_row input end left.from (length input) old.nothing rest,
+)
+  where
+    rest : ClaimsNothing input left.from (length input)
+    rest =
+        no_start_claims_nothing input left.from (length input)
+        (subst₂ (λ input end. HasNoStart input left.from end) old.is_input old.is_end none)
+
+    all : HasFirstClaims input (length input) total
+    all = claims_to input left.from total (length input) (omega (arith, old.are_left, old.is_end)) old.counted rest
 
 -- So more images claim at least as much.
 more_claims : (input : List ℕ) (count total more : ℕ) → HasFirstClaims input count total →

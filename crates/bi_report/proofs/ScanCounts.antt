@@ -22,8 +22,9 @@ use Rattle.bi_norm.specs.Meaning.{Meaning, OfLegacy, OfFit, Means}
 use Rattle.bi_norm.proofs.FilesWithoutMeaning.{means_legacy}
 use Rattle.bi_common.specs.Offsets.{input_from}
 use Rattle.bi_report.specs.ScanLaws.{LinesAreFew, line_count}
-use Rattle.bi_report.specs.Scanning.{IsClaim, IsLineAt, OfBlob, OfData, WithImage, WithoutImage, input_offsets}
+use Rattle.bi_report.specs.Scanning.{ClaimsNothing, IsClaim, IsLineAt, OfBlob, OfData, WithImage, WithoutImage, input_offsets}
 use Rattle.bi_report.proofs.ScanClaims.{one_claim}
+use Rattle.bi_report.proofs.ScannedLines.{HasNoImage}
 
 -- Each image that is accepted claims 64 bytes at least, so a scan has few lines.
 
@@ -128,6 +129,13 @@ accepted_claim limits image (OfFit tree) means =
       blob_is_wide image tree.cpu tree.reservations means.is_file.root means.is_file.blob
           (has_child means.is_file.root.children means.is_file.images means.is_file.has_images),
     )
+
+-- So an image that claims nothing is not accepted.
+pub no_claim_no_image : (limits : Limits) (input : List ℕ) (from end : ℕ) → ClaimsNothing input from end → HasNoImage limits input from end
+no_claim_no_image limits input from end nothing offset after before meaning means =
+    let accepted = accepted_claim limits (input_from offset input) meaning means in
+    let one : 0 ≡ accepted.0 = one_claim (input_from offset input) 0 accepted.0 (nothing offset after before) accepted.1 in
+    omega (arith, one, accepted.2)
 
 -- A line counts once if it is not empty, and its image claims 64 bytes or more.
 line_claims : (limits : Limits) (input : List ℕ) (offset : ℕ) (text : List ℕ) (claim : ℕ) → IsLineAt limits input offset text →

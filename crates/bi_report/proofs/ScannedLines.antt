@@ -1,5 +1,6 @@
-use Rattle.std.proofs.Common.{◌≡◌, ℕ, ◌+◌, true, Result, Ok, Err, OnOk, IfErr, is_err, List, [], ◌∷◌, ◌++◌, length}
-use Rattle.std.proofs.Common.{codes, refl, sym, ap, subst, ◌∙◌, append-nil, append_assoc, arith}
+use Rattle.std.proofs.Common.{◌≡◌, ℕ, zero, suc, ◌+◌, ◌-◌, ◌<◌, ◌≤◌, true, Result, Ok, Err, OnOk, IfErr, is_err}
+use Rattle.std.proofs.Common.{List, [], ◌∷◌, ◌++◌, length}
+use Rattle.std.proofs.Common.{codes, refl, sym, ap, subst, subst₂, ◌∙◌, append-nil, append_assoc, arith}
 use Rattle.std.specs.Prelude.{IsAscii}
 use Rattle.std.specs.Fmt.{decimal}
 use Rattle.std.specs.List.{AllZip, concat, range_with_len}
@@ -27,6 +28,7 @@ use Rattle.bi_common.specs.Offsets.{input_from}
 use Rattle.bi_common.specs.Shown.{line, shown_text}
 use Rattle.bi_common.proofs.AsciiTexts.{HasAscii, ascii_line, both, by_test, decimal_shown, is_ascii, name_shown}
 use Rattle.bi_report.specs.ReadChecking.{end_of_read_payloads}
+use Rattle.bi_report.specs.ImageStarts.{HasNoStart, IsNextStart, ImageStartsModel}
 use Rattle.bi_report.specs.Scanning.{HasLines, IsLineAt, IsScanText, WithImage, WithoutImage, input_offsets}
 use Rattle.bi_report.proofs.CheckedFiles.{content_end_read}
 use Rattle.bi_report.proofs.OffsetLists.{next_offset}
@@ -118,15 +120,16 @@ pub fit_line_written : (limits : Limits) (input image lines new : List ℕ) (off
 fit_line_written limits input image lines new offset content result is read wrote =
     written_line limits input lines _ new offset result (fit_line_at limits image input offset content is read) wrote
 
+-- No image means anything that begins at an offset from `from` on and before `end`.
+abbrev pub HasNoImage : Limits → (input : List ℕ) → (from end : ℕ) → Type 0
+HasNoImage limits input from end = (offset : ℕ) → from ≤ offset → offset < end → MeansNothing limits (input_from offset input)
+
 -- The lines of the first offsets were appended.
-abbrev pub HasFirstLines : Limits → (input : List ℕ) → (count : ℕ) → (old new : List ℕ) → Type 0
+abbrev HasFirstLines : Limits → (input : List ℕ) → (count : ℕ) → (old new : List ℕ) → Type 0
 HasFirstLines limits input count old new =
     (lines : List (List ℕ)) × AllZip (IsLineAt limits input) (range_with_len 0 count) lines × (new ≡ old ++ concat lines)
 
-pub before_lines : (limits : Limits) (input lines : List ℕ) → HasFirstLines limits input 0 lines lines
-before_lines limits input lines = ([], tt, sym (append-nil lines))
-
-pub next_line : (limits : Limits) (input old lines new : List ℕ) (count : ℕ) → HasFirstLines limits input count old lines →
+next_line : (limits : Limits) (input old lines new : List ℕ) (count : ℕ) → HasFirstLines limits input count old lines →
     Appended Grows (IsLineAt limits input count) lines new → HasFirstLines limits input (count + 1) old new
 next_line limits input old lines new count (first, are, same) appended = (
   first ++ appended.text ∷ [],
@@ -137,17 +140,79 @@ next_line limits input old lines new count (first, are, same) appended = (
       ∙ ap (λ l. old ++ l) (sym (concat-append first (appended.text ∷ []) ∙ ap (λ l. concat first ++ l) (append-nil appended.text))),
 )
 
-pub all_lines : (limits : Limits) (input old new : List ℕ) (count : ℕ) → count ≡ length input → HasFirstLines limits input count old new →
+-- There are no lines for images that mean nothing.
+lines_of_more : (limits : Limits) (input old new : List ℕ) (count more : ℕ) → HasFirstLines limits input count old new →
+    HasNoImage limits input count (count + more) → HasFirstLines limits input (count + more) old new
+lines_of_more limits input old new count zero first none =
+    subst (λ (count : ℕ). HasFirstLines limits input count old new) (let same : count ≡ count + zero = omega arith in same) first
+lines_of_more limits input old new count (suc more) first none =
+    subst (λ (count : ℕ). HasFirstLines limits input count old new) (let same : count + 1 + more ≡ count + suc more = omega arith in same)
+    (lines_of_more limits input old new (count + 1) more
+    (next_line limits input old new new count first
+    (record { text = []; is_text = WithoutImage (none count (omega arith) (omega arith)) refl; appended = grows_nothing new }))
+    (λ offset after before. none offset (omega (arith, after)) (omega (arith, before))))
+
+lines_to : (limits : Limits) (input old new : List ℕ) (count end : ℕ) → count ≤ end → HasFirstLines limits input count old new →
+    HasNoImage limits input count end → HasFirstLines limits input end old new
+lines_to limits input old new count end order first none =
+    let same : count + (end - count) ≡ end = omega (arith, order) in
+    subst (λ (count : ℕ). HasFirstLines limits input count old new) same
+    (lines_of_more limits input old new count (end - count) first (λ offset after before. none offset after (omega (arith, before, order))))
+
+no_start_no_image : (limits : Limits) (input : List ℕ) (from end : ℕ) → HasNoStart input from end → HasNoImage limits input from end
+no_start_no_image limits input from end none offset after before meaning means =
+    let begins = means_kind limits (input_from offset input) meaning means in none offset after before begins.0 begins.1
+
+-- The lines of the images before the offsets that are left were appended.
+pub record HasLinesBefore (limits : Limits) (input : List ℕ) (left : ImageStartsModel) (end : ℕ) (old new : List ℕ) : Type 0 where
+  pub lines : HasFirstLines limits input left.from old new
+  pub is_input : left.input ≡ input
+  pub is_end : left.end ≡ end
+  pub are_left : left.from ≤ left.end
+
+pub before_lines : (limits : Limits) (input lines : List ℕ) (left : ImageStartsModel) (end : ℕ) →
+    left ≡ record { input = input; from = 0; end = end } → HasLinesBefore limits input left end lines lines
+before_lines limits input lines left end is =
+    subst (λ (left : ImageStartsModel). HasLinesBefore limits input left end lines lines) (sym is)
+    (record { lines = ([], tt, sym (append-nil lines)); is_input = refl; is_end = refl; are_left = omega arith })
+
+pub lines_at_start : (limits : Limits) (input old lines new : List ℕ) (left after : ImageStartsModel) (end offset : ℕ) →
+    HasLinesBefore limits input left end old lines → IsNextStart left offset after →
+    Appended Grows (IsLineAt limits input offset) lines new → HasLinesBefore limits input after end old new
+lines_at_start limits input old lines new left after end offset before next appended =
+    subst (λ (left : ImageStartsModel). HasLinesBefore limits input left end old new) (sym next.is_after)
+    (record {
+      lines = next_line limits input old lines new offset
+          (lines_to limits input old lines left.from offset next.is_left before.lines
+          (no_start_no_image limits input left.from offset
+          (subst (λ (input : List ℕ). HasNoStart input left.from offset) before.is_input next.no_start)))
+          appended;
+      is_input = before.is_input;
+      is_end = before.is_end;
+      are_left = omega (arith, next.within);
+    })
+
+-- These are all lines if no image begins at an offset that is left, and none claims anything after them.
+pub all_lines : (limits : Limits) (input old new : List ℕ) (left : ImageStartsModel) (end : ℕ) → end ≤ length input →
+    HasLinesBefore limits input left end old new → HasNoStart left.input left.from left.end → HasNoImage limits input end (length input) →
     Appended Grows (HasLines limits input) old new
-all_lines limits input old new count is (lines, are, same) = record {
-  text = concat lines;
-  is_text = record {
-    lines = lines;
-    are_lines = subst (λ (count : ℕ). AllZip (IsLineAt limits input) (range_with_len 0 count) lines) is are;
-    is_text = refl;
-  };
-  appended = same;
+all_lines limits input old new left end within before none later = record {
+  text = concat all.0;
+  is_text = record { lines = all.0; are_lines = all.1; is_text = refl };
+  appended = all.2;
 }
+  where
+    order : left.from ≤ end
+    order = omega (arith, before.are_left, before.is_end)
+
+    to_end : HasFirstLines limits input end old new
+    to_end =
+        lines_to limits input old new left.from end order before.lines
+        (no_start_no_image limits input left.from end
+        (subst₂ (λ input end. HasNoStart input left.from end) before.is_input before.is_end none))
+
+    all : HasFirstLines limits input (length input) old new
+    all = lines_to limits input old new end (length input) within to_end later
 
 -- A line is ASCII.
 ascii_line_at : (limits : Limits) (input : List ℕ) (offset : ℕ) (text : List ℕ) → IsLineAt limits input offset text → HasAscii text

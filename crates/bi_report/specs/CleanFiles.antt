@@ -1,16 +1,20 @@
-use Rattle.std.specs.Prelude.{ℕ, ◌+◌, ◌-◌, ◌≡◌, ◌≢◌, ◌≤◌, ◌↔◌, IsFalse, IsSome, IfSome, Option}
+use Rattle.std.specs.Prelude.{ℕ, ◌+◌, ◌-◌, ◌≡◌, ◌≢◌, ◌≤◌, ◌↔◌, ◌⊎◌, IsFalse, IsSome, IfSome, Option}
 use Rattle.std.specs.Prelude.{Some, List, [], drop, length}
 use Rattle.std.specs.List.{AllByRecursion, AllZip, Contains, slice_get}
 use Rattle.bi_base.specs.Limits.{Limits}
 use Rattle.bi_blob.specs.Blob.{totalsize}
 use Rattle.bi_blob.specs.Tree.{Nodes, FileNode, names}
 use Rattle.bi_fit.specs.declared.key.Key.{Key}
+use Rattle.bi_fit.specs.Building.{HeadModel, PlanModel, ImageSpecModel, CanBeBuilt, IsPlanFor}
+use Rattle.bi_fit.specs.Building.{built_tree, names_of_images}
 use Rattle.bi_fit.specs.File.{FitMeans}
 use Rattle.bi_fit.specs.ImageTree.{ImageTree, each_own}
 use Rattle.bi_fit.specs.Judgement.{Image, images_of, CheckedHash, verdicts_of, BadList}
 use Rattle.bi_fit.specs.Judgement.{Missing, configuration_nodes, listed_of, default_of}
 use Rattle.bi_fit.specs.Payloads.{source_of, payload_place, IsAt}
+use Rattle.bi_hash.specs.declared.algo.Algo.{Algo}
 use Rattle.bi_hash.specs.declared.verdicts.Verdict.TheVariants.{Good}
+use Rattle.bi_hash.specs.Algos.{algorithm_name}
 use Rattle.bi_legacy.specs.Reading.{LegacyModel, IsReadLegacy}
 use Rattle.bi_common.specs.declared.format.Format.TheVariants.{Lines}
 use Rattle.bi_report.specs.declared.check.Allowed.{Allowed}
@@ -119,3 +123,18 @@ EmptyIsClean =
     (allowed : Allowed) (limits : Limits) (file text : List ℕ)
     → IsChecked Lines allowed limits file text
     → (text ≡ []) ↔ IsClean allowed limits file
+
+-- One of these algorithms is strong.
+pub record HasStrongAlgorithm (algorithms : List Algo) : Type 0 where
+  pub algo : Algo
+  pub is_there : Contains algorithms algo
+  pub is_strong : Contains strong_algorithms (algorithm_name algo)
+
+-- The law that nothing in an image tree that is built is a concern, if one of the algorithms of its
+-- hash nodes is strong, or if it has no image.
+abbrev pub BuiltIsClean : Type 0
+BuiltIsClean =
+    (allowed : Allowed) (head : HeadModel) (plan : PlanModel) (images : List ImageSpecModel)
+    → CanBeBuilt head images → IsPlanFor (names_of_images images) plan
+    → HasStrongAlgorithm plan.algorithms ⊎ (images ≡ [])
+    → IsCleanTree allowed (built_tree head plan images)

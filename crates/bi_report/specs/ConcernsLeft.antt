@@ -8,7 +8,7 @@ use Rattle.bi_report.specs.declared.check.configurations.AllConfigurationConcern
 use Rattle.bi_report.specs.declared.check.configurations.ConfigurationConcerns as one
 use Rattle.bi_report.specs.declared.check.images.AllImageConcerns.{AllImageConcerns}
 use Rattle.bi_report.specs.declared.check.images.ImageConcerns.{ImageConcerns}
-use Rattle.bi_report.specs.Children.{children_left}
+use Rattle.bi_fit.specs.Siblings.{siblings_left}
 use Rattle.bi_report.specs.ConcernValues.{found_or_none, left_or_none}
 use Rattle.bi_report.specs.FoundConcerns.{FoundConcern, found_in_configuration, found_in_fit}
 use Rattle.bi_report.specs.FoundConcerns.{found_in_hash, found_in_image, found_in_key}
@@ -37,7 +37,7 @@ configuration_left left =
 abbrev pub configurations_left : all.AllConfigurationConcerns → List FoundConcern
 configurations_left left =
     left_or_none configuration_left left.current
-    ++ flat_map (found_in_configuration left.fit.now.images) (children_left left.nodes)
+    ++ flat_map (found_in_configuration left.fit.now.images) (siblings_left left.nodes)
 
 -- The concerns about what was read from a file.
 abbrev pub found_in_content : List ℕ → CheckedContent → List FoundConcern

@@ -139,7 +139,8 @@ listed_reservation = record { address = 0x1000; size = 0x20 } ∷ []
 -- A file with these image nodes and this reservation, with the boot processor 3, and with seven
 -- bytes after its blob of 276 bytes.
 abbrev pub source_file : List ℕ
-source_file = text_of_tree 3 listed_reservation (tree_with_images each_source) ++ codes "1234xyz"
+source_file =
+    text_of_tree 4 3 listed_reservation (tree_with_images each_source) ++ codes "1234xyz"
 
 abbrev pub source_root : Root FileNode
 source_root = tree_with_places listed_reservation (tree_with_images each_source)

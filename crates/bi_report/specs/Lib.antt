@@ -14,7 +14,6 @@ pub mod KnownConcerns
 pub mod KnownTexts
 pub mod LineValues
 pub mod ReadReports
-pub mod Children
 pub mod Listed
 pub mod ListingJson
 pub mod ReportJson
@@ -22,6 +21,7 @@ pub mod ConcernJson
 pub mod JsonLaws
 pub mod VerifiedFiles
 pub mod ListedFiles
+pub mod ImageStarts
 pub mod Scanning
 pub mod ScanLaws
 pub mod KnownScans

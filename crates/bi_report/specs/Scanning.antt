@@ -59,6 +59,11 @@ pub data IsClaim (image : List ℕ) (claim : ℕ) : Type 0 where
   OfBlob : HasBlobClaim image → claim ≡ totalsize image → IsClaim image claim
   OfNothing : ¬ (HasLegacyClaim image) → ¬ (HasBlobClaim image) → claim ≡ 0 → IsClaim image claim
 
+-- The images claim nothing that begin at an offset from `from` on and before `end`.
+abbrev pub ClaimsNothing : (input : List ℕ) → (from end : ℕ) → Type 0
+ClaimsNothing input from end = (offset : ℕ) → from ≤ offset → offset < end
+    → IsClaim (input_from offset input) 0
+
 -- These are the claims of the images at all offsets of an input.
 abbrev pub AreClaims : (input : List ℕ) → (claims : List ℕ) → Type 0
 AreClaims input claims =

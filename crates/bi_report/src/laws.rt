@@ -1,7 +1,7 @@
 //! Laws of what is listed, reported, checked and found. Their functions do nothing: what each of
 //! them ensures is the law.
 
-ghost use Rattle.bi_report.specs.CleanFiles.{EmptyIsClean};
+ghost use Rattle.bi_report.specs.CleanFiles.{BuiltIsClean, EmptyIsClean};
 ghost use Rattle.bi_report.specs.JsonLaws.{ConcernsAreJson, ListingsAreJson, ReportsAreJson};
 ghost use Rattle.bi_report.specs.ScanLaws.{EachImageHasItsLine, LinesAreFew, OneScan};
 ghost use Rattle.bi_report.specs.ScanLaws.{ScanHasNoFault, ScannedImagesAreWhole};
@@ -10,6 +10,12 @@ ghost use Rattle.bi_report.specs.ScanLaws.{ScanHasNoFault, ScannedImagesAreWhole
 /// protected, but for what is allowed.
 pub fn empty_is_clean()
     ensures { EmptyIsClean }
+{}
+
+/// Nothing in an image tree that is built is a concern, if one of the algorithms of its hash nodes
+/// is strong, or if it has no image.
+pub fn built_is_clean()
+    ensures { BuiltIsClean }
 {}
 
 /// A boot image that is found inside a file, cut out at its offset and with its extent, is accepted

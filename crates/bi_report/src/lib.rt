@@ -3,10 +3,9 @@
 #![tactic(auto)]
 
 pub mod check;
-pub mod children;
 pub mod known_texts;
 pub mod laws;
 pub mod list;
-pub mod listed;
+mod listed;
 pub mod scan;
 pub mod verify;

@@ -1,15 +1,12 @@
 //! What a configuration lists, read from its node, so that no list is made in memory.
 
 ghost use Rattle.std.specs.Prelude.{◌≡◌};
-ghost use Rattle.bi_blob.specs.Lookups.{siblings};
 ghost use Rattle.bi_fdt.specs.Views.{node_of};
-ghost use Rattle.bi_fit.specs.HashNodes.{file_configurations, file_listed, file_listed_in};
+ghost use Rattle.bi_fit.specs.HashNodes.{file_listed, file_listed_in};
 ghost use Rattle.bi_fit.specs.Judgement.{listed_names};
-ghost use Rattle.bi_report.specs.Children.{children_left};
 ghost use Rattle.bi_report.specs.Listed.{IsListed};
 ghost use Rattle.bi_report.specs.ReadListing.{first_missing as first_missing_of};
 
-use crate::children::Children;
 use bi_fdt::NodeRef;
 use bi_fit::{Fit, Key, split_name};
 
@@ -64,11 +61,4 @@ fn first_missing(fit: &Fit, value: &[u8]) -> Option<usize>
         rest = later;
     }
     None
-}
-
-/// Returns the nodes of the configurations, in their order in the file.
-pub fn configuration_nodes<'a, 'b>(fit: &'b Fit<'a>) -> Children<'a, 'b>
-    ensures { children_left result ≡ siblings (file_configurations fit.entry.now.blob) }
-{
-    Children::of(fit.blob().root().child(b"configurations"))
 }

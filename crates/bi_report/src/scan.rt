@@ -2,6 +2,7 @@
 
 mod blob_claims;
 mod claims;
+mod image_starts;
 mod lines;
 
 ghost use Rattle.std.specs.Prelude.{◌≡◌, ◌<◌, ◌≤◌, ⊤, IfErr, IfOk, OnOk, length, string_bytes};
@@ -43,9 +44,9 @@ fn scan_bytes(alloc: Global, file: &[u8], limits: Limits) -> Result<Vec<u8>, Err
     ensures failed { IfErr result (IsScanError limits file.now) }
 {
     check_length(file, limits)?;
-    check_claims(file, limits)?;
+    let end = check_claims(file, limits)?;
     let mut lines = VecSink::new(alloc);
-    put_lines(alloc, file, limits, &mut lines)?;
+    put_lines(alloc, file, end, limits, &mut lines)?;
     Ok(lines.into_vec())
 }
 

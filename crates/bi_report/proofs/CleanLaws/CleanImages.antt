@@ -60,7 +60,7 @@ test_of_name algorithm name is there =
     ap is_strong_algorithm is ∙ passes_any (bytes_eq name) strong_algorithms name there ((bytes_eq-Decides name name).1 refl)
 
 -- A Good verdict of a strong algorithm, and the test for one.
-strong_of_test : (image : Image) → list_any is_strong (hashes_of_image image) ≡ true → HasStrongHash image
+pub strong_of_test : (image : Image) → list_any is_strong (hashes_of_image image) ≡ true → HasStrongHash image
 strong_of_test image is =
     let one = any_is_found is_strong (hashes_of_image image) is in
     let both = and_parts (is_good one.0) (is_strong_algorithm one.0.algo) one.2 in
@@ -166,7 +166,7 @@ good_parts : (one later : List CheckedHash) → AreGood (one ++ later) → AreGo
 good_parts [] later good = (tt, good)
 good_parts (hash ∷ one) later good = let rest = good_parts one later good.1 in ((good.0, rest.0), rest.1)
 
-both_good : (one later : List CheckedHash) → AreGood one → AreGood later → AreGood (one ++ later)
+pub both_good : (one later : List CheckedHash) → AreGood one → AreGood later → AreGood (one ++ later)
 both_good [] later first rest = rest
 both_good (hash ∷ one) later first rest = (first.0, both_good one later first.1 rest)
 

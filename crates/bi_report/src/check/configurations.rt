@@ -18,10 +18,10 @@ ghost use Rattle.bi_report.specs.FoundConcerns.{found_in_configuration, found_in
 ghost use Rattle.bi_report.specs.FoundConcerns.{found_in_key};
 
 use super::concern::Concern;
-use crate::children::Children;
 use crate::list::KEYS;
-use crate::listed::{KeyList, configuration_nodes, listed_under};
+use crate::listed::{KeyList, listed_under};
 use bi_fdt::{NodeRef, Property};
+use bi_fit::nodes::Siblings;
 use bi_fit::{Fit, Key};
 
 /// The concerns that are left about a configuration, key by key.
@@ -53,13 +53,13 @@ impl<'a, 'b> Iterator for ConfigurationConcerns<'a, 'b> {
 }
 
 /// The concerns that are left about the configurations of a flattened image tree.
-#[derive(Clone, Copy)]
+#[derive(Drop)]
 pub(super) struct AllConfigurationConcerns<'a, 'b> {
     fit: &'b Fit<'a>,
     /// Those about the configuration that the iterator has come to.
     current: Option<ConfigurationConcerns<'a, 'b>>,
     /// The nodes of the configurations after it.
-    nodes: Children<'a, 'b>,
+    nodes: Siblings<'a, 'b>,
 }
 
 impl<'a, 'b> AllConfigurationConcerns<'a, 'b> {
@@ -72,7 +72,7 @@ impl<'a, 'b> AllConfigurationConcerns<'a, 'b> {
         AllConfigurationConcerns {
             fit,
             current: None,
-            nodes: configuration_nodes(fit),
+            nodes: fit.configuration_nodes(),
         }
     }
 }

@@ -18,7 +18,7 @@ ghost use Rattle.bi_report.specs.ReadListing.{configuration_text, configuration_
 ghost use Rattle.bi_report.specs.ReadListing.{node_key_texts};
 
 use super::fit::KEYS;
-use crate::listed::{KeyList, configuration_nodes, listed_under};
+use crate::listed::{KeyList, listed_under};
 use bi_base::{Error, Sink};
 use bi_common::fields::{Field, put_fields, put_later_field, put_line};
 use bi_common::format::Format;
@@ -36,7 +36,7 @@ pub(super) fn put_configurations<S: Sink>(
         (in_turn format false (configuration_texts format fit.now)) result sink.new }
 {
     let mut is_later = false;
-    for node in configuration_nodes(fit) {
+    for node in fit.configuration_nodes() {
         put_configuration(fit, node, format, is_later, sink)?;
         is_later = true;
     }

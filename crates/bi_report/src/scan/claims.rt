@@ -1,14 +1,16 @@
 //! How many bytes the headers inside a file claim: the bound on the work of a scan.
 
-ghost use Rattle.std.specs.Prelude.{◌≡◌, ◌≤◌, IfErr, OnOk, length};
+ghost use Rattle.std.specs.Prelude.{◌≡◌, ◌≤◌, IfErr, IfOk, OnOk, length};
 ghost use Rattle.bi_base.specs.Crc.{crc32 as crc32_of};
 ghost use Rattle.bi_base.specs.Reading.{too_large};
 ghost use Rattle.bi_legacy.specs.Faults.{header_without_checksum};
 ghost use Rattle.bi_norm.specs.declared.kind.Kind.TheVariants as kind;
 ghost use Rattle.bi_norm.specs.Kinds.{BeginsAs};
-ghost use Rattle.bi_report.specs.Scanning.{IsClaim, IsOverClaims, IsWithinClaims};
+ghost use Rattle.bi_report.specs.Scanning.{ClaimsNothing, IsClaim, IsOverClaims};
+ghost use Rattle.bi_report.specs.Scanning.{IsWithinClaims};
 
 use super::blob_claims::blob_claim;
+use super::image_starts::ImageStarts;
 use bi_base::{Cause, Crc32, Fault, Limits, cell_at, refuse};
 use bi_common::at_offset::image_at;
 use bi_legacy::HEADER_SIZE;
@@ -16,21 +18,29 @@ use bi_legacy::offsets::{IH_HCRC, IH_SIZE, IH_TIME};
 use bi_norm::{Kind, kind_of};
 
 /// Checks that the images at all offsets of a file claim together no more bytes than the limit.
+/// Returns an offset such that no image claims bytes there or after it.
 ///
 /// Error: TooLarge at the limit, if they claim more.
-pub(super) fn check_claims(file: &[u8], limits: Limits) -> Result<(), Fault>
+pub(super) fn check_claims(file: &[u8], limits: Limits) -> Result<usize, Fault>
     ensures ok { OnOk result (IsWithinClaims limits file.now) }
+    ensures within { IfOk result (λ end. end ≤ length file.now) }
+    ensures nothing { IfOk result (λ end. ClaimsNothing file.now end (length file.now)) }
     ensures fault { IfErr result (λ fault. (fault ≡ too_large limits.file)
         × IsOverClaims limits file.now) }
 {
     let mut total = 0;
-    for offset in 0..file.len() {
-        total += claim_of(image_at(file, offset));
+    let mut end = 0;
+    for offset in ImageStarts::new(file, file.len()) {
+        let claim = claim_of(image_at(file, offset));
+        if claim > 0 {
+            end = offset + 1;
+        }
+        total += claim;
         if total > limits.file() as usize {
             return refuse(Cause::TooLarge, limits.file());
         }
     }
-    Ok(())
+    Ok(end)
 }
 
 /// Returns how many of its bytes an image claims.

@@ -9,8 +9,9 @@ ghost use Rattle.bi_base.specs.Sinks.{Wrote};
 ghost use Rattle.bi_base.specs.VecSinks.{Grows};
 ghost use Rattle.bi_common.specs.Shown.{line, shown_text};
 ghost use Rattle.bi_report.specs.ReadChecking.{end_of_read_payloads};
-ghost use Rattle.bi_report.specs.Scanning.{HasLines, IsLineAt};
+ghost use Rattle.bi_report.specs.Scanning.{ClaimsNothing, HasLines, IsLineAt};
 
+use super::image_starts::ImageStarts;
 use crate::check::content_end;
 use bi_base::{Error, Limits, Sink, VecSink, cell_at};
 use bi_common::at_offset::image_at;
@@ -22,17 +23,20 @@ use bi_norm::{BootImage, kind_of};
 use std::alloc::Global;
 
 /// Appends the line of each boot image inside a file, in the order of their offsets. Fails only
-/// with OutOfMemory.
+/// with OutOfMemory. Requires: no image claims bytes at `end` or after it.
 pub(super) fn put_lines(
     alloc: Global,
     file: &[u8],
+    end: usize,
     limits: Limits,
     lines: &mut VecSink,
 ) -> Result<(), Error>
+    requires within { end ≤ length file.now }
+    requires nothing { ClaimsNothing file.now end (length file.now) }
     ensures lines { OnOk result (Appended Grows (HasLines limits file.now) lines.old lines.new) }
     ensures failed { IfErr result (λ error. error ≡ OutOfMemory) }
 {
-    for offset in 0..file.len() {
+    for offset in ImageStarts::new(file, end) {
         put_line_at(alloc, file, offset, limits, lines)?;
     }
     Ok(())

@@ -1,6 +1,6 @@
 use Rattle.std.proofs.Common.{false, map}
 use Rattle.bi_common.proofs.TextsInTurn.{AreInTurn}
-use Rattle.bi_report.specs.Children.{children_left}
+use Rattle.bi_fit.specs.Siblings.{siblings_left}
 use Rattle.bi_report.specs.ReadListing.{configuration_text, configuration_texts}
 use Rattle.bi_report.proofs.list.configurations.put_configurations.Given as goal
 
@@ -8,4 +8,4 @@ use Rattle.bi_report.proofs.list.configurations.put_configurations.Given as goal
 abbrev pub invariant-loop-node : goal.invariant-loop-node
 invariant-loop-node g l =
     AreInTurn g.S.Sink.appends l.initial.sink l.sink l.fn.format false l.is_later
-    (map (configuration_text l.fn.format l.fn.fit.images) (children_left l.node-iterator)) (configuration_texts l.fn.format l.fn.fit)
+    (map (configuration_text l.fn.format l.fn.fit.images) (siblings_left l.node-iterator)) (configuration_texts l.fn.format l.fn.fit)

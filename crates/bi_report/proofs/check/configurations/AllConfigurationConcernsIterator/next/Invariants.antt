@@ -1,5 +1,5 @@
 use Rattle.std.proofs.Common.{◌≡◌, length}
-use Rattle.bi_report.specs.Children.{children_left}
+use Rattle.bi_fit.specs.Siblings.{siblings_left}
 use Rattle.bi_report.specs.ConcernsLeft.{configurations_left}
 use Rattle.bi_report.proofs.check.configurations.AllConfigurationConcernsIterator.next.Given as goal
 
@@ -8,4 +8,4 @@ abbrev pub invariant-loop-self : goal.invariant-loop-self
 invariant-loop-self l = configurations_left l.self ≡ configurations_left l.initial.self
 
 abbrev pub decreases-loop-self : goal.decreases-loop-self
-decreases-loop-self l = length (children_left l.self.nodes)
+decreases-loop-self l = length (siblings_left l.self.nodes)
