@@ -1,5 +1,6 @@
 pub mod DateFacts
 pub mod TableFacts
+mod TableNames
 pub mod ShownCells
 pub mod ShownRows
 pub mod ShownPages

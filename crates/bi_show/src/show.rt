@@ -2,7 +2,7 @@
 //! version to version.
 
 mod cells;
-mod codes;
+pub mod codes;
 mod configurations;
 mod dates;
 mod fit;

@@ -15,7 +15,6 @@ use super::tables::Row;
 use bi_fdt::NodeRef;
 use bi_fit::{Fit, Key};
 use bi_report::list::KEYS;
-use bi_report::listed::configuration_nodes;
 use std::alloc::{AllocError, Global};
 
 /// Returns the table of the configurations.
@@ -39,7 +38,7 @@ fn add_configurations(
     ensures { OnOk result (cells_of_rows rows.new.items ≡ cells_of_rows rows.old.items
         ++ map (row_of_configuration keys.now) (siblings (file_configurations fit.now.blob))) }
 {
-    for node in configuration_nodes(fit) {
+    for node in fit.configuration_nodes() {
         rows.push(configuration_row(alloc, node, keys)?)?;
     }
     Ok(())
@@ -63,7 +62,7 @@ fn used_keys(alloc: Global, fit: &Fit) -> Result<Vec<Key>, AllocError>
 fn is_used(fit: &Fit, key: Key) -> bool
     ensures { result ≡ list_any (has_key key) (siblings (file_configurations fit.now.blob)) }
 {
-    for node in configuration_nodes(fit) {
+    for node in fit.configuration_nodes() {
         if node.property(key.name().as_bytes()).is_some() {
             return true;
         }

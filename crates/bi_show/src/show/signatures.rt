@@ -6,7 +6,7 @@ ghost use Rattle.bi_fdt.specs.Views.{node_of};
 ghost use Rattle.bi_fit.specs.HashNodes.{file_configurations, file_images, file_signatures};
 ghost use Rattle.bi_fit.specs.Names.{is_signature_name};
 ghost use Rattle.bi_common.specs.Shown.{path};
-ghost use Rattle.bi_report.specs.Children.{children_left};
+ghost use Rattle.bi_fit.specs.Siblings.{siblings_left};
 ghost use Rattle.bi_show.specs.FitPages.{signature_row as row_of_signature};
 ghost use Rattle.bi_show.specs.FitPages.{signature_rows as rows_of_signatures};
 ghost use Rattle.bi_show.specs.FitPages.{signatures_table};
@@ -17,8 +17,7 @@ use super::tables::{Row, words_row};
 use bi_common::fields::Field;
 use bi_fdt::NodeRef;
 use bi_fit::Fit;
-use bi_report::children::Children;
-use bi_report::listed::configuration_nodes;
+use bi_fit::nodes::Siblings;
 use std::alloc::{AllocError, Global};
 
 /// Returns the table of the signature nodes.
@@ -29,14 +28,9 @@ pub(super) fn signature_rows(alloc: Global, fit: &Fit) -> Result<Vec<Row>, Alloc
 {
     let heading = ["signature", "algorithm", "key", "verdict"];
     let mut rows = vec![in alloc; words_row(alloc, &heading)?]?;
-    let images = Children::of(Some(fit.images_node()));
-    add_signatures(alloc, &mut rows, b"images", images)?;
-    add_signatures(
-        alloc,
-        &mut rows,
-        b"configurations",
-        configuration_nodes(fit),
-    )?;
+    let configurations = fit.configuration_nodes();
+    add_signatures(alloc, &mut rows, b"images", fit.image_nodes())?;
+    add_signatures(alloc, &mut rows, b"configurations", configurations)?;
     Ok(rows)
 }
 
@@ -45,10 +39,10 @@ fn add_signatures(
     alloc: Global,
     rows: &mut Vec<Row>,
     parent: &[u8],
-    nodes: Children,
+    nodes: Siblings,
 ) -> Result<(), AllocError>
     ensures { OnOk result (cells_of_rows rows.new.items ≡ cells_of_rows rows.old.items
-        ++ rows_of_signatures parent.now (children_left nodes.entry)) }
+        ++ rows_of_signatures parent.now (siblings_left nodes.entry)) }
 {
     for node in nodes {
         add_signatures_of(alloc, rows, parent, node)?;
@@ -67,7 +61,7 @@ fn add_signatures_of(
         ++ map (row_of_signature parent.now (node_of node.entry).name)
         (file_signatures (node_of node.entry))) }
 {
-    for child in Children::of(Some(node)) {
+    for child in Siblings::children(node) {
         if is_signature(child) {
             rows.push(signature_row(alloc, parent, node.name(), child)?)?;
         }
