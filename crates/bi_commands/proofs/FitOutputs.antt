@@ -8,7 +8,7 @@ use Rattle.bi_base.specs.declared.fault.Error.TheVariants.{Refused, OutOfMemory,
 use Rattle.bi_fit.specs.declared.form.Form.{Form}
 use Rattle.bi_fit.specs.declared.building.Head.{Head}
 use Rattle.bi_norm.specs.declared.fit_building.ImageSpec.{ImageSpec}
-use Rattle.bi_norm.specs.FitBuilding.{IsBuilt, IsBuildError}
+use Rattle.bi_norm.specs.FitBuilding.{IsBuiltAs, IsBuildErrorAs, PlanSpecModel}
 use Rattle.bi_norm.specs.Cutting.{IsCut, IsCutError}
 use Rattle.bi_base.specs.Commands.{AppendFailed, WasRefused, SinkFailed}
 use Rattle.bi_commands.specs.Parts.{IsFilled, lengths_of, pieces_among}
@@ -19,13 +19,14 @@ use Rattle.bi_commands.specs.BuildCommands.{HavePayloads, IsFitOutput, IsFitOutp
 -- is one of the output.
 
 -- An error of cutting the input is one of building from it.
-pub cut_error : (limits : Limits) (form : Form) (head : Head) (given : List ImageSpec) (parts : List Part) (input : List ℕ)
+pub cut_error : (limits : Limits) (form : Form) (head : Head) (plan : PlanSpecModel) (given : List ImageSpec) (parts : List Part) (input :
+    List ℕ)
     (error : Error) → length input ≤ limits.file → IsCutError input (lengths_of parts) error →
-    IsFitOutputError limits form head given parts input error
-cut_error limits form head given parts input (Refused fault) short is = NotCut short is
-cut_error limits form head given parts input OutOfMemory short is = is
-cut_error limits form head given parts input ReadFailed short is = is
-cut_error limits form head given parts input WriteFailed short is = is
+    IsFitOutputError limits form head plan given parts input error
+cut_error limits form head plan given parts input (Refused fault) short is = NotCut short is
+cut_error limits form head plan given parts input OutOfMemory short is = is
+cut_error limits form head plan given parts input ReadFailed short is = is
+cut_error limits form head plan given parts input WriteFailed short is = is
 
 -- The lengths of the pieces of an input are together its length.
 length_concat : (pieces : List (List ℕ)) → sum (map length pieces) ≡ length (concat pieces)
@@ -42,21 +43,23 @@ pub record HasPayloads (limits : Limits) (given : List ImageSpec) (parts : List 
   pub have : HavePayloads given contents images
 
 -- An error of building the images is one of building from the input.
-build_error : (limits : Limits) (form : Form) (head : Head) (given : List ImageSpec) (parts : List Part) (input : List ℕ)
+build_error : (limits : Limits) (form : Form) (head : Head) (plan : PlanSpecModel) (given : List ImageSpec) (parts : List Part) (input :
+    List ℕ)
     (contents : List (List ℕ)) (images : List ImageSpec) (error : Error) → HasPayloads limits given parts input contents images →
-    IsBuildError limits form head images error → IsFitOutputError limits form head given parts input error
-build_error limits form head given parts input contents images
+    IsBuildErrorAs limits form head plan images error → IsFitOutputError limits form head plan given parts input error
+build_error limits form head plan given parts input contents images
     (Refused fault) completed is = NotBuilt completed.short contents completed.filled images completed.have is
-build_error limits form head given parts input contents images OutOfMemory completed is = sum_of_cut input (lengths_of parts)
+build_error limits form head plan given parts input contents images OutOfMemory completed is = sum_of_cut input (lengths_of parts)
     (pieces_among parts contents) completed.filled.cut
-build_error limits form head given parts input contents images ReadFailed completed is = is
-build_error limits form head given parts input contents images WriteFailed completed is = is
+build_error limits form head plan given parts input contents images ReadFailed completed is = is
+build_error limits form head plan given parts input contents images WriteFailed completed is = is
 
 -- A text that was built is the output.
-is_output : (limits : Limits) (form : Form) (head : Head) (given : List ImageSpec) (parts : List Part) (input : List ℕ)
+is_output : (limits : Limits) (form : Form) (head : Head) (plan : PlanSpecModel) (given : List ImageSpec) (parts : List Part) (input :
+    List ℕ)
     (contents : List (List ℕ)) (images : List ImageSpec) (text : List ℕ) → HasPayloads limits given parts input contents images →
-    IsBuilt limits form head images text → IsFitOutput limits form head given parts input text
-is_output limits form head given parts input contents images text completed built = record {
+    IsBuiltAs limits form head plan images text → IsFitOutput limits form head plan given parts input text
+is_output limits form head plan given parts input contents images text completed built = record {
   contents = contents;
   filled = completed.filled;
   images = images;
@@ -66,11 +69,13 @@ is_output limits form head given parts input contents images text completed buil
 
 -- Images that were not built were refused, or the sink failed.
 pub not_appended : {S : Type 0} (fails : S → List ℕ → S → Error → Type 0) (limits : Limits) (form : Form) (head : Head)
-    (given : List ImageSpec) (parts : List Part) (input : List ℕ) (contents : List (List ℕ)) (images : List ImageSpec) (old new : S)
+    (plan : PlanSpecModel) (given : List ImageSpec) (parts : List Part) (input : List ℕ) (contents : List (List ℕ)) (images : List
+    ImageSpec) (old new : S)
     (error : Error) → HasPayloads limits given parts input contents images →
-    AppendFailed fails (IsBuilt limits form head images) (IsBuildError limits form head images) old new error →
-    AppendFailed fails (IsFitOutput limits form head given parts input) (IsFitOutputError limits form head given parts input) old new error
-not_appended fails limits form head given parts input contents images old new error completed (WasRefused is same) = WasRefused
-    (build_error limits form head given parts input contents images error completed is) same
-not_appended fails limits form head given parts input contents images old new error completed (SinkFailed text cause is failed same) =
-    SinkFailed text cause (is_output limits form head given parts input contents images text completed is) failed same
+    AppendFailed fails (IsBuiltAs limits form head plan images) (IsBuildErrorAs limits form head plan images) old new error →
+    AppendFailed fails (IsFitOutput limits form head plan given parts input) (IsFitOutputError limits form head plan given parts input)
+    old new error
+not_appended fails limits form head plan given parts input contents images old new error completed (WasRefused is same) = WasRefused
+    (build_error limits form head plan given parts input contents images error completed is) same
+not_appended fails limits form head plan given parts input contents images old new error completed (SinkFailed text cause is failed same) =
+    SinkFailed text cause (is_output limits form head plan given parts input contents images text completed is) failed same

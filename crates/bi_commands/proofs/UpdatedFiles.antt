@@ -6,6 +6,8 @@ use Rattle.bi_base.specs.Limits.{Limits}
 use Rattle.bi_blob.specs.Layout.{longest_text}
 use Rattle.bi_fit.specs.declared.changes.Changes.{Changes}
 use Rattle.bi_fit.specs.declared.form.Form.{Form}
+use Rattle.bi_fit.specs.declared.kept.Kept.{Kept}
+use Rattle.bi_fit.specs.Kept.{IsKept, SaysNothing}
 use Rattle.bi_fit.specs.Content.{FitModel, tree_of}
 use Rattle.bi_fit.specs.Documents.{IsTextError}
 use Rattle.bi_fit.specs.ImageTree.{ImageTree}
@@ -26,7 +28,7 @@ use Rattle.bi_norm.specs.Meaning.{Meaning, OfLegacy, OfFit, normal_text}
 use Rattle.bi_norm.specs.NormalForm.{IsNormalForm}
 use Rattle.bi_norm.specs.Reading.{IsBootImageReadError, NeedsMemory, ForLegacyImage}
 use Rattle.bi_norm.proofs.NormalForms.{only_legacy, only_tree, needs_memory}
-use Rattle.bi_commands.specs.UpdatedFiles.{IsUpdated, IsUpdateOutput, IsUpdateError, HashesTooMuch, IsDigestsError, updated_meaning}
+use Rattle.bi_commands.specs.UpdatedFiles.{IsUpdated, IsUpdateKept, IsUpdateError, HashesTooMuch, IsDigestsError, updated_meaning}
 
 -- The text of an updated image that was read is that of the updated file, and without changes it is the normal form of the file.
 
@@ -63,12 +65,12 @@ module _ (changes : Changes) (limits : Limits) (form : Form) (file : List ℕ) (
     judgement = tt;
   }
 
-  pub legacy_updated : {S : Type 0} {appends : S → List ℕ → S → Type 0} (old new : S) → appends old updated_legacy_text new →
-      Appended appends (IsUpdateOutput changes limits form 0 file) old new
+  pub legacy_updated : {S : Type 0} {appends : S → List ℕ → S → Type 0} (old new : S) (kept : Kept) → kept.signatures ≡ 0 →
+      SaysNothing kept → appends old updated_legacy_text new → Appended appends (IsUpdateKept changes limits form kept file) old new
   unfolding legacy_is_updated
-  legacy_updated old new appended = record {
+  legacy_updated old new kept without says appended = record {
     text = updated_legacy_text;
-    is_text = record { is = legacy_is_updated; signatures = refl };
+    is_text = record { output = record { is = legacy_is_updated; signatures = without }; is_kept = says };
     appended = appended;
   }
 
@@ -102,13 +104,17 @@ module _ (changes : Changes) (limits : Limits) (form : Form) (file : List ℕ) (
         judgement = updated_judgement changes tree;
       }
 
-  pub tree_updated : (count : ℕ) (within : ¬ (HashesTooMuch changes limits (OfFit (tree_of content))))
-      (fits : length (fit_text form updated_tree) ≤ limits.file) → count ≡ signatures_of_tree (tree_of content) →
-      IsUpdateOutput changes limits form count file (fit_text form updated_tree)
+  pub tree_updated : (kept : Kept) (within : ¬ (HashesTooMuch changes limits (OfFit (tree_of content))))
+      (fits : length (fit_text form updated_tree) ≤ limits.file) → kept.signatures ≡ signatures_of_tree (tree_of content) →
+      IsKept form content.blob.file (tree_of content) updated_tree kept →
+      IsUpdateKept changes limits form kept file (fit_text form updated_tree)
   unfolding tree_is_updated
-  tree_updated count within fits is_count = record {
-    is = tree_is_updated within fits;
-    signatures = is_count ∙ sym (signatures-updated changes (tree_of content));
+  tree_updated kept within fits is_count says = record {
+    output = record {
+      is = tree_is_updated within fits;
+      signatures = is_count ∙ sym (signatures-updated changes (tree_of content));
+    };
+    is_kept = subst (λ file. IsKept form file (tree_of content) updated_tree kept) opened.is_file says;
   }
 
   -- The text was not laid out.

@@ -12,7 +12,7 @@ use Rattle.bi_legacy.specs.Emitting.{IsEmitFault}
 use Rattle.bi_legacy.specs.Meaning.{image_of}
 use Rattle.bi_fit.specs.declared.building.Head.{Head}
 use Rattle.bi_norm.specs.declared.fit_building.ImageSpec.{ImageSpec}
-use Rattle.bi_norm.specs.FitBuilding.{IsBuilt, IsBuildFault}
+use Rattle.bi_norm.specs.FitBuilding.{PlanSpecModel, IsBuiltAs, IsBuildFaultAs}
 use Rattle.bi_norm.specs.Converting.{IsConvertedFile, IsConvertError}
 use Rattle.bi_norm.specs.Cutting.{IsCutFault}
 use Rattle.bi_norm.specs.LegacyBuilding.{IsBuiltLegacy}
@@ -91,33 +91,33 @@ pub record HavePayloads (given : List ImageSpec) (payloads : List (List ℕ))
   pub same_fields : map image_fields images ≡ map image_fields given
   pub have_payloads : map (λ image. image.payload.now) images ≡ payloads
 
--- The output is a flattened image tree of the given images with these payloads.
-pub record IsFitOutput (limits : Limits) (form : Form) (head : Head) (given : List ImageSpec)
-    (payloads : List Part) (input output : List ℕ) : Type 0 where
+-- The output is a flattened image tree of the given images with these payloads, and of this plan.
+pub record IsFitOutput (limits : Limits) (form : Form) (head : Head) (plan : PlanSpecModel)
+    (given : List ImageSpec) (payloads : List Part) (input output : List ℕ) : Type 0 where
   pub contents : List (List ℕ)
   pub filled : IsFilled payloads input contents
   pub images : List ImageSpec
   pub have : HavePayloads given contents images
-  pub built : IsBuilt limits form head images output
+  pub built : IsBuiltAs limits form head plan images output
 
 -- The fault of a flattened image tree to be built, with an input within the limit, in the order of
 -- the checks.
-pub data IsFitOutputFault (limits : Limits) (form : Form) (head : Head) (given : List ImageSpec)
-    (payloads : List Part) (input : List ℕ) (fault : Fault) : Type 0 where
+pub data IsFitOutputFault (limits : Limits) (form : Form) (head : Head) (plan : PlanSpecModel)
+    (given : List ImageSpec) (payloads : List Part) (input : List ℕ) (fault : Fault) : Type 0 where
   NotCut : length input ≤ limits.file → IsCutFault input (lengths_of payloads) fault
-      → IsFitOutputFault limits form head given payloads input fault
+      → IsFitOutputFault limits form head plan given payloads input fault
   NotBuilt : length input ≤ limits.file → (contents : List (List ℕ))
       → IsFilled payloads input contents → (images : List ImageSpec)
       → HavePayloads given contents images
-      → IsBuildFault limits form head images fault
-      → IsFitOutputFault limits form head given payloads input fault
+      → IsBuildFaultAs limits form head plan images fault
+      → IsFitOutputFault limits form head plan given payloads input fault
 
 -- The error that building a flattened image tree with an input in memory can have, except those of
 -- a sink. Memory is needed only for an input that can be cut.
-abbrev pub IsFitOutputError : Limits → Form → Head → List ImageSpec → List Part → List ℕ → Error
-    → Type 0
-IsFitOutputError limits form head given payloads input =
-    FailsWith (IsFitOutputFault limits form head given payloads input)
+abbrev pub IsFitOutputError : Limits → Form → Head → PlanSpecModel → List ImageSpec → List Part
+    → List ℕ → Error → Type 0
+IsFitOutputError limits form head plan given payloads input =
+    FailsWith (IsFitOutputFault limits form head plan given payloads input)
     (sum (lengths_of payloads) ≡ length input)
 
 -- What building a legacy image of these parts promises as a command.
@@ -132,18 +132,20 @@ build_legacy_laws fields parts limits =
     unit_laws (IsLegacyOutput limits fields parts) (IsLegacyOutputError limits fields parts)
     (λ input is. is) (λ input is. is)
 
--- What building a flattened image tree of images with these payloads promises as a command.
-abbrev pub build_fit_promise : Form → Head → (images : List ImageSpec) → (payloads : List Part)
-    → Limits → CommandPromise (Unit {0}) Error
-build_fit_promise form head images payloads limits =
-    unit_promise (IsFitOutput limits form head images payloads)
-    (IsFitOutputError limits form head images payloads)
+-- What building a flattened image tree of images with these payloads, by a plan, promises as a
+-- command.
+abbrev pub build_fit_promise : Form → Head → PlanSpecModel → (images : List ImageSpec)
+    → (payloads : List Part) → Limits → CommandPromise (Unit {0}) Error
+build_fit_promise form head plan images payloads limits =
+    unit_promise (IsFitOutput limits form head plan images payloads)
+    (IsFitOutputError limits form head plan images payloads)
 
-pub build_fit_laws : (form : Form) (head : Head) (images : List ImageSpec) (payloads : List Part)
-    (limits : Limits) → PromiseLaws (build_fit_promise form head images payloads limits)
-build_fit_laws form head images payloads limits =
-    unit_laws (IsFitOutput limits form head images payloads)
-    (IsFitOutputError limits form head images payloads)
+pub build_fit_laws : (form : Form) (head : Head) (plan : PlanSpecModel) (images : List ImageSpec)
+    (payloads : List Part) (limits : Limits)
+    → PromiseLaws (build_fit_promise form head plan images payloads limits)
+build_fit_laws form head plan images payloads limits =
+    unit_laws (IsFitOutput limits form head plan images payloads)
+    (IsFitOutputError limits form head plan images payloads)
     (λ input is. is) (λ input is. is)
 
 -- What converting promises as a command.

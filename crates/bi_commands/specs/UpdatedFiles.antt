@@ -6,6 +6,7 @@ use Rattle.bi_base.specs.Limits.{Limits}
 use Rattle.bi_base.specs.Reading.{too_large}
 use Rattle.bi_fit.specs.declared.changes.Changes.{Changes}
 use Rattle.bi_fit.specs.declared.form.Form.{Form}
+use Rattle.bi_fit.specs.declared.kept.Kept.{Kept}
 use Rattle.bi_fit.specs.ImageTree.{ImageTree}
 use Rattle.bi_fit.specs.NewDigests.{new_digests}
 use Rattle.bi_fit.specs.Updating.{with_changes, HasUpdatedJudgement}
@@ -15,6 +16,7 @@ use Rattle.bi_legacy.specs.Meaning.{with_new_time}
 use Rattle.bi_norm.specs.Comparing.{MeansOnly}
 use Rattle.bi_norm.specs.Meaning.{Meaning, OfLegacy, OfFit, Means, normal_text}
 use Rattle.bi_norm.specs.Meaning.{meaning_signature_count}
+use Rattle.bi_norm.specs.NormalForm.{IsKeptOfImage}
 use Rattle.bi_norm.specs.Reading.{IsReadErrorOrTooLarge}
 use Rattle.bi_common.specs.PayloadBounds.{IsOverPayloadBound}
 
@@ -65,6 +67,14 @@ pub record IsUpdateOutput (changes : Changes) (limits : Limits) (form : Form) (c
   pub is : IsUpdated changes limits form file text
   pub signatures : count ≡ meaning_signature_count (updated_meaning changes is.meaning)
 
+-- The text is that of the updated file, and this is what it keeps of the file: the number counts the
+-- signature nodes.
+pub record IsUpdateKept (changes : Changes) (limits : Limits) (form : Form) (kept : Kept)
+    (file text : List ℕ) : Type 0 where
+  pub output : IsUpdateOutput changes limits form kept.signatures file text
+  pub is_kept : IsKeptOfImage form file output.is.meaning
+      (updated_meaning changes output.is.meaning) kept
+
 -- The file means something whose payloads are over the payload bound, if the update computes
 -- digests, or whose updated normal text is longer than the limit.
 pub record IsTooLongToUpdate (changes : Changes) (limits : Limits) (form : Form) (file : List ℕ)
@@ -105,6 +115,24 @@ pub update_laws : (changes : Changes) (form : Form) (limits : Limits)
     → PromiseLaws (update_promise changes form limits)
 update_laws changes form limits = record {
   is_text = λ count file text with_changes. with_changes.is;
+  wraps_once = λ a b same. same;
+  no_read_error = λ file is. is;
+  no_write_error = λ file is. is;
+}
+
+-- What updating promises as a command that says what is kept.
+abbrev pub update_with_kept_promise : Changes → Form → Limits → CommandPromise Kept Error
+update_with_kept_promise changes form limits = record {
+  is_output = λ kept file text. IsUpdateKept changes limits form kept file text;
+  is_text = IsUpdated changes limits form;
+  has_error = IsUpdateError changes limits form;
+  wraps = λ error. error;
+}
+
+pub update_with_kept_laws : (changes : Changes) (form : Form) (limits : Limits)
+    → PromiseLaws (update_with_kept_promise changes form limits)
+update_with_kept_laws changes form limits = record {
+  is_text = λ kept file text updated. updated.output.is;
   wraps_once = λ a b same. same;
   no_read_error = λ file is. is;
   no_write_error = λ file is. is;

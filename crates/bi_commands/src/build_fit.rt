@@ -7,22 +7,25 @@ ghost use Rattle.bi_base.specs.Slices.{bytes_of};
 ghost use Rattle.bi_commands.specs.BuildCommands.{HavePayloads};
 ghost use Rattle.bi_commands.specs.BuildCommands.{build_fit_promise, build_fit_laws};
 ghost use Rattle.bi_commands.specs.Parts.{parts_of_lengths};
+ghost use Rattle.bi_norm.specs.FitBuilding.{plan_spec_model, plain_plan};
 
 use crate::parts::{Part, fill, pieces};
 use bi_base::{Command, Error, Limits, Sink, pipe_to};
-use bi_norm::{Form, Head, ImageSpec, build_fit_into};
+use bi_norm::{Form, Head, ImageSpec, PlanSpec, build_fit_as_into};
 use std::alloc::{AllocError, Global};
 use std::io::{Read, Write};
 
-/// Building a flattened image tree, as a command: `build_fit_into` with these images. The payloads
-/// are given, or are consecutive pieces of the input. It may only be run if there are as many
-/// payloads as images.
+/// Building a flattened image tree, as a command: `build_fit_as_into` with these images and this
+/// plan. The payloads are given, or are consecutive pieces of the input. It may only be run if there
+/// are as many payloads as images.
 #[derive(Clone, Copy, Debug, PartialEq, Eq)]
 pub struct FitBuilder<'a> {
     /// The description and the time.
     pub head: Head<'a>,
     /// The images. `payloads` takes the place of the payloads that they have.
     pub images: &'a [ImageSpec<'a>],
+    /// The configurations and the hash nodes, and texts of the images.
+    pub plan: PlanSpec<'a>,
     /// The payload of each image, in the order of the images.
     pub payloads: &'a [Part<'a>],
     /// Where the payloads are.
@@ -37,12 +40,13 @@ impl<'a> Command for FitBuilder<'a> {
     ghost can_run = { λ builder. length builder.payloads.now ≡ length builder.images.now };
 
     ghost promise = { λ builder.
-        build_fit_promise builder.form builder.head builder.images.now builder.payloads.now };
+        build_fit_promise builder.form builder.head (plan_spec_model builder.plan)
+        builder.images.now builder.payloads.now };
 
     /// Appends the flattened image tree.
     ///
     /// Errors, the first that applies: BadPart at the beginning of the first piece of the input
-    /// that does not fit, or at the end of the pieces, if bytes are left; those of `build_fit`.
+    /// that does not fit, or at the end of the pieces, if bytes are left; those of `build_fit_as`.
     /// OutOfMemory comes only for an input that can be cut, and then in place of any other error.
     fn run<S: Sink>(
         &self,
@@ -53,14 +57,16 @@ impl<'a> Command for FitBuilder<'a> {
     ) -> Result<(), Error> {
         let contents = fill(alloc, input, self.payloads)?;
         let complete = with_payloads(alloc, self.images, &contents)?;
-        build_fit_into(alloc, self.head, &complete, self.form, limits, sink)?;
+        let (head, plan, form) = (self.head, self.plan, self.form);
+        build_fit_as_into(alloc, head, &complete, plan, form, limits, sink)?;
         Ok(())
     }
 
     ghost wraps_from = { λ _ _ _ _ same. same };
 
     ghost laws = { λ builder.
-        build_fit_laws builder.form builder.head builder.images.now builder.payloads.now };
+        build_fit_laws builder.form builder.head (plan_spec_model builder.plan)
+        builder.images.now builder.payloads.now };
 }
 
 /// Reads the payloads of a flattened image tree to the end of the input, writes the flattened image
@@ -82,7 +88,7 @@ pub fn build_fit_to<R: Read, W: Write>(
 ) -> Result<(), Error>
     requires one_each { length lengths.now ≡ length images.now }
     ensures { let payloads = parts_of_lengths lengths.now in
-        IsPiped (build_fit_promise form head.entry images.now payloads limits) limits
+        IsPiped (build_fit_promise form head.entry plain_plan images.now payloads limits) limits
         (R.remaining reader.old) (R.remaining reader.new)
         (W.contents writer.old) (W.contents writer.new) result }
 {
@@ -90,6 +96,7 @@ pub fn build_fit_to<R: Read, W: Write>(
     let builder = FitBuilder {
         head,
         images,
+        plan: PlanSpec::new(),
         payloads: &payloads,
         form,
     };

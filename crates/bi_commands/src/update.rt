@@ -3,17 +3,19 @@
 ghost use Rattle.std.specs.Prelude.{⊤, ℕ, List, IfOk, IfErr};
 ghost use Rattle.bi_base.specs.Commands.{Appended, AppendFailed};
 ghost use Rattle.bi_base.specs.Pipes.{IsPiped};
+ghost use Rattle.bi_fit.specs.declared.form.Form.TheVariants.{Aligned};
 ghost use Rattle.bi_fit.specs.Content.{tree_of};
 ghost use Rattle.bi_fit.specs.Reading.{IsReadFit};
 ghost use Rattle.bi_legacy.specs.Reading.{IsReadLegacy};
 ghost use Rattle.bi_commands.specs.UpdatedFiles.{IsUpdated, IsUpdateOutput, IsUpdateError};
 ghost use Rattle.bi_commands.specs.UpdatedFiles.{HasNewDigests, IsDigestsError};
-ghost use Rattle.bi_commands.specs.UpdatedFiles.{update_promise, update_laws};
+ghost use Rattle.bi_commands.specs.UpdatedFiles.{IsUpdateKept, update_promise, update_laws};
+ghost use Rattle.bi_commands.specs.UpdatedFiles.{update_with_kept_promise, update_with_kept_laws};
 
-use bi_base::{Command, Error, Limits, Sink, VecSink, pipe_to};
+use bi_base::{Align, Command, Error, Limits, Sink, VecSink, pipe_to};
 use bi_common::payload_bounds::BoundedFit;
 pub use bi_fit::Changes;
-use bi_fit::{Fit, Form};
+use bi_fit::{Fit, Form, Kept};
 use bi_legacy::Legacy;
 use bi_norm::{BootImage, append_legacy};
 use std::alloc::Global;
@@ -57,6 +59,26 @@ pub fn update(
     Ok(sink.into_vec())
 }
 
+/// Returns the text that `update` returns in the form External, but with this alignment instead of
+/// four: the length of the blob is a multiple of it, and each payload, even an empty one, begins at
+/// a multiple of it in the text. With the alignment 4 it is the text in the form External. `align`
+/// has no effect on a legacy image.
+///
+/// The errors are those of `update`, for this text.
+pub fn update_aligned(
+    alloc: Global,
+    file: &[u8],
+    changes: Changes,
+    align: Align,
+    limits: Limits,
+) -> Result<Vec<u8>, Error>
+    ensures updated { IfOk result (λ text.
+        IsUpdated changes limits (Aligned align) file.now text.items) }
+    ensures failed { IfErr result (IsUpdateError changes limits (Aligned align) file.now) }
+{
+    update(alloc, file, changes, Form::Aligned(align), limits)
+}
+
 /// Appends the normal text of a boot image with these changes to a sink. Returns the number of
 /// signature nodes, which is 0 for a legacy image. No signature is checked.
 ///
@@ -74,6 +96,28 @@ pub fn update_into<S: Sink>(
 ) -> Result<usize, Error>
     ensures appended { IfOk result (λ count. Appended S.appends
         (IsUpdateOutput changes limits form count file.now) sink.old sink.new) }
+    ensures failed { IfErr result (AppendFailed S.fails (IsUpdated changes limits form file.now)
+        (IsUpdateError changes limits form file.now) sink.old sink.new) }
+{
+    let kept = update_with_kept(alloc, file, changes, form, limits, sink)?;
+    Ok(kept.signatures)
+}
+
+/// Appends the normal text of a boot image with these changes to a sink, as `update_into` does.
+/// Returns what it keeps of the file that is no part of what the file means. Of a legacy image that
+/// is nothing: no signature nodes, no alignment and no positions.
+///
+/// The errors are those of `update_into`.
+pub fn update_with_kept<S: Sink>(
+    alloc: Global,
+    file: &[u8],
+    changes: Changes,
+    form: Form,
+    limits: Limits,
+    sink: &mut S,
+) -> Result<Kept, Error>
+    ensures appended { IfOk result (λ kept. Appended S.appends
+        (IsUpdateKept changes limits form kept file.now) sink.old sink.new) }
     ensures failed { IfErr result (AppendFailed S.fails (IsUpdated changes limits form file.now)
         (IsUpdateError changes limits form file.now) sink.old sink.new) }
 {
@@ -116,6 +160,40 @@ impl Command for Updater {
     ghost laws = { λ updater. update_laws updater.changes updater.form };
 }
 
+/// Updating, as a command that returns what is kept: `update_with_kept` with these changes and this
+/// form.
+#[derive(Clone, Copy, Debug, PartialEq, Eq)]
+pub struct UpdaterWithKept {
+    /// What changes.
+    pub changes: Changes,
+    /// Where the text of a flattened image tree has the payloads.
+    pub form: Form,
+}
+
+impl Command for UpdaterWithKept {
+    type Value = Kept;
+
+    type Failure = Error;
+
+    ghost can_run = { λ _. ⊤ };
+
+    ghost promise = { λ updater. update_with_kept_promise updater.changes updater.form };
+
+    fn run<S: Sink>(
+        &self,
+        alloc: Global,
+        input: &[u8],
+        limits: Limits,
+        sink: &mut S,
+    ) -> Result<Kept, Error> {
+        update_with_kept(alloc, input, self.changes, self.form, limits, sink)
+    }
+
+    ghost wraps_from = { λ _ _ _ _ same. same };
+
+    ghost laws = { λ updater. update_with_kept_laws updater.changes updater.form };
+}
+
 /// Reads a boot image to its end, writes its normal text with these changes, and flushes: `pipe_to`
 /// with an `Updater`. Returns the number of signature nodes, which is 0 for a legacy image.
 ///
@@ -135,16 +213,16 @@ pub fn update_to<R: Read, W: Write>(
 }
 
 /// Appends the normal text of a legacy image that was read under the limits, with these changes.
-/// Returns 0, since it has no signature nodes.
+/// Returns that nothing is said of it.
 fn update_legacy<S: Sink>(
     alloc: Global,
     image: &Legacy<'_>,
     changes: Changes,
     limits: Limits,
     sink: &mut S,
-) -> Result<usize, Error>
+) -> Result<Kept, Error>
     ensures appended { (form : Form) (file : List ℕ) → IsReadLegacy limits file image.now →
-        IfOk result (λ count. Appended S.appends (IsUpdateOutput changes limits form count file)
+        IfOk result (λ kept. Appended S.appends (IsUpdateKept changes limits form kept file)
         sink.old sink.new) }
     ensures failed { (form : Form) (file : List ℕ) → IsReadLegacy limits file image.now →
         IfErr result (AppendFailed S.fails (IsUpdated changes limits form file)
@@ -152,11 +230,11 @@ fn update_legacy<S: Sink>(
 {
     let time = changes.time.unwrap_or(image.fields().time);
     append_legacy(alloc, image, time, limits, sink)?;
-    Ok(0)
+    Ok(Kept::default())
 }
 
 /// Appends the normal text of a flattened image tree that was read under the limits, with these
-/// changes. Returns the number of its signature nodes.
+/// changes. Returns what it keeps.
 fn update_fit<S: Sink>(
     alloc: Global,
     fit: &Fit<'_>,
@@ -164,9 +242,9 @@ fn update_fit<S: Sink>(
     form: Form,
     limits: Limits,
     sink: &mut S,
-) -> Result<usize, Error>
+) -> Result<Kept, Error>
     ensures appended { (file : List ℕ) → IsReadFit limits file fit.now →
-        IfOk result (λ count. Appended S.appends (IsUpdateOutput changes limits form count file)
+        IfOk result (λ kept. Appended S.appends (IsUpdateKept changes limits form kept file)
         sink.old sink.new) }
     ensures failed { (file : List ℕ) → IsReadFit limits file fit.now →
         IfErr result (AppendFailed S.fails (IsUpdated changes limits form file)
@@ -175,7 +253,7 @@ fn update_fit<S: Sink>(
     let digests = new_digests(alloc, fit, changes, limits)?;
     let text = fit.updated_text(alloc, changes, &digests, form, limits)?;
     text.emit(sink)?;
-    Ok(fit.signature_count())
+    Ok(fit.kept(form, text.size()))
 }
 
 /// Returns the digests that the hash nodes get by these changes, one after another. Fails with

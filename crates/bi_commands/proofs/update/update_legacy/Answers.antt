@@ -22,4 +22,5 @@ returns-clause-appended g c form file opened =
     let is_time : c.unwrap_or-time.result ≡ unwrap_or c.args.changes.time parsed.image.time = made
     ∙ ap (unwrap_or c.args.changes.time) own in
     legacy_updated c.args.changes c.args.limits form file parsed opened c.unwrap_or-time.result is_time (omega arith) _ _
+    c.default.result c.default.ensures.0 (record { alignment = c.default.ensures.1.0; positions = c.default.ensures.1.1 })
     (c.in_ok-append_legacy.ensures.appended file opened)

@@ -3,7 +3,7 @@ use Rattle.std.proofs.lemmas.Result.{err_from_is_err_and}
 use Rattle.bi_base.specs.Commands.{WasRefused}
 use Rattle.bi_norm.specs.Reading.{IsReadBootImage}
 use Rattle.bi_commands.proofs.UpdatedFiles.{error_of_reading_updated}
-use Rattle.bi_commands.proofs.update.update_into.Goals as goal
+use Rattle.bi_commands.proofs.update.update_with_kept.Goals as goal
 
 pub returns-in_err-image-clause-failed : goal.returns-in_err-image-clause-failed
 returns-in_err-image-clause-failed g c =
