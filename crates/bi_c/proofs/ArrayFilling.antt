@@ -7,7 +7,7 @@ use Rattle.std.proofs.lemmas.List.{take_more_set, drop-set-lt, take-append-drop}
 use Rattle.bi_fit.proofs.Meanings.{same_in_some}
 use Rattle.bi_c.specs.declared.answer.Answer.{Answer}
 use Rattle.bi_c.specs.declared.failure.Failure.{Failure}
-use Rattle.bi_c.specs.Answers.{Fills, Filled, HadNoRoom, IsJust, answer_of}
+use Rattle.bi_c.specs.Answers.{FillsBuffer, Filled, HadNoRoom, IsThisOutput, answer_of}
 
 -- A loop writes elements to the beginning of an array, one after the other.
 
@@ -55,13 +55,14 @@ filling_ends all count before now is =
 -- So the call filled the array,
 pub array_is_filled : {T : Type 0} (HasFailed : Failure → Type 0) (all : List T) (value count : ℕ) (before now : List T)
     (answer : Answer) → answer ≡ answer_of (length all) value → IsFilling all [] count before now →
-    Fills (IsJust all value) HasFailed before now answer 0
+    FillsBuffer (IsThisOutput all value) HasFailed before now answer 0
 array_is_filled HasFailed all value count before now answer told is =
     Filled all value (record { is_text = refl; is_number = refl }) is.room (filling_ends all count before now is) told refl
 
 -- or it had no room for the elements.
 pub array_is_short : {T : Type 0} (HasFailed : Failure → Type 0) (all : List T) (value : ℕ) (before : List T) (answer : Answer) →
-    answer ≡ answer_of (length all) value → length before < length all → Fills (IsJust all value) HasFailed before before answer 3
+    answer ≡ answer_of (length all) value → length before < length all
+    → FillsBuffer (IsThisOutput all value) HasFailed before before answer 3
 array_is_short HasFailed all value before answer told short =
     HadNoRoom all value (record { is_text = refl; is_number = refl }) short refl told refl
 

@@ -7,7 +7,7 @@ use Rattle.bi_base.specs.declared.fault.Error.TheVariants as error
 use Rattle.bi_base.specs.Limits.{Limits, IsInRange}
 use Rattle.bi_c.specs.declared.answer.Answer.{Answer}
 use Rattle.bi_c.specs.declared.failure.Failure.{Failure}
-use Rattle.bi_c.specs.Answers.{answer_of, done, no_room, Fills, Filled, HadNoRoom, FilledNothing, IsFailure, IsTextOf, IsFailureOf}
+use Rattle.bi_c.specs.Answers.{answer_of, done, no_room, FillsBuffer, Filled, HadNoRoom, FilledNothing, IsFailure, IsTextOf, IsFailureOf}
 use Rattle.bi_c.specs.Answers.{failure_of_error}
 use Rattle.bi_c.specs.Arguments.{bounds}
 use Rattle.bi_c.specs.Calls.{flag, IsTextOnly, IsTextWithFlag, IsFailureOfOne}
@@ -32,7 +32,7 @@ pub buffer_is_filled : {T : Type 0} (IsOutput : List T → ℕ → Type 0) (HasF
     (value : ℕ) (answer : Answer) (status : ℕ) → IsOutput text value → answer ≡ answer_of (length text) value
     → ((length text ≤ length before) × (status ≡ done) × (after ≡ text ++ drop (length text) before))
     ⊎ ((length before < length text) × (status ≡ no_room) × (after ≡ before))
-    → Fills IsOutput HasFailed before after answer status
+    → FillsBuffer IsOutput HasFailed before after answer status
 buffer_is_filled IsOutput HasFailed text before after value answer status is told
     (inl room) = Filled text value is room.0 room.2 told room.1
 buffer_is_filled IsOutput HasFailed text before after value answer status is told
@@ -41,8 +41,8 @@ buffer_is_filled IsOutput HasFailed text before after value answer status is tol
 -- What a call that fills a buffer promises implies more.
 pub fills_as : {T : Type 0} (IsOutput IsOther : List T → ℕ → Type 0) (HasFailed HasOther : Failure → Type 0) (before after : List T)
     (answer : Answer) (status : ℕ) → ((text : List T) (value : ℕ) → IsOutput text value → IsOther text value)
-    → ((failure : Failure) → HasFailed failure → HasOther failure) → Fills IsOutput HasFailed before after answer status →
-    Fills IsOther HasOther before after answer status
+    → ((failure : Failure) → HasFailed failure → HasOther failure) → FillsBuffer IsOutput HasFailed before after answer status →
+    FillsBuffer IsOther HasOther before after answer status
 fills_as IsOutput IsOther HasFailed HasOther before after answer status output failed
     (Filled text value is room same told is_status) = Filled text value (output text value is) room same told is_status
 fills_as IsOutput IsOther HasFailed HasOther before after answer status output failed
@@ -96,8 +96,8 @@ pub made_fills : {V E : Type 0} (P : V → Type 0) (Q : E → Type 0) (text_of :
     (IsOutput : List ℕ → ℕ → Type 0) (HasFailed : Failure → Type 0) (made : Result V E) (before after : List ℕ) (answer : Answer)
     (status : ℕ) → ((value : V) → P value → IsOutput (text_of value) (number_of value))
     → ((error : E) → Q error → HasFailed (failure_of error)) → IfOk made P → IfErr made Q
-    → Fills (IsTextOf text_of number_of made) (IsFailureOf failure_of made) before after answer status
-    → Fills IsOutput HasFailed before after answer status
+    → FillsBuffer (IsTextOf text_of number_of made) (IsFailureOf failure_of made) before after answer status
+    → FillsBuffer IsOutput HasFailed before after answer status
 made_fills P Q text_of number_of failure_of IsOutput HasFailed (Ok value) before after answer status output failed is none fills =
     fills_as _ _ _ _ before after answer status
     (λ text number just. subst (λ (n : ℕ). IsOutput text n) (sym just.is_number)
@@ -113,8 +113,8 @@ pub text_fills : {V : Type 0} (limit depth : ℕ) (Is : Limits → List ℕ → 
     → IsInRange limit depth → limits ≡ bounds limit depth → ((other : Limits) → ¬ (HasError other error.ReadFailed))
     → ((other : Limits) → ¬ (HasError other error.WriteFailed)) → IfOk made (λ value. Is limits (text_of value))
     → IfErr made (HasError limits)
-    → Fills (IsTextOf text_of (λ _. 0) made) (IsFailureOf failure_of_error made) before after answer status
-    → Fills (IsTextOnly limit depth Is) (IsFailureOfOne limit depth HasError) before after answer status
+    → FillsBuffer (IsTextOf text_of (λ _. 0) made) (IsFailureOf failure_of_error made) before after answer status
+    → FillsBuffer (IsTextOnly limit depth Is) (IsFailureOfOne limit depth HasError) before after answer status
 text_fills limit depth Is HasError text_of limits made before after answer status in_range same no_read no_write output failed fills =
     made_fills (λ value. Is limits (text_of value)) (HasError limits) text_of (λ _. 0) failure_of_error (IsTextOnly limit depth Is)
     (IsFailureOfOne limit depth HasError) made before after answer status
@@ -129,8 +129,8 @@ pub text_with_flag_fills : {V : Type 0} (limit depth : ℕ) (Is : Limits → Boo
     → IsInRange limit depth → limits ≡ bounds limit depth → ((other : Limits) → ¬ (HasError other error.ReadFailed))
     → ((other : Limits) → ¬ (HasError other error.WriteFailed)) → IfOk made (λ value. Is limits (yes_of value) (text_of value))
     → IfErr made (HasError limits)
-    → Fills (IsTextOf text_of (λ value. flag (yes_of value)) made) (IsFailureOf failure_of_error made) before after answer status
-    → Fills (IsTextWithFlag limit depth Is) (IsFailureOfOne limit depth HasError) before after answer status
+    → FillsBuffer (IsTextOf text_of (λ value. flag (yes_of value)) made) (IsFailureOf failure_of_error made) before after answer status
+    → FillsBuffer (IsTextWithFlag limit depth Is) (IsFailureOfOne limit depth HasError) before after answer status
 text_with_flag_fills limit depth Is HasError text_of yes_of limits made before after answer status in_range same no_read no_write
     output failed fills =
     made_fills (λ value. Is limits (yes_of value) (text_of value)) (HasError limits) text_of (λ value. flag (yes_of value))

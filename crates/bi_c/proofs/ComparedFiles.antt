@@ -4,7 +4,7 @@ use Rattle.bi_describe.specs.declared.compare.CompareError.{CompareError}
 use Rattle.bi_describe.specs.declared.compare.CompareError.TheVariants as compare
 use Rattle.bi_c.specs.declared.answer.Answer.{Answer}
 use Rattle.bi_c.specs.declared.failure.Failure.{Failure}
-use Rattle.bi_c.specs.Answers.{Fills, IsTextOf, IsFailureOf}
+use Rattle.bi_c.specs.Answers.{FillsBuffer, IsTextOf, IsFailureOf}
 use Rattle.bi_c.specs.Arguments.{bounds}
 use Rattle.bi_c.specs.Calls.{flag, IsTextWithFlag, IsFailureOfTwo, failure_of_compare_error}
 use Rattle.bi_c.proofs.CallAnswers.{made_fills, text_with_flag_of_call}
@@ -31,8 +31,9 @@ pub comparison_fills : {V : Type 0} (limit depth : ℕ) (Is : Limits → Bool �
     (made : Result V CompareError) (before after : List ℕ) (answer : Answer) (status : ℕ)
     → IsInRange limit depth → limits ≡ bounds limit depth → IfOk made (λ value. Is limits (yes_of value) (text_of value))
     → IfErr made (HasError limits)
-    → Fills (IsTextOf text_of (λ value. flag (yes_of value)) made) (IsFailureOf failure_of_compare_error made) before after answer status
-    → Fills (IsTextWithFlag limit depth Is) (IsFailureOfTwo limit depth (HasError (bounds limit depth))) before after answer status
+    → FillsBuffer (IsTextOf text_of (λ value. flag (yes_of value)) made) (IsFailureOf failure_of_compare_error made)
+    before after answer status
+    → FillsBuffer (IsTextWithFlag limit depth Is) (IsFailureOfTwo limit depth (HasError (bounds limit depth))) before after answer status
 comparison_fills limit depth Is HasError text_of yes_of limits made before after answer status in_range same output failed fills =
     made_fills (λ value. Is limits (yes_of value) (text_of value)) (HasError limits) text_of (λ value. flag (yes_of value))
     failure_of_compare_error (IsTextWithFlag limit depth Is) (IsFailureOfTwo limit depth (HasError (bounds limit depth))) made before after

@@ -48,9 +48,9 @@ names_back : (content : FitModel) (all : List (List ℕ)) →
 names_back content [] = refl
 names_back content (first ∷ later) = ap (λ it. first ∷ it) (names_back content later)
 
-pub configuration_names : (content : FitModel) →
+pub names_of_configurations : (content : FitModel) →
     map (λ (it : ConfigurationModel). it.name) (configurations_of content) ≡ names (configuration_nodes (tree_of content))
-configuration_names content = names_back content (names (configuration_nodes (tree_of content)))
+names_of_configurations content = names_back content (names (configuration_nodes (tree_of content)))
 
 -- If the first name is the given one, the index is 0. If not, the index is one more than among the later names.
 pub first_is : (name first : List ℕ) (later : List (List ℕ)) → bytes_eq first name ≡ true → index_of_first name (first ∷ later) ≡ 0

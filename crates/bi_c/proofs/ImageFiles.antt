@@ -11,7 +11,7 @@ use Rattle.bi_fit.specs.Payloads.{IsAtPlace, payload_place, source_of}
 use Rattle.bi_fit.specs.Reading.{IsReadFit}
 use Rattle.bi_fit.proofs.FilePayloads.{payloads_are_at_places}
 use Rattle.bi_c.specs.declared.images.ImageElement.{ImageElement}
-use Rattle.bi_c.specs.Answers.{IsJust}
+use Rattle.bi_c.specs.Answers.{IsThisOutput}
 use Rattle.bi_c.specs.Arguments.{bounds}
 use Rattle.bi_c.specs.ImageElements.{AreImageElements, HaveImageBytes, HasPayloadBytes, image_elements, image_payload_region}
 use Rattle.bi_c.proofs.FitFiles.{means_within}
@@ -42,7 +42,7 @@ image_bytes file (node name own children later) (payload ∷ payloads) have at =
 -- So the elements are those of what the file means.
 pub are_image_elements : (limit depth : ℕ) (file : List ℕ) (limits : Limits) (content : FitModel) (elements : List ImageElement) (value : ℕ)
     → IsInRange limit depth → limits ≡ bounds limit depth → IsReadFit limits file content →
-    IsJust (image_elements content.blob.file (siblings (nodes_or_none (image_nodes (root_of content.blob))))
+    IsThisOutput (image_elements content.blob.file (siblings (nodes_or_none (image_nodes (root_of content.blob))))
     (payloads_of_models content.images)) 0 elements value →
     AreImageElements limit depth file elements value
 are_image_elements limit depth file limits content elements value in_range same read just =

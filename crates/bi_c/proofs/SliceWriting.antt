@@ -8,7 +8,7 @@ use Rattle.bi_legacy.specs.Text.{legacy_text}
 use Rattle.bi_legacy.proofs.NormalLength.{length-legacy_text}
 use Rattle.bi_c.specs.declared.failure.Failure.{Failure}
 use Rattle.bi_c.specs.declared.answer.Answer.{Answer}
-use Rattle.bi_c.specs.Answers.{Fills, Filled, FilledNothing, IsJust, answer_of, answer_of_failure, status_of_failure}
+use Rattle.bi_c.specs.Answers.{FillsBuffer, Filled, FilledNothing, IsThisOutput, answer_of, answer_of_failure, status_of_failure}
 
 -- A text that fits a buffer is written to its beginning, and a call that fails before it writes leaves the buffer as it was.
 
@@ -16,7 +16,7 @@ use Rattle.bi_c.specs.Answers.{Fills, Filled, FilledNothing, IsJust, answer_of, 
 pub filled_with : (HasFailed : Failure → Type 0) (text : List ℕ) (value : ℕ) (old new : SliceSink) (before after : List ℕ) (name : ℕ)
     (answer : Answer) → filled_of old ≡ 0 → (slice_of old).now ≡ before → (slice_of old).ghost_name ≡ name
     → length text ≤ length before → SliceGrows old text new → (name ≡ (slice_of new).ghost_name → after ≡ (slice_of new).now) →
-    answer ≡ answer_of (length text) value → Fills (IsJust text value) HasFailed before after answer 0
+    answer ≡ answer_of (length text) value → FillsBuffer (IsThisOutput text value) HasFailed before after answer 0
 filled_with HasFailed text value old new before after name answer empty is_before is_name room grows is_after told =
     Filled text value (record { is_text = refl; is_number = refl }) room
     (is_after (sym (grows.same_slice ∙ is_name))
@@ -29,7 +29,7 @@ pub fills_nothing : (IsOutput : List ℕ → ℕ → Type 0) (HasFailed : Failur
     (before after : List ℕ) (name : ℕ) (answer : Answer) (status : ℕ) → HasFailed failure → (slice_of old).now ≡ before →
     (slice_of old).ghost_name ≡ name
     → new ≡ old → (name ≡ (slice_of new).ghost_name → after ≡ (slice_of new).now) → answer ≡ answer_of_failure failure →
-    status ≡ status_of_failure failure → Fills IsOutput HasFailed before after answer status
+    status ≡ status_of_failure failure → FillsBuffer IsOutput HasFailed before after answer status
 fills_nothing IsOutput HasFailed failure old new before after name answer status is is_before is_name same is_after told is_status =
     FilledNothing failure is
     (is_after (sym (ap (λ (sink : SliceSink). (slice_of sink).ghost_name) same ∙ is_name))

@@ -68,20 +68,20 @@ pub data Answers (IsOutput : (size value : ℕ) → Type 0) (HasFailed : Failure
 -- A call that writes its output to the beginning of a buffer or an array. The elements after it
 -- stay. If there is no room for the output, or the call fails, the buffer is as it was. Without
 -- room, the struct has the size of the output.
-pub data Fills {T : Type 0} (IsOutput : (output : List T) → (value : ℕ) → Type 0)
+pub data FillsBuffer {T : Type 0} (IsOutput : (output : List T) → (value : ℕ) → Type 0)
     (HasFailed : Failure → Type 0) (before after : List T) (answer : Answer) (status : ℕ) : Type 0
   where
     Filled : (output : List T) (value : ℕ) → IsOutput output value
         → length output ≤ length before → after ≡ output ++ drop (length output) before
         → answer ≡ answer_of (length output) value → status ≡ done
-        → Fills IsOutput HasFailed before after answer status
+        → FillsBuffer IsOutput HasFailed before after answer status
     HadNoRoom : (output : List T) (value : ℕ) → IsOutput output value
         → length before < length output → after ≡ before
         → answer ≡ answer_of (length output) value → status ≡ no_room
-        → Fills IsOutput HasFailed before after answer status
+        → FillsBuffer IsOutput HasFailed before after answer status
     FilledNothing : (failure : Failure) → HasFailed failure → after ≡ before
         → answer ≡ answer_of_failure failure → status ≡ status_of_failure failure
-        → Fills IsOutput HasFailed before after answer status
+        → FillsBuffer IsOutput HasFailed before after answer status
 
 -- A call that sets a struct of the caller's. If the call fails, the struct is as it was.
 pub data Sets {T : Type 0} (IsOutput : T → Type 0) (HasFailed : Failure → Type 0) (before after : T)
@@ -108,7 +108,7 @@ failure_of_error (error.Refused fault) = Refused 1 fault
 failure_of_error other = OutOfMemory
 
 -- The output is this one, and the call returns this number.
-pub record IsJust {T : Type 0} (wanted : List T) (number : ℕ) (output : List T) (value : ℕ)
+pub record IsThisOutput {T : Type 0} (wanted : List T) (number : ℕ) (output : List T) (value : ℕ)
     : Type 0
   where
     pub is_text : output ≡ wanted
@@ -124,7 +124,7 @@ pub record IsFailureBy (HasError : Error → Type 0) (failure : Failure) : Type 
 abbrev pub IsTextOf : {V E : Type 0} → (text_of : V → List ℕ) → (number_of : V → ℕ) → Result V E
     → (text : List ℕ) → (value : ℕ) → Type 0
 IsTextOf text_of number_of (Ok made) text value =
-    IsJust (text_of made) (number_of made) text value
+    IsThisOutput (text_of made) (number_of made) text value
 IsTextOf text_of number_of (Err error) text value = ⊥
 
 -- The failure is the one for the error of a call.

@@ -4,7 +4,7 @@ ghost use Rattle.std.specs.Prelude.{◌≡◌, ℕ, List, IfErr, IfNone, IfOk, I
 ghost use Rattle.std.specs.List.{AllByRecursion};
 ghost use Rattle.bi_base.specs.Slices.{bytes_of};
 ghost use Rattle.bi_legacy.specs.Meaning.{image_of};
-ghost use Rattle.bi_c.specs.Answers.{Fills};
+ghost use Rattle.bi_c.specs.Answers.{FillsBuffer};
 ghost use Rattle.bi_c.specs.PieceBuilding.{IsBuiltOfPieces, IsPieceInside, IsPieceBuildFailure};
 ghost use Rattle.bi_c.specs.PieceBuilding.{IsPiecesFailure, bytes_of_piece, legacy_of_pieces};
 
@@ -30,7 +30,7 @@ pub extern "C" fn bootimg_build_legacy(
     buffer: &mut [u8],
     answer: &mut Answer,
 ) -> u32
-    ensures { Fills (IsBuiltOfPieces limit depth input.now fields.now parts.now)
+    ensures { FillsBuffer (IsBuiltOfPieces limit depth input.now fields.now parts.now)
         (IsPieceBuildFailure limit depth input.now fields.now parts.now)
         buffer.old buffer.new answer.new result }
 {

@@ -3,7 +3,7 @@
 ghost use Rattle.std.specs.Prelude.{◌≡◌, MatchOption};
 ghost use Rattle.bi_base.specs.declared.fault.Cause.{Cause};
 ghost use Rattle.bi_base.specs.Causes.{number_of};
-ghost use Rattle.bi_c.specs.Answers.{Fills};
+ghost use Rattle.bi_c.specs.Answers.{FillsBuffer};
 ghost use Rattle.bi_c.specs.Calls.{IsCauseName, IsCauseSentence, IsNoCause, IsVersion};
 
 use crate::answer::{Answer, fail, fill};
@@ -17,7 +17,7 @@ const VERSION: &str = "0.3.0";
 /// Writes the name of the cause with the given number, 1 to 26, to a buffer. Returns the status.
 #[unsafe(no_mangle)]
 pub extern "C" fn bootimg_cause_name(number: u32, buffer: &mut [u8], answer: &mut Answer) -> u32
-    ensures { Fills (IsCauseName number) (IsNoCause number) buffer.old buffer.new answer.new
+    ensures { FillsBuffer (IsCauseName number) (IsNoCause number) buffer.old buffer.new answer.new
         result }
 {
     match cause_of(number) {
@@ -30,8 +30,8 @@ pub extern "C" fn bootimg_cause_name(number: u32, buffer: &mut [u8], answer: &mu
 /// buffer. Returns the status.
 #[unsafe(no_mangle)]
 pub extern "C" fn bootimg_explain(number: u32, buffer: &mut [u8], answer: &mut Answer) -> u32
-    ensures { Fills (IsCauseSentence number) (IsNoCause number) buffer.old buffer.new answer.new
-        result }
+    ensures { FillsBuffer (IsCauseSentence number) (IsNoCause number) buffer.old buffer.new
+        answer.new result }
 {
     match cause_of(number) {
         Some(cause) => fill(sentence(cause).as_bytes(), 0, buffer, answer),
@@ -78,7 +78,7 @@ fn cause_of(number: u32) -> Option<Cause>
 /// Writes the version of the library to a buffer. Returns the status.
 #[unsafe(no_mangle)]
 pub extern "C" fn bootimg_version(buffer: &mut [u8], answer: &mut Answer) -> u32
-    ensures { Fills IsVersion (λ _. ⊥) buffer.old buffer.new answer.new result }
+    ensures { FillsBuffer IsVersion (λ _. ⊥) buffer.old buffer.new answer.new result }
 {
     fill(VERSION.as_bytes(), 0, buffer, answer)
 }

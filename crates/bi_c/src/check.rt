@@ -1,6 +1,6 @@
 //! The concerns about a file.
 
-ghost use Rattle.bi_c.specs.Answers.{Fills, IsFailure, IsFailureBy};
+ghost use Rattle.bi_c.specs.Answers.{FillsBuffer, IsFailure, IsFailureBy};
 ghost use Rattle.bi_c.specs.Arguments.{bounds};
 ghost use Rattle.bi_c.specs.Calls.{IsCheckText, IsConcernsText, HasKinds};
 ghost use Rattle.bi_common.specs.declared.format.Format.TheVariants.{Lines, Json};
@@ -27,7 +27,7 @@ pub extern "C" fn bootimg_check(
     buffer: &mut [u8],
     answer: &mut Answer,
 ) -> u32
-    ensures { Fills (IsCheckText Lines limit depth kinds file.now)
+    ensures { FillsBuffer (IsCheckText Lines limit depth kinds file.now)
         (IsFailure (HasKinds limit depth kinds) (IsCheckError (bounds limit depth) file.now))
         buffer.old buffer.new answer.new result }
 {
@@ -56,7 +56,7 @@ pub extern "C" fn bootimg_check_json(
     buffer: &mut [u8],
     answer: &mut Answer,
 ) -> u32
-    ensures { Fills (IsCheckText Json limit depth kinds file.now)
+    ensures { FillsBuffer (IsCheckText Json limit depth kinds file.now)
         (IsFailure (HasKinds limit depth kinds) (IsCheckError (bounds limit depth) file.now))
         buffer.old buffer.new answer.new result }
 {
@@ -83,7 +83,7 @@ fn fill_concerns(
     buffer: &mut [u8],
     answer: &mut Answer,
 ) -> u32
-    ensures { Fills (IsConcernsText checker limits file.now)
+    ensures { FillsBuffer (IsConcernsText checker limits file.now)
         (IsFailureBy (IsCheckError limits file.now)) buffer.old buffer.new answer.new result }
 {
     let mut sink = VecSink::new(alloc);

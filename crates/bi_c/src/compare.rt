@@ -1,7 +1,7 @@
 //! Comparing what two files mean.
 
 ghost use Rattle.std.specs.Prelude.{◌≡◌, string_bytes};
-ghost use Rattle.bi_c.specs.Answers.{Answers, Fills, IsTextOf, IsFailureOf};
+ghost use Rattle.bi_c.specs.Answers.{Answers, FillsBuffer, IsTextOf, IsFailureOf};
 ghost use Rattle.bi_c.specs.Arguments.{bounds};
 ghost use Rattle.bi_c.specs.Calls.{IsSame, IsTextWithFlag, IsFailureOfTwo};
 ghost use Rattle.bi_c.specs.Calls.{failure_of_compare_error, flag};
@@ -49,7 +49,7 @@ pub extern "C" fn bootimg_compare(
     buffer: &mut [u8],
     answer: &mut Answer,
 ) -> u32
-    ensures { Fills (IsTextWithFlag limit depth
+    ensures { FillsBuffer (IsTextWithFlag limit depth
         (λ limits same text. IsComparison Lines limits one.now other.now same text))
         (IsFailureOfTwo limit depth (IsComparisonError (bounds limit depth) one.now other.now))
         buffer.old buffer.new answer.new result }
@@ -72,7 +72,7 @@ pub extern "C" fn bootimg_compare_json(
     buffer: &mut [u8],
     answer: &mut Answer,
 ) -> u32
-    ensures { Fills (IsTextWithFlag limit depth
+    ensures { FillsBuffer (IsTextWithFlag limit depth
         (λ limits same text. IsComparison Json limits one.now other.now same text))
         (IsFailureOfTwo limit depth (IsComparisonError (bounds limit depth) one.now other.now))
         buffer.old buffer.new answer.new result }
@@ -89,7 +89,7 @@ fn fill_comparison(
     buffer: &mut [u8],
     answer: &mut Answer,
 ) -> u32
-    ensures { Fills
+    ensures { FillsBuffer
         (IsTextOf (λ compared. string_bytes compared.differences) (λ compared. flag compared.same)
         made)
         (IsFailureOf failure_of_compare_error made) buffer.old buffer.new answer.new result }

@@ -1,7 +1,7 @@
 //! The concerns about a boot image.
 
 ghost use Rattle.std.specs.Prelude.{◌≡◌, IfOk, map};
-ghost use Rattle.bi_c.specs.Answers.{Fills, IsFailure};
+ghost use Rattle.bi_c.specs.Answers.{FillsBuffer, IsFailure};
 ghost use Rattle.bi_c.specs.Arguments.{bounds};
 ghost use Rattle.bi_c.specs.Calls.{HasKinds};
 ghost use Rattle.bi_c.specs.ConcernElements.{AreConcernElements};
@@ -57,7 +57,7 @@ pub extern "C" fn bootimg_concerns(
     concerns: &mut [ConcernElement],
     answer: &mut Answer,
 ) -> u32
-    ensures { Fills (AreConcernElements limit depth kinds file.now)
+    ensures { FillsBuffer (AreConcernElements limit depth kinds file.now)
         (IsFailure (HasKinds limit depth kinds) (IsCheckError (bounds limit depth) file.now))
         concerns.old concerns.new answer.new result }
 {

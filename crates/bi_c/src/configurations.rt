@@ -9,7 +9,7 @@ ghost use Rattle.bi_fit.specs.Content.{index_of, tree_of};
 ghost use Rattle.bi_fit.specs.JudgementCalls.{listed_image};
 ghost use Rattle.bi_fit.specs.Names.{configurations_name};
 ghost use Rattle.bi_fit.specs.Reading.{IsFitReadError};
-ghost use Rattle.bi_c.specs.Answers.{Fills, IsJust};
+ghost use Rattle.bi_c.specs.Answers.{FillsBuffer, IsThisOutput};
 ghost use Rattle.bi_c.specs.Calls.{IsFailureOfOne};
 ghost use Rattle.bi_c.specs.FitElements.{AreConfigurationRegions, AreImageIndices, IsListFailure};
 ghost use Rattle.bi_c.specs.FitElements.{AreReadIndices, IsListRefusal};
@@ -36,7 +36,7 @@ pub extern "C" fn bootimg_configurations(
     names: &mut [Region],
     answer: &mut Answer,
 ) -> u32
-    ensures { Fills (AreConfigurationRegions limit depth file.now)
+    ensures { FillsBuffer (AreConfigurationRegions limit depth file.now)
         (IsFailureOfOne limit depth (λ limits. IsFitReadError limits file.now))
         names.old names.new answer.new result }
 {
@@ -95,7 +95,7 @@ pub extern "C" fn bootimg_listed(
     images: &mut [usize],
     answer: &mut Answer,
 ) -> u32
-    ensures { Fills (AreImageIndices limit depth key file.now name.now)
+    ensures { FillsBuffer (AreImageIndices limit depth key file.now name.now)
         (IsListFailure limit depth key file.now name.now)
         images.old images.new answer.new result }
 {
@@ -121,7 +121,7 @@ fn list_images(
     indices: &mut [usize],
     answer: &mut Answer,
 ) -> u32
-    ensures { Fills (AreReadIndices fit.now name.now key) (IsListRefusal fit.now name.now key)
+    ensures { FillsBuffer (AreReadIndices fit.now name.now key) (IsListRefusal fit.now name.now key)
         indices.old indices.new answer.new result }
 {
     match fit.config_payloads(alloc, name, key) {
@@ -138,7 +138,7 @@ fn fill_indices(
     indices: &mut [usize],
     answer: &mut Answer,
 ) -> u32
-    ensures { Fills (IsJust (map (index_among fit.now) (map listed_image listed.now)) 0)
+    ensures { FillsBuffer (IsThisOutput (map (index_among fit.now) (map listed_image listed.now)) 0)
         (λ failure. ⊥) indices.old indices.new answer.new result }
 {
     *answer = answer_with(listed.len(), 0);

@@ -1,9 +1,8 @@
 //! The fields and the memory reservations of a flattened image tree.
 
 ghost use Rattle.std.specs.Prelude.{◌≡◌, map};
-ghost use Rattle.bi_blob.specs.Blob.{totalsize};
 ghost use Rattle.bi_fit.specs.Reading.{IsFitReadError};
-ghost use Rattle.bi_c.specs.Answers.{Fills, IsJust, Sets};
+ghost use Rattle.bi_c.specs.Answers.{FillsBuffer, IsThisOutput, Sets};
 ghost use Rattle.bi_c.specs.Calls.{IsFailureOfOne};
 ghost use Rattle.bi_c.specs.FitElements.{AreFitFields, AreReservationElements};
 ghost use Rattle.bi_c.specs.FitElements.{element_of_reservation};
@@ -84,7 +83,7 @@ pub extern "C" fn bootimg_reservations(
     reservations: &mut [ReservationElement],
     answer: &mut Answer,
 ) -> u32
-    ensures { Fills (AreReservationElements limit depth file.now)
+    ensures { FillsBuffer (AreReservationElements limit depth file.now)
         (IsFailureOfOne limit depth (λ limits. IsFitReadError limits file.now))
         reservations.old reservations.new answer.new result }
 {
@@ -103,7 +102,7 @@ fn fill_reservations(
     elements: &mut [ReservationElement],
     answer: &mut Answer,
 ) -> u32
-    ensures { Fills (IsJust (map element_of_reservation blob.now.reservations) 0)
+    ensures { FillsBuffer (IsThisOutput (map element_of_reservation blob.now.reservations) 0)
         (λ failure. ⊥) elements.old elements.new answer.new result }
 {
     let count = blob.reservation_count();

@@ -2,7 +2,7 @@
 
 ghost use Rattle.std.specs.Prelude.{◌≡◌, IfErr, IfNone, IfOk, IfSome};
 ghost use Rattle.std.specs.List.{AllZip};
-ghost use Rattle.bi_c.specs.Answers.{Fills};
+ghost use Rattle.bi_c.specs.Answers.{FillsBuffer};
 ghost use Rattle.bi_c.specs.TreeBuilding.{AreSpecsFailure, IsSpecInside, IsSpecOf};
 ghost use Rattle.bi_c.specs.TreeBuilding.{IsTreeBuildFailure, IsTreeOfPieces};
 ghost use Rattle.bi_c.specs.TreeBuilding.{address_if as chosen_address};
@@ -56,7 +56,7 @@ pub extern "C" fn bootimg_build_fit(
     buffer: &mut [u8],
     answer: &mut Answer,
 ) -> u32
-    ensures { Fills
+    ensures { FillsBuffer
         (IsTreeOfPieces limit depth form time input.now description.now images.now)
         (IsTreeBuildFailure limit depth form time input.now description.now images.now)
         buffer.old buffer.new answer.new result }

@@ -8,7 +8,7 @@ ghost use Rattle.bi_fit.specs.Content.{IsHeld, IsReadImage, image_model, offset_
 ghost use Rattle.bi_fit.specs.Content.{payloads_of_models};
 ghost use Rattle.bi_fit.specs.ImageTree.{image_nodes, nodes_or_none};
 ghost use Rattle.bi_fit.specs.Reading.{IsFitReadError};
-ghost use Rattle.bi_c.specs.Answers.{Fills, IsJust};
+ghost use Rattle.bi_c.specs.Answers.{FillsBuffer, IsThisOutput};
 ghost use Rattle.bi_c.specs.Calls.{IsFailureOfOne};
 ghost use Rattle.bi_c.specs.ImageElements.{AreImageElements, element_of_image, image_elements};
 ghost use Rattle.bi_c.specs.ImageElements.{place_number};
@@ -45,7 +45,7 @@ pub extern "C" fn bootimg_images(
     images: &mut [ImageElement],
     answer: &mut Answer,
 ) -> u32
-    ensures { Fills (AreImageElements limit depth file.now)
+    ensures { FillsBuffer (AreImageElements limit depth file.now)
         (IsFailureOfOne limit depth (λ limits. IsFitReadError limits file.now))
         images.old images.new answer.new result }
 {
@@ -62,7 +62,7 @@ pub extern "C" fn bootimg_images(
 /// the status.
 fn fill_images(fit: &Fit<'_>, elements: &mut [ImageElement], answer: &mut Answer) -> u32
     requires { IsHeld fit.now }
-    ensures { Fills (IsJust (image_elements fit.now.blob.file
+    ensures { FillsBuffer (IsThisOutput (image_elements fit.now.blob.file
         (siblings (nodes_or_none (image_nodes (root_of fit.now.blob))))
         (payloads_of_models fit.now.images)) 0)
         (λ failure. ⊥) elements.old elements.new answer.new result }

@@ -2,7 +2,7 @@
 
 ghost use Rattle.std.specs.Prelude.{◌≡◌, map};
 ghost use Rattle.bi_legacy.specs.PlacedParts.{part_model, placed_parts};
-ghost use Rattle.bi_c.specs.Answers.{Fills, IsJust, Sets};
+ghost use Rattle.bi_c.specs.Answers.{FillsBuffer, IsThisOutput, Sets};
 ghost use Rattle.bi_c.specs.Calls.{IsFailureOfOne};
 ghost use Rattle.bi_c.specs.LegacyElements.{ArePartRegions, AreLegacyFields, IsLegacyReadError};
 ghost use Rattle.bi_c.specs.LegacyElements.{fields_of_image, region_of_part};
@@ -90,7 +90,7 @@ pub extern "C" fn bootimg_parts(
     parts: &mut [Region],
     answer: &mut Answer,
 ) -> u32
-    ensures { Fills (ArePartRegions limit depth file.now)
+    ensures { FillsBuffer (ArePartRegions limit depth file.now)
         (IsFailureOfOne limit depth (λ limits. IsLegacyReadError limits file.now))
         parts.old parts.new answer.new result }
 {
@@ -106,8 +106,8 @@ pub extern "C" fn bootimg_parts(
 /// Writes where each part of a legacy image that was read is to an array, and the answer. Returns
 /// the status.
 fn fill_parts(image: &Legacy<'_>, regions: &mut [Region], answer: &mut Answer) -> u32
-    ensures { Fills
-        (IsJust (map region_of_part (placed_parts image.now.image)) image.now.unused)
+    ensures { FillsBuffer
+        (IsThisOutput (map region_of_part (placed_parts image.now.image)) image.now.unused)
         (λ failure. ⊥) regions.old regions.new answer.new result }
 {
     let count = image.part_count();

@@ -4,7 +4,7 @@ ghost use Rattle.std.specs.Prelude.{◌≡◌, length, map};
 ghost use Rattle.std.specs.Option.{option_map};
 ghost use Rattle.bi_blob.specs.Lookups.{siblings_from};
 ghost use Rattle.bi_fdt.specs.Views.{node_of};
-ghost use Rattle.bi_c.specs.Answers.{Fills, IsJust};
+ghost use Rattle.bi_c.specs.Answers.{FillsBuffer, IsThisOutput};
 ghost use Rattle.bi_c.specs.NodeElements.{AreChildRegions, IsNodeFailure};
 ghost use Rattle.bi_c.specs.TreeRegions.{children_of_found, name_region_of};
 
@@ -29,7 +29,7 @@ pub extern "C" fn bootimg_children(
     names: &mut [Region],
     answer: &mut Answer,
 ) -> u32
-    ensures { Fills (AreChildRegions limit depth file.now path.now)
+    ensures { FillsBuffer (AreChildRegions limit depth file.now path.now)
         (IsNodeFailure limit depth file.now path.now) names.old names.new answer.new result }
 {
     let Some(limits) = limits_of(limit, depth) else {
@@ -53,7 +53,7 @@ pub(crate) fn fill_children(
     names: &mut [Region],
     answer: &mut Answer,
 ) -> u32
-    ensures { Fills (IsJust
+    ensures { FillsBuffer (IsThisOutput
         (map name_region_of (children_of_found (option_map node_of parent.entry))) value)
         (λ failure. ⊥) names.old names.new answer.new result }
 {

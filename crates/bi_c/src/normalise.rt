@@ -5,7 +5,7 @@ ghost use Rattle.bi_fit.specs.declared.form.Form.{Form};
 ghost use Rattle.bi_fit.specs.Reading.{IsReadFit};
 ghost use Rattle.bi_legacy.specs.Reading.{IsReadLegacy};
 ghost use Rattle.bi_norm.specs.NormalForm.{IsNormaliseOutput, IsNormaliseError};
-ghost use Rattle.bi_c.specs.Answers.{Fills, IsFailureBy};
+ghost use Rattle.bi_c.specs.Answers.{FillsBuffer, IsFailureBy};
 ghost use Rattle.bi_c.specs.Calls.{IsNormalised, IsNormaliseFailure};
 
 use crate::answer::{Answer, fail};
@@ -31,7 +31,7 @@ pub extern "C" fn bootimg_normalise(
     buffer: &mut [u8],
     answer: &mut Answer,
 ) -> u32
-    ensures { Fills (IsNormalised limit depth form file.now)
+    ensures { FillsBuffer (IsNormalised limit depth form file.now)
         (IsNormaliseFailure limit depth form file.now) buffer.old buffer.new answer.new result }
 {
     let Some(limits) = limits_of(limit, depth) else {
@@ -61,7 +61,7 @@ fn normalise_legacy(
 ) -> u32
     requires { IsReadLegacy limits file.now image.now }
     ensures { (form : Form)
-        → Fills (λ text value. IsNormaliseOutput limits form value file.now text)
+        → FillsBuffer (λ text value. IsNormaliseOutput limits form value file.now text)
         (IsFailureBy (IsNormaliseError limits form file.now)) buffer.old buffer.new answer.new
         result }
 {
@@ -79,7 +79,7 @@ fn normalise_fit(
     answer: &mut Answer,
 ) -> u32
     ensures { (file : List ℕ) → IsReadFit limits file fit.now →
-        Fills (λ text value. IsNormaliseOutput limits form value file text)
+        FillsBuffer (λ text value. IsNormaliseOutput limits form value file text)
         (IsFailureBy (IsNormaliseError limits form file)) buffer.old buffer.new answer.new result }
 {
     match fit.text(alloc, form, limits) {

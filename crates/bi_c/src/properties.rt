@@ -4,7 +4,7 @@ ghost use Rattle.std.specs.Prelude.{◌≡◌, ◌≤◌, length, map};
 ghost use Rattle.std.specs.List.{AllByRecursion};
 ghost use Rattle.bi_fdt.specs.Properties.{file_property_of};
 ghost use Rattle.bi_fdt.specs.Views.{node_of};
-ghost use Rattle.bi_c.specs.Answers.{Answers, Fills, IsJust};
+ghost use Rattle.bi_c.specs.Answers.{Answers, FillsBuffer, IsThisOutput};
 ghost use Rattle.bi_c.specs.NodeElements.{ArePropertyElements, IsNodeFailure, IsPropertyFailure};
 ghost use Rattle.bi_c.specs.NodeElements.{IsValueAt, element_of_property};
 ghost use Rattle.bi_c.specs.TreeRegions.{HasPropertyBytes};
@@ -44,7 +44,7 @@ pub extern "C" fn bootimg_properties(
     properties: &mut [PropertyElement],
     answer: &mut Answer,
 ) -> u32
-    ensures { Fills (ArePropertyElements limit depth file.now path.now)
+    ensures { FillsBuffer (ArePropertyElements limit depth file.now path.now)
         (IsNodeFailure limit depth file.now path.now)
         properties.old properties.new answer.new result }
 {
@@ -102,7 +102,7 @@ fn fill_properties(
 ) -> u32
     requires header { 16 ≤ length file.now }
     requires regions { AllByRecursion (HasPropertyBytes file.now) (node_of node).own.properties }
-    ensures { Fills (IsJust
+    ensures { FillsBuffer (IsThisOutput
         (map (element_of_property file.now) (node_of node.entry).own.properties) 0)
         (λ failure. ⊥) elements.old elements.new answer.new result }
 {

@@ -1,6 +1,6 @@
 //! The page of a file, for a person.
 
-ghost use Rattle.bi_c.specs.Answers.{Fills};
+ghost use Rattle.bi_c.specs.Answers.{FillsBuffer};
 ghost use Rattle.bi_c.specs.Calls.{IsPageFailure, IsPageText};
 
 use crate::answer::{Answer, fail};
@@ -22,7 +22,7 @@ pub extern "C" fn bootimg_show(
     buffer: &mut [u8],
     answer: &mut Answer,
 ) -> u32
-    ensures { Fills (IsPageText limit depth layout file.now)
+    ensures { FillsBuffer (IsPageText limit depth layout file.now)
         (IsPageFailure limit depth layout file.now) buffer.old buffer.new answer.new result }
 {
     let Some(limits) = limits_of(limit, depth) else {

@@ -1,7 +1,7 @@
 //! Texts about a file, and the flattened image tree of a legacy image.
 
 ghost use Rattle.std.specs.Prelude.{string_bytes};
-ghost use Rattle.bi_c.specs.Answers.{Fills, IsTextOf, IsFailureOf, failure_of_error};
+ghost use Rattle.bi_c.specs.Answers.{FillsBuffer, IsTextOf, IsFailureOf, failure_of_error};
 ghost use Rattle.bi_c.specs.Calls.{IsTextOnly, IsTextWithFlag, IsFailureOfOne, flag};
 ghost use Rattle.bi_common.specs.declared.format.Format.TheVariants.{Lines, Json};
 ghost use Rattle.bi_report.specs.ListedFiles.{IsListing};
@@ -30,7 +30,8 @@ pub extern "C" fn bootimg_list(
     buffer: &mut [u8],
     answer: &mut Answer,
 ) -> u32
-    ensures { Fills (IsTextOnly limit depth (λ limits text. IsListing Lines limits file.now text))
+    ensures { FillsBuffer
+        (IsTextOnly limit depth (λ limits text. IsListing Lines limits file.now text))
         (IsFailureOfOne limit depth (λ limits error. IsBootImageReadError limits file.now error))
         buffer.old buffer.new answer.new result }
 {
@@ -50,7 +51,8 @@ pub extern "C" fn bootimg_list_json(
     buffer: &mut [u8],
     answer: &mut Answer,
 ) -> u32
-    ensures { Fills (IsTextOnly limit depth (λ limits text. IsListing Json limits file.now text))
+    ensures { FillsBuffer
+        (IsTextOnly limit depth (λ limits text. IsListing Json limits file.now text))
         (IsFailureOfOne limit depth (λ limits error. IsBootImageReadError limits file.now error))
         buffer.old buffer.new answer.new result }
 {
@@ -70,7 +72,7 @@ pub extern "C" fn bootimg_describe(
     buffer: &mut [u8],
     answer: &mut Answer,
 ) -> u32
-    ensures { Fills
+    ensures { FillsBuffer
         (IsTextOnly limit depth (λ limits text. IsDescription Lines limits file.now text))
         (IsFailureOfOne limit depth (λ limits error. IsDescribeError Lines limits file.now error))
         buffer.old buffer.new answer.new result }
@@ -92,7 +94,7 @@ pub extern "C" fn bootimg_describe_json(
     buffer: &mut [u8],
     answer: &mut Answer,
 ) -> u32
-    ensures { Fills
+    ensures { FillsBuffer
         (IsTextOnly limit depth (λ limits text. IsDescription Json limits file.now text))
         (IsFailureOfOne limit depth (λ limits error. IsDescribeError Json limits file.now error))
         buffer.old buffer.new answer.new result }
@@ -105,7 +107,7 @@ pub extern "C" fn bootimg_describe_json(
 
 /// Writes the text that a call on a file made to a buffer, and the answer. Returns the status.
 pub(crate) fn fill_text(made: Result<String, Error>, buffer: &mut [u8], answer: &mut Answer) -> u32
-    ensures { Fills (IsTextOf string_bytes (λ _. 0) made) (IsFailureOf failure_of_error made)
+    ensures { FillsBuffer (IsTextOf string_bytes (λ _. 0) made) (IsFailureOf failure_of_error made)
         buffer.old buffer.new answer.new result }
 {
     match made {
@@ -125,7 +127,7 @@ pub extern "C" fn bootimg_verify(
     buffer: &mut [u8],
     answer: &mut Answer,
 ) -> u32
-    ensures { Fills
+    ensures { FillsBuffer
         (IsTextWithFlag limit depth
         (λ limits good text. IsVerifyOutput Lines limits good file.now text))
         (IsFailureOfOne limit depth (λ limits error. IsBootImageReadError limits file.now error))
@@ -148,7 +150,7 @@ pub extern "C" fn bootimg_verify_json(
     buffer: &mut [u8],
     answer: &mut Answer,
 ) -> u32
-    ensures { Fills
+    ensures { FillsBuffer
         (IsTextWithFlag limit depth
         (λ limits good text. IsVerifyOutput Json limits good file.now text))
         (IsFailureOfOne limit depth (λ limits error. IsBootImageReadError limits file.now error))
@@ -162,7 +164,7 @@ pub extern "C" fn bootimg_verify_json(
 
 /// Writes the report that a call on a file made to a buffer, and the answer. Returns the status.
 fn fill_report(made: Result<Report, Error>, buffer: &mut [u8], answer: &mut Answer) -> u32
-    ensures { Fills
+    ensures { FillsBuffer
         (IsTextOf (λ report. string_bytes report.text) (λ report. flag report.all_good) made)
         (IsFailureOf failure_of_error made) buffer.old buffer.new answer.new result }
 {
@@ -187,7 +189,8 @@ pub extern "C" fn bootimg_convert(
     buffer: &mut [u8],
     answer: &mut Answer,
 ) -> u32
-    ensures { Fills (IsTextOnly limit depth (λ limits text. IsConvertedFile limits file.now text))
+    ensures { FillsBuffer
+        (IsTextOnly limit depth (λ limits text. IsConvertedFile limits file.now text))
         (IsFailureOfOne limit depth (λ limits error. IsConvertError limits file.now error))
         buffer.old buffer.new answer.new result }
 {

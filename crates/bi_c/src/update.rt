@@ -1,7 +1,7 @@
 //! The normal form of a file with changes.
 
 ghost use Rattle.std.specs.Prelude.{◌≡◌, ◌<◌, ◌↔◌, IsSome, IfSome};
-ghost use Rattle.bi_c.specs.Answers.{Fills};
+ghost use Rattle.bi_c.specs.Answers.{FillsBuffer};
 ghost use Rattle.bi_c.specs.Arguments.{changes_of as changes_of_numbers};
 ghost use Rattle.bi_c.specs.Calls.{IsUpdatedText, IsUpdateFailure};
 
@@ -28,7 +28,7 @@ pub extern "C" fn bootimg_update(
     buffer: &mut [u8],
     answer: &mut Answer,
 ) -> u32
-    ensures { Fills (IsUpdatedText limit depth form changes time file.now)
+    ensures { FillsBuffer (IsUpdatedText limit depth form changes time file.now)
         (IsUpdateFailure limit depth form changes time file.now) buffer.old buffer.new answer.new
         result }
 {

@@ -10,7 +10,7 @@ ghost use Rattle.bi_fit.specs.HashNodes.{file_images};
 ghost use Rattle.bi_fit.specs.Names.{is_hash_name};
 ghost use Rattle.bi_fit.specs.Reading.{IsFitReadError};
 ghost use Rattle.bi_hash.specs.Regions.{IsRegionOf, bytes_of_region};
-ghost use Rattle.bi_c.specs.Answers.{Fills};
+ghost use Rattle.bi_c.specs.Answers.{FillsBuffer};
 ghost use Rattle.bi_c.specs.Calls.{IsFailureOfOne};
 ghost use Rattle.bi_c.specs.VerdictElements.{AreHashElements, element_with_verdict};
 ghost use Rattle.bi_c.specs.VerdictElements.{found_text_region, found_value_region};
@@ -57,7 +57,7 @@ pub extern "C" fn bootimg_verdicts(
     hashes: &mut [HashElement],
     answer: &mut Answer,
 ) -> u32
-    ensures { Fills (AreHashElements limit depth file.now)
+    ensures { FillsBuffer (AreHashElements limit depth file.now)
         (IsFailureOfOne limit depth (λ limits. IsFitReadError limits file.now))
         hashes.old hashes.new answer.new result }
 {

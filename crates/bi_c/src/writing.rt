@@ -3,7 +3,7 @@
 ghost use Rattle.std.specs.Prelude.{◌≡◌};
 ghost use Rattle.bi_legacy.specs.Reading.{IsReadLegacy};
 ghost use Rattle.bi_legacy.specs.Text.{legacy_text};
-ghost use Rattle.bi_c.specs.Answers.{Fills, IsJust};
+ghost use Rattle.bi_c.specs.Answers.{FillsBuffer, IsThisOutput};
 ghost use Rattle.bi_c.specs.declared.failure.Failure.TheVariants.{OutOfMemory};
 
 use crate::answer::{Answer, DONE, NO_ROOM, answer_with, fail};
@@ -25,8 +25,8 @@ pub(crate) fn write_legacy(
     answer: &mut Answer,
 ) -> u32
     requires { IsReadLegacy limits file.now image.now }
-    ensures { Fills (IsJust (legacy_text image.now.image) 0) (λ failure. failure ≡ OutOfMemory)
-        buffer.old buffer.new answer.new result }
+    ensures { FillsBuffer (IsThisOutput (legacy_text image.now.image) 0)
+        (λ failure. failure ≡ OutOfMemory) buffer.old buffer.new answer.new result }
 {
     // The parts and the part table are as long in the normal text as in the file.
     let size = file.len() - image.unused() as usize;
@@ -49,7 +49,8 @@ pub(crate) fn write_tree(
     buffer: &mut [u8],
     answer: &mut Answer,
 ) -> u32
-    ensures { Fills (IsJust text.now value) (λ failure. ⊥) buffer.old buffer.new answer.new result }
+    ensures { FillsBuffer (IsThisOutput text.now value) (λ failure. ⊥) buffer.old buffer.new
+        answer.new result }
 {
     let size = text.size() as usize;
     *answer = answer_with(size, value);

@@ -2,7 +2,7 @@ use Rattle.std.proofs.Common.{◌≡◌, ◌<◌, ◌^◌, ℕ, true, false, Lis
 use Rattle.std.proofs.lemmas.List.{length-map}
 use Rattle.bi_fit.specs.JudgementCalls.{ConfigurationModel}
 use Rattle.bi_c.specs.FitElements.{index_of_first}
-use Rattle.bi_c.proofs.FitElements.{configuration_names, first_is, first_is_not, default_found, no_default}
+use Rattle.bi_c.proofs.FitElements.{names_of_configurations, first_is, first_is_not, default_found, no_default}
 use Rattle.bi_c.proofs.configurations.default_index.Goals as goal
 
 pub returns-in_default : goal.returns-in_default
@@ -13,7 +13,8 @@ pub loop-configuration-init : goal.loop-configuration-init
 loop-configuration-init c =
     let content = c.args.fit.now in
     let is = c.into_iter-configuration-iterator.ensures.into_iter_gives ∙ c.configurations-configuration-items.ensures in
-    let names = ap (λ (it : List ConfigurationModel). map (λ (one : ConfigurationModel). one.name) it) is ∙ configuration_names content in
+    let names = ap (λ (it : List ConfigurationModel). map (λ (one : ConfigurationModel). one.name) it) is
+    ∙ names_of_configurations content in
     let count = sym (length-map c.into_iter-configuration-iterator.result (λ (one : ConfigurationModel). one.name)) ∙ ap length names in
     let same = ap (index_of_first c.in-Some.default.now) names in
     record {

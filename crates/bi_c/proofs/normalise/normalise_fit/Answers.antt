@@ -1,7 +1,10 @@
-use Rattle.std.proofs.Common.{◌≤◌, length, refl, subst, sym, ◌∙◌, ℕ, arith}
+use Rattle.std.proofs.Common.{◌≤◌, length, refl, subst, sym, ap, ◌∙◌, ℕ, arith}
 use Rattle.bi_blob.specs.Layout.{longest_text}
+use Rattle.bi_fit.specs.Content.{tree_of}
+use Rattle.bi_fit.specs.Text.{fit_text}
 use Rattle.bi_norm.specs.NormalForm.{IsNormaliseOutput}
-use Rattle.bi_norm.proofs.NormalForms.{text_error, tree_normalised}
+use Rattle.bi_norm.specs.Meaning.{OfFit, meaning_signature_count}
+use Rattle.bi_norm.proofs.NormalForms.{text_error, tree_normal_form}
 use Rattle.bi_c.specs.Answers.{FilledNothing}
 use Rattle.bi_c.proofs.CallAnswers.{fills_as}
 use Rattle.bi_c.proofs.normalise.normalise_fit.Goals as goal
@@ -13,7 +16,11 @@ returns-in-Ok c file read =
     let made = c.in-Ok.ensures.text in
     let most : limits.file ≤ longest_text = omega arith in
     let fits = subst (λ text. length text ≤ limits.file) made.is_text made.short in
-    let normalised = tree_normalised limits form file c.args.fit.now c.signature_count.result read fits most c.signature_count.ensures in
+    let normal = tree_normal_form limits form file c.args.fit.now read fits most in
+    let normalised : IsNormaliseOutput limits form c.signature_count.result file (fit_text form (tree_of c.args.fit.now)) = record {
+      normal = normal;
+      signatures = c.signature_count.ensures ∙ ap meaning_signature_count (normal.only (OfFit (tree_of c.args.fit.now)) read.means);
+    } in
     fills_as _ _ _ _ _ _ _ _
     (λ text value just. subst (λ (n : ℕ). IsNormaliseOutput limits form n file text) (sym just.is_number)
     (subst (IsNormaliseOutput limits form c.signature_count.result file) (sym (just.is_text ∙ made.is_text)) normalised))
