@@ -1,4 +1,4 @@
-use Rattle.std.proofs.Common.{◌≡◌, ◌∙◌, ℕ, List, Option, Result, Ok, Err, ap, map, subst, sym}
+use Rattle.std.proofs.Common.{◌≡◌, ◌∙◌, ℕ, List, Option, Result, Ok, Err, true, ap, subst}
 use Rattle.bi_base.specs.declared.fault.Error.{Error}
 use Rattle.bi_common.specs.Offsets.{input_from}
 use Rattle.bi_commands.specs.ExtractingAll.{AreAllPayloads, IsExtractAllError, PayloadFile}
@@ -6,11 +6,11 @@ use Rattle.bootimg.specs.declared.command_line.extract.AllRequest.{AllRequest}
 use Rattle.bootimg.specs.declared.command_line.source.ImageSource.TheVariants.{File}
 use Rattle.bootimg.specs.declared.failure.Failure.{Failure}
 use Rattle.bootimg.specs.declared.failure.Failure.TheVariants.{Call}
-use Rattle.bootimg.specs.declared.jobs.Problem.{Problem}
+use Rattle.bootimg.specs.declared.jobs.SourceFailure.{SourceFailure}
 use Rattle.bootimg.specs.declared.tasks.Done.{Done}
 use Rattle.bootimg.specs.Directories.{IsDirectoryNotSaved, IsDirectorySaved, IsWithoutSlashes}
 use Rattle.bootimg.specs.Files.{FileStep, KnownFiles}
-use Rattle.bootimg.specs.Runs.{Inputs, IsAllWork, IsImageRead, NotExtracted, PayloadsNotSaved, PayloadsSaved, problem}
+use Rattle.bootimg.specs.Runs.{Inputs, IsAllWork, IsImageRead, NotExtracted, PayloadsNotSaved, PayloadsSaved, source_failure}
 use Rattle.bootimg.specs.Tasks.{EndedWith}
 
 -- Extracting all payloads of an image that was read. Reading it did not change what is known of the files. `shown` is the image as it was
@@ -21,10 +21,10 @@ IsRead files request before after read file =
     IsImageRead files request.limits before (record { input = after.input; steps = read }) file request.source
 
 pub all_saved : (files later : KnownFiles) (request : AllRequest) (before after : Inputs) (read : Option (List FileStep))
-    (file shown image name : List ℕ) (payloads saved : List PayloadFile) (outcome : Result Done Problem) (done : Done)
+    (file shown image name : List ℕ) (payloads saved : List PayloadFile) (outcome : Result Done SourceFailure) (done : Done)
     → IsRead files request before after read file → later ≡ files → shown ≡ file → image ≡ input_from request.offset shown
     → AreAllPayloads request.limits image payloads → IsWithoutSlashes request.directory.now name → saved ≡ payloads
-    → IsDirectorySaved later name saved read after.steps → EndedWith 0 done → outcome ≡ Ok done
+    → IsDirectorySaved later name saved read after.steps → EndedWith true done → outcome ≡ Ok done
     → IsAllWork files request before after outcome
 all_saved files later request before after read file shown image name payloads saved outcome done was same is at all word lent is_saved
     ended ends =
@@ -35,10 +35,10 @@ all_saved files later request before after read file shown image name payloads s
     done ended ends
 
 pub all_not_saved : (files later : KnownFiles) (request : AllRequest) (before after : Inputs) (read : Option (List FileStep))
-    (file shown image name : List ℕ) (payloads saved : List PayloadFile) (outcome : Result Done Problem) (failure : Failure)
+    (file shown image name : List ℕ) (payloads saved : List PayloadFile) (outcome : Result Done SourceFailure) (failure : Failure)
     → IsRead files request before after read file → later ≡ files → shown ≡ file → image ≡ input_from request.offset shown
     → AreAllPayloads request.limits image payloads → IsWithoutSlashes request.directory.now name → saved ≡ payloads
-    → IsDirectoryNotSaved later name saved failure read after.steps → outcome ≡ Err (problem (File request.directory) failure)
+    → IsDirectoryNotSaved later name saved failure read after.steps → outcome ≡ Err (source_failure (File request.directory) failure)
     → IsAllWork files request before after outcome
 all_not_saved files later request before after read file shown image name payloads saved outcome failure was same is at all word lent not
     ends =
@@ -49,9 +49,9 @@ all_not_saved files later request before after read file shown image name payloa
     ends
 
 pub not_extracted : (files : KnownFiles) (request : AllRequest) (before after : Inputs) (file shown image : List ℕ)
-    (outcome : Result Done Problem) (error : Error) → IsRead files request before after after.steps file → shown ≡ file
+    (outcome : Result Done SourceFailure) (error : Error) → IsRead files request before after after.steps file → shown ≡ file
     → image ≡ input_from request.offset shown → IsExtractAllError request.limits image error
-    → outcome ≡ Err (problem request.source (Call error)) → IsAllWork files request before after outcome
+    → outcome ≡ Err (source_failure request.source (Call error)) → IsAllWork files request before after outcome
 not_extracted files request before after file shown image outcome error was is at why ends =
     NotExtracted file was error
     (subst (λ b. IsExtractAllError request.limits b error) (at ∙ ap (input_from request.offset) is) why) ends

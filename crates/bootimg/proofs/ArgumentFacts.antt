@@ -1,4 +1,4 @@
-use Rattle.std.proofs.Common.{◌≡◌, ◌≢◌, ◌++◌, ◌∷◌, [], ◌∙◌, ◌<◌, ◌≤◌, ◌^◌, ◌&&◌, ◌||◌, not, ℕ, Bool, true, false, List, Some, length}
+use Rattle.std.proofs.Common.{◌≡◌, ◌≢◌, ◌++◌, ◌∷◌, [], ◌∙◌, ◌<◌, ◌≤◌, ◌^◌, ◌&&◌, ◌||◌, not, ℕ, Bool, true, false, List, Some, None, length}
 use Rattle.std.proofs.Common.{take, drop}
 use Rattle.std.proofs.Common.{codes, bytes_eq, ap, refl, subst, sym, inl, inr, lit<, lit≤, arith}
 use Rattle.std.specs.Prelude.{◌==◌, nat_lt}
@@ -10,12 +10,13 @@ use Rattle.std.proofs.lemmas.Bool.Decides.{Decides-and, Decides-ltb}
 use Rattle.std.proofs.lemmas.Slice.Eq.{bytes_eq-Decides}
 use Rattle.std.proofs.Math.Bool.{or-true}
 use Rattle.bi_legacy.specs.Codes.{CodeName, name_of_code}
-use Rattle.bootimg.specs.CodeWords.{codes_of, IsCode, Named, Numbered}
+use Rattle.bi_show.specs.AllCodes.{code_of_name}
+use Rattle.bootimg.specs.CodeWords.{given_names_of, IsCode, Named, Numbered}
 use Rattle.bootimg.specs.CommandLine.{NoneIs}
 use Rattle.bootimg.specs.KnownArguments.{CodesAreKnown, IsOnlyCode, IsOnlyLimit, IsOnlyNumber, LimitsAreKnown, NumbersAreKnown}
 use Rattle.bootimg.specs.Numbers.{IsNumber}
 use Rattle.bootimg.specs.declared.codes.CodeField.{CodeField}
-use Rattle.bootimg.specs.declared.codes.CodeField.TheVariants.{Os, Arch, Compression}
+use Rattle.bootimg.specs.declared.codes.CodeField.TheVariants.{Os, Arch, ImageType, Compression}
 
 -- Small words are known numbers, codes and limits, or none.
 
@@ -117,83 +118,42 @@ numbers_are_known = record {
 
 -- ---- codes
 
--- Whether a code of these has this name, and whether each code with this name is the wanted one.
-abbrev has_name : List CodeName → (name : List ℕ) → Bool
-has_name [] name = false
-has_name (entry ∷ later) name = bytes_eq entry.name name || has_name later name
-
-abbrev names_only : List CodeName → (name : List ℕ) → (wanted : ℕ) → Bool
-names_only [] name wanted = true
-names_only (entry ∷ later) name wanted = (not (bytes_eq entry.name name) || entry.code == wanted) && names_only later name wanted
-
--- The name of a code is the name of one.
-code_has_name : (entries : List CodeName) (code : ℕ) (name : List ℕ) → name_of_code entries code ≡ Some name → has_name entries name ≡ true
-code_has_name [] code name is = absurd cc
-code_has_name (entry ∷ later) code name is = by (entry.code == code) refl (λ found. code_has_name later code name found) where
-  by : (b : Bool) → (entry.code == code) ≡ b → (name_of_code later code ≡ Some name → has_name later name ≡ true)
-      → has_name (entry ∷ later) name ≡ true
-  by true same rest =
-      let found : Some entry.name ≡ Some name = rw same at is in
-      let equal : entry.name ≡ name = cc in
-      ap (λ b. b || has_name later name) ((bytes_eq-Decides entry.name name).1 equal)
-  by false other rest =
-      ap (λ b. bytes_eq entry.name name || b) (rest (rw other at is)) ∙ or-true (bytes_eq entry.name name)
-
--- A code with this name is the wanted one.
-code_is_wanted : (entries : List CodeName) (code wanted : ℕ) (name : List ℕ) → names_only entries name wanted ≡ true
-    → name_of_code entries code ≡ Some name → code ≡ wanted
-code_is_wanted [] code wanted name all is = absurd cc
-code_is_wanted (entry ∷ later) code wanted name all is =
-    by (entry.code == code) refl (λ rest found. code_is_wanted later code wanted name rest found)
-  where
-    parts : ((not (bytes_eq entry.name name) || entry.code == wanted) ≡ true) × (names_only later name wanted ≡ true)
-    parts = and_parts (not (bytes_eq entry.name name) || entry.code == wanted) (names_only later name wanted) all
-
-    by : (b : Bool) → (entry.code == code) ≡ b
-        → (names_only later name wanted ≡ true → name_of_code later code ≡ Some name → code ≡ wanted) → code ≡ wanted
-    by true same rest =
-        let found : Some entry.name ≡ Some name = rw same at is in
-        let equal : entry.name ≡ name = cc in
-        let test : (entry.code == wanted) ≡ true = rw ((bytes_eq-Decides entry.name name).1 equal) at parts.0 in
-        sym (eqb-true entry.code code same) ∙ eqb-true entry.code wanted test
-    by false other rest = rest parts.1 (rw other at is)
-
--- A word that is no name.
-no_code_named : (field : CodeField) (argument : List ℕ) → has_name (codes_of field) argument ≡ false
-    → (named : ℕ) → name_of_code (codes_of field) named ≢ Some argument
-no_code_named field argument none named is = true≢false (sym (code_has_name (codes_of field) named argument is) ∙ none)
-
 -- The name of a code is this code and no other.
-pub code_with_name : (field : CodeField) (argument : List ℕ) (code : ℕ) → name_of_code (codes_of field) code ≡ Some argument
-    → names_only (codes_of field) argument code ≡ true → IsOnlyCode field argument code
-code_with_name field argument code is all = (Named is, only) where
+pub code_with_name : (field : CodeField) (argument : List ℕ) (code : ℕ) → code_of_name (given_names_of field) argument ≡ Some code
+    → IsOnlyCode field argument code
+code_with_name field argument code is = (Named is, only) where
   only : (other : ℕ) → IsCode field argument other → other ≡ code
-  only other (Named named) = code_is_wanted (codes_of field) other code argument all named
-  only other (Numbered none number small) = absurd (none code is)
+  only other (Named named) = let e : Some other ≡ Some code = sym named ∙ is in cc
+  only other (Numbered none number small) = absurd (let e : None ≡ Some code = sym none ∙ is in cc)
 
 -- A number that is no name is this code and no other.
-numbered_code : (field : CodeField) (argument : List ℕ) (code : ℕ) → has_name (codes_of field) argument ≡ false
+numbered_code : (field : CodeField) (argument : List ℕ) (code : ℕ) → code_of_name (given_names_of field) argument ≡ None
     → IsOnlyNumber argument code → code < 2 ^ 8 → IsOnlyCode field argument code
-numbered_code field argument code none number small = (Numbered (no_code_named field argument none) number.0 small, only) where
+numbered_code field argument code none number small = (Numbered none number.0 small, only) where
   only : (other : ℕ) → IsCode field argument other → other ≡ code
-  only other (Named named) = absurd (no_code_named field argument none other named)
+  only other (Named named) = absurd (let e : None ≡ Some other = sym none ∙ named in cc)
   only other (Numbered no_name is_other fits) = number.1 other is_other
 
 -- A word that is neither is no code.
-no_code : (field : CodeField) (argument : List ℕ) → has_name (codes_of field) argument ≡ false
+no_code : (field : CodeField) (argument : List ℕ) → code_of_name (given_names_of field) argument ≡ None
     → ((number : ℕ) → IsNumber argument number → ¬ (number < 2 ^ 8)) → NoneIs (IsCode field argument)
-no_code field argument none too_large code (Named named) = no_code_named field argument none code named
+no_code field argument none too_large code (Named named) = absurd (let e : None ≡ Some code = sym none ∙ named in cc)
 no_code field argument none too_large code (Numbered no_name number small) = too_large code number small
 
 pub codes_are_known : CodesAreKnown
 codes_are_known = record {
-  name = code_with_name Os (codes "linux") 5 refl refl;
-  zero = code_with_name Compression (codes "none") 0 refl refl;
+  name = code_with_name Os (codes "linux") 5 refl;
+  zero = code_with_name Compression (codes "none") 0 refl;
   named_number = numbered_code Os (codes "5") 5 refl (decimal_digits (codes "5") refl refl) (lit< tt);
   other_number = numbered_code Arch (codes "0xff") 255 refl (hexadecimal_digits_after (codes "ff") refl) (lit< tt);
   past_greatest = no_code Os (codes "256") refl
       (λ number is small. omega (arith, small, (decimal_digits (codes "256") refl refl).1 number is));
   name_of_other_field = no_code Os (codes "arm") refl (λ number is small. is_no_number (codes "arm") refl refl number is);
+  other_name = code_with_name Arch (codes "powerpc") 7 refl;
+  name_that_says_nothing = no_code Arch (codes "invalid") refl
+      (λ number is small. is_no_number (codes "invalid") refl refl number is);
+  format_of_a_vendor = no_code ImageType (codes "imximage") refl
+      (λ number is small. is_no_number (codes "imximage") refl refl number is);
   no_name = no_code Compression (codes "Gzip") refl (λ number is small. is_no_number (codes "Gzip") refl refl number is);
 }
 

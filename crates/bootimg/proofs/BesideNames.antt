@@ -1,4 +1,5 @@
-use Rattle.std.proofs.Common.{◌≡◌, ◌≢◌, ◌++◌, ◌∷◌, [], ◌∙◌, ◌<◌, ◌-◌, ℕ, List, Option, None, Some, Result, Ok, Err, IfOk, codes, drop, take, length}
+use Rattle.std.proofs.Common.{◌≡◌, ◌≢◌, ◌++◌, ◌∷◌, [], ◌∙◌, ◌<◌, ◌-◌, ℕ, List, Option, None, Some, Result, Ok, Err, IfOk, codes, drop, take}
+use Rattle.std.proofs.Common.{length}
 use Rattle.std.proofs.Common.{false, get_or, ap, refl, subst, sym, inl, inr, lit<, arith, true≢false}
 use Rattle.std.specs.List.{AllByRecursion}
 use Rattle.std.specs.Prelude.{IfSome}
@@ -65,7 +66,8 @@ last_slash : (text : List ℕ) (width : ℕ) → FindsCharSuffix 47 text (Some w
 last_slash text width finds =
     sym (take-append-drop (length text - width) text)
     ∙ ap (λ l. take (length text - width) text ++ l)
-    (drop_at_char 47 text (length text - width) (length text) finds.1 (lit< tt) ∙ ap (λ l. 47 ∷ l) (drop_all (length text) text (omega arith)))
+    (drop_at_char 47 text (length text - width) (length text) finds.1 (lit< tt) ∙ ap (λ l. 47 ∷ l)
+    (drop_all (length text) text (omega arith)))
 
 -- What was cut off are slashes.
 slashes_cut : (word name : List ℕ) (widths : List ℕ) → CutsSuffixes (FindsCharSuffix 47) word widths name

@@ -1,4 +1,4 @@
-use Rattle.std.proofs.Common.{◌≡◌, ◌++◌, ◌+◌, ◌<◌, ◌∙◌, ℕ, Bool, List, [], ◌∷◌, Option, Result, Ok, Err, length, map, take, drop, get_or}
+use Rattle.std.proofs.Common.{◌≡◌, ◌++◌, ◌+◌, ◌<◌, ◌∙◌, ℕ, Bool, true, List, [], ◌∷◌, Option, Result, Ok, Err, length, map, take, drop, get_or}
 use Rattle.std.proofs.Common.{ap, inl}
 use Rattle.std.proofs.Common.{inr, refl, subst, sym, add-one}
 use Rattle.std.specs.Prelude.{suc}
@@ -14,8 +14,8 @@ use Rattle.bi_commands.specs.declared.parts.Part.{Part}
 use Rattle.bi_commands.specs.declared.parts.Part.TheVariants.{Bytes, Length}
 use Rattle.bootimg.specs.CommandLine.{is_input, reads_input, sources_of}
 use Rattle.bootimg.specs.Files.{FileStep, KnownFiles, WereReadInTurn}
-use Rattle.bootimg.specs.ReadParts.{IsLent, IsReadingProblem, IsSourceProblem, WasRead, WereRead}
-use Rattle.bootimg.specs.Runs.{build_promise, problem, Work, IsBuildWork, NoRoom, PartNotRead, IsBuiltWork, WasBuilt, WasNotBuilt}
+use Rattle.bootimg.specs.ReadParts.{IsLent, IsReadingFailure, IsPartFailure, WasRead, WereRead}
+use Rattle.bootimg.specs.Runs.{build_promise, source_failure, Work, IsBuildWork, NoRoom, PartNotRead, IsBuiltWork, WasBuilt, WasNotBuilt}
 use Rattle.bootimg.specs.Runs.{ArePartsRead, IsFileRead, IsPart, IsPartNotRead, AreFirstRead}
 use Rattle.bootimg.specs.Tasks.{EndedWith}
 use Rattle.bootimg.specs.declared.builds.ReadPart.{ReadPart}
@@ -25,7 +25,7 @@ use Rattle.bootimg.specs.declared.command_line.part.PartSource.{PartSource}
 use Rattle.bootimg.specs.declared.command_line.part.PartSource.TheVariants as part
 use Rattle.bootimg.specs.declared.command_line.source.ImageSource.TheVariants.{Standard}
 use Rattle.bootimg.specs.declared.failure.Failure.TheVariants.{Call}
-use Rattle.bootimg.specs.declared.jobs.Problem.{Problem}
+use Rattle.bootimg.specs.declared.jobs.SourceFailure.{SourceFailure}
 use Rattle.bootimg.specs.declared.tasks.Done.{Done}
 
 -- The parts of which an image is built are those of the sources that were read, and the run fails if they cannot be read or the image
@@ -106,8 +106,8 @@ lent_next were_read i d parts next part within are is one =
 
 -- The first part whose file was not read.
 first_not_read : (files : KnownFiles) (limits : Limits) (sources before later : List PartSource) (source : PartSource)
-    (were_read : List ReadPart) (failed : Problem) (old middle new : Option (List FileStep)) → sources ≡ before ++ source ∷ later
-    → WereRead files limits before were_read old middle → IsSourceProblem files limits source failed middle new
+    (were_read : List ReadPart) (failed : SourceFailure) (old middle new : Option (List FileStep)) → sources ≡ before ++ source ∷ later
+    → WereRead files limits before were_read old middle → IsPartFailure files limits source failed middle new
     → IsPartNotRead files limits sources failed old new
 first_not_read files limits sources before later (part.Input size) were_read failed old middle new is were not_read = absurd not_read
 first_not_read files limits sources before later (part.File name) were_read failed old middle new is were not_read = record {
@@ -123,13 +123,13 @@ first_not_read files limits sources before later (part.File name) were_read fail
 }
 
 pub not_read : (files later : KnownFiles) (limits : Limits) (sources : List PartSource) (i : ℕ) (d : PartSource)
-    (were_read : List ReadPart) (failed : Problem) (old middle new : Option (List FileStep)) → i < length sources
+    (were_read : List ReadPart) (failed : SourceFailure) (old middle new : Option (List FileStep)) → i < length sources
     → WereRead files limits (take i sources) were_read old middle → later ≡ files
-    → IsSourceProblem later limits (get_or sources i d) failed middle new → IsPartNotRead files limits sources failed old new
+    → IsPartFailure later limits (get_or sources i d) failed middle new → IsPartNotRead files limits sources failed old new
 not_read files later limits sources i d were_read failed old middle new within were same is =
     first_not_read files limits sources (take i sources) (drop (i + 1) sources) (get_or sources i d) were_read failed old middle new
     (sym (take-append-drop i sources) ∙ ap (λ l. take i sources ++ l) (rw add-one (drop-cons sources i d within))) were
-    (subst (λ f. IsSourceProblem f limits (get_or sources i d) failed middle new) same is)
+    (subst (λ f. IsPartFailure f limits (get_or sources i d) failed middle new) same is)
 
 -- The first parts were read.
 pub first_read : (files : KnownFiles) (limits : Limits) (sources first later : List PartSource) (were_read : List ReadPart)
@@ -186,7 +186,7 @@ reads_some (source ∷ later) result some is = is
 pub was_built : (plan : BuildPlan) (parts : List Part) (limits : Limits) (work : Work) (result : Result (Unit {0}) Error) (done : Done)
     → result ≡ Ok tt
     → IsTracedPipe (build_promise plan parts limits) limits work.input work.new_input work.output work.new_output result
-    → EndedWith 0 done → work.outcome ≡ Ok done → IsBuiltWork plan parts limits work
+    → EndedWith true done → work.outcome ≡ Ok done → IsBuiltWork plan parts limits work
 was_built plan parts limits work result done same piped ended outcome =
     WasBuilt done
     (subst
@@ -199,7 +199,7 @@ pub was_not_built : (plan : BuildPlan) (parts : List Part) (limits : Limits) (wo
     (error : Error)
     → result ≡ Err error
     → IsTracedPipe (build_promise plan parts limits) limits work.input work.new_input work.output work.new_output result
-    → work.outcome ≡ Err (problem Standard (Call error)) → IsBuiltWork plan parts limits work
+    → work.outcome ≡ Err (source_failure Standard (Call error)) → IsBuiltWork plan parts limits work
 was_not_built plan parts limits work result error same piped outcome =
     WasNotBuilt error
     (subst
@@ -209,8 +209,8 @@ was_not_built plan parts limits work result error same piped outcome =
     outcome
 
 -- The parts were not read, or there was no room for them.
-pub no_parts_read : (files : KnownFiles) (plan : BuildPlan) (limits : Limits) (work : Work) (failed : Problem)
-    (old new : Option (List FileStep)) → IsReadingProblem files limits (sources_of plan) failed old new
+pub no_parts_read : (files : KnownFiles) (plan : BuildPlan) (limits : Limits) (work : Work) (failed : SourceFailure)
+    (old new : Option (List FileStep)) → IsReadingFailure files limits (sources_of plan) failed old new
     → work.new_output ≡ work.output → work.outcome ≡ Err failed → work.new_input ≡ work.input
     → IsBuildWork files plan limits work old new
 no_parts_read files plan limits work failed old new (inl not_read) written outcome read =

@@ -6,24 +6,30 @@ use Rattle.std.specs.Option.{ok_or, option_map_or}
 use Rattle.std.specs.Result.{IsErrAnd}
 use Rattle.std.specs.Prelude.{OnOk}
 use Rattle.std.specs.Str.{bytes_eq}
-use Rattle.std.proofs.lemmas.List.{take_more, map-append}
+use Rattle.std.proofs.lemmas.List.{take_more, map-append, length-map}
 use Rattle.std.proofs.lemmas.List.Elements.{All-from_get_or}
 use Rattle.std.proofs.lemmas.List.Splits.{length-slice_split, slice_split_first, slice_split_none}
 use Rattle.std.proofs.lemmas.List.Sums.{fails_before_first}
+use Rattle.std.specs.Prelude.{if◌then◌else◌}
+use Rattle.bi_norm.specs.FitBuilding.{multi}
 use Rattle.bi_norm.specs.declared.fit_building.ImageSpec.{ImageSpec}
-use Rattle.bootimg.specs.CodeWords.{IsCode}
+use Rattle.bi_norm.specs.declared.fit_building.ImageTexts.{ImageTexts}
+use Rattle.bootimg.specs.CodeWords.{text_of_code, four_texts, IsCode}
 use Rattle.clap.specs.Matches.{raw_values}
 use Rattle.clap.specs.declared.parser.matches.MatchedArg.{MatchedArg}
-use Rattle.bootimg.specs.CommandLine.{given_count, list_of, option_of, parts_of, texts_of, AreEscaped, AreGiven, AreImages, ArePartSources}
-use Rattle.bootimg.specs.CommandLine.{IsAllFailure, IsAllRequest, IsNoneGiven, IsFailureOutcome, IsEntry, IsFirstBad, IsSelection, IsSelectionFailure}
+use Rattle.bootimg.specs.CommandLine.{given_count, list_of, option_of, texts_of, AreEscaped, AreGiven, AreImages, ArePartSources}
+use Rattle.bootimg.specs.Words.{parts_of}
+use Rattle.bootimg.specs.CommandLine.{IsAllFailure, IsAllRequest, IsNoneGiven, IsFailureOutcome, IsEntry, IsFirstBad, IsSelection}
+use Rattle.bootimg.specs.CommandLine.{IsSelectionFailure}
 use Rattle.bootimg.specs.CommandLine.{IsAddress, IsBadValue, IsImage, IsImageText, IsNameOf, IsPartSource, NoneIs, SelectsDefault}
 use Rattle.bootimg.specs.Numbers.{IsNumber}
 use Rattle.bootimg.specs.declared.codes.CodeField.TheVariants.{Os, Arch, ImageType, Compression}
-use Rattle.bootimg.specs.declared.command_line.image.ImageTexts.{ImageTexts}
+use Rattle.bootimg.specs.declared.command_line.image.ImageFields.{ImageFields}
+use Rattle.bootimg.specs.declared.command_line.image.ImageWord.{ImageWord}
 use Rattle.bootimg.specs.declared.command_line.part.PartSource.{PartSource}
 use Rattle.bootimg.specs.declared.command_line.part.PartSource.TheVariants as source
-use Rattle.bootimg.specs.declared.command_line.Outcome.{Outcome}
-use Rattle.bootimg.specs.declared.command_line.Outcome.TheVariants as outcome
+use Rattle.bootimg.specs.declared.command_line.NoRequest.{NoRequest}
+use Rattle.bootimg.specs.declared.command_line.NoRequest.TheVariants as outcome
 use Rattle.bootimg.specs.declared.command_line.extract.Selected.TheVariants.{Part, Image, Config, Default}
 use Rattle.clap.specs.declared.parser.matches.ArgMatches.{ArgMatches}
 use Rattle.bootimg.specs.declared.failure.Failure.{Failure}
@@ -93,34 +99,49 @@ parts_not_empty argument empty =
     let none : length (parts_of argument) ≡ 0 = ap (λ parts. length parts) empty in
     omega arith
 
+-- The texts of the same words.
+same_texts : (word : ImageWord) {type1 type2 arch1 arch2 os1 os2 compression1 compression2 : List ℕ} → type1 ≡ type2 → arch1 ≡ arch2 →
+    os1 ≡ os2 → compression1 ≡ compression2 →
+    (if word.image.image_type == multi then None
+    else four_texts (text_of_code ImageType type1 word.image.image_type) (text_of_code Arch arch1 word.image.arch)
+    (text_of_code Os os1 word.image.os) (text_of_code Compression compression1 word.image.compression))
+    ≡ (if word.image.image_type == multi then None
+    else four_texts (text_of_code ImageType type2 word.image.image_type) (text_of_code Arch arch2 word.image.arch)
+    (text_of_code Os os2 word.image.os) (text_of_code Compression compression2 word.image.compression))
+same_texts word a b c d =
+    λ i. if word.image.image_type == multi then None
+    else four_texts (text_of_code ImageType (a i) word.image.image_type) (text_of_code Arch (b i) word.image.arch)
+    (text_of_code Os (c i) word.image.os) (text_of_code Compression (d i) word.image.compression)
+
 -- The image of the same fields.
-pub same_image : (texts others : ImageTexts) (image : ImageSpec × PartSource) → list_of texts ≡ list_of others → IsImage others image →
-    IsImage texts image
-same_image texts others image same is =
-    let name : others.name.now ≡ texts.name.now = cc in
-    let image_type : others.image_type.now ≡ texts.image_type.now = cc in
-    let arch : others.arch.now ≡ texts.arch.now = cc in
-    let os : others.os.now ≡ texts.os.now = cc in
-    let compression : others.compression.now ≡ texts.compression.now = cc in
-    let load : others.load.now ≡ texts.load.now = cc in
-    let entry : others.entry.now ≡ texts.entry.now = cc in
-    let last : others.length.now ≡ texts.length.now = cc in
+pub same_image : (fields others : ImageFields) (word : ImageWord) → list_of fields ≡ list_of others → IsImage others word →
+    IsImage fields word
+same_image fields others word same is =
+    let name : others.name.now ≡ fields.name.now = cc in
+    let image_type : others.image_type.now ≡ fields.image_type.now = cc in
+    let arch : others.arch.now ≡ fields.arch.now = cc in
+    let os : others.os.now ≡ fields.os.now = cc in
+    let compression : others.compression.now ≡ fields.compression.now = cc in
+    let load : others.load.now ≡ fields.load.now = cc in
+    let entry : others.entry.now ≡ fields.entry.now = cc in
+    let last : others.length.now ≡ fields.length.now = cc in
     record {
-      name = subst (λ text. image.0.name.now ≡ text) name is.name;
-      image_type = subst (λ text. IsCode ImageType text image.0.image_type) image_type is.image_type;
-      arch = subst (λ text. IsCode Arch text image.0.arch) arch is.arch;
-      os = subst (λ text. IsCode Os text image.0.os) os is.os;
-      compression = subst (λ text. IsCode Compression text image.0.compression) compression is.compression;
-      load = subst (λ text. IsAddress text image.0.load) load is.load;
-      entry = subst (λ text. IsAddress text image.0.entry) entry is.entry;
+      name = subst (λ text. word.image.name.now ≡ text) name is.name;
+      image_type = subst (λ text. IsCode ImageType text word.image.image_type) image_type is.image_type;
+      arch = subst (λ text. IsCode Arch text word.image.arch) arch is.arch;
+      os = subst (λ text. IsCode Os text word.image.os) os is.os;
+      compression = subst (λ text. IsCode Compression text word.image.compression) compression is.compression;
+      texts = is.texts ∙ same_texts word image_type arch os compression;
+      load = subst (λ text. IsAddress text word.image.load) load is.load;
+      entry = subst (λ text. IsAddress text word.image.entry) entry is.entry;
       payload = is.payload;
-      source = subst (λ text. IsPartSource text image.1) last is.source;
+      source = subst (λ text. IsPartSource text word.payload) last is.source;
     }
 
 -- A text is no image if its fields are none.
-pub no_image_text : (argument : List ℕ) (texts : ImageTexts) → parts_of argument ≡ list_of texts → NoneIs (IsImage texts) →
+pub no_image_text : (argument : List ℕ) (fields : ImageFields) → parts_of argument ≡ list_of fields → NoneIs (IsImage fields) →
     NoneIs (IsImageText argument)
-no_image_text argument texts same none image is = none image (same_image texts is.0 image (sym same ∙ is.1) is.2)
+no_image_text argument fields same none word is = none word (same_image fields is.0 word (sym same ∙ is.1) is.2)
 
 -- Two lists, place by place, and one more of each.
 pub zip_push : {A B : Type 0} (R : A → B → Type 0) (xs : List A) (ys : List B) (x : A) (y : B) → AllZip R xs ys → R x y →
@@ -131,9 +152,9 @@ zip_push R (a ∷ xs) [] x y all one = absurd all
 zip_push R (a ∷ xs) (b ∷ ys) x y all one = (all.0, zip_push R xs ys x y all.1 one)
 
 -- A text with eight colons does not have eight fields.
-pub nine_fields : (argument a b1 b c1 c d1 d e1 e f1 f g1 g h1 h i1 : List ℕ) (texts : ImageTexts) → parts_of argument ≡ a ∷ parts_of b1 →
+pub nine_fields : (argument a b1 b c1 c d1 d e1 e f1 f g1 g h1 h i1 : List ℕ) (fields : ImageFields) → parts_of argument ≡ a ∷ parts_of b1 →
     parts_of b1 ≡ b ∷ parts_of c1 → parts_of c1 ≡ c ∷ parts_of d1 → parts_of d1 ≡ d ∷ parts_of e1 → parts_of e1 ≡ e ∷ parts_of f1 →
-    parts_of f1 ≡ f ∷ parts_of g1 → parts_of g1 ≡ g ∷ parts_of h1 → parts_of h1 ≡ h ∷ parts_of i1 → parts_of argument ≢ list_of texts
+    parts_of f1 ≡ f ∷ parts_of g1 → parts_of g1 ≡ g ∷ parts_of h1 → parts_of h1 ≡ h ∷ parts_of i1 → parts_of argument ≢ list_of fields
 nine_fields argument a b1 b c1 c d1 d e1 e f1 f g1 g h1 h i1 texts e0 e2 e3 e4 e5 e6 e7 e8 same =
     let empty : parts_of i1 ≡ [] = cc in
     parts_not_empty i1 empty
@@ -169,41 +190,38 @@ no_parts (argument ∷ arguments) zero d within none (part ∷ parts) are = none
 no_parts (argument ∷ arguments) (suc index) d within none (part ∷ parts) are =
     no_parts arguments index d (omega (arith, within)) none parts are.1
 
+-- No images.
+pub no_image_words : AreImages [] [] [] []
+no_image_words = record { words = []; each = tt; images_are = refl; texts_are = refl; payloads_are = refl }
+
 -- One more image.
-pub images_push : (arguments : List (List ℕ)) (images : List ImageSpec) (payloads : List PartSource) (argument : List ℕ) (image : ImageSpec)
-    (payload : PartSource) → AreImages arguments images payloads → IsImageText argument (image, payload) →
-    AreImages (arguments ++ argument ∷ []) (images ++ image ∷ []) (payloads ++ payload ∷ [])
-images_push [] [] [] argument image payload are is = (is, tt)
-images_push [] [] (s ∷ payloads) argument image payload are is = absurd are
-images_push [] (i ∷ images) payloads argument image payload are is = absurd are
-images_push (w ∷ arguments) [] payloads argument image payload are is = absurd are
-images_push (w ∷ arguments) (i ∷ images) [] argument image payload are is = absurd are
-images_push (w ∷ arguments) (i ∷ images) (s ∷ payloads) argument image payload are is = (
-  are.0,
-  images_push arguments images payloads argument image payload are.1 is,
-)
+pub images_push : (arguments : List (List ℕ)) (images : List ImageSpec) (texts : List (Option ImageTexts)) (payloads : List PartSource)
+    (argument : List ℕ) (word : ImageWord) → AreImages arguments images texts payloads → IsImageText argument word →
+    AreImages (arguments ++ argument ∷ []) (images ++ word.image ∷ []) (texts ++ word.texts ∷ []) (payloads ++ word.payload ∷ [])
+images_push arguments images texts payloads argument word are is = record {
+  words = are.words ++ word ∷ [];
+  each = zip_push IsImageText arguments are.words argument word are.each is;
+  images_are = ap (λ l. l ++ word.image ∷ []) are.images_are ∙ sym (map-append (λ (w : ImageWord). w.image) are.words (word ∷ []));
+  texts_are = ap (λ l. l ++ word.texts ∷ []) are.texts_are ∙ sym (map-append (λ (w : ImageWord). w.texts) are.words (word ∷ []));
+  payloads_are = ap (λ l. l ++ word.payload ∷ []) are.payloads_are
+      ∙ sym (map-append (λ (w : ImageWord). w.payload) are.words (word ∷ []));
+}
 
 -- Each of arguments that are images is one.
-pub image_at : (arguments : List (List ℕ)) (images : List ImageSpec) (payloads : List PartSource) (index : ℕ) (argument : List ℕ) →
-    AreImages arguments images payloads → slice_get arguments index ≡ Some argument →
-    (image : ImageSpec × PartSource) × IsImageText argument image
-image_at [] images payloads index argument are is = absurd cc
-image_at (w ∷ arguments) [] payloads index argument are is = absurd are
-image_at (w ∷ arguments) (i ∷ images) [] index argument are is = absurd are
-image_at (w ∷ arguments) (i ∷ images) (s ∷ payloads) zero argument are is =
-    let same : w ≡ argument = cc in ((i, s), subst (λ text. IsImageText text (i, s)) same are.0)
-image_at (w ∷ arguments) (i ∷ images) (s ∷ payloads)
-    (suc index) argument are is = image_at arguments images payloads index argument are.1 is
+word_at : (arguments : List (List ℕ)) (words : List ImageWord) (index : ℕ) (argument : List ℕ) → AllZip IsImageText arguments words →
+    slice_get arguments index ≡ Some argument → (word : ImageWord) × IsImageText argument word
+word_at [] words index argument are is = absurd cc
+word_at (a ∷ arguments) [] index argument are is = absurd are
+word_at (a ∷ arguments) (w ∷ words) zero argument are is =
+    let same : a ≡ argument = cc in (w, subst (λ text. IsImageText text w) same are.0)
+word_at (a ∷ arguments) (w ∷ words) (suc index) argument are is = word_at arguments words index argument are.1 is
 
 -- As many images as payloads.
-pub images_long : (arguments : List (List ℕ)) (images : List ImageSpec) (payloads : List PartSource) → AreImages arguments images payloads →
-    length payloads ≡ length images
-images_long [] [] [] are = refl
-images_long [] [] (s ∷ payloads) are = absurd are
-images_long [] (i ∷ images) payloads are = absurd are
-images_long (w ∷ arguments) [] payloads are = absurd are
-images_long (w ∷ arguments) (i ∷ images) [] are = absurd are
-images_long (w ∷ arguments) (i ∷ images) (s ∷ payloads) are = let e = images_long arguments images payloads are.1 in cc
+pub images_long : (arguments : List (List ℕ)) (images : List ImageSpec) (texts : List (Option ImageTexts)) (payloads : List PartSource) →
+    AreImages arguments images texts payloads → length payloads ≡ length images
+images_long arguments images texts payloads are =
+    ap length are.payloads_are ∙ length-map are.words (λ (w : ImageWord). w.payload)
+    ∙ sym (ap length are.images_are ∙ length-map are.words (λ (w : ImageWord). w.image))
 
 -- What is known of the value that was taken out of an option.
 pub ok_or_is : {T E : Type 0} (P : T → Type 0) (option : Option T) (error : E) (result : Result T E) (value : T) →
@@ -220,13 +238,22 @@ pub ok_or_failed : {T E : Type 0} (option : Option T) (error failed : E) (result
 ok_or_failed None error failed result is was = (refl, let e : Err error ≡ Err failed = sym is ∙ was in cc)
 ok_or_failed (Some value) error failed result is was = absurd (let e : Ok value ≡ Err failed = sym is ∙ was in cc)
 
+-- An option with a value.
+pub ok_or_some : {T E : Type 0} (option : Option T) (error : E) (value : T) (result : Result T E) → result ≡ ok_or option error →
+    result ≡ Ok value → option ≡ Some value
+ok_or_some None error value result is was = absurd (let e : Err error ≡ Ok value = sym is ∙ was in cc)
+ok_or_some (Some other) error value result is was =
+    let e : Ok other ≡ Ok value = sym is ∙ was in
+    let same : other ≡ value = cc in
+    ap (λ v. Some v) same
+
 -- What is known of an option without a value.
 pub none_given : {T : Type 0} (option : Option T) (P : Type 0) → IfNone option P → option ≡ None → P
 none_given None P holds none = holds
 none_given (Some value) P holds none = absurd cc
 
 -- The outcome of a failure.
-pub fails_with : {T : Type 0} (Is : Failure → Type 0) (result : Result T Outcome) (failure : Failure) →
+pub fails_with : {T : Type 0} (Is : Failure → Type 0) (result : Result T NoRequest) (failure : Failure) →
     IsErrAnd result (λ given. given ≡ outcome.Failure failure) → Is failure → IfErr result (IsFailureOutcome Is)
 fails_with Is (Ok value) failure is holds = tt
 fails_with Is (Err given) failure is holds = subst (λ o. IsFailureOutcome Is o) (sym is) (inl holds)
@@ -240,7 +267,7 @@ bad_part IsPart IsWhole (Err given) failure is bad part =
     (is ∙ bad.0, λ whole holds. let p = part whole holds in bad.1 p.0 p.1)
 
 -- The outcome of an outcome.
-pub outcome_weaker : {T : Type 0} (P Q : Failure → Type 0) (result : Result T Outcome) (failed : Outcome) →
+pub outcome_weaker : {T : Type 0} (P Q : Failure → Type 0) (result : Result T NoRequest) (failed : NoRequest) →
     IsErrAnd result (λ given. given ≡ failed) → IsFailureOutcome P failed → ((failure : Failure) → P failure → Q failure) →
     IfErr result (IsFailureOutcome Q)
 outcome_weaker P Q (Ok value) failed is fails weaker = tt
@@ -261,12 +288,13 @@ parts_next arguments index d parts next part within are is one =
 
 -- The images so far, and one more.
 pub images_next : (arguments : List (Bor (List ℕ))) (index : ℕ) (d : Bor (List ℕ)) (images more : List ImageSpec)
-    (payloads longer : List PartSource) (image : ImageSpec) (payload : PartSource) → index < length arguments →
-    AreImages (texts_of (take index arguments)) images payloads → more ≡ images ++ image ∷ [] → longer ≡ payloads ++ payload ∷ [] →
-    IsImageText (get_or arguments index d).now (image, payload) → AreImages (texts_of (take (index + 1) arguments)) more longer
-images_next arguments index d images more payloads longer image payload within are is lengths one =
-    rw (texts_push arguments index d within, is, lengths)
-    (images_push (texts_of (take index arguments)) images payloads (get_or arguments index d).now image payload are one)
+    (texts longer : List (Option ImageTexts)) (payloads last : List PartSource) (word : ImageWord) → index < length arguments →
+    AreImages (texts_of (take index arguments)) images texts payloads → more ≡ images ++ word.image ∷ [] →
+    longer ≡ texts ++ word.texts ∷ [] → last ≡ payloads ++ word.payload ∷ [] → IsImageText (get_or arguments index d).now word →
+    AreImages (texts_of (take (index + 1) arguments)) more longer last
+images_next arguments index d images more texts longer payloads last word within are is_images is_texts is_payloads one =
+    rw (texts_push arguments index d within, is_images, is_texts, is_payloads)
+    (images_push (texts_of (take index arguments)) images texts payloads (get_or arguments index d).now word are one)
 
 -- The text of an argument.
 text_at : (arguments : List (Bor (List ℕ))) (index : ℕ) (d : Bor (List ℕ)) → index < length arguments →
@@ -285,15 +313,15 @@ before_taken (argument ∷ arguments) (suc index) (suc other) text before is =
     before_taken arguments index other text (omega (arith, before)) is
 
 -- The first argument that is no image.
-pub first_bad : (arguments : List (Bor (List ℕ))) (index : ℕ) (d : Bor (List ℕ)) (images : List ImageSpec) (payloads : List PartSource) →
-    index < length arguments → AreImages (texts_of (take index arguments)) images payloads →
-    NoneIs (IsImageText (get_or arguments index d).now) →
+pub first_bad : (arguments : List (Bor (List ℕ))) (index : ℕ) (d : Bor (List ℕ)) (images : List ImageSpec)
+    (texts : List (Option ImageTexts)) (payloads : List PartSource) → index < length arguments →
+    AreImages (texts_of (take index arguments)) images texts payloads → NoneIs (IsImageText (get_or arguments index d).now) →
     IsFirstBad (texts_of arguments) index
-first_bad arguments index d images payloads within are none = record {
+first_bad arguments index d images texts payloads within are none = record {
   argument = (get_or arguments index d).now;
   is = text_at arguments index d within;
   bad = none;
-  before = λ other text before is. image_at (texts_of (take index arguments)) images payloads other text are
+  before = λ other text before is. word_at (texts_of (take index arguments)) are.words other text are.each
       (before_taken arguments index other text before is);
 }
 

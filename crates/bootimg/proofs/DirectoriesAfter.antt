@@ -143,7 +143,8 @@ directory_not_saved_leaves base names name payloads failure old new are (NameIsU
     kept_is_left base names old new are (keeps_same base old new same)
 directory_not_saved_leaves base names name payloads failure old new are (NoNewDirectory unused not_made) =
     kept_is_left base names old new are (not_made_keeps base name failure old new not_made)
-directory_not_saved_leaves base names name payloads failure old new are (NewDirectoryFailed beside in_it made failed unused is not gone why) =
+directory_not_saved_leaves base names name payloads failure old new are
+    (NewDirectoryFailed beside in_it made failed unused is not gone why) =
     let touches = touches_in_turn base beside old failed gone.emptied
     (touches_in_turn base beside old made failed (made_touches base (Some names) name beside old made is)
     (not_in_place_touches base name beside payloads in_it made failed not))

@@ -13,9 +13,9 @@ use Rattle.bootimg.specs.declared.command_line.source.ImageSource.TheVariants.{S
 use Rattle.bootimg.specs.declared.failure.Failure.{Failure}
 use Rattle.bootimg.specs.Files.{FileStep, NameHas, IsNoRegularFile, IsOpenFile, KnownFiles, NotOpened, Opened, ReaderClosed}
 use Rattle.bootimg.specs.Files.{IsNotSaved, IsSaved, TookSteps, WasNotOpened, WasOpened}
-use Rattle.bootimg.specs.declared.jobs.Problem.{Problem}
+use Rattle.bootimg.specs.declared.jobs.SourceFailure.{SourceFailure}
 use Rattle.bootimg.specs.declared.tasks.Done.{Done}
-use Rattle.bootimg.specs.Runs.{Inputs, Work, problem, IsNotRead, IsImageRead, InputRead, FileRead, IsImageNotRead, InputNotRead}
+use Rattle.bootimg.specs.Runs.{Inputs, Work, source_failure, IsNotRead, IsImageRead, InputRead, FileRead, IsImageNotRead, InputNotRead}
 use Rattle.bootimg.specs.Runs.{FileNotRead, IsFileRead, IsFileNotRead, OpenedNotRead}
 use Rattle.bootimg.specs.Runs.{IsComparedWork, IsCompareWork, BothRead, OtherNotRead, IsFailedWork, IsBuildWork}
 use Rattle.bootimg.specs.Runs.{IsExplainWork, IsImageWork, IsJobWork, IsHeldWork, IsHeldFailure, failure_in_memory, Run, work_of}
@@ -147,7 +147,7 @@ image_is_built files job plan limits work old new is done = subst (λ j. IsJobWo
 
 -- The output of a job is held in memory.
 pub held_work : (files : KnownFiles) (job : Job) (limits : Limits) (before after : Inputs) (memory new_memory : WriteTrace)
-    (result outcome : Result Done Problem) (held : Option (List ℕ)) → result ≡ outcome → memory.contents ≡ Some [] → WritesWell memory
+    (result outcome : Result Done SourceFailure) (held : Option (List ℕ)) → result ≡ outcome → memory.contents ≡ Some [] → WritesWell memory
     → new_memory.contents ≡ held
     → IsJobWork files job limits
     (record { input = before.input; new_input = after.input; output = memory; new_output = new_memory; outcome = result })
@@ -160,7 +160,7 @@ held_work files job limits before after memory new_memory result outcome held sa
   writes_well = well;
   holds = holds;
   work = subst
-      (λ (r : Result Done Problem). IsJobWork files job limits
+      (λ (r : Result Done SourceFailure). IsJobWork files job limits
       (record { input = before.input; new_input = after.input; output = memory; new_output = new_memory; outcome = r })
       before.steps after.steps)
       same done;
@@ -168,7 +168,7 @@ held_work files job limits before after memory new_memory result outcome held sa
 
 -- A job failed whose output is held in memory.
 pub held_failure : (files : KnownFiles) (job : Job) (limits : Limits) (before after : Inputs) (memory new_memory : WriteTrace)
-    (result : Result Done Problem) (cause failed : Problem) → result ≡ Err cause → memory.contents ≡ Some [] → WritesWell memory
+    (result : Result Done SourceFailure) (cause failed : SourceFailure) → result ≡ Err cause → memory.contents ≡ Some [] → WritesWell memory
     → IsJobWork files job limits
     (record { input = before.input; new_input = after.input; output = memory; new_output = new_memory; outcome = result })
     before.steps after.steps
@@ -184,7 +184,7 @@ held_failure files job limits before after memory new_memory result cause failed
 
 -- A job was done and its output was saved, or not. The job did not change what is known of the files.
 pub output_saved : (files later : KnownFiles) (job : Job) (limits : Limits) (name : Bor (List ℕ)) (before after : Inputs)
-    (worked : Option (List FileStep)) (done : Done) (output saved : List ℕ) (outcome : Result Done Problem)
+    (worked : Option (List FileStep)) (done : Done) (output saved : List ℕ) (outcome : Result Done SourceFailure)
     → IsHeldWork files job limits before (record { input = after.input; steps = worked }) (Ok done) (Some output) → later ≡ files
     → saved ≡ output → IsSaved later name.now saved worked after.steps → outcome ≡ Ok done
     → IsSavedWork files job limits name before after outcome
@@ -195,9 +195,9 @@ output_saved files later job limits name before after worked done output saved o
     ends
 
 pub output_not_saved : (files later : KnownFiles) (job : Job) (limits : Limits) (name : Bor (List ℕ)) (before after : Inputs)
-    (worked : Option (List FileStep)) (done : Done) (output saved : List ℕ) (outcome : Result Done Problem) (failure : Failure)
+    (worked : Option (List FileStep)) (done : Done) (output saved : List ℕ) (outcome : Result Done SourceFailure) (failure : Failure)
     → IsHeldWork files job limits before (record { input = after.input; steps = worked }) (Ok done) (Some output) → later ≡ files
-    → saved ≡ output → IsNotSaved later name.now saved failure worked after.steps → outcome ≡ Err (problem (File name) failure)
+    → saved ≡ output → IsNotSaved later name.now saved failure worked after.steps → outcome ≡ Err (source_failure (File name) failure)
     → IsSavedWork files job limits name before after outcome
 output_not_saved files later job limits name before after worked done output saved outcome failure work same bytes is ends =
     OutputNotSaved done output worked work failure
@@ -206,13 +206,13 @@ output_not_saved files later job limits name before after worked done output sav
     ends
 
 -- The output goes to standard output, or to the file that is named.
-pub to_standard_output : (files : KnownFiles) (job : Job) (limits : Limits) (run : Run) (outcome : Result Done Problem)
+pub to_standard_output : (files : KnownFiles) (job : Job) (limits : Limits) (run : Run) (outcome : Result Done SourceFailure)
     (output : Option (Bor (List ℕ))) → output ≡ None
     → IsJobWork files job limits (work_of run outcome) run.steps run.new_steps → IsOutputRun files job limits run outcome output
 to_standard_output files job limits run outcome output is done =
     subst (λ o. IsOutputRun files job limits run outcome o) (sym is) (ToStandardOutput done)
 
-pub to_file : (files : KnownFiles) (job : Job) (limits : Limits) (run : Run) (outcome : Result Done Problem)
+pub to_file : (files : KnownFiles) (job : Job) (limits : Limits) (run : Run) (outcome : Result Done SourceFailure)
     (output : Option (Bor (List ℕ))) (name : Bor (List ℕ)) → output ≡ Some name
     → IsSavedWork files job limits name (inputs_before run) (inputs_after run) outcome
     → run.new_output ≡ run.output → IsOutputRun files job limits run outcome output

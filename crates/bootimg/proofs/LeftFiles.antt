@@ -1,4 +1,4 @@
-use Rattle.std.proofs.Common.{◌≡◌, ◌<◌, ◌∷◌, [], ◌∙◌, ℕ, List, Bor, Option, Some, None, Result, Ok, Err, ap, refl, subst, sym}
+use Rattle.std.proofs.Common.{◌≡◌, ◌∷◌, [], ◌∙◌, ℕ, List, Bor, Option, Some, None, Result, Ok, Err, ap, refl}
 use Rattle.std.specs.Prelude.{IfSome}
 use Rattle.bi_base.specs.Limits.{Limits}
 use Rattle.bi_base.specs.Traces.{ReadTrace, WriteTrace}
@@ -15,7 +15,7 @@ use Rattle.bootimg.specs.declared.command_line.part.PartSource.TheVariants as pa
 use Rattle.bootimg.specs.declared.command_line.source.ComparePlan.{ComparePlan}
 use Rattle.bootimg.specs.declared.command_line.source.ImageSource.{ImageSource}
 use Rattle.bootimg.specs.declared.failure.Failure.{Failure}
-use Rattle.bootimg.specs.declared.jobs.Problem.{Problem}
+use Rattle.bootimg.specs.declared.jobs.SourceFailure.{SourceFailure}
 use Rattle.bootimg.specs.declared.tasks.Done.{Done}
 use Rattle.bootimg.specs.CommandLine.{IsAllRequested, IsRequest, sources_of}
 use Rattle.bootimg.specs.Files.{FileStep, KnownFiles, Names, Opened, NotOpened, ReaderClosed, WasOpened, WasNotOpened}
@@ -29,7 +29,7 @@ use Rattle.bootimg.specs.Runs.{PartNotRead, NoRoom, IsJobWork, IsSavedWork, Outp
 use Rattle.bootimg.specs.Runs.{ToStandardOutput, ToFile, IsEnd, EndsWell, EndsWithFailure, IsTextRun, IsWritten, IsNotWritten}
 use Rattle.bootimg.specs.Runs.{IsUsage, IsRun, RanJob, ExtractedAll, Rejected, WroteText, inputs_before, inputs_after}
 use Rattle.bootimg.specs.Runs.{IsAllWork, PayloadsSaved, PayloadsNotSaved, NotExtracted, NothingRead}
-use Rattle.bootimg.proofs.JobStatuses.{job_status_below_2}
+use Rattle.bootimg.specs.Tasks.{status_of}
 use Rattle.bootimg.proofs.FilesAfter.{KeepsNames, keeps_same, keeps_in_turn, keeps_with, LeftAfterFailure, kept_is_left, not_saved_leaves}
 use Rattle.bootimg.proofs.FilesAfter.{saved_leaves}
 use Rattle.bootimg.proofs.DirectoriesAfter.{directory_not_saved_leaves, directory_saved_leaves}
@@ -136,13 +136,13 @@ kept_names base names old (Some now) are keeps after is =
     let same : after ≡ now = let e : Some now ≡ Some after = is in cc in
     ap (λ l. after_steps base l) same ∙ keeps.2 ∙ are keeps.0 keeps.1
 
-status_at_ok : (errors new_errors : WriteTrace) (status : ℕ) (outcome : Result Done Problem) (done : Done)
-    → IsEnd errors new_errors status outcome → outcome ≡ Ok done → status ≡ done.status
+status_at_ok : (errors new_errors : WriteTrace) (status : ℕ) (outcome : Result Done SourceFailure) (done : Done)
+    → IsEnd errors new_errors status outcome → outcome ≡ Ok done → status ≡ status_of done.good
 status_at_ok errors new_errors status outcome done (EndsWell other same notes is) ok =
-    let equal : other ≡ done = cc in is ∙ ap (λ d. d.status) equal
+    let equal : other ≡ done = cc in is ∙ ap (λ d. status_of d.good) equal
 status_at_ok errors new_errors status outcome done (EndsWithFailure failed same reports is) ok = absurd (cc)
 
-status_at_err : (errors new_errors : WriteTrace) (status : ℕ) (outcome : Result Done Problem) (failed : Problem)
+status_at_err : (errors new_errors : WriteTrace) (status : ℕ) (outcome : Result Done SourceFailure) (failed : SourceFailure)
     → IsEnd errors new_errors status outcome → outcome ≡ Err failed → status ≡ 2
 status_at_err errors new_errors status outcome failed (EndsWell other same notes is) err = absurd (cc)
 status_at_err errors new_errors status outcome failed (EndsWithFailure other same reports is) err = is
@@ -159,7 +159,7 @@ failure_leaves base names arguments input status None is left = tt
 failure_leaves base names arguments input status (Some after) is left = HasFailed is left
 
 saved_work_leaves : (base names : Names) (arguments : List (List ℕ)) (request : Request) (name : Bor (List ℕ)) (before after : Inputs)
-    (errors new_errors : WriteTrace) (status : ℕ) (outcome : Result Done Problem) → IsRequest arguments request
+    (errors new_errors : WriteTrace) (status : ℕ) (outcome : Result Done SourceFailure) → IsRequest arguments request
     → request.output ≡ Some name → AreNames base names before.steps
     → IsSavedWork (Some names) request.job request.limits name before after outcome → IsEnd errors new_errors status outcome
     → IfSome after.steps HaveContents → RunLeaves base names arguments before.input.remaining status after.steps
@@ -175,10 +175,8 @@ saved_work_leaves base names arguments request name before after errors new_erro
         → RunLeaves base names arguments before.input.remaining status new
     there None has = tt
     there (Some l) has =
-        let same = status_at_ok errors new_errors status outcome done end ends in
-        OutputIsThere request name done output before (record { input = after.input; steps = worked }) is named refl held same
-        (subst (λ s. s < 2) (sym same)
-        (job_status_below_2 (Some names) request.job request.limits _ before.steps worked done held.work refl)) has
+        OutputIsThere request name done output before (record { input = after.input; steps = worked }) is named refl held
+        (status_at_ok errors new_errors status outcome done end ends) has
 saved_work_leaves base names arguments request name before after errors new_errors status outcome is named are
     (OutputNotSaved done output worked held failure not ends) end contents =
     failure_leaves base names arguments before.input.remaining status after.steps
@@ -197,7 +195,7 @@ names_kept : (base names : Names) (old : Option (List FileStep)) (after : List F
     → KeepsNames base old (Some after) → AreSameNames names (after_steps base after)
 names_kept base names old after are keeps q = ap (λ n. n q) (keeps.2 ∙ are keeps.0 keeps.1)
 
-output_run_leaves : (base names : Names) (arguments : List (List ℕ)) (request : Request) (run : Run) (outcome : Result Done Problem)
+output_run_leaves : (base names : Names) (arguments : List (List ℕ)) (request : Request) (run : Run) (outcome : Result Done SourceFailure)
     (output : Option (Bor (List ℕ))) → IsRequest arguments request → request.output ≡ output → AreNames base names run.steps
     → IsOutputRun (Some names) request.job request.limits run outcome output → IsEnd run.errors run.new_errors run.status outcome
     → IfSome run.new_steps HaveContents → RunLeaves base names arguments run.input.remaining run.status run.new_steps
@@ -213,7 +211,7 @@ output_run_leaves base names arguments request run outcome output is named are (
     is named are saved end contents
 
 all_work_leaves : (base names : Names) (arguments : List (List ℕ)) (request : AllRequest) (before after : Inputs)
-    (errors new_errors : WriteTrace) (status : ℕ) (outcome : Result Done Problem) → IsAllRequested arguments request
+    (errors new_errors : WriteTrace) (status : ℕ) (outcome : Result Done SourceFailure) → IsAllRequested arguments request
     → AreNames base names before.steps → IsAllWork (Some names) request before after outcome → IsEnd errors new_errors status outcome
     → IfSome after.steps HaveContents → RunLeaves base names arguments before.input.remaining status after.steps
 all_work_leaves base names arguments request before after errors new_errors status outcome is are
@@ -228,7 +226,7 @@ all_work_leaves base names arguments request before after errors new_errors stat
     there None has = tt
     there (Some l) has =
         DirectoryIsThere request file name payloads before (record { input = after.input; steps = read }) is refl image all word
-        (status_at_ok errors new_errors status outcome done end ends ∙ ended.is_status) has
+        (status_at_ok errors new_errors status outcome done end ends ∙ ap status_of ended.is_answer) has
 all_work_leaves base names arguments request before after errors new_errors status outcome is are
     (PayloadsNotSaved file name payloads read image all word failure not ends) end contents =
     failure_leaves base names arguments before.input.remaining status after.steps

@@ -2,6 +2,12 @@ pub mod AllowedKinds
 pub mod CodeWords
 pub mod TaskFailures
 pub mod CommandLines
+pub mod ListedTexts
+pub mod KeyLists
+pub mod ConfigurationFacts
+pub mod AlgorithmFacts
+pub mod PlanFailures
+pub mod NotBegun
 pub mod RunFacts
 pub mod ImageRuns
 pub mod BuildRuns
@@ -18,7 +24,6 @@ pub mod DirectoriesAfter
 pub mod NewDirectories
 pub mod LeftFiles
 pub mod MemoryLogs
-pub mod JobStatuses
 pub mod ArgumentFacts
 pub mod OptionFacts
 pub mod RequestFacts

@@ -18,8 +18,8 @@ use Rattle.bootimg.specs.CommandLine.{NotAll, SelectsAll}
 use Rattle.bootimg.specs.declared.command_line.extract.AllRequest.{AllRequest}
 use Rattle.bootimg.specs.Program.{program_app, IsCommandName}
 use Rattle.bootimg.specs.declared.command_line.Job.{Job}
-use Rattle.bootimg.specs.declared.command_line.Outcome.{Outcome}
-use Rattle.bootimg.specs.declared.command_line.Outcome.TheVariants as outcome
+use Rattle.bootimg.specs.declared.command_line.NoRequest.{NoRequest}
+use Rattle.bootimg.specs.declared.command_line.NoRequest.TheVariants as outcome
 use Rattle.bootimg.specs.declared.failure.Failure.{Failure}
 use Rattle.bootimg.proofs.ProgramFacts.{accepted_enters, accepted_is_command, program_is_free, program_is_simple}
 
@@ -103,13 +103,13 @@ subcommand_is_there app arguments matches same none has =
 -- ---- arguments that request nothing
 
 -- An outcome of such arguments is passed on.
-passed_on : {T : Type 0} (arguments : List (List ℕ)) (result : Result T Outcome) (failed : Outcome)
+passed_on : {T : Type 0} (arguments : List (List ℕ)) (result : Result T NoRequest) (failed : NoRequest)
     → IsErrAnd result (λ given. given ≡ failed) → IsNoRequest arguments failed → IfErr result (IsNoRequest arguments)
 passed_on arguments (Ok value) failed is none = tt
 passed_on arguments (Err given) failed is none = subst (λ o. IsNoRequest arguments o) (sym is) none
 
 -- clap rejects the arguments, or has a text for them.
-pub rejected_by_clap : {T : Type 0} (app : App) (arguments : List (List ℕ)) (error : ClapError) (result : Result T Outcome)
+pub rejected_by_clap : {T : Type 0} (app : App) (arguments : List (List ℕ)) (error : ClapError) (result : Result T NoRequest)
     → app ≡ program_app → (is_simple_and_free app ≡ true → HasKind (fault_of app arguments) error)
     → IsErrAnd result (λ given. IsOutcomeOf error given) → IfErr result (IsNoRequest arguments)
 rejected_by_clap app arguments error (Ok value) same kinds is = tt
@@ -122,18 +122,18 @@ rejected_by_clap app arguments error (Err given) same kinds is =
     by (HasText not_memory text) (inr among) = subst (λ o. IsNoRequest arguments o) (sym text) among
 
 -- The options of the command are no job.
-pub no_job : {T : Type 0} (arguments : List (List ℕ)) (name : List ℕ) (options : ArgMatches) (result : Result T Outcome) (failed : Outcome)
-    → Gives arguments name options → IsErrAnd result (λ given. given ≡ failed) → IsFailureOutcome (IsTaskFailure name options) failed
-    → IfErr result (IsNoRequest arguments)
+pub no_job : {T : Type 0} (arguments : List (List ℕ)) (name : List ℕ) (options : ArgMatches) (result : Result T NoRequest)
+    (failed : NoRequest) → Gives arguments name options → IsErrAnd result (λ given. given ≡ failed)
+    → IsFailureOutcome (IsTaskFailure name options) failed → IfErr result (IsNoRequest arguments)
 no_job arguments name options result failed gives is bad = passed_on arguments result failed is (no_request failed bad)
   where
-    no_request : (failed : Outcome) → IsFailureOutcome (IsTaskFailure name options) failed → IsNoRequest arguments failed
+    no_request : (failed : NoRequest) → IsFailureOutcome (IsTaskFailure name options) failed → IsNoRequest arguments failed
     no_request (outcome.Failure failure) (inl why) = NoJob name options gives why
     no_request (outcome.Failure failure) (inr memory) = NoMemory memory
     no_request (outcome.Text text) none = absurd none
 
 -- The options of the command are no limits.
-pub no_limits : {T : Type 0} (arguments : List (List ℕ)) (name : List ℕ) (options : ArgMatches) (job : Job) (result : Result T Outcome)
+pub no_limits : {T : Type 0} (arguments : List (List ℕ)) (name : List ℕ) (options : ArgMatches) (job : Job) (result : Result T NoRequest)
     (failure : Failure) → Gives arguments name options → IsErrAnd result (λ given. given ≡ outcome.Failure failure) → IsJob name options job
     → IsBadValue (IsLimits (limit_of options)) failure → IfErr result (IsNoRequest arguments)
 no_limits arguments name options job result failure gives is is_job bad =

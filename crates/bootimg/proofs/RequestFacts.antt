@@ -13,10 +13,13 @@ use Rattle.bi_report.specs.declared.check.ConcernKind.TheVariants as kind
 use Rattle.bi_report.proofs.CleanLaws.NoLines.{any_is_found, passes_any}
 use Rattle.bi_describe.specs.Differences.{words_of_line}
 use Rattle.bi_fit.specs.Names.{key_name}
+use Rattle.bi_base.specs.Aligns.{align_bytes}
+use Rattle.bi_base.proofs.AlignmentLaws.{alignment-positive}
+use Rattle.bi_fit.specs.declared.form.Form.{Form}
+use Rattle.bi_fit.specs.declared.form.Form.TheVariants.{Embedded, External, Aligned}
 use Rattle.bi_fit.specs.declared.key.Key.{Key}
 use Rattle.bi_fit.specs.declared.key.Key.TheVariants.{Kernel, Fdt, Ramdisk, Firmware, Loadables, Script}
 use Rattle.bi_legacy.specs.declared.fields.Fields.{Fields}
-use Rattle.bi_norm.specs.declared.fit_building.ImageSpec.{ImageSpec}
 use Rattle.clap.specs.Matches.{found_of, one_text}
 use Rattle.clap.specs.Simple.{subcommand_of}
 use Rattle.clap.specs.Walk.{Row, Text, first_of, one_of, rows_of}
@@ -24,26 +27,28 @@ use Rattle.clap.specs.declared.parser.matches.ArgMatches.{ArgMatches}
 use Rattle.clap.proofs.OnLiterals.{clap_on_literals}
 use Rattle.clap.proofs.WalkLemmas.{first_value-rows, one_text-rows}
 use Rattle.bootimg.specs.CodeWords.{IsCode}
+use Rattle.bootimg.specs.CommandLine.{IsFormWith}
 use Rattle.bootimg.specs.CommandLine.{Gives, IsAddress, IsAllowed, IsChangesFailure, IsFields, IsImageSource, IsImageText, IsNewTime}
-use Rattle.bootimg.specs.CommandLine.{IsPartSource, IsSelection, IsSelectionFailure, IsTask, IsBuildPlan, NamesAFile, NoneIs}
+use Rattle.bootimg.specs.CommandLine.{IsPartSource, IsSelection, IsSelectionFailure, IsBuildPlan, NamesAFile, NoneIs}
 use Rattle.bootimg.specs.CommandLine.{IsAllFailure, IsEntry, IsNameOf, IsNoneGiven, SelectsDefault, default_flag}
-use Rattle.bootimg.specs.CommandLine.{given_count, listed_words, list_of, option_of, parts_of, value_of}
+use Rattle.bootimg.specs.CommandLine.{given_count, list_of, option_of, value_of}
+use Rattle.bootimg.specs.Words.{listed_words, parts_of}
 use Rattle.bootimg.specs.KnownArguments.{IsOnlyCode, IsOnlyNumber}
 use Rattle.bootimg.specs.KnownRequests.{AllRequestsAreKnown, AllowedWordsAreKnown, AreFieldsOfLine, ChangesAreKnown}
-use Rattle.bootimg.specs.KnownRequests.{CommandNamesAreKnown, FlagsAreKnown, HoldsFor, ImageOffsetsAreKnown}
+use Rattle.bootimg.specs.KnownRequests.{CommandNamesAreKnown, FlagsAreKnown, HasAlignment, HoldsFor, ImageOffsetsAreKnown}
 use Rattle.bootimg.specs.KnownRequests.{IsFileNamed, IsImageOfWord, IsOnlyOne, IsPartNamed, PartWordsAreKnown, PlansAreKnown}
 use Rattle.bootimg.specs.KnownRequests.{SelectionsAreKnown, SelectsEntry, SelectsImage, SourcesAreKnown, line_of_fields}
-use Rattle.bootimg.specs.KnownRequests.{name_of_plan, name_of_task}
+use Rattle.bootimg.specs.KnownRequests.{name_of_plan}
 use Rattle.bootimg.specs.Numbers.{IsNumber}
 use Rattle.bootimg.specs.Program.{program_app}
 use Rattle.bootimg.specs.declared.codes.CodeField.{CodeField}
 use Rattle.bootimg.specs.declared.codes.CodeField.TheVariants.{Os, Arch, ImageType, Compression}
-use Rattle.bootimg.specs.declared.command_line.Task.{Task}
 use Rattle.bootimg.specs.declared.command_line.Task.TheVariants as task
 use Rattle.bootimg.specs.declared.command_line.build.BuildPlan.{BuildPlan}
 use Rattle.bootimg.specs.declared.command_line.build.BuildPlan.TheVariants as build
 use Rattle.bootimg.specs.declared.command_line.extract.Selected.{Selected}
 use Rattle.bootimg.specs.declared.command_line.extract.Selected.TheVariants as select
+use Rattle.bootimg.specs.declared.command_line.image.ImageWord.{ImageWord}
 use Rattle.bootimg.specs.declared.command_line.part.PartSource.{PartSource}
 use Rattle.bootimg.specs.declared.command_line.part.PartSource.TheVariants as part
 use Rattle.bootimg.specs.declared.command_line.source.ImageSource.{ImageSource}
@@ -81,13 +86,44 @@ same_value option one other is also = let same : Some one ≡ Some other = sym i
 
 -- ---- flags
 
+-- An external form with the alignment of a word.
+aligned_4096 : (form : Form) → IsFormWith true (Some (codes "4096")) form → HasAlignment 4096 form
+aligned_4096 Embedded is = is
+aligned_4096 External is = is
+aligned_4096 (Aligned align) is = (decimal_digits (codes "4096") refl refl).1 (align_bytes align) is
+
+not_aligned_3 : (form : Form) → ¬ (IsFormWith true (Some (codes "3")) form)
+not_aligned_3 Embedded is = is
+not_aligned_3 External is = is
+not_aligned_3 (Aligned align) is =
+    let three : align_bytes align ≡ 3 = (decimal_digits (codes "3") refl refl).1 (align_bytes align) is in
+    omega (arith, alignment-positive (align_bytes align) align.is_alignment, three)
+
 pub flags_are_known : FlagsAreKnown
 unfolding program_app clap_on_literals
 flags_are_known = record {
   external = λ options is form holds.
-      holds.given (flag_is (codes "normalise --external") (codes "normalise") options is (codes "external") ∙ refl);
+      subst₂ (λ external align. IsFormWith external align form)
+      (holds.is_external.given (flag_is (codes "normalise --external") (codes "normalise") options is (codes "external") ∙ refl))
+      (option_is (codes "normalise --external") (codes "normalise") options is (codes "align") ∙ refl) holds.is_form;
   embedded = λ options is form holds.
-      holds.not_given (flag_is (codes "normalise") (codes "normalise") options is (codes "external") ∙ refl);
+      subst₂ (λ external align. IsFormWith external align form)
+      (holds.is_external.not_given (flag_is (codes "normalise") (codes "normalise") options is (codes "external") ∙ refl))
+      (option_is (codes "normalise") (codes "normalise") options is (codes "align") ∙ refl) holds.is_form;
+  aligned = λ options is form holds.
+      aligned_4096 form (subst₂ (λ external align. IsFormWith external align form)
+      (holds.is_external.given
+      (flag_is (codes "normalise --external --align 4096") (codes "normalise") options is (codes "external") ∙ refl))
+      (option_is (codes "normalise --external --align 4096") (codes "normalise") options is (codes "align") ∙ refl) holds.is_form);
+  not_external = λ options is form holds.
+      subst₂ (λ external align. IsFormWith external align form)
+      (holds.is_external.not_given (flag_is (codes "normalise --align 4096") (codes "normalise") options is (codes "external") ∙ refl))
+      (option_is (codes "normalise --align 4096") (codes "normalise") options is (codes "align") ∙ refl) holds.is_form;
+  bad_alignment = λ options is form holds.
+      not_aligned_3 form (subst₂ (λ external align. IsFormWith external align form)
+      (holds.is_external.given
+      (flag_is (codes "normalise --external --align 3") (codes "normalise") options is (codes "external") ∙ refl))
+      (option_is (codes "normalise --external --align 3") (codes "normalise") options is (codes "align") ∙ refl) holds.is_form);
   json = λ options is format holds. holds.given (flag_is (codes "list --json") (codes "list") options is (codes "json") ∙ refl);
   lines = λ options is format holds. holds.not_given (flag_is (codes "list") (codes "list") options is (codes "json") ∙ refl);
   layout = λ options is layout holds. holds.given (flag_is (codes "show --layout") (codes "show") options is (codes "layout") ∙ refl);
@@ -111,25 +147,12 @@ flags_are_known = record {
 
 -- ---- commands
 
-task_has_name : (name : List ℕ) (options : ArgMatches) (given : Task) → IsTask name options given → name ≡ name_of_task given
-task_has_name name options (task.Normalise form) is = is.0
-task_has_name name options (task.Show presenter) is = is.0
-task_has_name name options (task.List format) is = is.0
-task_has_name name options (task.Describe format) is = is.0
-task_has_name name options (task.Verify format) is = is.0
-task_has_name name options (task.Check allowed format) is = is.0
-task_has_name name options task.Scan is = is
-task_has_name name options (task.Update changes form) is = is.0
-task_has_name name options (task.Extract selection) is = is.0
-task_has_name name options task.Convert is = is
-
 plan_has_name : (name : List ℕ) (options : ArgMatches) (plan : BuildPlan) → IsBuildPlan name options plan → name ≡ name_of_plan plan
 plan_has_name name options (build.Legacy plan) is = is.0
 plan_has_name name options (build.Fit plan) is = is.0
 
 pub command_names_are_known : CommandNamesAreKnown
 command_names_are_known = record {
-  tasks = task_has_name;
   compares = λ name options plan is. is.0;
   explains = λ name options is. is.0;
   builds = plan_has_name;
@@ -623,14 +646,14 @@ fields_of_line options is fields holds =
           holds.load;
       entry = number_given _ (codes "3") 3 (value (codes "entry") (codes "0") ∙ refl) (decimal_digits (codes "3") refl refl)
           fields.entry holds.entry;
-      os = code_given Os _ (codes "linux") 5 (value (codes "os") [] ∙ refl) (code_with_name Os (codes "linux") 5 refl refl) fields.os
+      os = code_given Os _ (codes "linux") 5 (value (codes "os") [] ∙ refl) (code_with_name Os (codes "linux") 5 refl) fields.os
           holds.os;
-      arch = code_given Arch _ (codes "arm64") 22 (value (codes "arch") [] ∙ refl) (code_with_name Arch (codes "arm64") 22 refl refl)
+      arch = code_given Arch _ (codes "arm64") 22 (value (codes "arch") [] ∙ refl) (code_with_name Arch (codes "arm64") 22 refl)
           fields.arch holds.arch;
       image_type = code_given ImageType _ (codes "kernel") 2 (value (codes "type") [] ∙ refl)
-          (code_with_name ImageType (codes "kernel") 2 refl refl) fields.image_type holds.image_type;
+          (code_with_name ImageType (codes "kernel") 2 refl) fields.image_type holds.image_type;
       compression = code_given Compression _ (codes "gzip") 1 (value (codes "compression") (codes "none") ∙ refl)
-          (code_with_name Compression (codes "gzip") 1 refl refl) fields.compression holds.compression;
+          (code_with_name Compression (codes "gzip") 1 refl) fields.compression holds.compression;
       name = holds.name ∙ value (codes "name") [] ∙ refl;
     }
 
@@ -651,22 +674,22 @@ length_of_payload (part.File name) is = absurd (omega (arith, ap (λ l. get_or l
 abbrev field_at : List (List ℕ) → ℕ → List ℕ
 field_at fields index = unwrap_or (slice_get fields index) []
 
-image_of_word : (image : ImageSpec × PartSource) → IsImageText (codes "k:kernel:arm64:linux:gzip:0x8000:-:5") image
-    → IsImageOfWord image.0 image.1
-image_of_word image is =
+image_of_word : (word : ImageWord) → IsImageText (codes "k:kernel:arm64:linux:gzip:0x8000:-:5") word
+    → IsImageOfWord word.image word.payload
+image_of_word word is =
     let field : (index : ℕ) → field_at (parts_of (codes "k:kernel:arm64:linux:gzip:0x8000:-:5")) index ≡ field_at (list_of is.0) index
     = λ index. ap (λ fields. field_at fields index) is.1 in
     record {
       name = is.2.name ∙ sym (field 0);
-      image_type = code_given ImageType _ (codes "kernel") 2 (sym (field 1)) (code_with_name ImageType (codes "kernel") 2 refl refl)
-          image.0.image_type is.2.image_type;
-      arch = code_given Arch _ (codes "arm64") 22 (sym (field 2)) (code_with_name Arch (codes "arm64") 22 refl refl) image.0.arch is.2.arch;
-      os = code_given Os _ (codes "linux") 5 (sym (field 3)) (code_with_name Os (codes "linux") 5 refl refl) image.0.os is.2.os;
-      compression = code_given Compression _ (codes "gzip") 1 (sym (field 4)) (code_with_name Compression (codes "gzip") 1 refl refl)
-          image.0.compression is.2.compression;
-      load = address_given image.0.load (subst (λ a. IsAddress a image.0.load) (sym (field 5)) is.2.load);
-      entry = no_address image.0.entry (subst (λ a. IsAddress a image.0.entry) (sym (field 6)) is.2.entry);
-      source = length_of_payload image.1 (subst (λ a. IsPartSource a image.1) (sym (field 7)) is.2.source);
+      image_type = code_given ImageType _ (codes "kernel") 2 (sym (field 1)) (code_with_name ImageType (codes "kernel") 2 refl)
+          word.image.image_type is.2.image_type;
+      arch = code_given Arch _ (codes "arm64") 22 (sym (field 2)) (code_with_name Arch (codes "arm64") 22 refl) word.image.arch is.2.arch;
+      os = code_given Os _ (codes "linux") 5 (sym (field 3)) (code_with_name Os (codes "linux") 5 refl) word.image.os is.2.os;
+      compression = code_given Compression _ (codes "gzip") 1 (sym (field 4)) (code_with_name Compression (codes "gzip") 1 refl)
+          word.image.compression is.2.compression;
+      load = address_given word.image.load (subst (λ a. IsAddress a word.image.load) (sym (field 5)) is.2.load);
+      entry = no_address word.image.entry (subst (λ a. IsAddress a word.image.entry) (sym (field 6)) is.2.entry);
+      source = length_of_payload word.payload (subst (λ a. IsPartSource a word.payload) (sym (field 7)) is.2.source);
     }
 
 pub plans_are_known : PlansAreKnown

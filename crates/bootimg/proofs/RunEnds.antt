@@ -1,18 +1,26 @@
-use Rattle.std.proofs.Common.{◌≡◌, ℕ, List, Err, inl, inr, refl}
+use Rattle.std.proofs.Common.{◌≡◌, ℕ, List, Ok, Err, inl, inr, refl}
 use Rattle.std.specs.Fmt.{digits}
 use Rattle.bi_base.specs.Traces.{WriteTrace}
 use Rattle.clap.specs.declared.error.kind.ErrorKind.{ErrorKind}
 use Rattle.bootimg.specs.KnownRuns.{FailureLinesAreKnown, ExtractLinesAreKnown, CompareLinesAreKnown, NotesAreKnown, StatusesAreKnown}
 use Rattle.bootimg.specs.Runs.{Run, IsAskedFor, IsEnd, EndsWell, EndsWithFailure, IsMistake, IsTextRun, IsWritten, IsNotWritten, IsUsage}
-use Rattle.bootimg.specs.declared.jobs.Problem.{Problem}
+use Rattle.bootimg.specs.Tasks.{status_of}
+use Rattle.bootimg.specs.declared.jobs.SourceFailure.{SourceFailure}
+use Rattle.bootimg.specs.declared.tasks.Done.{Done}
 
 -- Statuses are known, and failures and notes have known lines.
 
 -- After a failure the status is 2.
-status_after_failure : (errors new_errors : WriteTrace) (status : ℕ) (failed : Problem) → IsEnd errors new_errors status (Err failed)
+status_after_failure : (errors new_errors : WriteTrace) (status : ℕ) (failed : SourceFailure) → IsEnd errors new_errors status (Err failed)
     → status ≡ 2
 status_after_failure errors new_errors status failed (EndsWell done is notes same) = absurd cc
 status_after_failure errors new_errors status failed (EndsWithFailure other is reports same) = same
+
+-- After an answer the status is that of the answer.
+status_after_answer : (errors new_errors : WriteTrace) (status : ℕ) (done : Done) → IsEnd errors new_errors status (Ok done)
+    → status ≡ status_of done.good
+status_after_answer errors new_errors status done (EndsWell other is notes same) = cc
+status_after_answer errors new_errors status done (EndsWithFailure other is reports same) = absurd cc
 
 -- A text that is a mistake is not asked for.
 not_asked_for : (kind : ErrorKind) → IsMistake kind → IsAskedFor kind → ⊥
@@ -28,8 +36,7 @@ pub statuses_are_known : StatusesAreKnown
 statuses_are_known = record {
   good = refl;
   not_good = refl;
-  same = refl;
-  different = refl;
+  done = status_after_answer;
   failed = status_after_failure;
   rejected = λ source failure run is. is.status;
   mistaken = status_after_mistake;
@@ -47,6 +54,7 @@ failure_lines_are_known = record {
   no_change = refl;
   bad_value = refl;
   bad_image = refl;
+  bad_configuration = refl;
   cannot_open = refl;
   not_written = refl;
   shown_name = refl;
@@ -75,4 +83,4 @@ compare_lines_are_known = record { one = refl; other = refl; out_of_memory = ref
 
 pub notes_are_known : NotesAreKnown
 unfolding digits
-notes_are_known = record { one = refl; many = refl }
+notes_are_known = record { one = refl; many = refl; alignment = refl; positions = refl }

@@ -14,7 +14,8 @@ use Rattle.bootimg.specs.declared.failure.Failure.{Failure}
 use Rattle.bootimg.specs.Files.{FileStep, KnownFiles}
 use Rattle.bootimg.specs.declared.tasks.Done.{Done}
 use Rattle.bootimg.specs.Runs.{IsPlainRun, IsRun, IsTaskWork, Logs, IsLogged, HasStopped, IsRejection, Reports, Run, Work, Succeeded}
-use Rattle.bootimg.specs.Runs.{HasFailed, IsAskedFor, IsMistake, plan_promise, problem}
+use Rattle.bootimg.specs.Runs.{HasFailed, IsAskedFor, IsMistake, source_failure}
+use Rattle.bootimg.specs.Tasks.{plan_promise}
 
 -- A run of the program over traced streams is one over plain streams, and it succeeds, fails or is rejected as its calls do.
 
@@ -86,7 +87,7 @@ run_succeeds plan limits work result done same piped outcome =
 pub has_failed : (plan : ImagePlan) (limits : Limits) (work : Work) (result : Result Done Failure) (failure : Failure)
     → result ≡ Err failure
     → IsTracedPipe (plan_promise plan limits) limits work.input work.new_input work.output work.new_output result
-    → work.outcome ≡ Err (problem plan.source failure) → IsTaskWork plan limits work
+    → work.outcome ≡ Err (source_failure plan.source failure) → IsTaskWork plan limits work
 has_failed plan limits work result failure same piped outcome =
     HasFailed failure
     (subst

@@ -1,4 +1,4 @@
-use Rattle.std.proofs.Common.{◌≡◌, ◌∙◌, ℕ, List, Option, Bor, Result, ap}
+use Rattle.std.proofs.Common.{◌≡◌, ◌∙◌, ℕ, List, Option, None, Some, Bor, Result, ap}
 use Rattle.clap.specs.declared.error.kind.ErrorKind.{ErrorKind}
 use Rattle.bi_base.specs.declared.fault.Cause.{Cause}
 use Rattle.bi_base.specs.Limits.{Limits}
@@ -14,9 +14,11 @@ use Rattle.bootimg.specs.declared.failure.Failure.{Failure}
 use Rattle.bootimg.specs.Files.{FileStep, KnownFiles}
 use Rattle.bootimg.specs.declared.command_line.Request.{Request}
 use Rattle.bootimg.specs.declared.command_line.extract.AllRequest.{AllRequest}
-use Rattle.bootimg.specs.declared.jobs.Problem.{Problem}
+use Rattle.bootimg.specs.declared.jobs.SourceFailure.{SourceFailure}
 use Rattle.bootimg.specs.declared.tasks.Done.{Done}
 use Rattle.bootimg.specs.Runs.{Inputs, Run, Work, no_input, work_of, with_input, Logs, IsLogged, HasStopped, Notes}
+use Rattle.bootimg.specs.Runs.{NotesCount, NotesAlignment, note_line, alignment_line, positions_line}
+use Rattle.bi_fit.specs.declared.kept.Kept.{Kept}
 use Rattle.bootimg.specs.Runs.{HasNone, HasSome, IsRejection, IsTaskWork, Succeeded, HasFailed, IsImageWork, DoneOnInput, DoneOnFile}
 use Rattle.bootimg.specs.Runs.{FileNotOpened, IsImageRead, InputRead, FileRead, IsImageNotRead, InputNotRead, FileNotRead, IsComparedWork}
 use Rattle.bootimg.specs.Runs.{WroteDifferences, NotAllWritten, NotCompared, IsCompareWork, BothRead, OneNotRead, OtherNotRead}
@@ -38,9 +40,19 @@ logs_keep : (old new : WriteTrace) (bytes : List ℕ) → Logs old bytes new →
 logs_keep old new bytes (IsLogged wrote) = wrote.same_writer
 logs_keep old new bytes (HasStopped error stopped) = stopped.same_writer
 
-notes_keep : (signatures : ℕ) (old new : WriteTrace) → Notes signatures old new → new.writer ≡ old.writer
-notes_keep signatures old new (HasNone none same) = ap (λ trace. trace.writer) same
-notes_keep signatures old new (HasSome some logs) = logs_keep _ _ _ logs
+count_keeps : (count : ℕ) (line : List ℕ) (old new : WriteTrace) → NotesCount count line old new → new.writer ≡ old.writer
+count_keeps count line old new (HasNone none same) = ap (λ trace. trace.writer) same
+count_keeps count line old new (HasSome some logs) = logs_keep old new line logs
+
+alignment_keeps : (alignment : Option ℕ) (old new : WriteTrace) → NotesAlignment alignment old new → new.writer ≡ old.writer
+alignment_keeps None old new same = ap (λ trace. trace.writer) same
+alignment_keeps (Some bytes) old new logs = logs_keep old new (alignment_line bytes) logs
+
+notes_keep : (kept : Kept) (old new : WriteTrace) → Notes kept old new → new.writer ≡ old.writer
+notes_keep kept old new notes =
+    count_keeps kept.positions (positions_line kept.positions) notes.second new notes.positions
+    ∙ alignment_keeps kept.alignment notes.first notes.second notes.alignment
+    ∙ count_keeps kept.signatures (note_line kept.signatures) old notes.first notes.signatures
 
 -- The reader is the same after an image was read, or not read, from its source.
 read_keeps : (files : KnownFiles) (limits : Limits) (old new : Inputs) (image : List ℕ) (source : ImageSource)
@@ -138,12 +150,12 @@ job_work_keeps files (Compare plan) limits work old new done = compare_work_keep
 job_work_keeps files (Explain cause) limits work old new done = explain_work_keeps _ _ done.0
 job_work_keeps files (Build plan) limits work old new done = build_work_keeps _ _ _ _ _ _ done
 
-held_work_keeps : (files : KnownFiles) (job : Job) (limits : Limits) (before after : Inputs) (outcome : Result Done Problem)
+held_work_keeps : (files : KnownFiles) (job : Job) (limits : Limits) (before after : Inputs) (outcome : Result Done SourceFailure)
     (held : Option (List ℕ)) → IsHeldWork files job limits before after outcome held → after.input.reader ≡ before.input.reader
 held_work_keeps files job limits before after outcome held is = (job_work_keeps files job limits _ _ _ is.work).reader
 
 saved_work_keeps : (files : KnownFiles) (job : Job) (limits : Limits) (name : Bor (List ℕ)) (before after : Inputs)
-    (outcome : Result Done Problem) → IsSavedWork files job limits name before after outcome
+    (outcome : Result Done SourceFailure) → IsSavedWork files job limits name before after outcome
     → after.input.reader ≡ before.input.reader
 saved_work_keeps files job limits name before after outcome (OutputSaved done output worked is saved same) =
     held_work_keeps _ job limits _ _ _ _ is
@@ -151,13 +163,13 @@ saved_work_keeps files job limits name before after outcome (OutputNotSaved done
     held_work_keeps _ job limits _ _ _ _ is
 saved_work_keeps files job limits name before after outcome (NoOutput failed is same) = held_work_keeps _ job limits _ _ _ _ is.work
 
-output_run_keeps : (files : KnownFiles) (job : Job) (limits : Limits) (run : Run) (outcome : Result Done Problem)
+output_run_keeps : (files : KnownFiles) (job : Job) (limits : Limits) (run : Run) (outcome : Result Done SourceFailure)
     (output : Option (Bor (List ℕ))) → IsOutputRun files job limits run outcome output → KeepsWork (work_of run outcome)
 output_run_keeps files job limits run outcome output (ToStandardOutput work) = job_work_keeps files job limits _ _ _ work
 output_run_keeps files job limits run outcome output (ToFile name saved same) =
     record { reader = saved_work_keeps _ job limits _ _ _ _ saved; writer = ap (λ trace. trace.writer) same }
 
-end_keeps : (errors new_errors : WriteTrace) (status : ℕ) (outcome : Result Done Problem) → IsEnd errors new_errors status outcome
+end_keeps : (errors new_errors : WriteTrace) (status : ℕ) (outcome : Result Done SourceFailure) → IsEnd errors new_errors status outcome
     → new_errors.writer ≡ errors.writer
 end_keeps errors new_errors status outcome (EndsWell done same notes is) = notes_keep _ _ _ notes
 end_keeps errors new_errors status outcome (EndsWithFailure failed same reports is) = logs_keep _ _ _ reports
@@ -167,7 +179,7 @@ request_run_keeps files request run is =
     let keeps = output_run_keeps files request.job request.limits run is.outcome request.output is.done in
     record { reader = keeps.reader; writer = keeps.writer; log = end_keeps _ _ _ _ is.end }
 
-all_work_keeps : (files : KnownFiles) (request : AllRequest) (before after : Inputs) (outcome : Result Done Problem)
+all_work_keeps : (files : KnownFiles) (request : AllRequest) (before after : Inputs) (outcome : Result Done SourceFailure)
     → IsAllWork files request before after outcome → after.input.reader ≡ before.input.reader
 all_work_keeps files request before after outcome (PayloadsSaved file name payloads read image all word saved done ended ends) =
     read_keeps _ _ _ _ _ _ image

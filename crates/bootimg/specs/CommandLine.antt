@@ -1,10 +1,12 @@
 use Rattle.std.specs.Prelude.{◌≡◌, ◌≢◌, ◌<◌, ◌≤◌, ◌==◌, ◌⊎◌, ◌↔◌, ⊤, ℕ, List, [], ◌∷◌, length}
 use Rattle.std.specs.Prelude.{Option, Some, None, option_map, is_some, slice_get, unwrap_or}
 use Rattle.std.specs.Prelude.{count_by, codes}
-use Rattle.std.specs.Prelude.{map, ◌++◌, Bool, true, false, IsTrue, IsFalse}
+use Rattle.std.specs.Prelude.{map, ◌++◌, Bool, true, false, IsTrue, IsFalse, if◌then◌else◌}
 use Rattle.std.specs.Borrow.{Bor}
-use Rattle.std.specs.List.{AllByRecursion, AllZip, Contains, list_any, slice_split}
+use Rattle.std.specs.List.{AllByRecursion, AllZip, Contains, list_any}
 use Rattle.std.specs.Option.{option_map_or}
+use Rattle.bi_base.specs.declared.align.Align.{Align}
+use Rattle.bi_base.specs.Aligns.{align_bytes}
 use Rattle.bi_base.specs.Limits.{Limits}
 use Rattle.bi_base.specs.Causes.{name_of}
 use Rattle.bi_base.specs.declared.fault.Cause.{Cause}
@@ -12,15 +14,21 @@ use Rattle.bi_base.specs.declared.fault.Error.TheVariants.{OutOfMemory}
 use Rattle.bi_fit.specs.Names.{key_name}
 use Rattle.bi_fit.specs.declared.changes.Changes.{Changes}
 use Rattle.bi_fit.specs.declared.form.Form.{Form}
-use Rattle.bi_fit.specs.declared.form.Form.TheVariants.{Embedded, External}
+use Rattle.bi_fit.specs.declared.form.Form.TheVariants.{Embedded, External, Aligned}
 use Rattle.bi_fit.specs.declared.key.Key.{Key}
 use Rattle.bi_legacy.specs.declared.fields.Fields.{Fields}
+use Rattle.bi_hash.specs.declared.algo.Algo.{Algo}
+use Rattle.bi_norm.specs.FitBuilding.{image_texts_model, multi, names_of_specs}
 use Rattle.bi_norm.specs.declared.fit_building.ImageSpec.{ImageSpec}
-use Rattle.bootimg.specs.CodeWords.{IsCode}
+use Rattle.bi_norm.specs.declared.fit_building.ImageTexts.{ImageTexts}
+use Rattle.bootimg.specs.CodeWords.{IsCode, text_of_code, four_texts}
+use Rattle.bootimg.specs.ConfigurationWords.{AreConfigurations, AreHashes, IsDefault}
+use Rattle.bootimg.specs.ConfigurationWords.{IsFirstBadConfiguration}
+use Rattle.bootimg.specs.Words.{listed_words, parts_of}
 use Rattle.bootimg.specs.Numbers.{IsNumber}
 use Rattle.bootimg.specs.declared.codes.CodeField.TheVariants.{Os, Arch, ImageType, Compression}
-use Rattle.bootimg.specs.declared.command_line.Outcome.{Outcome}
-use Rattle.bootimg.specs.declared.command_line.Outcome.TheVariants as outcome
+use Rattle.bootimg.specs.declared.command_line.NoRequest.{NoRequest}
+use Rattle.bootimg.specs.declared.command_line.NoRequest.TheVariants as outcome
 use Rattle.bootimg.specs.declared.command_line.ImagePlan.{ImagePlan}
 use Rattle.bootimg.specs.declared.command_line.Job.{Job}
 use Rattle.bootimg.specs.declared.command_line.Job.TheVariants.{Run, Compare, Build, Explain}
@@ -33,7 +41,8 @@ use Rattle.bootimg.specs.declared.command_line.build.BuildPlan.{BuildPlan}
 use Rattle.bootimg.specs.declared.command_line.build.BuildPlan.TheVariants.{Legacy, Fit}
 use Rattle.bootimg.specs.declared.command_line.build.FitPlan.{FitPlan}
 use Rattle.bootimg.specs.declared.command_line.build.LegacyPlan.{LegacyPlan}
-use Rattle.bootimg.specs.declared.command_line.image.ImageTexts.{ImageTexts}
+use Rattle.bootimg.specs.declared.command_line.image.ImageFields.{ImageFields}
+use Rattle.bootimg.specs.declared.command_line.image.ImageWord.{ImageWord}
 use Rattle.bootimg.specs.declared.command_line.part.PartSource.{PartSource}
 use Rattle.bootimg.specs.declared.command_line.part.PartSource.TheVariants as part
 use Rattle.bootimg.specs.declared.command_line.source.ComparePlan.{ComparePlan}
@@ -51,7 +60,7 @@ use Rattle.bootimg.specs.declared.command_line.extract.Selected.TheVariants.{Par
 use Rattle.bootimg.specs.declared.command_line.extract.Selected.TheVariants.{Default}
 use Rattle.bootimg.specs.declared.failure.Failure.{Failure}
 use Rattle.bootimg.specs.declared.failure.Failure.TheVariants.{Call, NoSelection, NoChange}
-use Rattle.bootimg.specs.declared.failure.Failure.TheVariants.{BadValue, BadImage}
+use Rattle.bootimg.specs.declared.failure.Failure.TheVariants.{BadValue, BadImage, BadConfiguration}
 use Rattle.clap.specs.Matches.{found_of, matched_of, first_value, one_text, raw_values}
 use Rattle.clap.specs.Faults.{fault_of}
 use Rattle.clap.specs.Kinds.{IsAmong}
@@ -105,12 +114,16 @@ values_of options id = option_map_or raw_values (matched_of (found_of options) i
 abbrev pub NoneIs : {T : Type 0} → (T → Type 0) → Type 0
 NoneIs {T} Is = (value : T) → Is value → ⊥
 
+-- The failure is this one, and no value is one of these.
+abbrev pub IsBad : {T : Type 0} → Failure → (T → Type 0) → Failure → Type 0
+IsBad bad Is failure = (failure ≡ bad) × NoneIs Is
+
 -- The failure is that of a bad value, and no value is one of these.
 abbrev pub IsBadValue : {T : Type 0} → (T → Type 0) → Failure → Type 0
 IsBadValue Is failure = (failure ≡ BadValue) × NoneIs Is
 
 -- The outcome is such a failure, or memory ran out.
-abbrev pub IsFailureOutcome : (Failure → Type 0) → Outcome → Type 0
+abbrev pub IsFailureOutcome : (Failure → Type 0) → NoRequest → Type 0
 IsFailureOutcome IsFailure (outcome.Failure failure) =
     IsFailure failure ⊎ (failure ≡ Call OutOfMemory)
 IsFailureOutcome IsFailure (outcome.Text text) = ⊥
@@ -136,11 +149,43 @@ given_offset options = value_of options (codes "offset") (codes "0")
 abbrev pub external_flag : ArgMatches → Option (List ℕ)
 external_flag options = one_text (found_of options) (codes "external")
 
+-- The value of `--align`, if it is given.
+abbrev pub align_option : ArgMatches → Option (List ℕ)
+align_option options = option_of options (codes "align")
+
+-- The argument is the number of bytes of this alignment.
+abbrev pub IsAlignOf : List ℕ → Align → Type 0
+IsAlignOf argument align = IsNumber argument (align_bytes align)
+
+-- The form with `--external` or without it, and with this value of `--align` or without one:
+-- without `--external` no value is good.
+abbrev pub IsFormWith : (external : Bool) → Option (List ℕ) → Form → Type 0
+IsFormWith false None form = form ≡ Embedded
+IsFormWith true None form = form ≡ External
+IsFormWith true (Some argument) (Aligned align) = IsAlignOf argument align
+IsFormWith external argument form = ⊥
+
 -- The payloads are after the tree with `--external`, and else inside it.
+pub record IsExternal (options : ArgMatches) (external : Bool) : Type 0 where
+  pub given : external_flag options ≡ Some (codes "true") → external ≡ true
+  pub not_given : external_flag options ≡ Some (codes "false") → external ≡ false
+  pub unknown : external_flag options ≡ None → external ≡ false
+
+-- The options give this form.
 pub record IsForm (options : ArgMatches) (form : Form) : Type 0 where
-  pub given : external_flag options ≡ Some (codes "true") → form ≡ External
-  pub not_given : external_flag options ≡ Some (codes "false") → form ≡ Embedded
-  pub unknown : external_flag options ≡ None → form ≡ Embedded
+  pub external : Bool
+  pub is_external : IsExternal options external
+  pub is_form : IsFormWith external (align_option options) form
+
+-- The value of `--align` is not good.
+pub record HasNoForm (options : ArgMatches) : Type 0 where
+  pub external : Bool
+  pub is_external : IsExternal options external
+  pub no_form : NoneIs (IsFormWith external (align_option options))
+
+-- The failure of options that give no form.
+abbrev pub IsFormFailure : ArgMatches → Failure → Type 0
+IsFormFailure options failure = (failure ≡ BadValue) × HasNoForm options
 
 -- The text of the flag `--json`: `true` or `false`.
 abbrev pub json_flag : ArgMatches → Option (List ℕ)
@@ -199,10 +244,6 @@ pub record IsComparePlan (options : ArgMatches) (plan : ComparePlan) : Type 0 wh
   pub names_a_file : NamesAFile plan.one plan.other
 
 -- ---- check
-
--- The words of a text, with a comma between each two.
-abbrev pub listed_words : List ℕ → List (List ℕ)
-listed_words text = slice_split (λ byte. byte == 44) text
 
 -- The word is that for a kind of concerns.
 abbrev pub IsKindWord : List ℕ → Type 0
@@ -443,44 +484,58 @@ IsAddress argument None = argument ≡ codes "-"
 IsAddress argument (Some address) = IsNumber argument address
 
 -- The fields in the order in which the text has them.
-abbrev pub list_of : ImageTexts → List (List ℕ)
-list_of texts = texts.name.now ∷ texts.image_type.now ∷ texts.arch.now ∷ texts.os.now
-    ∷ texts.compression.now ∷ texts.load.now ∷ texts.entry.now ∷ texts.length.now ∷ []
+abbrev pub list_of : ImageFields → List (List ℕ)
+list_of fields = fields.name.now ∷ fields.image_type.now ∷ fields.arch.now ∷ fields.os.now
+    ∷ fields.compression.now ∷ fields.load.now ∷ fields.entry.now ∷ fields.length.now ∷ []
 
--- The parts of a text between its colons.
-abbrev pub parts_of : List ℕ → List (List ℕ)
-parts_of argument = slice_split (λ byte. byte == 58) argument
+-- The texts in the node of an image, in place of its codes. There are none if one of the codes has
+-- no text, or for a multi-file image: neither can be built.
+abbrev pub HasTexts : ImageFields → ImageSpec → Option ImageTexts → Type 0
+HasTexts fields spec texts =
+    option_map image_texts_model texts
+    ≡ (if spec.image_type == multi then None
+    else four_texts (text_of_code ImageType fields.image_type.now spec.image_type)
+    (text_of_code Arch fields.arch.now spec.arch) (text_of_code Os fields.os.now spec.os)
+    (text_of_code Compression fields.compression.now spec.compression))
 
 -- The fields are this image, without its payload, and the payload.
-pub record IsImage (texts : ImageTexts) (image : ImageSpec × PartSource) : Type 0 where
-  pub name : image.0.name.now ≡ texts.name.now
-  pub image_type : IsCode ImageType texts.image_type.now image.0.image_type
-  pub arch : IsCode Arch texts.arch.now image.0.arch
-  pub os : IsCode Os texts.os.now image.0.os
-  pub compression : IsCode Compression texts.compression.now image.0.compression
-  pub load : IsAddress texts.load.now image.0.load
-  pub entry : IsAddress texts.entry.now image.0.entry
-  pub payload : image.0.payload.now ≡ []
-  pub source : IsPartSource texts.length.now image.1
+pub record IsImage (fields : ImageFields) (word : ImageWord) : Type 0 where
+  pub name : word.image.name.now ≡ fields.name.now
+  pub image_type : IsCode ImageType fields.image_type.now word.image.image_type
+  pub arch : IsCode Arch fields.arch.now word.image.arch
+  pub os : IsCode Os fields.os.now word.image.os
+  pub compression : IsCode Compression fields.compression.now word.image.compression
+  pub texts : HasTexts fields word.image word.texts
+  pub load : IsAddress fields.load.now word.image.load
+  pub entry : IsAddress fields.entry.now word.image.entry
+  pub payload : word.image.payload.now ≡ []
+  pub source : IsPartSource fields.length.now word.payload
 
 -- The argument is this image, and its payload: eight fields between colons.
-abbrev pub IsImageText : List ℕ → ImageSpec × PartSource → Type 0
-IsImageText argument image =
-    (texts : ImageTexts) × (parts_of argument ≡ list_of texts) × IsImage texts image
+abbrev pub IsImageText : List ℕ → ImageWord → Type 0
+IsImageText argument word =
+    (fields : ImageFields) × (parts_of argument ≡ list_of fields) × IsImage fields word
 
--- The arguments are these images, and their payloads.
-abbrev pub AreImages : List (List ℕ) → List ImageSpec → List PartSource → Type 0
-AreImages [] [] [] = ⊤
-AreImages (argument ∷ arguments) (image ∷ images) (payload ∷ payloads) =
-    IsImageText argument (image, payload) × AreImages arguments images payloads
-AreImages arguments images payloads = ⊥
+-- The arguments are these images, with these texts, and their payloads.
+pub record AreImages (arguments : List (List ℕ)) (images : List ImageSpec)
+    (texts : List (Option ImageTexts)) (payloads : List PartSource) : Type 0 where
+  pub words : List ImageWord
+  pub each : AllZip IsImageText arguments words
+  pub images_are : images ≡ map (λ (word : ImageWord). word.image) words
+  pub texts_are : texts ≡ map (λ (word : ImageWord). word.texts) words
+  pub payloads_are : payloads ≡ map (λ (word : ImageWord). word.payload) words
 
 -- The options of `build-fit` are this plan.
 pub record IsFitPlan (options : ArgMatches) (plan : FitPlan) : Type 0 where
   pub description : plan.head.description.now ≡ value_of options (codes "description") []
   pub time : IsNumber (value_of options (codes "time") (codes "0")) plan.head.time
-  pub images : AreImages (values_of options (codes "images")) plan.images.items
+  pub images : AreImages (values_of options (codes "images")) plan.images.items plan.texts.items
       plan.payloads.items
+  pub configurations : AreConfigurations (names_of_specs plan.images.items)
+      (values_of options (codes "config")) plan.configurations.items
+  pub default : IsDefault (values_of options (codes "config")) (option_of options (codes "default"))
+      (option_map (λ name. name.now) plan.default)
+  pub algorithms : AreHashes (option_of options (codes "hash")) plan.algorithms.items
   pub form : IsForm options plan.form
 
 -- The first argument that is no image has this index.
@@ -489,40 +544,82 @@ pub record IsFirstBad (arguments : List (List ℕ)) (index : ℕ) : Type 0 where
   pub is : slice_get arguments index ≡ Some argument
   pub bad : NoneIs (IsImageText argument)
   pub before : (other : ℕ) (text : List ℕ) → other < index → slice_get arguments other ≡ Some text
-      → (image : ImageSpec × PartSource) × IsImageText text image
+      → (word : ImageWord) × IsImageText text word
 
 -- The failure is that of the first argument that is no image.
 abbrev pub IsBadImage : List (List ℕ) → Failure → Type 0
 IsBadImage arguments (BadImage index) = IsFirstBad arguments index
 IsBadImage arguments failure = ⊥
 
--- The failure of options of `build-fit` that are no plan.
+-- The failure is that of the first word that is no configuration.
+abbrev pub IsBadConfiguration : (image_names words : List (List ℕ)) → Failure → Type 0
+IsBadConfiguration image_names words (BadConfiguration index) =
+    IsFirstBadConfiguration image_names words index
+IsBadConfiguration image_names words failure = ⊥
+
+-- The options of `build-fit` have good values: the time, the form, the default and the algorithms.
+pub record HasFitValues (options : ArgMatches) : Type 0 where
+  pub time : ℕ
+  pub is_time : IsNumber (value_of options (codes "time") (codes "0")) time
+  pub form : Form
+  pub is_form : IsForm options form
+  pub default : Option (List ℕ)
+  pub is_default : IsDefault (values_of options (codes "config"))
+      (option_of options (codes "default")) default
+  pub algorithms : List Algo
+  pub are_algorithms : AreHashes (option_of options (codes "hash")) algorithms
+
+-- The images of `build-fit` are good, and the first word that is no configuration has this index.
+pub record IsBadPlan (options : ArgMatches) (index : ℕ) : Type 0 where
+  pub images : List ImageSpec
+  pub texts : List (Option ImageTexts)
+  pub payloads : List PartSource
+  pub are_images : AreImages (values_of options (codes "images")) images texts payloads
+  pub first_bad : IsFirstBadConfiguration (names_of_specs images)
+      (values_of options (codes "config")) index
+
+-- The failure of options of `build-fit` that are no plan: of a bad value, else of the first bad
+-- image, else of the first bad configuration.
 abbrev pub IsFitPlanFailure : ArgMatches → Failure → Type 0
-IsFitPlanFailure options BadValue =
-    NoneIs (IsNumber (value_of options (codes "time") (codes "0")))
+IsFitPlanFailure options BadValue = (¬ HasFitValues options) ⊎ HasNoForm options
 IsFitPlanFailure options (BadImage index) =
-    ((time : ℕ) × IsNumber (value_of options (codes "time") (codes "0")) time)
-    × IsFirstBad (values_of options (codes "images")) index
+    HasFitValues options × IsFirstBad (values_of options (codes "images")) index
+IsFitPlanFailure options (BadConfiguration index) = HasFitValues options × IsBadPlan options index
 IsFitPlanFailure options failure = ⊥
 
 -- ---- tasks and jobs
 
+-- The name of the command for a task.
+abbrev pub name_of_task : Task → List ℕ
+name_of_task (task.Normalise form) = codes "normalise"
+name_of_task (task.Show presenter) = codes "show"
+name_of_task (task.List format) = codes "list"
+name_of_task (task.Describe format) = codes "describe"
+name_of_task (task.Verify format) = codes "verify"
+name_of_task (task.Check allowed format) = codes "check"
+name_of_task task.Scan = codes "scan"
+name_of_task (task.Update changes form) = codes "update"
+name_of_task (task.Extract selection) = codes "extract"
+name_of_task task.Convert = codes "convert"
+
+-- These options of the command for a task give this task.
+abbrev pub AreTaskOptions : ArgMatches → Task → Type 0
+AreTaskOptions options (task.Normalise form) = IsForm options form
+AreTaskOptions options (task.Show presenter) = ShowsLayout options presenter.layout
+AreTaskOptions options (task.List format) = IsFormat options format
+AreTaskOptions options (task.Describe format) = IsFormat options format
+AreTaskOptions options (task.Verify format) = IsFormat options format
+AreTaskOptions options (task.Check allowed format) =
+    IsAllowedBy (allow_option options) allowed × IsFormat options format
+AreTaskOptions options task.Scan = ⊤
+AreTaskOptions options (task.Update changes form) = IsChanges options changes × IsForm options form
+AreTaskOptions options (task.Extract selection) =
+    SelectsAll options false × IsSelected options selection
+AreTaskOptions options task.Convert = ⊤
+
 -- The command of this name, with its options, is this task.
 abbrev pub IsTask : List ℕ → ArgMatches → Task → Type 0
-IsTask name options (task.Normalise form) = (name ≡ codes "normalise") × IsForm options form
-IsTask name options (task.Show presenter) =
-    (name ≡ codes "show") × ShowsLayout options presenter.layout
-IsTask name options (task.List format) = (name ≡ codes "list") × IsFormat options format
-IsTask name options (task.Describe format) = (name ≡ codes "describe") × IsFormat options format
-IsTask name options (task.Verify format) = (name ≡ codes "verify") × IsFormat options format
-IsTask name options (task.Check allowed format) =
-    (name ≡ codes "check") × IsAllowedBy (allow_option options) allowed × IsFormat options format
-IsTask name options task.Scan = name ≡ codes "scan"
-IsTask name options (task.Update changes form) =
-    (name ≡ codes "update") × IsChanges options changes × IsForm options form
-IsTask name options (task.Extract selection) =
-    (name ≡ codes "extract") × SelectsAll options false × IsSelected options selection
-IsTask name options task.Convert = name ≡ codes "convert"
+IsTask name options given = (name ≡ name_of_task given) × AreTaskOptions options given
 
 -- The command of this name, with its options, is this plan for one image.
 pub record IsImagePlan (name : List ℕ) (options : ArgMatches) (plan : ImagePlan) : Type 0 where
@@ -546,10 +643,14 @@ IsJob name options (Build plan) = IsBuildPlan name options plan
 
 -- Why the options of the command of this name are no task.
 pub data IsTaskFailure (name : List ℕ) (options : ArgMatches) (failure : Failure) : Type 0 where
+  NotFormed : name ≡ codes "normalise" → IsFormFailure options failure
+      → IsTaskFailure name options failure
   NotAllowed : name ≡ codes "check" → IsBadValue (IsAllowedBy (allow_option options)) failure
       → IsTaskFailure name options failure
   NotChanged : name ≡ codes "update" → IsChangesFailure options failure
       → IsTaskFailure name options failure
+  NotFormedChanged : name ≡ codes "update" → (changes : Changes) → IsChanges options changes
+      → IsFormFailure options failure → IsTaskFailure name options failure
   NotSelected : name ≡ codes "extract" → SelectsAll options false
       → IsSelectionFailure options failure → IsTaskFailure name options failure
   NotPlaced : (task : Task) → IsTask name options task
@@ -574,7 +675,7 @@ pub record Gives (arguments : List (List ℕ)) (name : List ℕ) (options : ArgM
   pub given : subcommand_of program_app arguments ≡ Some (name, rows_of (found_of options))
 
 -- What becomes of an error of clap: a failure if memory ran out, and else its text is the outcome.
-pub data IsOutcomeOf (error : ClapError) (given : Outcome) : Type 0 where
+pub data IsOutcomeOf (error : ClapError) (given : NoRequest) : Type 0 where
   HasText : kind_of error ≢ error_kind.OutOfMemory → given ≡ outcome.Text error
       → IsOutcomeOf error given
   HasNoText : kind_of error ≡ error_kind.OutOfMemory → given ≡ outcome.Failure (Call OutOfMemory)
@@ -598,7 +699,7 @@ abbrev pub IsTextFor : List (List ℕ) → ErrorKind → Type 0
 IsTextFor arguments kind = IsAmong kind (fault_of program_app arguments)
 
 -- The outcome is such a failure, or such a text.
-abbrev pub IsNoRequest : List (List ℕ) → Outcome → Type 0
+abbrev pub IsNoRequest : List (List ℕ) → NoRequest → Type 0
 IsNoRequest arguments (outcome.Text error) = IsTextFor arguments (kind_of error)
 IsNoRequest arguments (outcome.Failure failure) = IsRejected arguments failure
 

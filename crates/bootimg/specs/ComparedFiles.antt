@@ -14,11 +14,6 @@ use Rattle.bootimg.specs.declared.failure.Failure.TheVariants.{Call}
 
 -- What the command `compare` makes of two files (profile of this project).
 
--- The exit status after comparing, by whether both files mean the same.
-abbrev pub compare_status : (same : Bool) → ℕ
-compare_status true = 0
-compare_status false = 1
-
 -- What `compare` writes for two files, in a form, and whether they mean the same. With `--quiet` it
 -- writes nothing, in any form.
 abbrev pub IsCompareOutput : (quiet : Bool) → Format → Limits → (one other : List ℕ)

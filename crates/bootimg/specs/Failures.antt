@@ -15,6 +15,7 @@ use Rattle.bootimg.specs.declared.failure.Failure.TheVariants.{Call, WrongKind, 
 use Rattle.bootimg.specs.declared.failure.Failure.TheVariants.{NoConfig, NoKey, BadList, Missing}
 use Rattle.bootimg.specs.declared.failure.Failure.TheVariants.{NoIndex, NoPayload, NoSelection}
 use Rattle.bootimg.specs.declared.failure.Failure.TheVariants.{NoChange, BadValue, BadImage}
+use Rattle.bootimg.specs.declared.failure.Failure.TheVariants.{BadConfiguration}
 use Rattle.bootimg.specs.declared.failure.Failure.TheVariants.{CannotOpen, NotWritten}
 
 -- The failures of the program, and the text of each (profile of this project).
@@ -56,6 +57,7 @@ failure_text NoSelection = codes "usage: give one of --part, --image, --config"
 failure_text NoChange = codes "usage: give --time or --hashes"
 failure_text BadValue = codes "usage: bad value"
 failure_text (BadImage index) = codes "usage: bad image " ++ decimal index
+failure_text (BadConfiguration index) = codes "usage: bad configuration " ++ decimal index
 failure_text CannotOpen = codes "cannot be opened"
 failure_text NotWritten = codes "write failed"
 
@@ -71,6 +73,7 @@ is_about_image NoSelection = false
 is_about_image NoChange = false
 is_about_image BadValue = false
 is_about_image (BadImage index) = false
+is_about_image (BadConfiguration index) = false
 is_about_image failure = true
 
 -- What the line of a failure has before the text of the failure: the name of the file that the

@@ -1,5 +1,5 @@
 use Rattle.std.specs.Prelude.{◌≡◌, ℕ, true, false, List, [], ◌∷◌, Some, codes, map}
-use Rattle.std.specs.Prelude.{option_map}
+use Rattle.std.specs.Prelude.{option_map, ◌++◌}
 use Rattle.bi_base.specs.Limits.{Limits}
 use Rattle.bi_describe.specs.Differences.{words_of_line}
 use Rattle.bi_commands.specs.KnownChoices.{lent}
@@ -16,7 +16,7 @@ use Rattle.bootimg.specs.CommandLine.{Gives, IsLimits, NoneIs, reads_input, valu
 use Rattle.bootimg.specs.Numbers.{IsNumber}
 use Rattle.bootimg.specs.Program.{program_app}
 use Rattle.bootimg.specs.declared.codes.CodeField.{CodeField}
-use Rattle.bootimg.specs.declared.codes.CodeField.TheVariants.{Os, Arch, Compression}
+use Rattle.bootimg.specs.declared.codes.CodeField.TheVariants.{Os, Arch, ImageType, Compression}
 use Rattle.bootimg.specs.declared.command_line.part.PartSource.TheVariants.{Input, File}
 
 -- Small command lines with what they give, by which a reader can judge the definitions.
@@ -62,7 +62,9 @@ defaults_with_json = with_value (codes "json") (codes "false") ∷ only_defaults
 -- The values of options that are not given.
 pub record DefaultsAreKnown : Type 0 where
   pub normalise : GivesValues (codes "normalise") (codes "normalise")
-      (with_value (codes "external") (codes "false") ∷ only_defaults)
+      (with_value (codes "external") (codes "false")
+      ∷ without_value (codes "align")
+      ∷ only_defaults)
   pub show : GivesValues (codes "show") (codes "show")
       (with_value (codes "layout") (codes "false")
       ∷ without_value (codes "offset")
@@ -84,6 +86,7 @@ pub record DefaultsAreKnown : Type 0 where
       (without_value (codes "time")
       ∷ with_value (codes "hashes") (codes "false")
       ∷ with_value (codes "external") (codes "false")
+      ∷ without_value (codes "align")
       ∷ only_defaults)
   pub extract : GivesValues (codes "extract") (codes "extract")
       (without_value (codes "part")
@@ -109,7 +112,11 @@ pub record DefaultsAreKnown : Type 0 where
       ∷ without_value (codes "lengths")
       ∷ [])
   pub build_fit : GivesValues (codes "build-fit") (codes "build-fit")
-      (with_value (codes "external") (codes "false")
+      (without_value (codes "config")
+      ∷ without_value (codes "default")
+      ∷ without_value (codes "hash")
+      ∷ with_value (codes "external") (codes "false")
+      ∷ without_value (codes "align")
       ∷ without_value (codes "description")
       ∷ with_value (codes "time") (codes "0")
       ∷ default_limit
@@ -136,9 +143,12 @@ json_and_others = with_value (codes "json") (codes "true") ∷ offset_and_others
 
 -- Each option of each command, and the other names of two commands.
 pub record OptionsAreKnown : Type 0 where
-  pub normalise : GivesValues (codes "normalise --external --offset 7 --limit 64 -o out in")
+  pub normalise : GivesValues
+      (codes "normalise --external --align 8 --offset 7 --limit 64 -o out in")
       (codes "normalise")
-      (with_value (codes "external") (codes "true") ∷ offset_and_others)
+      (with_value (codes "external") (codes "true")
+      ∷ with_value (codes "align") (codes "8")
+      ∷ offset_and_others)
   pub normalize : GivesValues (codes "normalize in") (codes "normalise")
       (with_value (codes "file") (codes "in") ∷ [])
   pub show : GivesValues (codes "show --layout --limit 64 -o out in") (codes "show")
@@ -168,11 +178,12 @@ pub record OptionsAreKnown : Type 0 where
       (with_value (codes "allow") (codes "weak-hash,missing") ∷ json_and_others)
   pub scan : GivesValues (codes "scan --limit 64 -o out in") (codes "scan") limit_output_and_file
   pub update : GivesValues
-      (codes "update --time 5 --hashes --external --offset 7 --limit 64 -o out in")
+      (codes "update --time 5 --hashes --external --align 8 --offset 7 --limit 64 -o out in")
       (codes "update")
       (with_value (codes "time") (codes "5")
       ∷ with_value (codes "hashes") (codes "true")
       ∷ with_value (codes "external") (codes "true")
+      ∷ with_value (codes "align") (codes "8")
       ∷ offset_and_others)
   pub extract : GivesValues
       (codes
@@ -211,9 +222,14 @@ pub record OptionsAreKnown : Type 0 where
       ∷ with_value (codes "output") (codes "out")
       ∷ [])
   pub build_fit : GivesValues
-      (codes "build-fit --external --description d --time 1 --limit 64 -o out a:b c")
+      (codes "build-fit --config a:b --config c --default d --hash e --external --align 8 "
+      ++ codes "--description d --time 1 --limit 64 -o out a:b c")
       (codes "build-fit")
-      (with_value (codes "external") (codes "true")
+      ((codes "config", codes "a:b" ∷ codes "c" ∷ [])
+      ∷ with_value (codes "default") (codes "d")
+      ∷ with_value (codes "hash") (codes "e")
+      ∷ with_value (codes "external") (codes "true")
+      ∷ with_value (codes "align") (codes "8")
       ∷ with_value (codes "description") (codes "d")
       ∷ with_value (codes "time") (codes "1")
       ∷ with_value (codes "limit") (codes "64")
@@ -294,6 +310,9 @@ pub record CodesAreKnown : Type 0 where
   pub other_number : IsOnlyCode Arch (codes "0xff") 255
   pub past_greatest : NoneIs (IsCode Os (codes "256"))
   pub name_of_other_field : NoneIs (IsCode Os (codes "arm"))
+  pub other_name : IsOnlyCode Arch (codes "powerpc") 7
+  pub name_that_says_nothing : NoneIs (IsCode Arch (codes "invalid"))
+  pub format_of_a_vendor : NoneIs (IsCode ImageType (codes "imximage"))
   pub no_name : NoneIs (IsCode Compression (codes "Gzip"))
 
 -- The argument is this limit, and no other, with 64 levels.

@@ -5,7 +5,9 @@ use Rattle.bi_report.specs.KnownConcerns.{allowed_words}
 use Rattle.bi_report.specs.declared.check.Allowed.{Allowed}
 use Rattle.bi_describe.specs.Differences.{words_of_line}
 use Rattle.bi_commands.specs.KnownChoices.{lent}
-use Rattle.bi_fit.specs.declared.form.Form.TheVariants.{Embedded, External}
+use Rattle.bi_base.specs.Aligns.{align_bytes}
+use Rattle.bi_fit.specs.declared.form.Form.{Form}
+use Rattle.bi_fit.specs.declared.form.Form.TheVariants.{Embedded, External, Aligned}
 use Rattle.bi_fit.specs.declared.key.Key.{Key}
 use Rattle.bi_fit.specs.declared.key.Key.TheVariants.{Fdt}
 use Rattle.bi_legacy.specs.declared.fields.Fields.{Fields}
@@ -14,18 +16,18 @@ use Rattle.clap.specs.declared.parser.matches.ArgMatches.{ArgMatches}
 use Rattle.bootimg.specs.CommandLine.{AreEscaped, ChangesHashes, Gives, IsAllowedBy, IsBuildPlan}
 use Rattle.bootimg.specs.CommandLine.{IsChanges, IsChangesFailure, IsComparePlan, IsFields, IsForm}
 use Rattle.bootimg.specs.CommandLine.{IsFormat, IsImageSource, IsImageText, IsJob, IsPartSource}
-use Rattle.bootimg.specs.CommandLine.{IsQuiet, IsSelected, IsSelectionFailure, IsTask, NoneIs}
+use Rattle.bootimg.specs.CommandLine.{IsQuiet, IsSelected, IsSelectionFailure, NoneIs}
 use Rattle.bootimg.specs.CommandLine.{IsAllFailure, IsAllRequest, IsNoneGiven, SelectsAll}
 use Rattle.bootimg.specs.CommandLine.{SelectsDefault, ShowsLayout, given_offset}
 use Rattle.bootimg.specs.Numbers.{IsNumber}
 use Rattle.bootimg.specs.declared.command_line.Job.TheVariants.{Compare, Explain}
-use Rattle.bootimg.specs.declared.command_line.Task.{Task}
 use Rattle.bootimg.specs.declared.command_line.Task.TheVariants as task
 use Rattle.bootimg.specs.declared.command_line.build.BuildPlan.{BuildPlan}
 use Rattle.bootimg.specs.declared.command_line.build.BuildPlan.TheVariants as build
 use Rattle.bootimg.specs.declared.command_line.extract.AllRequest.{AllRequest}
 use Rattle.bootimg.specs.declared.command_line.extract.Selected.{Selected}
 use Rattle.bootimg.specs.declared.command_line.extract.Selected.TheVariants as select
+use Rattle.bootimg.specs.declared.command_line.image.ImageWord.{ImageWord}
 use Rattle.bootimg.specs.declared.command_line.part.PartSource.{PartSource}
 use Rattle.bootimg.specs.declared.command_line.part.PartSource.TheVariants as part
 use Rattle.bootimg.specs.declared.command_line.source.ComparePlan.{ComparePlan}
@@ -47,12 +49,23 @@ IsOnlyOne {T} Is wanted = (given : T) → Is given → given ≡ wanted
 
 -- ---- flags
 
+-- The payloads are external with this alignment in bytes.
+abbrev pub HasAlignment : ℕ → Form → Type 0
+HasAlignment bytes (Aligned align) = align_bytes align ≡ bytes
+HasAlignment bytes form = ⊥
+
 -- What each flag means, and what is meant without it.
 pub record FlagsAreKnown : Type 0 where
   pub external : HoldsFor (codes "normalise --external") (codes "normalise")
       (λ options. IsOnlyOne (IsForm options) External)
   pub embedded : HoldsFor (codes "normalise") (codes "normalise")
       (λ options. IsOnlyOne (IsForm options) Embedded)
+  pub aligned : HoldsFor (codes "normalise --external --align 4096") (codes "normalise")
+      (λ options. (form : Form) → IsForm options form → HasAlignment 4096 form)
+  pub not_external : HoldsFor (codes "normalise --align 4096") (codes "normalise")
+      (λ options. NoneIs (IsForm options))
+  pub bad_alignment : HoldsFor (codes "normalise --external --align 3") (codes "normalise")
+      (λ options. NoneIs (IsForm options))
   pub json : HoldsFor (codes "list --json") (codes "list")
       (λ options. IsOnlyOne (IsFormat options) Json)
   pub lines : HoldsFor (codes "list") (codes "list")
@@ -84,28 +97,13 @@ pub record FlagsAreKnown : Type 0 where
 
 -- ---- commands
 
--- The name of the command for a task.
-abbrev pub name_of_task : Task → List ℕ
-name_of_task (task.Normalise form) = codes "normalise"
-name_of_task (task.Show presenter) = codes "show"
-name_of_task (task.List format) = codes "list"
-name_of_task (task.Describe format) = codes "describe"
-name_of_task (task.Verify format) = codes "verify"
-name_of_task (task.Check allowed format) = codes "check"
-name_of_task task.Scan = codes "scan"
-name_of_task (task.Update changes form) = codes "update"
-name_of_task (task.Extract selection) = codes "extract"
-name_of_task task.Convert = codes "convert"
-
 -- The name of the command that builds an image.
 abbrev pub name_of_plan : BuildPlan → List ℕ
 name_of_plan (build.Legacy plan) = codes "build-legacy"
 name_of_plan (build.Fit plan) = codes "build-fit"
 
--- Each task and each job has the command of its name.
+-- Each job but a task on one image has the command of its name.
 pub record CommandNamesAreKnown : Type 0 where
-  pub tasks : (name : List ℕ) (options : ArgMatches) (given : Task) → IsTask name options given
-      → name ≡ name_of_task given
   pub compares : (name : List ℕ) (options : ArgMatches) (plan : ComparePlan)
       → IsJob name options (Compare plan) → name ≡ codes "compare"
   pub explains : (name : List ℕ) (options : ArgMatches) → IsJob name options (Explain None)
@@ -274,7 +272,7 @@ pub record IsImageOfWord (image : ImageSpec) (payload : PartSource) : Type 0 whe
 pub record PlansAreKnown : Type 0 where
   pub fields : HoldsFor line_of_fields (codes "build-legacy")
       (λ options. (fields : Fields) → IsFields options fields → AreFieldsOfLine fields)
-  pub image : (image : ImageSpec × PartSource)
-      → IsImageText (codes "k:kernel:arm64:linux:gzip:0x8000:-:5") image
-      → IsImageOfWord image.0 image.1
+  pub image : (word : ImageWord)
+      → IsImageText (codes "k:kernel:arm64:linux:gzip:0x8000:-:5") word
+      → IsImageOfWord word.image word.payload
   pub few_fields : NoneIs (IsImageText (codes "k:kernel:arm64:linux:gzip:0x8000:5"))

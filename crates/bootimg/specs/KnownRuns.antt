@@ -1,4 +1,4 @@
-use Rattle.std.specs.Prelude.{◌≡◌, ℕ, true, false, List, codes, Err}
+use Rattle.std.specs.Prelude.{◌≡◌, ℕ, true, false, List, codes, Ok, Err}
 use Rattle.bi_base.specs.declared.fault.Cause.TheVariants.{BadMagic, BadHeaderCrc, TooLarge}
 use Rattle.bi_base.specs.declared.fault.Error.TheVariants.{Refused, OutOfMemory, ReadFailed}
 use Rattle.bi_base.specs.declared.fault.Error.TheVariants.{WriteFailed}
@@ -12,31 +12,32 @@ use Rattle.bi_commands.specs.declared.extract.ExtractError.{ExtractError}
 use Rattle.bi_commands.specs.declared.extract.ExtractError.TheVariants as extract
 use Rattle.bi_fit.specs.declared.configurations.ConfigError.TheVariants as list
 use Rattle.clap.specs.declared.error.kind.ErrorKind.{ErrorKind}
-use Rattle.bootimg.specs.ComparedFiles.{compare_status, failure_of_comparing, refused_source}
+use Rattle.bootimg.specs.ComparedFiles.{failure_of_comparing, refused_source}
 use Rattle.bootimg.specs.Failures.{failure_of}
-use Rattle.bootimg.specs.Runs.{failure_line, note_line, IsEnd, IsMistake, IsRejection, IsTextRun}
-use Rattle.bootimg.specs.Runs.{Run}
+use Rattle.bootimg.specs.Runs.{failure_line, note_line, alignment_line, positions_line, IsEnd}
+use Rattle.bootimg.specs.Runs.{IsMistake, IsRejection, IsTextRun, Run}
 use Rattle.bootimg.specs.Tasks.{status_of}
 use Rattle.bootimg.specs.declared.command_line.source.ComparePlan.{ComparePlan}
 use Rattle.bootimg.specs.declared.command_line.source.ImageSource.{ImageSource}
 use Rattle.bootimg.specs.declared.command_line.source.ImageSource.TheVariants.{Standard, File}
 use Rattle.bootimg.specs.declared.failure.Failure.{Failure}
-use Rattle.bootimg.specs.declared.jobs.Problem.{Problem}
+use Rattle.bootimg.specs.declared.jobs.SourceFailure.{SourceFailure}
 use Rattle.bootimg.specs.declared.failure.Failure.TheVariants.{Call, NoSelection, NoChange}
 use Rattle.bootimg.specs.declared.failure.Failure.TheVariants.{BadValue, BadImage, CannotOpen}
+use Rattle.bootimg.specs.declared.failure.Failure.TheVariants.{BadConfiguration}
 use Rattle.bootimg.specs.declared.failure.Failure.TheVariants.{NotWritten}
+use Rattle.bootimg.specs.declared.tasks.Done.{Done}
 
 -- How runs end, by which a reader can judge the definitions.
 
--- The exit status is 1 if a verdict is not good, if a concern has a line, if no image has one in a
--- scan, or if two images do not mean the same. It is 2 after a failure, and if the arguments are
--- rejected or wrong.
+-- The exit status is 0 after a good answer, 1 after one that is not good, and 2 after a failure or
+-- if the arguments are rejected or wrong.
 pub record StatusesAreKnown : Type 0 where
   pub good : status_of true ≡ 0
   pub not_good : status_of false ≡ 1
-  pub same : compare_status true ≡ 0
-  pub different : compare_status false ≡ 1
-  pub failed : (errors new_errors : WriteTrace) (status : ℕ) (failed : Problem)
+  pub done : (errors new_errors : WriteTrace) (status : ℕ) (done : Done)
+      → IsEnd errors new_errors status (Ok done) → status ≡ status_of done.good
+  pub failed : (errors new_errors : WriteTrace) (status : ℕ) (failed : SourceFailure)
       → IsEnd errors new_errors status (Err failed) → status ≡ 2
   pub rejected : (source : ImageSource) (failure : Failure) (run : Run)
       → IsRejection source failure run → run.status ≡ 2
@@ -73,6 +74,8 @@ pub record FailureLinesAreKnown : Type 0 where
   pub no_change : line_of_failure NoChange ≡ codes "bootimg: usage: give --time or --hashes\n"
   pub bad_value : line_of_failure BadValue ≡ codes "bootimg: usage: bad value\n"
   pub bad_image : line_of_failure (BadImage 10) ≡ codes "bootimg: usage: bad image 10\n"
+  pub bad_configuration : line_of_failure (BadConfiguration 3)
+      ≡ codes "bootimg: usage: bad configuration 3\n"
   pub cannot_open : line_of_failure CannotOpen ≡ codes "bootimg: r1: cannot be opened\n"
   pub not_written : line_of_failure NotWritten ≡ codes "bootimg: r1: write failed\n"
   pub shown_name : failure_line (File (lent (codes "no file"))) CannotOpen
@@ -119,7 +122,11 @@ pub record CompareLinesAreKnown : Type 0 where
       ≡ codes "bootimg: b: BadHeaderCrc at 4\n"
   pub out_of_memory : line_of_comparing compare.OutOfMemory ≡ codes "bootimg: out of memory\n"
 
--- The line on the signature nodes of a normal form.
+-- The lines on what is kept.
 pub record NotesAreKnown : Type 0 where
   pub one : note_line 1 ≡ codes "bootimg: note: 1 signature nodes carried, not checked\n"
   pub many : note_line 12 ≡ codes "bootimg: note: 12 signature nodes carried, not checked\n"
+  pub alignment : alignment_line 4096
+      ≡ codes "bootimg: note: payloads are no longer aligned to 4096 bytes, see --align\n"
+  pub positions : positions_line 1
+      ≡ codes "bootimg: note: 1 fixed positions of payloads were not kept\n"

@@ -1,4 +1,4 @@
-use Rattle.std.specs.Prelude.{◌≡◌, ◌⊎◌, ◌<◌, ℕ, List, Option, None, Some, Ok}
+use Rattle.std.specs.Prelude.{◌≡◌, ◌⊎◌, ℕ, List, Option, None, Some, Ok}
 use Rattle.std.specs.Borrow.{Bor}
 use Rattle.clap.specs.declared.error.kind.ErrorKind.{ErrorKind}
 use Rattle.bi_common.specs.Offsets.{input_from}
@@ -12,6 +12,7 @@ use Rattle.bootimg.specs.Files.{FileStep, Names}
 use Rattle.bootimg.specs.FilesAfter.{AreSameNames, HasDirectory, HasFile, LeavesNewDirectory}
 use Rattle.bootimg.specs.FilesAfter.{LeavesNewFile}
 use Rattle.bootimg.specs.Runs.{Inputs, IsHeldWork, IsImageRead}
+use Rattle.bootimg.specs.Tasks.{status_of}
 
 -- What a run leaves of the files (profile of this project).
 
@@ -25,7 +26,7 @@ pub data LeavesFiles (arguments : List (List ℕ)) (input : Option (List ℕ)) (
       (before after : Inputs) → IsRequest arguments request → request.output ≡ Some name
       → before.input.remaining ≡ input
       → IsHeldWork (Some old) request.job request.limits before after (Ok done) (Some output)
-      → status ≡ done.status → status < 2 → HasFile old new name.now output
+      → status ≡ status_of done.good → HasFile old new name.now output
       → LeavesFiles arguments input old new steps status
   -- The directory that is named has exactly the files of all payloads of the image that is read,
   -- and each other name has what it had. The status is 0.

@@ -1,5 +1,8 @@
 pub mod CodeWords
+pub mod TextsOfWords
 pub mod CommandLine
+pub mod ConfigurationWords
+pub mod Words
 pub mod Program
 pub mod Table
 pub mod ComparedFiles
@@ -7,6 +10,7 @@ pub mod Failures
 pub mod Files
 pub mod Directories
 pub mod Numbers
+pub mod Offsets
 pub mod ReadParts
 pub mod Tasks
 pub mod Runs

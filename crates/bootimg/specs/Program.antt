@@ -32,6 +32,10 @@ required_option name = record (value_option name) { required = true }
 abbrev pub option_with_default : (name value : List ℕ) → Rule
 option_with_default name value = record (value_option name) { defaults = value ∷ [] }
 
+-- `--NAME VALUE`, any number of times.
+abbrev pub repeated_option : (name : List ℕ) → Rule
+repeated_option name = record (value_option name) { action = Some Append }
+
 -- `--NAME VALUE`, or `-LETTER VALUE`.
 abbrev pub short_option : (name : List ℕ) (letter : ℕ) → Rule
 short_option name letter = record (value_option name) { short = Some letter }
@@ -65,6 +69,10 @@ output = short_option (codes "output") 111
 abbrev pub external : Rule
 external = flag_option (codes "external")
 
+-- `--align`.
+abbrev pub align : Rule
+align = value_option (codes "align")
+
 -- `--json`.
 abbrev pub json : Rule
 json = flag_option (codes "json")
@@ -90,7 +98,8 @@ with_alias shape alias = record shape { aliases = alias ∷ [] }
 -- `normalise`, or `normalize`.
 abbrev pub normalise : Shape
 normalise =
-    with_alias (command (codes "normalise") (external ∷ offset ∷ limit ∷ output ∷ file ∷ []))
+    with_alias
+    (command (codes "normalise") (external ∷ align ∷ offset ∷ limit ∷ output ∷ file ∷ []))
     (codes "normalize")
 
 -- `show`.
@@ -130,8 +139,8 @@ scan = command (codes "scan") (limit ∷ output ∷ file ∷ [])
 -- `update`.
 abbrev pub update : Shape
 update = command (codes "update")
-    (value_option (codes "time") ∷ flag_option (codes "hashes") ∷ external ∷ offset ∷ limit ∷ output
-    ∷ file ∷ [])
+    (value_option (codes "time") ∷ flag_option (codes "hashes") ∷ external ∷ align ∷ offset
+    ∷ limit ∷ output ∷ file ∷ [])
 
 -- `extract`.
 abbrev pub extract : Shape
@@ -159,7 +168,8 @@ build_legacy = command (codes "build-legacy")
 -- `build-fit`.
 abbrev pub build_fit : Shape
 build_fit = command (codes "build-fit")
-    (external ∷ value_option (codes "description")
+    (repeated_option (codes "config") ∷ value_option (codes "default")
+    ∷ value_option (codes "hash") ∷ external ∷ align ∷ value_option (codes "description")
     ∷ option_with_default (codes "time") (codes "0") ∷ limit ∷ output
     ∷ positionals (codes "images") ∷ [])
 

@@ -9,9 +9,10 @@ use Rattle.bootimg.specs.declared.command_line.part.PartSource.{PartSource}
 use Rattle.bootimg.specs.declared.command_line.part.PartSource.TheVariants as part
 use Rattle.bootimg.specs.declared.command_line.source.ImageSource.TheVariants.{Standard, File}
 use Rattle.bootimg.specs.declared.failure.Failure.TheVariants.{Call}
-use Rattle.bootimg.specs.declared.jobs.Problem.{Problem}
+use Rattle.bootimg.specs.declared.jobs.SourceFailure.{SourceFailure}
 use Rattle.bootimg.specs.Files.{FileStep, KnownFiles, WereReadInTurn}
-use Rattle.bootimg.specs.Runs.{problem, AreFirstRead, IsFileNotRead, IsFileRead, IsPartNotRead}
+use Rattle.bootimg.specs.Runs.{source_failure, AreFirstRead, IsFileNotRead, IsFileRead}
+use Rattle.bootimg.specs.Runs.{IsPartNotRead}
 
 -- The parts of an image to be built, once their files are read (profile of this project).
 
@@ -29,18 +30,19 @@ abbrev pub WereRead : KnownFiles → Limits → List PartSource → List ReadPar
 WereRead files limits = WereReadInTurn (WasRead files limits)
 
 -- The file of this part was not read.
-abbrev pub IsSourceProblem : KnownFiles → Limits → PartSource → Problem
+abbrev pub IsPartFailure : KnownFiles → Limits → PartSource → SourceFailure
     → (old new : Option (List FileStep)) → Type 0
-IsSourceProblem files limits (part.Input size) failed old new = ⊥
-IsSourceProblem files limits (part.File name) failed old new =
+IsPartFailure files limits (part.Input size) failed old new = ⊥
+IsPartFailure files limits (part.File name) failed old new =
     IsFileNotRead files limits name.now failed.failure old new × (failed.source ≡ File name)
 
 -- The file of the first of these parts that could not be read was not read, or memory ran out.
-abbrev pub IsReadingProblem : KnownFiles → Limits → List PartSource → Problem
+abbrev pub IsReadingFailure : KnownFiles → Limits → List PartSource → SourceFailure
     → (old new : Option (List FileStep)) → Type 0
-IsReadingProblem files limits sources failed old new =
+IsReadingFailure files limits sources failed old new =
     IsPartNotRead files limits sources failed old new
-    ⊎ (AreFirstRead files limits sources old new × (failed ≡ problem Standard (Call OutOfMemory)))
+    ⊎ (AreFirstRead files limits sources old new
+    × (failed ≡ source_failure Standard (Call OutOfMemory)))
 
 -- The part has the same length, or the same bytes.
 abbrev pub IsLent : ReadPart → Part → Type 0

@@ -1,6 +1,6 @@
 use Rattle.std.specs.Prelude.{◌≡◌, ◌≢◌, ◌⊎◌, ◌++◌, ◌<◌, ℕ, Bool, true, false, List, []}
 use Rattle.std.specs.Prelude.{◌∷◌}
-use Rattle.std.specs.Prelude.{Option, None, Some}
+use Rattle.std.specs.Prelude.{Option, None, Some, option_map}
 use Rattle.std.specs.Prelude.{Result, Ok, Err, codes}
 use Rattle.std.specs.Borrow.{Bor}
 use Rattle.std.specs.Fmt.{decimal}
@@ -13,9 +13,12 @@ use Rattle.bi_base.specs.Reading.{IsInputRead, IsInputNotRead}
 use Rattle.bi_base.specs.Traces.{ReadTrace, WriteTrace, ReadsWell, WritesWell}
 use Rattle.bi_base.specs.Writing.{WroteAll, WriteStopped, WroteAndFlushed, WriteOrFlushStopped}
 use Rattle.bi_base.specs.Commands.{CommandPromise}
-use Rattle.bi_common.specs.Offsets.{input_from, promise_at}
+use Rattle.bi_fit.specs.declared.kept.Kept.{Kept}
+use Rattle.bi_common.specs.Offsets.{input_from}
 use Rattle.bi_describe.specs.declared.compare.CompareError.{CompareError}
 use Rattle.bi_commands.specs.BuildCommands.{build_legacy_promise, build_fit_promise}
+use Rattle.bootimg.specs.ConfigurationWords.{configuration_models}
+use Rattle.bi_norm.specs.FitBuilding.{PlanSpecModel, texts_models}
 use Rattle.bi_commands.specs.ExtractingAll.{AreAllPayloads, IsExtractAllError, PayloadFile}
 use Rattle.bi_commands.specs.declared.parts.Part.{Part}
 use Rattle.bi_commands.specs.declared.parts.Part.TheVariants.{Bytes, Length}
@@ -28,6 +31,7 @@ use Rattle.bootimg.specs.declared.command_line.Job.TheVariants.{Explain}
 use Rattle.bootimg.specs.declared.command_line.Request.{Request}
 use Rattle.bootimg.specs.declared.command_line.build.BuildPlan.{BuildPlan}
 use Rattle.bootimg.specs.declared.command_line.build.BuildPlan.TheVariants.{Legacy, Fit}
+use Rattle.bootimg.specs.declared.command_line.build.FitPlan.{FitPlan}
 use Rattle.bootimg.specs.declared.command_line.extract.AllRequest.{AllRequest}
 use Rattle.bootimg.specs.declared.command_line.part.PartSource.{PartSource}
 use Rattle.bootimg.specs.declared.command_line.part.PartSource.TheVariants as part
@@ -36,18 +40,18 @@ use Rattle.bootimg.specs.declared.command_line.source.ImageSource.{ImageSource}
 use Rattle.bootimg.specs.declared.command_line.source.ImageSource.TheVariants.{Standard, File}
 use Rattle.bootimg.specs.declared.failure.Failure.{Failure}
 use Rattle.bootimg.specs.declared.failure.Failure.TheVariants.{Call, CannotOpen}
-use Rattle.bootimg.specs.declared.jobs.Problem.{Problem}
+use Rattle.bootimg.specs.declared.jobs.SourceFailure.{SourceFailure}
 use Rattle.bootimg.specs.declared.tasks.Done.{Done}
 use Rattle.bootimg.specs.CommandLine.{HasJobLengths, IsTextFor, IsRejected, IsRequest}
 use Rattle.bootimg.specs.CommandLine.{IsAllRequested, reads_input, sources_of}
-use Rattle.bootimg.specs.ComparedFiles.{IsCompareOutput, IsCompareFailure, compare_status}
+use Rattle.bootimg.specs.ComparedFiles.{IsCompareOutput, IsCompareFailure}
 use Rattle.bootimg.specs.ComparedFiles.{failure_of_comparing, refused_source}
 use Rattle.bootimg.specs.Directories.{IsDirectorySaved, IsDirectoryNotSaved, IsWithoutSlashes}
 use Rattle.bootimg.specs.Explanations.{explain_text}
 use Rattle.bootimg.specs.Failures.{failure_text, name_text}
 use Rattle.bootimg.specs.Files.{FileStep, KnownFiles, WasOpened, WasNotOpened, IsSaved, IsNotSaved}
 use Rattle.bootimg.specs.Files.{WereReadInTurn}
-use Rattle.bootimg.specs.Tasks.{EndedWith, task_promise}
+use Rattle.bootimg.specs.Tasks.{EndedWith, plan_promise, status_of}
 
 -- What a run of the program does: which bytes it writes to which stream, and its exit status
 -- (profile of this project).
@@ -72,14 +76,40 @@ note_line signatures =
     codes "bootimg: note: "
     ++ (decimal signatures ++ (codes " signature nodes carried, not checked" ++ 10 ∷ []))
 
--- The line on the signature nodes was written, if there are any.
-pub data Notes (signatures : ℕ) (old new : WriteTrace) : Type 0 where
-  HasNone : signatures ≡ 0 → new ≡ old → Notes signatures old new
-  HasSome : 0 < signatures → Logs old (note_line signatures) new → Notes signatures old new
+-- The line on an alignment in bytes that payloads lose.
+abbrev pub alignment_line : (bytes : ℕ) → List ℕ
+alignment_line bytes =
+    codes "bootimg: note: payloads are no longer aligned to "
+    ++ (decimal bytes ++ (codes " bytes, see --align" ++ 10 ∷ []))
+
+-- The line on payloads whose positions in the file are fixed.
+abbrev pub positions_line : (positions : ℕ) → List ℕ
+positions_line positions =
+    codes "bootimg: note: "
+    ++ (decimal positions ++ (codes " fixed positions of payloads were not kept" ++ 10 ∷ []))
+
+-- A line on so many of something was written, if there are any.
+pub data NotesCount (count : ℕ) (line : List ℕ) (old new : WriteTrace) : Type 0 where
+  HasNone : count ≡ 0 → new ≡ old → NotesCount count line old new
+  HasSome : 0 < count → Logs old line new → NotesCount count line old new
+
+-- The line on an alignment was written, if one is lost.
+abbrev pub NotesAlignment : (alignment : Option ℕ) → (old new : WriteTrace) → Type 0
+NotesAlignment None old new = new ≡ old
+NotesAlignment (Some bytes) old new = Logs old (alignment_line bytes) new
+
+-- What is kept of the input was noted: the lines on signature nodes, on the alignment and on fixed
+-- positions, in this order, each if there is something to say.
+pub record Notes (kept : Kept) (old new : WriteTrace) : Type 0 where
+  pub first : WriteTrace
+  pub second : WriteTrace
+  pub signatures : NotesCount kept.signatures (note_line kept.signatures) old first
+  pub alignment : NotesAlignment kept.alignment first second
+  pub positions : NotesCount kept.positions (positions_line kept.positions) second new
 
 -- The failure is about an image from this source, or about the output file of this name.
-abbrev pub problem : ImageSource → Failure → Problem
-problem source failure = record { source = source; failure = failure }
+abbrev pub source_failure : ImageSource → Failure → SourceFailure
+source_failure source failure = record { source = source; failure = failure }
 
 -- What a job read from standard input and wrote to its output, and how it ended.
 pub record Work : Type 0 where
@@ -87,7 +117,7 @@ pub record Work : Type 0 where
   pub new_input : ReadTrace
   pub output : WriteTrace
   pub new_output : WriteTrace
-  pub outcome : Result Done Problem
+  pub outcome : Result Done SourceFailure
 
 -- Standard input, and the steps with files so far.
 pub record Inputs : Type 0 where
@@ -107,13 +137,9 @@ with_input work old new = record {
 -- Nothing was written, and it ended with this failure.
 pub record IsFailedWork (source : ImageSource) (failure : Failure) (work : Work) : Type 0 where
   pub nothing_written : work.new_output ≡ work.output
-  pub outcome : work.outcome ≡ Err (problem source failure)
+  pub outcome : work.outcome ≡ Err (source_failure source failure)
 
 -- ---- a task
-
--- What a task promises on the image at its offset.
-abbrev pub plan_promise : ImagePlan → Limits → CommandPromise Done Failure
-plan_promise plan = promise_at plan.offset (task_promise plan.task)
 
 -- The task was done, from `input` to its output.
 pub data IsTaskWork (plan : ImagePlan) (limits : Limits) (work : Work) : Type 0 where
@@ -124,7 +150,7 @@ pub data IsTaskWork (plan : ImagePlan) (limits : Limits) (work : Work) : Type 0 
   HasFailed : (failure : Failure)
       → IsTracedPipe (plan_promise plan limits) limits work.input work.new_input work.output
       work.new_output (Err failure)
-      → work.outcome ≡ Err (problem plan.source failure) → IsTaskWork plan limits work
+      → work.outcome ≡ Err (source_failure plan.source failure) → IsTaskWork plan limits work
 
 -- The task was done with the input from its source: standard input, and no step with a file was
 -- taken; or a file that was opened and closed. Standard input is not read beside a file. `old` and
@@ -199,12 +225,12 @@ pub data IsComparedWork (plan : ComparePlan) (limits : Limits) (one other : List
     WroteDifferences : (same : Bool) (text : List ℕ)
         → IsCompareOutput plan.quiet plan.format limits one other same text
         → WroteAndFlushed work.output text work.new_output
-        → (done : Done) → EndedWith (compare_status same) done → work.outcome ≡ Ok done
+        → (done : Done) → EndedWith same done → work.outcome ≡ Ok done
         → IsComparedWork plan limits one other work
     NotAllWritten : (same : Bool) (text : List ℕ)
         → IsCompareOutput plan.quiet plan.format limits one other same text
         → (error : Error) → WriteOrFlushStopped work.output text work.new_output error
-        → work.outcome ≡ Err (problem Standard (Call error))
+        → work.outcome ≡ Err (source_failure Standard (Call error))
         → IsComparedWork plan limits one other work
     NotCompared : (error : CompareError) → IsCompareFailure plan.quiet limits one other error
         → IsFailedWork (refused_source plan error) (failure_of_comparing error) work
@@ -235,11 +261,11 @@ pub data IsCompareWork (files : KnownFiles) (plan : ComparePlan) (limits : Limit
 -- What this cause means, or what each one means, was written, or that failed. Nothing was read.
 pub data IsExplainWork (cause : Option Cause) (work : Work) : Type 0 where
   WroteExplanation : WroteAndFlushed work.output (explain_text cause) work.new_output
-      → (done : Done) → EndedWith 0 done → work.outcome ≡ Ok done → work.new_input ≡ work.input
+      → (done : Done) → EndedWith true done → work.outcome ≡ Ok done → work.new_input ≡ work.input
       → IsExplainWork cause work
   ExplanationNotWritten : (error : Error)
       → WriteOrFlushStopped work.output (explain_text cause) work.new_output error
-      → work.outcome ≡ Err (problem Standard (Call error)) → work.new_input ≡ work.input
+      → work.outcome ≡ Err (source_failure Standard (Call error)) → work.new_input ≡ work.input
       → IsExplainWork cause work
   NoMemoryForExplanation : IsFailedWork Standard (Call OutOfMemory) work
       → work.new_input ≡ work.input → IsExplainWork cause work
@@ -261,7 +287,7 @@ ArePartsRead files limits = WereReadInTurn (IsPart files limits)
 
 -- The file of a part was not read, for this reason, and those of the parts before it were.
 pub record IsPartNotRead (files : KnownFiles) (limits : Limits) (sources : List PartSource)
-    (failed : Problem) (old new : Option (List FileStep)) : Type 0
+    (failed : SourceFailure) (old new : Option (List FileStep)) : Type 0
   where
     pub before : List PartSource
     pub name : Bor (List ℕ)
@@ -283,11 +309,24 @@ pub record AreFirstRead (files : KnownFiles) (limits : Limits) (sources : List P
     pub is : sources ≡ first ++ later
     pub are_read : ArePartsRead files limits first parts old new
 
+-- The plan of a flattened image tree, as the options give it.
+abbrev pub plan_of_options : FitPlan → PlanSpecModel
+plan_of_options plan = record {
+  configurations = configuration_models plan.configurations.items;
+  default = option_map (λ name. name.now) plan.default;
+  algorithms = plan.algorithms.items;
+  texts = texts_models plan.texts.items;
+}
+
+-- What building a flattened image tree with these payloads promises as a command.
+abbrev pub fit_promise : FitPlan → List Part → Limits → CommandPromise (Unit {0}) Error
+fit_promise plan payloads =
+    build_fit_promise plan.form plan.head (plan_of_options plan) plan.images.items payloads
+
 -- What building an image of these parts promises as a command.
 abbrev pub build_promise : BuildPlan → List Part → Limits → CommandPromise (Unit {0}) Error
 build_promise (Legacy plan) parts = build_legacy_promise plan.fields parts
-build_promise (Fit plan) parts =
-    build_fit_promise plan.form plan.head plan.images.items parts
+build_promise (Fit plan) parts = fit_promise plan parts
 
 -- The image of these parts was built, from `input` to its output, or that failed.
 pub data IsBuiltWork (plan : BuildPlan) (parts : List Part) (limits : Limits) (work : Work) : Type 0
@@ -295,11 +334,12 @@ pub data IsBuiltWork (plan : BuildPlan) (parts : List Part) (limits : Limits) (w
     WasBuilt : (done : Done)
         → IsTracedPipe (build_promise plan parts limits) limits work.input work.new_input
         work.output work.new_output (Ok tt)
-        → EndedWith 0 done → work.outcome ≡ Ok done → IsBuiltWork plan parts limits work
+        → EndedWith true done → work.outcome ≡ Ok done → IsBuiltWork plan parts limits work
     WasNotBuilt : (error : Error)
         → IsTracedPipe (build_promise plan parts limits) limits work.input work.new_input
         work.output work.new_output (Err error)
-        → work.outcome ≡ Err (problem Standard (Call error)) → IsBuiltWork plan parts limits work
+        → work.outcome ≡ Err (source_failure Standard (Call error))
+        → IsBuiltWork plan parts limits work
 
 -- An input without bytes, before each call and after it. No call on it fails.
 abbrev pub no_input : ReadTrace
@@ -325,7 +365,7 @@ pub data IsBuildWork (files : KnownFiles) (plan : BuildPlan) (limits : Limits) (
         → reads_input (sources_of plan) ≡ false
         → IsBuiltWork plan parts limits (with_input work no_input no_input)
         → work.new_input ≡ work.input → IsBuildWork files plan limits work old new
-    PartNotRead : (failed : Problem)
+    PartNotRead : (failed : SourceFailure)
         → IsPartNotRead files limits (sources_of plan) failed old new
         → IsFailedWork failed.source failed.failure work → work.new_input ≡ work.input
         → IsBuildWork files plan limits work old new
@@ -348,7 +388,7 @@ IsJobWork files (Build plan) limits work old new = IsBuildWork files plan limits
 
 -- A job was done with an output that is held in memory, which was empty before.
 pub record IsHeldWork (files : KnownFiles) (job : Job) (limits : Limits) (before after : Inputs)
-    (outcome : Result Done Problem) (held : Option (List ℕ)) : Type 0
+    (outcome : Result Done SourceFailure) (held : Option (List ℕ)) : Type 0
   where
     pub memory : WriteTrace
     pub new_memory : WriteTrace
@@ -370,11 +410,11 @@ abbrev pub failure_in_memory : Failure → Failure
 failure_in_memory (Call WriteFailed) = Call OutOfMemory
 failure_in_memory failure = failure
 
--- A job failed with this problem, with an output that is held in memory.
+-- A job failed with this source_failure, with an output that is held in memory.
 pub record IsHeldFailure (files : KnownFiles) (job : Job) (limits : Limits) (before after : Inputs)
-    (failed : Problem) : Type 0
+    (failed : SourceFailure) : Type 0
   where
-    pub cause : Problem
+    pub cause : SourceFailure
     pub held : Option (List ℕ)
     pub work : IsHeldWork files job limits before after (Err cause) held
     pub source : failed.source ≡ cause.source
@@ -383,7 +423,7 @@ pub record IsHeldFailure (files : KnownFiles) (job : Job) (limits : Limits) (bef
 -- A job was done, and then its whole output was saved in the file of this name; or that failed, or
 -- the job did, and the file is as it was.
 pub data IsSavedWork (files : KnownFiles) (job : Job) (limits : Limits) (name : Bor (List ℕ))
-    (before after : Inputs) (outcome : Result Done Problem) : Type 0
+    (before after : Inputs) (outcome : Result Done SourceFailure) : Type 0
   where
     OutputSaved : (done : Done) (output : List ℕ) (worked : Option (List FileStep))
         → IsHeldWork files job limits before (record { input = after.input; steps = worked })
@@ -394,9 +434,9 @@ pub data IsSavedWork (files : KnownFiles) (job : Job) (limits : Limits) (name : 
         → IsHeldWork files job limits before (record { input = after.input; steps = worked })
         (Ok done) (Some output)
         → (failure : Failure) → IsNotSaved files name.now output failure worked after.steps
-        → outcome ≡ Err (problem (File name) failure)
+        → outcome ≡ Err (source_failure (File name) failure)
         → IsSavedWork files job limits name before after outcome
-    NoOutput : (failed : Problem) → IsHeldFailure files job limits before after failed
+    NoOutput : (failed : SourceFailure) → IsHeldFailure files job limits before after failed
         → outcome ≡ Err failed → IsSavedWork files job limits name before after outcome
 
 -- ---- extracting all payloads
@@ -405,7 +445,7 @@ pub data IsSavedWork (files : KnownFiles) (job : Job) (limits : Limits) (name : 
 -- failed, or the image was read and its payloads could not be extracted, or it was not read.
 -- Nothing is written before all is read and extracted.
 pub data IsAllWork (files : KnownFiles) (request : AllRequest) (before after : Inputs)
-    (outcome : Result Done Problem) : Type 0
+    (outcome : Result Done SourceFailure) : Type 0
   where
     PayloadsSaved : (file name : List ℕ) (payloads : List PayloadFile)
         (read : Option (List FileStep))
@@ -414,7 +454,7 @@ pub data IsAllWork (files : KnownFiles) (request : AllRequest) (before after : I
         → AreAllPayloads request.limits (input_from request.offset file) payloads
         → IsWithoutSlashes request.directory.now name
         → IsDirectorySaved files name payloads read after.steps
-        → (done : Done) → EndedWith 0 done → outcome ≡ Ok done
+        → (done : Done) → EndedWith true done → outcome ≡ Ok done
         → IsAllWork files request before after outcome
     PayloadsNotSaved : (file name : List ℕ) (payloads : List PayloadFile)
         (read : Option (List FileStep))
@@ -423,17 +463,17 @@ pub data IsAllWork (files : KnownFiles) (request : AllRequest) (before after : I
         → AreAllPayloads request.limits (input_from request.offset file) payloads
         → IsWithoutSlashes request.directory.now name
         → (failure : Failure) → IsDirectoryNotSaved files name payloads failure read after.steps
-        → outcome ≡ Err (problem (File request.directory) failure)
+        → outcome ≡ Err (source_failure (File request.directory) failure)
         → IsAllWork files request before after outcome
     NotExtracted : (file : List ℕ)
         → IsImageRead files request.limits before after file request.source
         → (error : Error)
         → IsExtractAllError request.limits (input_from request.offset file) error
-        → outcome ≡ Err (problem request.source (Call error))
+        → outcome ≡ Err (source_failure request.source (Call error))
         → IsAllWork files request before after outcome
     NothingRead : (failure : Failure)
         → IsImageNotRead files request.limits before after failure request.source
-        → outcome ≡ Err (problem request.source failure)
+        → outcome ≡ Err (source_failure request.source failure)
         → IsAllWork files request before after outcome
 
 -- ---- a run
@@ -452,7 +492,7 @@ pub record Run : Type 0 where
   pub status : ℕ
 
 -- What a run did with its streams before it wrote to standard error, with this outcome.
-abbrev pub work_of : Run → Result Done Problem → Work
+abbrev pub work_of : Run → Result Done SourceFailure → Work
 work_of run outcome = record {
   input = run.input;
   new_input = run.new_input;
@@ -480,7 +520,7 @@ pub record IsRejection (source : ImageSource) (failure : Failure) (run : Run) : 
 -- A job was done with this output: standard output if no file is named, or else the file of this
 -- name, and then nothing was written to standard output.
 pub data IsOutputRun (files : KnownFiles) (job : Job) (limits : Limits) (run : Run)
-    (outcome : Result Done Problem) : (output : Option (Bor (List ℕ))) → Type 0
+    (outcome : Result Done SourceFailure) : (output : Option (Bor (List ℕ))) → Type 0
   where
     ToStandardOutput : IsJobWork files job limits (work_of run outcome) run.steps run.new_steps
         → IsOutputRun files job limits run outcome None
@@ -488,26 +528,27 @@ pub data IsOutputRun (files : KnownFiles) (job : Job) (limits : Limits) (run : R
         → IsSavedWork files job limits name (inputs_before run) (inputs_after run) outcome
         → run.new_output ≡ run.output → IsOutputRun files job limits run outcome (Some name)
 
--- How a run ends: with a note on signature nodes if there are any, or with the line of a failure.
-pub data IsEnd (errors new_errors : WriteTrace) (status : ℕ) (outcome : Result Done Problem)
+-- How a run ends: with notes on what is kept of the input, if there are any, or with the line of a
+-- failure.
+pub data IsEnd (errors new_errors : WriteTrace) (status : ℕ) (outcome : Result Done SourceFailure)
     : Type 0
   where
-    EndsWell : (done : Done) → outcome ≡ Ok done → Notes done.signatures errors new_errors
-        → status ≡ done.status → IsEnd errors new_errors status outcome
-    EndsWithFailure : (failed : Problem) → outcome ≡ Err failed
+    EndsWell : (done : Done) → outcome ≡ Ok done → Notes done.kept errors new_errors
+        → status ≡ status_of done.good → IsEnd errors new_errors status outcome
+    EndsWithFailure : (failed : SourceFailure) → outcome ≡ Err failed
         → Reports failed.source failed.failure errors new_errors → status ≡ 2
         → IsEnd errors new_errors status outcome
 
 -- The job that is requested was done with the output that is requested.
 pub record IsRequestRun (files : KnownFiles) (request : Request) (run : Run) : Type 0 where
-  pub outcome : Result Done Problem
+  pub outcome : Result Done SourceFailure
   pub done : IsOutputRun files request.job request.limits run outcome request.output
   pub end : IsEnd run.errors run.new_errors run.status outcome
 
 -- All payloads that are requested were extracted, or that failed. Nothing was written to standard
 -- output.
 pub record IsAllRun (files : KnownFiles) (request : AllRequest) (run : Run) : Type 0 where
-  pub outcome : Result Done Problem
+  pub outcome : Result Done SourceFailure
   pub done : IsAllWork files request (inputs_before run) (inputs_after run) outcome
   pub nothing_written : run.new_output ≡ run.output
   pub end : IsEnd run.errors run.new_errors run.status outcome

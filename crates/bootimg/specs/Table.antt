@@ -3,7 +3,7 @@ use Rattle.clap.specs.Walk.{Rule}
 use Rattle.clap.specs.Simple.{App, Shape, with_subcommand}
 use Rattle.bootimg.specs.Program.{command, flag_option, option_with_default, required_option}
 use Rattle.bootimg.specs.Program.{positional, positionals, required_positional}
-use Rattle.bootimg.specs.Program.{short_option, value_option}
+use Rattle.bootimg.specs.Program.{repeated_option, short_option, value_option}
 use Rattle.bootimg.specs.declared.command_line.table.CommandText.{CommandText}
 use Rattle.bootimg.specs.declared.command_line.table.OptionForm.{OptionForm}
 use Rattle.bootimg.specs.declared.command_line.table.OptionForm.TheVariants as form
@@ -16,6 +16,7 @@ abbrev pub rule_of_form : OptionForm → List ℕ → Rule
 rule_of_form form.Flag name = flag_option name
 rule_of_form form.Required name = required_option name
 rule_of_form form.Optional name = value_option name
+rule_of_form form.Repeated name = repeated_option name
 rule_of_form (form.Short letter) name = short_option name letter
 rule_of_form (form.Default value) name = option_with_default name value.now
 rule_of_form form.Positional name = positional name

@@ -5,8 +5,9 @@ use Rattle.bi_base.specs.declared.fault.Error.TheVariants.{Refused, OutOfMemory,
 use Rattle.bi_base.specs.declared.fault.Error.TheVariants.{WriteFailed}
 use Rattle.bi_base.specs.Commands.{CommandPromise, PromiseLaws}
 use Rattle.bi_base.specs.Limits.{Limits}
+use Rattle.bi_fit.specs.Kept.{SaysNothing}
 use Rattle.bi_norm.specs.Converting.{IsConvertedFile, IsConvertError}
-use Rattle.bi_norm.specs.NormalForm.{IsNormalForm, IsNormaliseError, IsNormaliseOutput}
+use Rattle.bi_norm.specs.NormalForm.{IsNormalForm, IsNormaliseError, IsNormaliseKept}
 use Rattle.bi_norm.specs.Reading.{IsBootImageReadError}
 use Rattle.bi_report.specs.CheckedFiles.{IsChecked, IsCheckError, IsCheckOutput}
 use Rattle.bi_report.specs.ListedFiles.{IsListing}
@@ -17,8 +18,9 @@ use Rattle.bi_show.specs.ShownFiles.{IsPage}
 use Rattle.bi_commands.specs.declared.extract.ExtractError.{ExtractError}
 use Rattle.bi_commands.specs.declared.extract.ExtractError.TheVariants as extract
 use Rattle.bi_commands.specs.Extracting.{IsChosen, IsExtractError}
-use Rattle.bi_commands.specs.UpdatedFiles.{IsUpdated, IsUpdateError, IsUpdateOutput}
+use Rattle.bi_commands.specs.UpdatedFiles.{IsUpdated, IsUpdateError, IsUpdateKept}
 use Rattle.bi_fit.specs.declared.configurations.ConfigError.TheVariants as list
+use Rattle.bootimg.specs.declared.command_line.ImagePlan.{ImagePlan}
 use Rattle.bootimg.specs.declared.command_line.Task.{Task}
 use Rattle.bootimg.specs.declared.command_line.Task.TheVariants.{Normalise, List as ListImage}
 use Rattle.bootimg.specs.declared.command_line.Task.TheVariants.{Verify, Check, Describe, Extract}
@@ -27,44 +29,47 @@ use Rattle.bootimg.specs.declared.failure.Failure.{Failure}
 use Rattle.bootimg.specs.declared.failure.Failure.TheVariants.{Call}
 use Rattle.bootimg.specs.declared.tasks.Done.{Done}
 use Rattle.bootimg.specs.Failures.{failure_of}
+use Rattle.bootimg.specs.Offsets.{laws_at, promise_at}
 use Rattle.bootimg.specs.Selections.{select_of}
 
 -- What each task of the program does (profile of this project).
 
--- The exit status after `verify`, by whether no verdict is other than Good, after `check`, by
--- whether it wrote no concern, and after `scan`, by whether it wrote a line.
+-- The exit status of a job that did not fail, by whether its answer is good.
 abbrev pub status_of : (good : Bool) → ℕ
 status_of true = 0
 status_of false = 1
 
--- A task without signature nodes to note ended with this status.
-pub record EndedWith (status : ℕ) (done : Done) : Type 0 where
-  pub is_status : done.status ≡ status
-  pub no_signatures : done.signatures ≡ 0
+-- A job with nothing to note ended with this answer.
+pub record EndedWith (good : Bool) (done : Done) : Type 0 where
+  pub is_answer : done.good ≡ good
+  pub no_signatures : done.kept.signatures ≡ 0
+  pub says_nothing : SaysNothing done.kept
 
--- The task makes this output of the input, and ends so.
+-- The task makes this output of the input, and ends so. The answer of `verify` is good if no
+-- verdict is other than Good, that of `check` if it wrote no concern, and that of `scan` if it
+-- wrote a line. The answer of any other task is good.
 abbrev pub TaskDone : Task → Limits → Done → (input output : List ℕ) → Type 0
 TaskDone (Normalise form) limits done input output =
-    IsNormaliseOutput limits form done.signatures input output × (done.status ≡ 0)
+    IsNormaliseKept limits form done.kept input output × (done.good ≡ true)
 TaskDone (Show presenter) limits done input output =
-    IsPage presenter.layout limits input output × EndedWith 0 done
+    IsPage presenter.layout limits input output × EndedWith true done
 TaskDone (ListImage format) limits done input output =
-    IsListing format limits input output × EndedWith 0 done
+    IsListing format limits input output × EndedWith true done
 TaskDone (Describe format) limits done input output =
-    IsDescription format limits input output × EndedWith 0 done
+    IsDescription format limits input output × EndedWith true done
 TaskDone (Verify format) limits done input output =
-    (good : Bool) × IsVerifyOutput format limits good input output
-    × EndedWith (status_of good) done
+    (good : Bool) × IsVerifyOutput format limits good input output × EndedWith good done
 TaskDone (Check allowed format) limits done input output =
     (clean : Bool) × IsCheckOutput format allowed limits clean input output
-    × EndedWith (status_of clean) done
+    × EndedWith clean done
 TaskDone Scan limits done input output =
-    (found : Bool) × IsScanOutput limits found input output × EndedWith (status_of found) done
+    (found : Bool) × IsScanOutput limits found input output × EndedWith found done
 TaskDone (Update changes form) limits done input output =
-    IsUpdateOutput changes limits form done.signatures input output × (done.status ≡ 0)
+    IsUpdateKept changes limits form done.kept input output × (done.good ≡ true)
 TaskDone (Extract selection) limits done input output =
-    IsChosen (select_of selection) limits input output × EndedWith 0 done
-TaskDone Convert limits done input output = IsConvertedFile limits input output × EndedWith 0 done
+    IsChosen (select_of selection) limits input output × EndedWith true done
+TaskDone Convert limits done input output =
+    IsConvertedFile limits input output × EndedWith true done
 
 -- The task may begin to write this output for the input.
 abbrev pub TaskText : Task → Limits → (input output : List ℕ) → Type 0
@@ -125,14 +130,14 @@ task_promise task limits = record {
 -- An output of a task is one that it may begin to write.
 task_text : (task : Task) (limits : Limits) (done : Done) (input output : List ℕ)
     → TaskDone task limits done input output → TaskText task limits input output
-task_text (Normalise form) limits done input output is = is.0.normal
+task_text (Normalise form) limits done input output is = is.0.output.normal
 task_text (Show presenter) limits done input output is = is.0
 task_text (ListImage format) limits done input output is = is.0
 task_text (Describe format) limits done input output is = is.0
 task_text (Verify format) limits done input output is = is.1.report
 task_text (Check allowed format) limits done input output is = is.1.checked
 task_text Scan limits done input output is = is.1.is_scan
-task_text (Update changes form) limits done input output updated = updated.0.is
+task_text (Update changes form) limits done input output updated = updated.0.output.is
 task_text (Extract selection) limits done input output is = is.0
 task_text Convert limits done input output is = is.0
 
@@ -212,3 +217,10 @@ task_laws task limits = record {
   no_read_error = λ input is. task_in_memory task limits input (Call ReadFailed) is;
   no_write_error = λ input is. task_in_memory task limits input (Call WriteFailed) is;
 }
+
+-- What a task promises on the image at its offset.
+abbrev pub plan_promise : ImagePlan → Limits → CommandPromise Done Failure
+plan_promise plan = promise_at plan.offset (task_promise plan.task)
+
+pub plan_laws : (plan : ImagePlan) (limits : Limits) → PromiseLaws (plan_promise plan limits)
+plan_laws plan = laws_at plan.offset (task_promise plan.task) (task_laws plan.task)

@@ -4,25 +4,29 @@ ghost use Rattle.std.specs.Prelude.{◌≡◌, length, IfOk, IfErr};
 ghost use Rattle.std.specs.List.{AllZip, list_any};
 ghost use Rattle.bi_base.specs.Pipes.{IsTracedPipe};
 ghost use Rattle.bi_base.specs.declared.fault.Error.TheVariants.{OutOfMemory};
+ghost use Rattle.bi_fit.specs.NamedImages.{configuration_spec_models};
 ghost use Rattle.bootimg.specs.CommandLine.{HasLengths, sources_of};
 ghost use Rattle.bootimg.specs.CommandLine.{is_input as is_input_of, reads_input as reads_input_of};
-ghost use Rattle.bootimg.specs.ReadParts.{IsLent, IsReadingProblem, IsSourceProblem, WasRead};
+ghost use Rattle.bootimg.specs.ConfigurationWords.{configuration_models};
+ghost use Rattle.bootimg.specs.ReadParts.{IsLent, IsReadingFailure, IsPartFailure, WasRead};
 ghost use Rattle.bootimg.specs.ReadParts.{WereRead};
-ghost use Rattle.bootimg.specs.Runs.{build_promise, problem, IsBuildWork, IsBuiltWork};
+ghost use Rattle.bootimg.specs.Runs.{build_promise, fit_promise, source_failure};
+ghost use Rattle.bootimg.specs.Runs.{IsBuildWork, IsBuiltWork};
 ghost use Rattle.bootimg.specs.declared.command_line.source.ImageSource.TheVariants.{Standard};
 ghost use Rattle.bootimg.specs.declared.failure.Failure.TheVariants.{Call};
 
-use crate::command_line::{BuildPlan, ImageSource, PartSource};
+use crate::command_line::{BuildPlan, ConfigurationWord, FitPlan, ImageSource, PartSource};
 use crate::failure::Failure;
 use crate::files::FileSystem;
-use crate::jobs::{Problem, read_file};
+use crate::jobs::{SourceFailure, read_file};
 use crate::no_input::NoInput;
-use crate::tasks::{Done, SUCCESS};
+use crate::tasks::Done;
 use bi_base::{Error, Limits, TracedRead, TracedWrite, pipe};
 use bi_commands::build_fit::FitBuilder;
 use bi_commands::build_legacy::LegacyBuilder;
 use bi_commands::parts::Part;
-use std::alloc::Global;
+use bi_norm::{ConfigurationSpec, PlanSpec};
+use std::alloc::{AllocError, Global};
 
 /// A part of an image to be built, whose file was read if it has one.
 #[derive(Drop)]
@@ -42,7 +46,7 @@ pub fn build_image<'a, S: TracedRead, T: TracedWrite, F: FileSystem>(
     files: &mut F,
     input: &mut S,
     output: &mut T,
-) -> Result<Done, Problem<'a>>
+) -> Result<Done, SourceFailure<'a>>
     requires { HasLengths plan.now }
     ensures work { IsBuildWork (F.known files.old) plan.now limits
         (record {
@@ -96,10 +100,10 @@ fn read_parts<'a, F: FileSystem>(
     sources: &[PartSource<'a>],
     limits: Limits,
     files: &mut F,
-) -> Result<Vec<ReadPart>, Problem<'a>>
+) -> Result<Vec<ReadPart>, SourceFailure<'a>>
     ensures read { IfOk result (λ read. WereRead (F.known files.old) limits sources.now read.items
         (F.steps files.old) (F.steps files.new)) }
-    ensures failed { IfErr result (λ failed. IsReadingProblem (F.known files.old) limits
+    ensures failed { IfErr result (λ failed. IsReadingFailure (F.known files.old) limits
         sources.now failed (F.steps files.old) (F.steps files.new)) }
     ensures same_files { F.known files.new ≡ F.known files.old }
 {
@@ -117,10 +121,10 @@ fn read_part<'a, F: FileSystem>(
     source: PartSource<'a>,
     limits: Limits,
     files: &mut F,
-) -> Result<ReadPart, Problem<'a>>
+) -> Result<ReadPart, SourceFailure<'a>>
     ensures read { IfOk result (λ read. WasRead (F.known files.old) limits source.entry read
         (F.steps files.old) (F.steps files.new)) }
-    ensures failed { IfErr result (λ failed. IsSourceProblem (F.known files.old) limits
+    ensures failed { IfErr result (λ failed. IsPartFailure (F.known files.old) limits
         source.entry failed (F.steps files.old) (F.steps files.new)) }
     ensures same_files { F.known files.new ≡ F.known files.old }
 {
@@ -128,7 +132,7 @@ fn read_part<'a, F: FileSystem>(
         PartSource::Input(length) => Ok(ReadPart::Input(length)),
         PartSource::File(name) => match read_file(alloc, name, limits, files) {
             Ok(bytes) => Ok(ReadPart::File(bytes)),
-            Err(failure) => Err(Problem {
+            Err(failure) => Err(SourceFailure {
                 source: ImageSource::File(name),
                 failure,
             }),
@@ -137,9 +141,12 @@ fn read_part<'a, F: FileSystem>(
 }
 
 /// Returns these parts, which borrow the bytes of the files. Fails with OutOfMemory.
-fn lend_parts<'r, 'a>(alloc: Global, read: &'r [ReadPart]) -> Result<Vec<Part<'r>>, Problem<'a>>
+fn lend_parts<'r, 'a>(
+    alloc: Global,
+    read: &'r [ReadPart],
+) -> Result<Vec<Part<'r>>, SourceFailure<'a>>
     ensures parts { IfOk result (λ parts. AllZip IsLent read.entry.now parts.items) }
-    ensures failed { IfErr result (λ failed. failed ≡ problem Standard (Call OutOfMemory)) }
+    ensures failed { IfErr result (λ failed. failed ≡ source_failure Standard (Call OutOfMemory)) }
 {
     let mut parts = Vec::with_capacity(alloc, read.len())?;
     for part in read {
@@ -166,7 +173,7 @@ fn build<'a, S: TracedRead, T: TracedWrite>(
     limits: Limits,
     input: &mut S,
     output: &mut T,
-) -> Result<Done, Problem<'a>>
+) -> Result<Done, SourceFailure<'a>>
     requires lengths { HasLengths plan.now }
     requires one_each { length parts.now ≡ length (sources_of plan.now) }
     ensures { IsBuiltWork plan.now parts.now limits (record {
@@ -178,8 +185,8 @@ fn build<'a, S: TracedRead, T: TracedWrite>(
     }) }
 {
     match run_builder(alloc, plan, parts, limits, input, output) {
-        Ok(()) => Ok(Done::with_status(SUCCESS)),
-        Err(error) => Err(Problem {
+        Ok(()) => Ok(Done::with_answer(true)),
+        Err(error) => Err(SourceFailure {
             source: ImageSource::Standard,
             failure: Failure::Call(error),
         }),
@@ -208,14 +215,79 @@ fn run_builder<S: TracedRead, T: TracedWrite>(
             };
             pipe(alloc, &builder, input, output, limits)
         }
-        BuildPlan::Fit(plan) => {
-            let builder = FitBuilder {
-                head: plan.head,
-                images: &plan.images,
-                payloads: parts,
-                form: plan.form,
-            };
-            pipe(alloc, &builder, input, output, limits)
-        }
+        BuildPlan::Fit(plan) => run_fit_builder(alloc, plan, parts, limits, input, output),
     }
+}
+
+/// Runs the command that builds the flattened image tree with these payloads. Fails as `pipe` does,
+/// or with OutOfMemory before anything is read.
+fn run_fit_builder<S: TracedRead, T: TracedWrite>(
+    alloc: Global,
+    plan: &FitPlan<'_>,
+    payloads: &[Part<'_>],
+    limits: Limits,
+    input: &mut S,
+    output: &mut T,
+) -> Result<(), Error>
+    requires one_each { length payloads.now ≡ length plan.now.images.items }
+    ensures { IsTracedPipe (fit_promise plan.now payloads.now limits) limits (S.trace input.old)
+        (S.trace input.new) (T.trace output.old) (T.trace output.new) result }
+{
+    let configurations = lend_configurations(alloc, &plan.configurations)?;
+    pipe_fit(
+        alloc,
+        plan,
+        &configurations,
+        payloads,
+        limits,
+        input,
+        output,
+    )
+}
+
+/// Runs the command that builds the flattened image tree with these configurations and payloads.
+/// Fails as `pipe` does.
+fn pipe_fit<S: TracedRead, T: TracedWrite>(
+    alloc: Global,
+    plan: &FitPlan<'_>,
+    configurations: &[ConfigurationSpec<'_>],
+    payloads: &[Part<'_>],
+    limits: Limits,
+    input: &mut S,
+    output: &mut T,
+) -> Result<(), Error>
+    requires one_each { length payloads.now ≡ length plan.now.images.items }
+    requires lent { configuration_spec_models configurations.now
+        ≡ configuration_models plan.now.configurations.items }
+    ensures { IsTracedPipe (fit_promise plan.now payloads.now limits) limits (S.trace input.old)
+        (S.trace input.new) (T.trace output.old) (T.trace output.new) result }
+{
+    let builder = FitBuilder {
+        head: plan.head,
+        images: &plan.images,
+        plan: PlanSpec {
+            configurations,
+            default: plan.default,
+            algorithms: &plan.algorithms,
+            texts: &plan.texts,
+        },
+        payloads,
+        form: plan.form,
+    };
+    pipe(alloc, &builder, input, output, limits)
+}
+
+/// Returns these configurations, which borrow the names of the words.
+fn lend_configurations<'r>(
+    alloc: Global,
+    words: &'r [ConfigurationWord<'_>],
+) -> Result<Vec<ConfigurationSpec<'r>>, AllocError>
+    ensures { IfOk result (λ lent.
+        configuration_spec_models lent.items ≡ configuration_models words.now) }
+{
+    let mut lent = Vec::with_capacity(alloc, words.len())?;
+    for word in words {
+        lent.push(word.spec())?;
+    }
+    Ok(lent)
 }

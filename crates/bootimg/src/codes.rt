@@ -1,11 +1,14 @@
 //! Codes of legacy headers on the command line.
 
-ghost use Rattle.std.specs.Prelude.{◌≡◌, ℕ, Some, IfSome, option_map};
+ghost use Rattle.std.specs.Prelude.{◌≡◌, ℕ, Some, IfNone, IfSome, option_map};
 ghost use Rattle.bi_legacy.specs.Codes.{name_of_code};
-ghost use Rattle.bootimg.specs.CodeWords.{codes_of, IsCode};
+ghost use Rattle.bi_show.specs.AllCodes.{code_of_name};
+ghost use Rattle.bootimg.specs.CodeWords.{text_of_code, codes_of, given_names_of, IsCode};
+ghost use Rattle.bootimg.specs.TextsOfWords.{text_of_word};
 
 use crate::numbers::parse_number;
 use bi_legacy::codes::{arch_name, compression_name, os_name, type_name};
+use bi_show::show::codes::{arch_code, compression_code, os_code, type_code};
 
 /// A field of a legacy header that holds a code.
 #[derive(Clone, Copy)]
@@ -20,8 +23,17 @@ pub enum CodeField {
     Compression,
 }
 
+/// A code, as a word gives it.
+#[derive(Clone, Copy)]
+pub struct CodeWord<'a> {
+    /// The code.
+    pub code: u8,
+    /// The word if it is a name, or else the name that listings have of the code, if it has one.
+    pub text: Option<&'a str>,
+}
+
 impl CodeField {
-    /// Returns the name of a code of this field. Returns None if the code has no name.
+    /// Returns the name that listings have of a code of this field. Returns None if it has none.
     fn name(self, code: u8) -> Option<&'static str>
         ensures { option_map (λ name. name.now) result ≡ name_of_code (codes_of self) code }
     {
@@ -32,6 +44,19 @@ impl CodeField {
             CodeField::Compression => compression_name(code),
         }
     }
+
+    /// Returns the code of this field that has this name in U-Boot's own tables. Returns None if no
+    /// code has it, and for `invalid` and the types that are formats of vendors.
+    fn code(self, name: &str) -> Option<u8>
+        ensures { result ≡ code_of_name (given_names_of self) name.now }
+    {
+        match self {
+            CodeField::Os => os_code(name),
+            CodeField::Arch => arch_code(name),
+            CodeField::ImageType => type_code(name),
+            CodeField::Compression => compression_code(name),
+        }
+    }
 }
 
 /// Parses a code of this field: the name of one, or else a number of at most 255. Returns None
@@ -40,22 +65,33 @@ pub fn parse_code(field: CodeField, argument: &str) -> Option<u8>
     ensures some { IfSome result (IsCode field argument.now) }
     ensures exactly { (code : ℕ) → IsCode field argument.now code → result ≡ Some code }
 {
-    match named_code(field, argument) {
+    match field.code(argument) {
         Some(code) => Some(code),
         None => u8::try_from(parse_number(argument)?).ok(),
     }
 }
 
-/// Returns the code of this field that has this name. Returns None if no code has it.
-fn named_code(field: CodeField, name: &str) -> Option<u8>
-    ensures some { IfSome result (λ code. name_of_code (codes_of field) code ≡ Some name.now) }
-    ensures exactly { (code : ℕ) → name_of_code (codes_of field) code ≡ Some name.now → result
-        ≡ Some code }
+/// Parses a code of this field, as `parse_code` does, with its text in an image node.
+pub fn parse_code_word(field: CodeField, argument: &str) -> Option<CodeWord<'_>>
+    ensures some { IfSome result (λ word. IsCode field argument.now word.code) }
+    ensures text { IfSome result (λ word.
+        text_of_word word ≡ text_of_code field argument.now word.code) }
+    ensures none { IfNone result ((code : ℕ) → IsCode field argument.now code → ⊥) }
 {
-    for code in 0..=u8::MAX {
-        if field.name(code) == Some(name) {
-            return Some(code);
-        }
+    let code = parse_code(field, argument)?;
+    Some(CodeWord {
+        code,
+        text: node_text(field, argument, code),
+    })
+}
+
+/// Returns the text in an image node for an argument that is this code: the argument if it is a
+/// name, or else the name that listings have of the code, if it has one.
+fn node_text(field: CodeField, argument: &str, code: u8) -> Option<&str>
+    ensures { option_map (λ text. text.now) result ≡ text_of_code field argument.now code }
+{
+    match field.code(argument) {
+        Some(_) => Some(argument),
+        None => field.name(code),
     }
-    None
 }

@@ -2,8 +2,10 @@
 
 mod allowed;
 mod build;
+mod configurations;
 mod explain;
 mod extract;
+mod hashes;
 mod image;
 mod options;
 mod part;
@@ -19,7 +21,7 @@ ghost use Rattle.bootimg.specs.CommandLine.{IsFailureOutcome};
 ghost use Rattle.bootimg.specs.CommandLine.{IsJob, IsNoRequest, IsOrder, IsOutcomeOf, IsTask};
 ghost use Rattle.bootimg.specs.CommandLine.{IsTaskFailure, SelectsAll, texts_of};
 ghost use Rattle.bootimg.specs.Program.{IsCommandName};
-ghost use Rattle.bootimg.specs.declared.command_line.Outcome.TheVariants as outcome;
+ghost use Rattle.bootimg.specs.declared.command_line.NoRequest.TheVariants as outcome;
 ghost use Rattle.bootimg.specs.declared.failure.Failure.TheVariants.{Call};
 
 use crate::failure::Failure;
@@ -34,6 +36,7 @@ pub use build::{BuildPlan, FitPlan, LegacyPlan};
 use build::{fit_plan, legacy_plan};
 use clap::ArgMatches;
 use clap::error::ErrorKind;
+pub use configurations::ConfigurationWord;
 use explain::explained_cause;
 pub use extract::{AllRequest, Selected};
 use extract::{all_request, selection};
@@ -117,45 +120,45 @@ pub enum Order<'a> {
 
 /// The outcome of arguments that request no task.
 #[derive(Drop)]
-pub enum Outcome {
+pub enum NoRequest {
     /// The program prints this text: help, the version, or why clap rejects the arguments.
     Text(clap::Error),
     /// The program fails.
     Failure(Failure),
 }
 
-impl From<clap::Error> for Outcome {
+impl From<clap::Error> for NoRequest {
     ghost from_gives = { λ error result. IsOutcomeOf error result };
 
-    fn from(error: clap::Error) -> Outcome {
+    fn from(error: clap::Error) -> NoRequest {
         match error.kind() {
-            ErrorKind::OutOfMemory => Outcome::Failure(Failure::Call(Error::OutOfMemory)),
-            _ => Outcome::Text(error),
+            ErrorKind::OutOfMemory => NoRequest::Failure(Failure::Call(Error::OutOfMemory)),
+            _ => NoRequest::Text(error),
         }
     }
 }
 
-impl From<AllocError> for Outcome {
+impl From<AllocError> for NoRequest {
     ghost from_gives = { λ _ result. result ≡ outcome.Failure (Call OutOfMemory) };
 
-    fn from(error: AllocError) -> Outcome {
-        Outcome::Failure(Failure::Call(Error::from(error)))
+    fn from(error: AllocError) -> NoRequest {
+        NoRequest::Failure(Failure::Call(Error::from(error)))
     }
 }
 
-impl<T: Drop> From<AllocFailed<T>> for Outcome {
+impl<T: Drop> From<AllocFailed<T>> for NoRequest {
     ghost from_gives = { λ _ result. result ≡ outcome.Failure (Call OutOfMemory) };
 
-    fn from(error: AllocFailed<T>) -> Outcome {
-        Outcome::Failure(Failure::Call(Error::from(error)))
+    fn from(error: AllocFailed<T>) -> NoRequest {
+        NoRequest::Failure(Failure::Call(Error::from(error)))
     }
 }
 
-impl From<Failure> for Outcome {
+impl From<Failure> for NoRequest {
     ghost from_gives = { λ failure result. result ≡ outcome.Failure failure };
 
-    fn from(failure: Failure) -> Outcome {
-        Outcome::Failure(failure)
+    fn from(failure: Failure) -> NoRequest {
+        NoRequest::Failure(failure)
     }
 }
 
@@ -164,8 +167,9 @@ impl From<Failure> for Outcome {
 /// Errors, the first that applies: what clap rejects; `extract` without exactly one selection, or
 /// `update` without a change; a number that is malformed or out of range, an unknown code, key or
 /// kind of concerns, `extract --all` without an output, or `compare` of standard input with itself;
-/// an image of `build-fit` that is malformed. A call that allocates may run out of memory.
-pub fn parse_arguments<'a>(alloc: Global, arguments: &'a [&'a str]) -> Result<Order<'a>, Outcome>
+/// an image of `build-fit` that is malformed; a configuration of `build-fit` that is malformed, or
+/// cannot be built of the images. A call that allocates may run out of memory.
+pub fn parse_arguments<'a>(alloc: Global, arguments: &'a [&'a str]) -> Result<Order<'a>, NoRequest>
     ensures order { IfOk result (IsOrder (texts_of arguments.entry.now)) }
     ensures failure { IfErr result (IsNoRequest (texts_of arguments.entry.now)) }
     ensures lengths { IfOk result HasOrderLengths }
@@ -178,7 +182,7 @@ pub fn parse_arguments<'a>(alloc: Global, arguments: &'a [&'a str]) -> Result<Or
     if extracts_all(name, options) {
         match all_request(options) {
             Ok(request) => return Ok(Order::ExtractAll(request)),
-            Err(failure) => return Err(Outcome::Failure(failure)),
+            Err(failure) => return Err(NoRequest::Failure(failure)),
         }
     }
     let job = parse_job(alloc, name, options)?;
@@ -200,7 +204,7 @@ fn extracts_all(name: &str, options: &ArgMatches<'_>) -> bool
 }
 
 /// Returns what the command of this name does with the options. Fails as `parse_arguments` does.
-fn parse_job<'a>(alloc: Global, name: &str, options: &ArgMatches<'a>) -> Result<Job<'a>, Outcome>
+fn parse_job<'a>(alloc: Global, name: &str, options: &ArgMatches<'a>) -> Result<Job<'a>, NoRequest>
     requires command { IsCommandName name.now }
     requires not_all { name.now ≡ codes "extract" → SelectsAll options.now false }
     ensures job { IfOk result (IsJob name.now options.now) }
@@ -234,7 +238,7 @@ fn parse_job<'a>(alloc: Global, name: &str, options: &ArgMatches<'a>) -> Result<
 }
 
 /// Returns the task of the command of this name with the options. Fails as `parse_arguments` does.
-fn parse_task(alloc: Global, name: &str, options: &ArgMatches<'_>) -> Result<Task, Outcome>
+fn parse_task(alloc: Global, name: &str, options: &ArgMatches<'_>) -> Result<Task, NoRequest>
     requires command { IsCommandName name.now }
     requires not_all { name.now ≡ codes "extract" → SelectsAll options.now false }
     requires no_comparison { name.now ≢ codes "compare" }
@@ -245,14 +249,14 @@ fn parse_task(alloc: Global, name: &str, options: &ArgMatches<'_>) -> Result<Tas
     ensures failure { IfErr result (IsFailureOutcome (IsTaskFailure name.now options.now)) }
 {
     Ok(match name {
-        "normalise" => Task::Normalise(form(options)),
+        "normalise" => Task::Normalise(form(options)?),
         "show" => Task::Show(presenter(options)),
         "list" => Task::List(format(options)),
         "describe" => Task::Describe(format(options)),
         "verify" => Task::Verify(format(options)),
         "check" => Task::Check(allowed_kinds(options)?, format(options)),
         "scan" => Task::Scan,
-        "update" => Task::Update(changes(options)?, form(options)),
+        "update" => Task::Update(changes(options)?, form(options)?),
         "extract" => Task::Extract(selection(alloc, options)?),
         "convert" => Task::Convert,
         _ => unreachable!(),

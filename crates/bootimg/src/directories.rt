@@ -112,7 +112,7 @@ fn put_files<F: FileSystem>(
             return Err(made);
         };
         made += 1;
-        match fill(files, directory, payload, file) {
+        match write_payload(files, directory, payload, file) {
             Ok(()) => {}
             Err(_) => return Err(made),
         }
@@ -122,7 +122,7 @@ fn put_files<F: FileSystem>(
 
 /// Writes the bytes of a payload to its new file in this directory, flushes it and closes it. Fails
 /// with NotWritten. After an error it is closed, too.
-fn fill<F: FileSystem>(
+fn write_payload<F: FileSystem>(
     files: &mut F,
     directory: &str,
     payload: &Payload<'_>,

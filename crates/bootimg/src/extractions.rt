@@ -1,18 +1,15 @@
 //! Extracting every payload of an image into a new directory.
 
-ghost use Rattle.std.specs.Prelude.{◌≡◌, map, IfOk, IfErr};
-ghost use Rattle.bi_base.specs.Limits.{Limits};
+ghost use Rattle.std.specs.Prelude.{◌≡◌};
 ghost use Rattle.bi_common.specs.Offsets.{input_from};
-ghost use Rattle.bi_commands.specs.ExtractingAll.{AreAllPayloads, IsExtractAllError};
-ghost use Rattle.bi_commands.specs.Payloads.{payloads_model};
 ghost use Rattle.bootimg.specs.Runs.{IsAllWork};
 
 use crate::command_line::{AllRequest, ImageSource};
 use crate::directories::{save_all, without_slashes};
 use crate::failure::Failure;
 use crate::files::FileSystem;
-use crate::jobs::{Problem, job_failed, read_image};
-use crate::tasks::{Done, SUCCESS};
+use crate::jobs::{SourceFailure, job_failed, read_image};
+use crate::tasks::Done;
 use bi_base::TracedRead;
 use bi_commands::extract_all::extract_all;
 use std::alloc::Global;
@@ -24,7 +21,7 @@ pub fn extract_to_directory<'a, S: TracedRead, F: FileSystem>(
     request: &AllRequest<'a>,
     files: &mut F,
     input: &mut S,
-) -> Result<Done, Problem<'a>>
+) -> Result<Done, SourceFailure<'a>>
     ensures { IsAllWork (F.known files.old) request.now
         (record { input = S.trace input.old; steps = F.steps files.old })
         (record { input = S.trace input.new; steps = F.steps files.new }) result }
@@ -43,7 +40,7 @@ pub fn extract_to_directory<'a, S: TracedRead, F: FileSystem>(
         without_slashes(request.directory),
         &all.payloads,
     ) {
-        Ok(()) => Ok(Done::with_status(SUCCESS)),
+        Ok(()) => Ok(Done::with_answer(true)),
         Err(failure) => job_failed(ImageSource::File(request.directory), failure),
     }
 }

@@ -45,6 +45,8 @@ pub enum Failure {
     BadValue,
     /// The argument at this index, counted from 0, of `build-fit` is no image.
     BadImage(usize),
+    /// The `--config` at this index, counted from 0, of `build-fit` is no configuration.
+    BadConfiguration(usize),
     /// The file cannot be opened.
     CannotOpen,
     /// The output file cannot be written.
@@ -59,8 +61,8 @@ impl Failure {
     {
         match self {
             Failure::Call(error) => matches!(error, Error::Refused(_) | Error::ReadFailed),
-            Failure::NoSelection | Failure::NoChange | Failure::BadValue | Failure::BadImage(_) =>
-                false,
+            Failure::NoSelection | Failure::NoChange | Failure::BadValue => false,
+            Failure::BadImage(_) | Failure::BadConfiguration(_) => false,
             _ => true,
         }
     }
@@ -88,6 +90,9 @@ impl Failure {
             Failure::NoChange => line.put(b"usage: give --time or --hashes"),
             Failure::BadValue => line.put(b"usage: bad value"),
             Failure::BadImage(index) => put_numbered(b"usage: bad image ", index, line),
+            Failure::BadConfiguration(index) => {
+                put_numbered(b"usage: bad configuration ", index, line)
+            }
             Failure::CannotOpen => line.put(b"cannot be opened"),
             Failure::NotWritten => line.put(b"write failed"),
         }

@@ -3,14 +3,14 @@
 ghost use Rattle.std.specs.Prelude.{◌≡◌, Err, IfOk, IfErr, string_bytes};
 ghost use Rattle.bi_base.specs.declared.fault.Error.TheVariants.{OutOfMemory};
 ghost use Rattle.bootimg.specs.CommandLine.{HasJobLengths};
-ghost use Rattle.bootimg.specs.ComparedFiles.{IsCompareOutput, IsCompareFailure, compare_status};
+ghost use Rattle.bootimg.specs.ComparedFiles.{IsCompareOutput, IsCompareFailure};
 ghost use Rattle.bootimg.specs.ComparedFiles.{failure_of_comparing, refused_source};
 ghost use Rattle.bootimg.specs.declared.command_line.source.ImageSource.TheVariants.{Standard};
 ghost use Rattle.bootimg.specs.declared.failure.Failure.TheVariants.{Call};
 ghost use Rattle.bootimg.specs.Runs.{IsComparedWork, IsCompareWork, IsFileNotRead, IsFileRead};
 ghost use Rattle.bootimg.specs.Runs.{IsExplainWork, IsImageNotRead, IsImageRead};
-ghost use Rattle.bootimg.specs.Runs.{IsImageWork, IsJobWork, IsNotRead, IsTaskWork};
-ghost use Rattle.bootimg.specs.Runs.{problem};
+ghost use Rattle.bootimg.specs.Runs.{IsImageWork, IsJobWork, IsNotRead};
+ghost use Rattle.bootimg.specs.Runs.{source_failure};
 ghost use Rattle.bi_base.specs.Reading.{IsInputRead};
 ghost use Rattle.bi_base.specs.Traces.{ReadTrace};
 
@@ -23,45 +23,35 @@ use crate::tasks::Done;
 use bi_base::{
     Cause, Error, Limits, TracedRead, TracedWrite, pipe, read_all_traced, write_and_flush,
 };
-use bi_commands::at_offset::At;
 use bi_commands::compare::{CompareError, Comparison, compare, compare_json, have_same_meaning};
 use bi_commands::format::Format;
 use std::alloc::{AllocError, AllocFailed, Global};
 
-/// The exit status after explaining.
-const EXPLAINED: u8 = 0;
-
-/// The exit status after comparing two images that mean the same.
-const SAME: u8 = 0;
-
-/// The exit status after comparing two images that do not mean the same.
-const DIFFERENT: u8 = 1;
-
 /// Why a job failed.
 #[derive(Clone, Copy)]
-pub struct Problem<'a> {
+pub struct SourceFailure<'a> {
     /// The image or the part that the failure is about, or the output file, if it is about one.
     pub source: ImageSource<'a>,
     /// The failure.
     pub failure: Failure,
 }
 
-impl<'a> From<AllocError> for Problem<'a> {
-    ghost from_gives = { λ _ result. result ≡ problem Standard (Call OutOfMemory) };
+impl<'a> From<AllocError> for SourceFailure<'a> {
+    ghost from_gives = { λ _ result. result ≡ source_failure Standard (Call OutOfMemory) };
 
-    fn from(error: AllocError) -> Problem<'a> {
-        Problem {
+    fn from(error: AllocError) -> SourceFailure<'a> {
+        SourceFailure {
             source: ImageSource::Standard,
             failure: Failure::Call(Error::from(error)),
         }
     }
 }
 
-impl<'a, T: Drop> From<AllocFailed<T>> for Problem<'a> {
-    ghost from_gives = { λ _ result. result ≡ problem Standard (Call OutOfMemory) };
+impl<'a, T: Drop> From<AllocFailed<T>> for SourceFailure<'a> {
+    ghost from_gives = { λ _ result. result ≡ source_failure Standard (Call OutOfMemory) };
 
-    fn from(error: AllocFailed<T>) -> Problem<'a> {
-        Problem {
+    fn from(error: AllocFailed<T>) -> SourceFailure<'a> {
+        SourceFailure {
             source: ImageSource::Standard,
             failure: Failure::Call(Error::from(error)),
         }
@@ -76,7 +66,7 @@ pub fn do_job<'a, S: TracedRead, T: TracedWrite, F: FileSystem>(
     files: &mut F,
     input: &mut S,
     output: &mut T,
-) -> Result<Done, Problem<'a>>
+) -> Result<Done, SourceFailure<'a>>
     requires lengths { HasJobLengths job.now }
     ensures work { IsJobWork (F.known files.old) job.now limits
         (record {
@@ -105,7 +95,7 @@ fn run_on_image<'a, S: TracedRead, T: TracedWrite, F: FileSystem>(
     files: &mut F,
     input: &mut S,
     output: &mut T,
-) -> Result<Done, Problem<'a>>
+) -> Result<Done, SourceFailure<'a>>
     ensures work { IsImageWork (F.known files.old) plan.now limits
         (record {
           input = S.trace input.old;
@@ -118,41 +108,21 @@ fn run_on_image<'a, S: TracedRead, T: TracedWrite, F: FileSystem>(
     ensures same_files { F.known files.new ≡ F.known files.old }
 {
     match plan.source {
-        ImageSource::Standard => run_task(alloc, plan, limits, input, output),
+        ImageSource::Standard => match pipe(alloc, plan, input, output, limits) {
+            Ok(done) => Ok(done),
+            Err(failure) => job_failed(plan.source, failure),
+        },
         ImageSource::File(name) => match files.open(name) {
             Some(mut image) => {
-                let outcome = run_task(alloc, plan, limits, &mut image, output);
+                let outcome = pipe(alloc, plan, &mut image, output, limits);
                 files.close_reader(name, image);
-                outcome
+                match outcome {
+                    Ok(done) => Ok(done),
+                    Err(failure) => job_failed(plan.source, failure),
+                }
             }
             None => job_failed(plan.source, Failure::CannotOpen),
         },
-    }
-}
-
-/// Does a task with an input that is read from this source, and returns how it ended.
-fn run_task<'a, S: TracedRead, T: TracedWrite>(
-    alloc: Global,
-    plan: &ImagePlan<'a>,
-    limits: Limits,
-    input: &mut S,
-    output: &mut T,
-) -> Result<Done, Problem<'a>>
-    ensures { IsTaskWork plan.now limits (record {
-      input = S.trace input.old;
-      new_input = S.trace input.new;
-      output = T.trace output.old;
-      new_output = T.trace output.new;
-      outcome = result;
-    }) }
-{
-    let command = At {
-        command: &plan.task,
-        offset: plan.offset,
-    };
-    match pipe(alloc, &command, input, output, limits) {
-        Ok(done) => Ok(done),
-        Err(failure) => job_failed(plan.source, failure),
     }
 }
 
@@ -164,7 +134,7 @@ fn compare_images<'a, S: TracedRead, T: TracedWrite, F: FileSystem>(
     files: &mut F,
     input: &mut S,
     output: &mut T,
-) -> Result<Done, Problem<'a>>
+) -> Result<Done, SourceFailure<'a>>
     ensures work { IsCompareWork (F.known files.old) plan.entry limits
         (record {
           input = S.trace input.old;
@@ -188,10 +158,10 @@ fn compare_images<'a, S: TracedRead, T: TracedWrite, F: FileSystem>(
 }
 
 /// Returns the end of a job that failed with an image from this source.
-pub fn job_failed<'a>(source: ImageSource<'a>, failure: Failure) -> Result<Done, Problem<'a>>
-    ensures { result ≡ Err (problem source.entry failure) }
+pub fn job_failed<'a>(source: ImageSource<'a>, failure: Failure) -> Result<Done, SourceFailure<'a>>
+    ensures { result ≡ Err (source_failure source.entry failure) }
 {
-    Err(Problem { source, failure })
+    Err(SourceFailure { source, failure })
 }
 
 /// Reads the image from this source. Fails as `read_input` does, or with CannotOpen.
@@ -266,7 +236,7 @@ fn compare_files<'a, T: TracedWrite>(
     other: &[u8],
     limits: Limits,
     output: &mut T,
-) -> Result<Done, Problem<'a>>
+) -> Result<Done, SourceFailure<'a>>
     ensures { (old new : ReadTrace) → IsComparedWork plan.entry limits one.now other.now (record {
       input = old;
       new_input = new;
@@ -277,10 +247,10 @@ fn compare_files<'a, T: TracedWrite>(
 {
     match differences(alloc, plan, one, other, limits) {
         Ok(comparison) => match write_and_flush(output, comparison.differences.as_bytes()) {
-            Ok(()) => Ok(Done::with_status(status(comparison.same))),
+            Ok(()) => Ok(Done::with_answer(comparison.same)),
             Err(error) => job_failed(ImageSource::Standard, Failure::Call(error)),
         },
-        Err(error) => Err(problem_of(plan, error)),
+        Err(error) => Err(compare_failure(plan, error)),
     }
 }
 
@@ -311,20 +281,20 @@ fn differences(
 }
 
 /// Returns why comparing failed.
-fn problem_of<'a>(plan: ComparePlan<'a>, error: CompareError) -> Problem<'a>
+fn compare_failure<'a>(plan: ComparePlan<'a>, error: CompareError) -> SourceFailure<'a>
     ensures { result
-        ≡ problem (refused_source plan.entry error) (failure_of_comparing error) }
+        ≡ source_failure (refused_source plan.entry error) (failure_of_comparing error) }
 {
     match error {
-        CompareError::One(fault) => Problem {
+        CompareError::One(fault) => SourceFailure {
             source: plan.one,
             failure: Failure::Call(Error::Refused(fault)),
         },
-        CompareError::Other(fault) => Problem {
+        CompareError::Other(fault) => SourceFailure {
             source: plan.other,
             failure: Failure::Call(Error::Refused(fault)),
         },
-        CompareError::OutOfMemory => Problem {
+        CompareError::OutOfMemory => SourceFailure {
             source: ImageSource::Standard,
             failure: Failure::Call(Error::OutOfMemory),
         },
@@ -336,7 +306,7 @@ fn explain<'a, T: TracedWrite>(
     alloc: Global,
     cause: Option<Cause>,
     output: &mut T,
-) -> Result<Done, Problem<'a>>
+) -> Result<Done, SourceFailure<'a>>
     ensures { (input : ReadTrace) → IsExplainWork cause (record {
       input = input;
       new_input = input;
@@ -347,16 +317,9 @@ fn explain<'a, T: TracedWrite>(
 {
     match explanation(alloc, cause) {
         Ok(text) => match write_and_flush(output, text.as_bytes()) {
-            Ok(()) => Ok(Done::with_status(EXPLAINED)),
+            Ok(()) => Ok(Done::with_answer(true)),
             Err(error) => job_failed(ImageSource::Standard, Failure::Call(error)),
         },
         Err(error) => job_failed(ImageSource::Standard, Failure::from(error)),
     }
-}
-
-/// Returns the exit status after comparing.
-fn status(same: bool) -> u8
-    ensures { result ≡ compare_status same }
-{
-    if same { SAME } else { DIFFERENT }
 }

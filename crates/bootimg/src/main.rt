@@ -26,34 +26,48 @@ mod tasks;
 
 use files::SystemFiles;
 use run::run_with_files;
+use std::alloc::{AllocError, Global};
 use std::io::{self, Write};
 use std::process::ExitCode;
 
 fn main(rt: HostRuntime) -> ExitCode {
-    match run_streams(&rt) {
-        Ok(status) => ExitCode::from(status),
-        Err(_) => {
-            let _ = writeln!(rt.stderr(), "bootimg: out of memory");
-            ExitCode::from(2)
-        }
-    }
-}
-
-/// Runs the program over the standard streams and the files of the system, and returns its exit
-/// status. Fails if memory runs out, or an argument is not UTF-8.
-fn run_streams(rt: &HostRuntime) -> io::Result<u8> {
     let alloc = rt.alloc();
-    let strings: Vec<String> = std::env::args(rt)?.skip(1).collect(alloc)?;
-    let mut arguments = Vec::with_capacity(alloc, strings.len())?;
-    for string in &strings {
-        arguments.push(string.as_str())?;
-    }
-    Ok(run_with_files(
+    let Ok(strings) = arguments(&rt) else {
+        return out_of_memory(&rt);
+    };
+    let Ok(words) = as_strs(alloc, &strings) else {
+        return out_of_memory(&rt);
+    };
+    ExitCode::from(run_with_files(
         alloc,
-        &arguments,
-        &mut SystemFiles { runtime: rt, alloc },
+        &words,
+        &mut SystemFiles {
+            runtime: &rt,
+            alloc,
+        },
         &mut rt.stdin(),
         &mut rt.stdout(),
         &mut rt.stderr(),
     ))
+}
+
+/// Returns the arguments of the program, without its own name. Fails if memory runs out, or an
+/// argument is not UTF-8.
+fn arguments(rt: &HostRuntime) -> io::Result<Vec<String>> {
+    Ok(std::env::args(rt)?.skip(1).collect(rt.alloc())?)
+}
+
+/// Returns these strings as slices.
+fn as_strs(alloc: Global, strings: &[String]) -> Result<Vec<&str>, AllocError> {
+    let mut words = Vec::with_capacity(alloc, strings.len())?;
+    for string in strings {
+        words.push(string.as_str())?;
+    }
+    Ok(words)
+}
+
+/// Writes that memory ran out, and returns the exit status.
+fn out_of_memory(rt: &HostRuntime) -> ExitCode {
+    let _ = writeln!(rt.stderr(), "bootimg: out of memory");
+    ExitCode::from(2)
 }

@@ -3,19 +3,25 @@
 ghost use Rattle.std.specs.Prelude.{◌≡◌};
 ghost use Rattle.bootimg.specs.ErrorLines.{Extends, line_of};
 ghost use Rattle.bootimg.specs.Failures.{name_text};
-ghost use Rattle.bootimg.specs.Runs.{Notes, Reports, failure_line, note_line};
+ghost use Rattle.bootimg.specs.Runs.{Notes, NotesAlignment, NotesCount, Reports};
+ghost use Rattle.bootimg.specs.Runs.{alignment_line, failure_line, note_line, positions_line};
 
 use crate::command_line::ImageSource;
 use crate::error_line::ErrorLine;
 use crate::failure::Failure;
 use bi_base::TracedWrite;
+use bi_norm::Kept;
 
 /// The exit status after any failure.
 pub const FAILED: u8 = 2;
 
 /// Writes the line of a failure with an image from this source, and returns the exit status. The
 /// line has the name of the file if the failure is about the image. A failed write is ignored.
-pub fn report<E: TracedWrite>(source: ImageSource<'_>, failure: Failure, errors: &mut E) -> u8
+pub fn report_failure<E: TracedWrite>(
+    source: ImageSource<'_>,
+    failure: Failure,
+    errors: &mut E,
+) -> u8
     ensures line { Reports source.entry failure (E.trace errors.old) (E.trace errors.new) }
     ensures status { result ≡ 2 }
 {
@@ -58,22 +64,76 @@ fn put_source<E: TracedWrite>(
     }
 }
 
-/// Writes the line on the signature nodes of a normal form, if there are any.
-pub fn note_signatures<E: TracedWrite>(signatures: usize, errors: &mut E)
-    ensures { Notes signatures (E.trace errors.old) (E.trace errors.new) }
+/// Writes the lines on what a text keeps of its input, each if there is something to say: on
+/// signature nodes, on an alignment, and on fixed positions. A failed write is ignored.
+pub fn put_notes<E: TracedWrite>(kept: Kept, errors: &mut E)
+    ensures { Notes kept (E.trace errors.old) (E.trace errors.new) }
+{
+    note_signatures(kept.signatures, errors);
+    note_alignment(kept.alignment, errors);
+    note_positions(kept.positions, errors);
+}
+
+/// Writes the line on the signature nodes of a text, if there are any.
+fn note_signatures<E: TracedWrite>(signatures: usize, errors: &mut E)
+    ensures { NotesCount signatures (note_line signatures) (E.trace errors.old)
+        (E.trace errors.new) }
 {
     if signatures > 0 {
         let mut line = ErrorLine::new(errors);
-        put_note(signatures, &mut line);
+        put_signatures(signatures, &mut line);
         line.write_held();
     }
 }
 
-/// Appends the line on the signature nodes of a normal form.
-fn put_note<E: TracedWrite>(signatures: usize, line: &mut ErrorLine<'_, E>)
+/// Writes the line on an alignment that payloads lose, if they lose one.
+fn note_alignment<E: TracedWrite>(alignment: Option<u32>, errors: &mut E)
+    ensures { NotesAlignment alignment (E.trace errors.old) (E.trace errors.new) }
+{
+    if let Some(bytes) = alignment {
+        let mut line = ErrorLine::new(errors);
+        put_alignment(bytes, &mut line);
+        line.write_held();
+    }
+}
+
+/// Writes the line on payloads with fixed positions, if there are any.
+fn note_positions<E: TracedWrite>(positions: usize, errors: &mut E)
+    ensures { NotesCount positions (positions_line positions) (E.trace errors.old)
+        (E.trace errors.new) }
+{
+    if positions > 0 {
+        let mut line = ErrorLine::new(errors);
+        put_positions(positions, &mut line);
+        line.write_held();
+    }
+}
+
+/// Appends the line on the signature nodes of a text.
+fn put_signatures<E: TracedWrite>(signatures: usize, line: &mut ErrorLine<'_, E>)
     ensures { Extends (line_of E.trace line.old) (note_line signatures) (line_of E.trace line.new) }
 {
     line.put(b"bootimg: note: ");
     line.put_number(signatures);
     line.put(b" signature nodes carried, not checked\n");
+}
+
+/// Appends the line on an alignment in bytes that payloads lose.
+fn put_alignment<E: TracedWrite>(bytes: u32, line: &mut ErrorLine<'_, E>)
+    ensures { Extends (line_of E.trace line.old) (alignment_line bytes)
+        (line_of E.trace line.new) }
+{
+    line.put(b"bootimg: note: payloads are no longer aligned to ");
+    line.put_number(bytes as usize);
+    line.put(b" bytes, see --align\n");
+}
+
+/// Appends the line on payloads with fixed positions.
+fn put_positions<E: TracedWrite>(positions: usize, line: &mut ErrorLine<'_, E>)
+    ensures { Extends (line_of E.trace line.old) (positions_line positions)
+        (line_of E.trace line.new) }
+{
+    line.put(b"bootimg: note: ");
+    line.put_number(positions);
+    line.put(b" fixed positions of payloads were not kept\n");
 }

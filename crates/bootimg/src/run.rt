@@ -8,11 +8,13 @@ ghost use Rattle.bootimg.specs.Directories.{SavesNoDirectory};
 ghost use Rattle.bootimg.specs.Runs.{IsPlainRun, IsRun, IsTextRun, IsMistake};
 ghost use Rattle.clap.specs.declared.error.kind.ErrorKind.{ErrorKind};
 
-use crate::command_line::{ImageSource, Order, Outcome, parse_arguments};
+use crate::command_line::{ImageSource, NoRequest, Order, parse_arguments};
+use crate::extractions::extract_to_directory;
 use crate::failure::Failure;
 use crate::files::{FileSystem, NoFiles};
-use crate::reports::{FAILED, report};
-use crate::requests::{perform, perform_all};
+use crate::jobs::do_job;
+use crate::reports::{FAILED, report_failure};
+use crate::requests::{conclude, do_job_to_file};
 use crate::tasks::SUCCESS;
 use bi_base::{
     Error, TracedRead, TracedReader, TracedWrite, TracedWriter, write_all, write_and_flush,
@@ -48,8 +50,8 @@ pub fn run<'a, R: Read, W: Write, E: Write>(
 /// arguments are parsed. So is each part of an image to be built. The output, help and the version
 /// are written to `writer`. If the arguments name an output file, the output is saved there
 /// instead: it is written to a new file beside it, which takes its name then. After a failure the
-/// output file is as it was. `extract --all` writes each payload to a file in a new directory beside
-/// the one that the arguments name, which takes its name then.
+/// output file is as it was. `extract --all` writes each payload to a file in a new directory
+/// beside the one that the arguments name, which takes its name then.
 ///
 /// A failure is written to `errors`: one line, or clap's text if it rejects the arguments. The line
 /// has the name of the file, if the failure is about an image in a file or the output file. After
@@ -98,14 +100,32 @@ pub fn run_traced<'a, S: TracedRead, T: TracedWrite, E: TracedWrite, F: FileSyst
     }) }
 {
     match parse_arguments(alloc, arguments) {
-        Ok(Order::Do(request)) => perform(alloc, &request, files, input, output, errors),
-        Ok(Order::ExtractAll(request)) => perform_all(alloc, &request, files, input, errors),
-        Err(Outcome::Failure(failure)) => report(ImageSource::Standard, failure, errors),
-        Err(Outcome::Text(text)) => match clap_text(alloc, &text) {
+        Ok(Order::Do(request)) => match &request.output {
+            None => {
+                let outcome = do_job(alloc, &request.job, request.limits, files, input, output);
+                conclude(outcome, errors)
+            }
+            Some(name) => {
+                let outcome = do_job_to_file(
+                    alloc,
+                    &request.job,
+                    request.limits,
+                    *name,
+                    files,
+                    input,
+                );
+                conclude(outcome, errors)
+            }
+        },
+        Ok(Order::ExtractAll(request)) => {
+            conclude(extract_to_directory(alloc, &request, files, input), errors)
+        }
+        Err(NoRequest::Failure(failure)) => report_failure(ImageSource::Standard, failure, errors),
+        Err(NoRequest::Text(text)) => match clap_text(alloc, &text) {
             Ok(bytes) => print(&bytes, text.use_stderr(), output, errors),
             Err(error) => {
                 let failure = Failure::Call(Error::from(error));
-                report(ImageSource::Standard, failure, errors)
+                report_failure(ImageSource::Standard, failure, errors)
             }
         },
     }
@@ -144,6 +164,6 @@ fn print<T: TracedWrite, E: TracedWrite>(
     }
     match write_and_flush(output, text.as_bytes()) {
         Ok(()) => SUCCESS,
-        Err(error) => report(ImageSource::Standard, Failure::Call(error), errors),
+        Err(error) => report_failure(ImageSource::Standard, Failure::Call(error), errors),
     }
 }

@@ -61,7 +61,7 @@ fn put_in_place<F: FileSystem>(
         (F.Created.trace file) (F.steps files.old) (F.steps files.new)) }
     ensures failure { IfErr result (λ failure. failure ≡ NotWritten) }
 {
-    fill(files, beside, file, bytes)?;
+    write_new_file(files, beside, file, bytes)?;
     match files.rename(beside, name) {
         Ok(()) => Ok(()),
         Err(_) => Err(Failure::NotWritten),
@@ -70,7 +70,7 @@ fn put_in_place<F: FileSystem>(
 
 /// Writes these bytes to the new file of this name, flushes it and closes it. Fails with
 /// NotWritten. After an error it is closed, too.
-fn fill<F: FileSystem>(
+fn write_new_file<F: FileSystem>(
     files: &mut F,
     beside: &str,
     mut file: F::Created,

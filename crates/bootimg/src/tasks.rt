@@ -1,58 +1,140 @@
 //! What the program does for each command on one image.
 
-ghost use Rattle.std.specs.Prelude.{◌≡◌, ⊤};
-ghost use Rattle.bootimg.specs.Tasks.{EndedWith, status_of, task_promise, task_laws};
+ghost use Rattle.std.specs.Prelude.{◌≡◌, ◌≤◌, ⊤, IfErr, IfOk, length};
+ghost use Rattle.bi_base.specs.Commands.{Appended, CommandFailed};
+ghost use Rattle.bootimg.specs.Tasks.{EndedWith, TaskDone, TaskFails, TaskText};
+ghost use Rattle.bootimg.specs.Tasks.{plan_laws, plan_promise, status_of};
+ghost use Rattle.bootimg.specs.declared.failure.Failure.TheVariants.{Call};
 
-use crate::command_line::Task;
+use crate::command_line::{ImagePlan, Task};
 use crate::failure::Failure;
 use bi_base::{Command, Limits, Sink};
-use bi_commands::check::Checker;
-use bi_commands::convert::Converter;
+use bi_commands::at_offset::image_at;
+use bi_commands::check::{Checker, check_into};
 use bi_commands::describe::Describer;
 use bi_commands::extract::Extractor;
 use bi_commands::list::Lister;
 use bi_commands::scan::Scanner;
-use bi_commands::update::Updater;
+use bi_commands::update::update_with_kept;
 use bi_commands::verify::Verifier;
-use bi_norm::Normaliser;
+use bi_norm::{Kept, convert_into, normalise_with_kept};
 use std::alloc::Global;
 
 /// The exit status after success, help and the version included.
 pub const SUCCESS: u8 = 0;
 
-/// The exit status after `verify` wrote a verdict that is not good, `check` a concern, or `scan` no
-/// line.
+/// The exit status after an answer that is not good.
 const NOT_GOOD: u8 = 1;
 
-/// How a task ended that did not fail.
+/// How a job ended that did not fail.
 #[derive(Clone, Copy)]
 pub struct Done {
-    /// The exit status.
-    pub status: u8,
-    /// How many signature nodes a normal form or an updated one has.
-    pub signatures: usize,
+    /// Whether the answer is good: `verify` wrote no verdict but good ones, `check` wrote no
+    /// concern, `scan` wrote a line, and the images that `compare` compared mean the same. The
+    /// answer of any other command is good.
+    pub good: bool,
+    /// What a normal form or an updated one keeps of the input.
+    pub kept: Kept,
 }
 
 impl Done {
-    /// Returns the end of a task without signature nodes, with this exit status.
-    pub fn with_status(status: u8) -> Done
-        ensures { EndedWith status result }
+    /// Returns the end of a job with nothing to note, with this answer.
+    pub fn with_answer(good: bool) -> Done
+        ensures { EndedWith good result }
     {
         Done {
-            status,
-            signatures: 0,
+            good,
+            kept: Kept::default(),
+        }
+    }
+
+    /// Returns the exit status.
+    pub fn status(self) -> u8
+        ensures { result ≡ status_of self.good }
+    {
+        if self.good { SUCCESS } else { NOT_GOOD }
+    }
+}
+
+impl Task {
+    /// Appends what the task makes of an image to a sink, and returns how that ended.
+    ///
+    /// After an error of the task, the sink is unchanged. After an error of the sink, the sink is
+    /// as a failed `put` of the output leaves it.
+    fn run_on<S: Sink>(
+        &self,
+        alloc: Global,
+        image: &[u8],
+        limits: Limits,
+        sink: &mut S,
+    ) -> Result<Done, Failure>
+        requires short { length image.now ≤ limits.file }
+        ensures appended { IfOk result (λ done. Appended S.appends
+            (TaskDone self.now limits done image.now) sink.old sink.new) }
+        ensures failed { IfErr result (CommandFailed S.fails Call
+            (TaskText self.now limits image.now) (TaskFails self.now limits image.now)
+            sink.old sink.new) }
+    {
+        match self {
+            Task::Normalise(form) => {
+                let kept = normalise_with_kept(alloc, image, *form, limits, sink)?;
+                return Ok(Done { good: true, kept });
+            }
+            Task::Show(presenter) => {
+                presenter.run(alloc, image, limits, sink)?;
+                return Ok(Done::with_answer(true));
+            }
+            Task::List(format) => {
+                Lister { format: *format }.run(alloc, image, limits, sink)?;
+                return Ok(Done::with_answer(true));
+            }
+            Task::Describe(format) => {
+                Describer { format: *format }.run(alloc, image, limits, sink)?;
+                return Ok(Done::with_answer(true));
+            }
+            Task::Verify(format) => {
+                let good = Verifier { format: *format }.run(alloc, image, limits, sink)?;
+                return Ok(Done::with_answer(good));
+            }
+            Task::Check(allowed, format) => {
+                let checker = Checker {
+                    allowed: *allowed,
+                    format: *format,
+                };
+                let clean = check_into(alloc, image, checker, limits, sink)?;
+                return Ok(Done::with_answer(clean));
+            }
+            Task::Scan => {
+                let found = Scanner.run(alloc, image, limits, sink)?;
+                return Ok(Done::with_answer(found));
+            }
+            Task::Update(changes, form) => {
+                let kept = update_with_kept(alloc, image, *changes, *form, limits, sink)?;
+                return Ok(Done { good: true, kept });
+            }
+            Task::Extract(selection) => {
+                let select = selection.select();
+                Extractor { select }.run(alloc, image, limits, sink)?;
+                return Ok(Done::with_answer(true));
+            }
+            Task::Convert => {
+                convert_into(alloc, image, limits, sink)?;
+                return Ok(Done::with_answer(true));
+            }
         }
     }
 }
 
-impl<'a> Command for &'a Task {
+/// A task, on the image at its offset in the input. The limit is on the whole input. If the input
+/// ends before the offset, the image is empty.
+impl<'a> Command for ImagePlan<'a> {
     type Value = Done;
 
     type Failure = Failure;
 
     ghost can_run = { λ _. ⊤ };
 
-    ghost promise = { λ task. task_promise task.now };
+    ghost promise = { λ plan. plan_promise plan };
 
     fn run<S: Sink>(
         &self,
@@ -61,73 +143,11 @@ impl<'a> Command for &'a Task {
         limits: Limits,
         sink: &mut S,
     ) -> Result<Done, Failure> {
-        match *self {
-            Task::Normalise(form) => {
-                let signatures = Normaliser { form: *form }.run(alloc, input, limits, sink)?;
-                return Ok(Done {
-                    status: SUCCESS,
-                    signatures,
-                });
-            }
-            Task::Show(presenter) => {
-                presenter.run(alloc, input, limits, sink)?;
-                return Ok(Done::with_status(SUCCESS));
-            }
-            Task::List(format) => {
-                Lister { format: *format }.run(alloc, input, limits, sink)?;
-                return Ok(Done::with_status(SUCCESS));
-            }
-            Task::Describe(format) => {
-                Describer { format: *format }.run(alloc, input, limits, sink)?;
-                return Ok(Done::with_status(SUCCESS));
-            }
-            Task::Verify(format) => {
-                let good = Verifier { format: *format }.run(alloc, input, limits, sink)?;
-                return Ok(Done::with_status(status(good)));
-            }
-            Task::Check(allowed, format) => {
-                let checker = Checker {
-                    allowed: *allowed,
-                    format: *format,
-                };
-                let clean = checker.run(alloc, input, limits, sink)?;
-                return Ok(Done::with_status(status(clean)));
-            }
-            Task::Scan => {
-                let found = Scanner.run(alloc, input, limits, sink)?;
-                return Ok(Done::with_status(status(found)));
-            }
-            Task::Update(changes, form) => {
-                let updater = Updater {
-                    changes: *changes,
-                    form: *form,
-                };
-                let signatures = updater.run(alloc, input, limits, sink)?;
-                return Ok(Done {
-                    status: SUCCESS,
-                    signatures,
-                });
-            }
-            Task::Extract(selection) => {
-                let select = selection.select();
-                Extractor { select }.run(alloc, input, limits, sink)?;
-                return Ok(Done::with_status(SUCCESS));
-            }
-            Task::Convert => {
-                Converter.run(alloc, input, limits, sink)?;
-                return Ok(Done::with_status(SUCCESS));
-            }
-        }
+        let image = image_at(input, self.offset as usize);
+        self.task.run_on(alloc, image, limits, sink)
     }
 
     ghost wraps_from = { λ _ _ _ _ same. same };
 
-    ghost laws = { λ task. task_laws task.now };
-}
-
-/// Returns the exit status after `verify`, `check` or `scan`.
-fn status(good: bool) -> u8
-    ensures { result ≡ status_of good }
-{
-    if good { SUCCESS } else { NOT_GOOD }
+    ghost laws = { λ plan. plan_laws plan };
 }

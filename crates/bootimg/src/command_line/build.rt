@@ -7,14 +7,17 @@ ghost use Rattle.bootimg.specs.CommandLine.{IsFailureOutcome, IsBadImage, IsBadV
 ghost use Rattle.bootimg.specs.CommandLine.{IsFitPlan, IsFitPlanFailure, IsLegacyPlan};
 
 use crate::codes::{CodeField, parse_code};
-use crate::command_line::Outcome;
+use crate::command_line::NoRequest;
+use crate::command_line::configurations::{ConfigurationWord, default_name, parse_configurations};
+use crate::command_line::hashes::algorithms;
 use crate::command_line::image::parse_image;
 use crate::command_line::options::{form, number, value};
 use crate::command_line::part::{PartSource, parse_part};
 use crate::command_line::table::NO_COMPRESSION;
 use crate::failure::Failure;
+use bi_hash::Algo;
 use bi_legacy::Fields;
-use bi_norm::{Form, Head, ImageSpec};
+use bi_norm::{Form, Head, ImageSpec, ImageTexts};
 use clap::ArgMatches;
 use std::alloc::Global;
 
@@ -34,6 +37,14 @@ pub struct FitPlan<'a> {
     pub head: Head<'a>,
     /// The images, with empty payloads.
     pub images: Vec<ImageSpec<'a>>,
+    /// The texts of each image in place of its codes, if there are any.
+    pub texts: Vec<Option<ImageTexts<'a>>>,
+    /// The configurations. If there is none, one configuration lists the images by their types.
+    pub configurations: Vec<ConfigurationWord<'a>>,
+    /// The name of the default configuration. If there is none, it is the first configuration.
+    pub default: Option<&'a [u8]>,
+    /// The algorithms of the hash nodes of each image.
+    pub algorithms: Vec<Algo>,
     /// Where the payload of each image comes from.
     pub payloads: Vec<PartSource<'a>>,
     /// Where the payloads are in the tree.
@@ -63,7 +74,7 @@ impl<'a> BuildPlan<'a> {
 
 /// Returns what `build-legacy` builds. Fails with BadValue if the value of an option is malformed
 /// or a part is neither a length nor `@FILE`, or with OutOfMemory.
-pub fn legacy_plan<'a>(alloc: Global, options: &ArgMatches<'a>) -> Result<LegacyPlan<'a>, Outcome>
+pub fn legacy_plan<'a>(alloc: Global, options: &ArgMatches<'a>) -> Result<LegacyPlan<'a>, NoRequest>
     ensures plan { IfOk result (IsLegacyPlan options.now) }
     ensures failure { IfErr result (IsFailureOutcome (IsBadValue (IsLegacyPlan options.now))) }
 {
@@ -103,7 +114,7 @@ fn code(field: CodeField, argument: &str) -> Result<u8, Failure>
 
 /// Parses parts. Fails with BadValue at an argument that is neither a length nor `@FILE`, or with
 /// OutOfMemory.
-fn parse_parts<'a>(alloc: Global, arguments: &[&'a str]) -> Result<Vec<PartSource<'a>>, Outcome>
+fn parse_parts<'a>(alloc: Global, arguments: &[&'a str]) -> Result<Vec<PartSource<'a>>, NoRequest>
     ensures parts { IfOk result (λ parts. ArePartSources (texts_of arguments.now) parts.items) }
     ensures failure { IfErr result (IsFailureOutcome
         (IsBadValue (ArePartSources (texts_of arguments.now)))) }
@@ -115,9 +126,13 @@ fn parse_parts<'a>(alloc: Global, arguments: &[&'a str]) -> Result<Vec<PartSourc
     Ok(parts)
 }
 
-/// Returns what `build-fit` builds. Fails with BadValue if the time is no number, then with
-/// BadImage at the first argument that is no image, or with OutOfMemory.
-pub fn fit_plan<'a>(alloc: Global, options: &ArgMatches<'a>) -> Result<FitPlan<'a>, Outcome>
+/// Returns what `build-fit` builds.
+///
+/// Errors, the first that applies: BadValue, if the time is no number, there is no such form, the
+/// default names none of the configurations, or an algorithm is unknown or given twice; BadImage at
+/// the first argument that is no image; BadConfiguration at the first word that is no
+/// configuration, or one that cannot be built. Or OutOfMemory.
+pub fn fit_plan<'a>(alloc: Global, options: &ArgMatches<'a>) -> Result<FitPlan<'a>, NoRequest>
     ensures plan { IfOk result (IsFitPlan options.now) }
     ensures lengths { IfOk result (λ plan. length plan.payloads.items
         ≡ length plan.images.items) }
@@ -127,33 +142,55 @@ pub fn fit_plan<'a>(alloc: Global, options: &ArgMatches<'a>) -> Result<FitPlan<'
         description: value(options, "description", "").as_bytes(),
         time: number(options, "time")?,
     };
+    let form = form(options)?;
+    let words = options.get_strs("config").unwrap_or(&[]);
+    let default = default_name(options, words)?;
+    let algorithms = algorithms(alloc, options)?;
     let arguments = options.get_strs("images").unwrap_or(&[]);
-    let (images, payloads) = parse_images(alloc, arguments)?;
+    let built = parse_images(alloc, arguments)?;
+    let configurations = parse_configurations(alloc, words, &built.images)?;
     Ok(FitPlan {
         head,
-        images,
-        payloads,
-        form: form(options),
+        images: built.images,
+        texts: built.texts,
+        configurations,
+        default,
+        algorithms,
+        payloads: built.payloads,
+        form,
     })
+}
+
+/// Images of `build-fit`.
+#[derive(Drop)]
+struct BuiltImages<'a> {
+    /// The images, with empty payloads.
+    images: Vec<ImageSpec<'a>>,
+    /// The texts of each image in place of its codes, if there are any.
+    texts: Vec<Option<ImageTexts<'a>>>,
+    /// Where the payload of each image comes from.
+    payloads: Vec<PartSource<'a>>,
 }
 
 /// Parses images, and where their payloads come from. Fails with BadImage at the first argument
 /// that is no image, or with OutOfMemory.
-fn parse_images<'a>(
-    alloc: Global,
-    arguments: &[&'a str],
-) -> Result<(Vec<ImageSpec<'a>>, Vec<PartSource<'a>>), Outcome>
-    ensures images { IfOk result (λ built. AreImages (texts_of arguments.now) built.0.items
-        built.1.items) }
-    ensures lengths { IfOk result (λ built. length built.1.items ≡ length built.0.items) }
+fn parse_images<'a>(alloc: Global, arguments: &[&'a str]) -> Result<BuiltImages<'a>, NoRequest>
+    ensures images { IfOk result (λ built. AreImages (texts_of arguments.now) built.images.items
+        built.texts.items built.payloads.items) }
     ensures failure { IfErr result (IsFailureOutcome (IsBadImage (texts_of arguments.now))) }
 {
     let mut images = Vec::with_capacity(alloc, arguments.len())?;
+    let mut texts = Vec::with_capacity(alloc, arguments.len())?;
     let mut payloads = Vec::with_capacity(alloc, arguments.len())?;
     for (index, argument) in arguments.iter().enumerate() {
-        let (image, payload) = parse_image(argument).ok_or(Failure::BadImage(index))?;
-        images.push(image)?;
-        payloads.push(payload)?;
+        let word = parse_image(argument).ok_or(Failure::BadImage(index))?;
+        images.push(word.image)?;
+        texts.push(word.texts)?;
+        payloads.push(word.payload)?;
     }
-    Ok((images, payloads))
+    Ok(BuiltImages {
+        images,
+        texts,
+        payloads,
+    })
 }

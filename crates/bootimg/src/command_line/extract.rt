@@ -13,7 +13,7 @@ ghost use Rattle.bootimg.specs.Selections.{select_of};
 use crate::command_line::options::{limits, number, value};
 use crate::command_line::source::source;
 use crate::command_line::table::KERNEL_KEY;
-use crate::command_line::{ImageSource, Outcome};
+use crate::command_line::{ImageSource, NoRequest};
 use crate::failure::Failure;
 use crate::numbers::parse_number;
 use bi_base::Limits;
@@ -68,7 +68,7 @@ impl Selected {
 /// Returns the selection that the options give. Fails with NoSelection if there is not exactly one,
 /// else with BadValue for the value of any of the options, or with OutOfMemory. The key and the
 /// index have no effect on a part or an image, and `--escaped` has none without a name.
-pub fn selection(alloc: Global, options: &ArgMatches<'_>) -> Result<Selected, Outcome>
+pub fn selection(alloc: Global, options: &ArgMatches<'_>) -> Result<Selected, NoRequest>
     ensures selection { IfOk result (IsSelected options.now) }
     ensures failure { IfErr result (IsFailureOutcome (IsSelectionFailure options.now)) }
 {
@@ -96,7 +96,7 @@ pub fn selection(alloc: Global, options: &ArgMatches<'_>) -> Result<Selected, Ou
             let (key, index) = entry?;
             Ok(Selected::Default(key, index))
         }
-        _ => Err(Outcome::Failure(Failure::NoSelection)),
+        _ => Err(NoRequest::Failure(Failure::NoSelection)),
     }
 }
 
@@ -137,7 +137,7 @@ fn all_values<'a>(options: &ArgMatches<'a>) -> Result<AllRequest<'a>, Failure>
 
 /// Returns the name that the argument is, or the one that is printed as the argument if it is
 /// escaped. Fails with BadValue if there is none, or with OutOfMemory.
-fn name(alloc: Global, argument: &str, escaped: bool) -> Result<Vec<u8>, Outcome>
+fn name(alloc: Global, argument: &str, escaped: bool) -> Result<Vec<u8>, NoRequest>
     ensures name { IfOk result (λ name. IsNameOf escaped argument.now name.items) }
     ensures failure { IfErr result (IsFailureOutcome (IsBadValue (IsNameOf escaped argument.now))) }
 {
@@ -146,8 +146,8 @@ fn name(alloc: Global, argument: &str, escaped: bool) -> Result<Vec<u8>, Outcome
     }
     match name_shown_as(alloc, argument.as_bytes()) {
         Ok(Some(name)) => Ok(name),
-        Ok(None) => Err(Outcome::Failure(Failure::BadValue)),
-        Err(error) => Err(Outcome::Failure(Failure::Call(error))),
+        Ok(None) => Err(NoRequest::Failure(Failure::BadValue)),
+        Err(error) => Err(NoRequest::Failure(Failure::Call(error))),
     }
 }
 
@@ -161,7 +161,7 @@ fn entry(options: &ArgMatches<'_>) -> Result<(Key, u32), Failure>
 }
 
 /// Parses the name of a key. Returns None exactly for any other text.
-fn parse_key(name: &str) -> Option<Key>
+pub fn parse_key(name: &str) -> Option<Key>
     ensures some { IfSome result (λ key. name.now ≡ key_name key) }
     ensures exactly { (key : Key) → name.now ≡ key_name key → result ≡ Some key }
 {

@@ -1,18 +1,36 @@
 //! The text of an image of `build-fit`.
 
-ghost use Rattle.std.specs.Prelude.{◌≡◌, ◌≢◌, ◌∷◌, [], IfSome, IfNone};
-ghost use Rattle.bootimg.specs.CommandLine.{list_of, parts_of, IsAddress, IsImage, IsImageText};
+ghost use Rattle.std.specs.Prelude.{◌≡◌, ◌≢◌, ◌==◌, ◌∷◌, [], None, IfSome, IfNone};
+ghost use Rattle.std.specs.Prelude.{option_map, if◌then◌else◌};
+ghost use Rattle.bi_norm.specs.FitBuilding.{image_texts_model, multi};
+ghost use Rattle.bootimg.specs.CodeWords.{four_texts};
+ghost use Rattle.bootimg.specs.TextsOfWords.{text_of_word};
+ghost use Rattle.bootimg.specs.CommandLine.{list_of, IsAddress, IsImage, IsImageText};
+ghost use Rattle.bootimg.specs.Words.{parts_of};
 ghost use Rattle.bootimg.specs.CommandLine.{NoneIs};
-ghost use Rattle.bootimg.specs.declared.command_line.image.ImageTexts.{ImageTexts};
+ghost use Rattle.bootimg.specs.declared.command_line.image.ImageFields.{ImageFields};
 
-use crate::codes::{CodeField, parse_code};
+use crate::codes::{CodeField, CodeWord, parse_code_word};
 use crate::command_line::part::{PartSource, parse_part};
 use crate::numbers::parse_number;
-use bi_norm::ImageSpec;
+use bi_legacy::codes::IH_TYPE_MULTI;
+use bi_norm::{ImageSpec, ImageTexts};
+
+/// An image of `build-fit`, as a word gives it.
+#[derive(Clone, Copy)]
+pub struct ImageWord<'a> {
+    /// The image, with an empty payload.
+    pub image: ImageSpec<'a>,
+    /// The texts of its node, in place of its codes. There are none if one of the codes has no
+    /// text, or for a multi-file image: neither can be built.
+    pub texts: Option<ImageTexts<'a>>,
+    /// Where its payload comes from.
+    pub payload: PartSource<'a>,
+}
 
 /// The fields of the text of an image, between its colons.
 #[derive(Clone, Copy)]
-struct ImageTexts<'a> {
+struct ImageFields<'a> {
     name: &'a str,
     image_type: &'a str,
     arch: &'a str,
@@ -23,9 +41,9 @@ struct ImageTexts<'a> {
     length: &'a str,
 }
 
-/// Parses `NAME:TYPE:ARCH:OS:COMPRESSION:LOAD:ENTRY:LEN`, where LEN may be `@FILE`: an image with
-/// an empty payload, and where its payload comes from. Returns None exactly for any other text.
-pub fn parse_image(argument: &str) -> Option<(ImageSpec<'_>, PartSource<'_>)>
+/// Parses `NAME:TYPE:ARCH:OS:COMPRESSION:LOAD:ENTRY:LEN`, where LEN may be `@FILE`. Returns None
+/// exactly for any other text.
+pub fn parse_image(argument: &str) -> Option<ImageWord<'_>>
     ensures some { IfSome result (IsImageText argument.now) }
     ensures none { IfNone result (NoneIs (IsImageText argument.now)) }
 {
@@ -33,9 +51,10 @@ pub fn parse_image(argument: &str) -> Option<(ImageSpec<'_>, PartSource<'_>)>
 }
 
 /// Splits the text of an image at its colons. Returns None if it has not eight fields.
-fn split_image(argument: &str) -> Option<ImageTexts<'_>>
-    ensures some { IfSome result (λ texts. parts_of argument.now ≡ list_of texts) }
-    ensures none { IfNone result ((texts : ImageTexts) → parts_of argument.now ≢ list_of texts) }
+fn split_image(argument: &str) -> Option<ImageFields<'_>>
+    ensures some { IfSome result (λ fields. parts_of argument.now ≡ list_of fields) }
+    ensures none { IfNone result ((fields : ImageFields) → parts_of argument.now
+        ≢ list_of fields) }
 {
     let (name, rest) = split_field(argument)?;
     let (image_type, rest) = split_field(rest)?;
@@ -45,7 +64,7 @@ fn split_image(argument: &str) -> Option<ImageTexts<'_>>
     let (load, rest) = split_field(rest)?;
     let (entry, length) = split_field(rest)?;
     match split_field(length) {
-        None => Some(ImageTexts {
+        None => Some(ImageFields {
             name,
             image_type,
             arch,
@@ -60,7 +79,7 @@ fn split_image(argument: &str) -> Option<ImageTexts<'_>>
 }
 
 /// Splits a text at its first colon. Returns None if it has none.
-fn split_field(argument: &str) -> Option<(&str, &str)>
+pub fn split_field(argument: &str) -> Option<(&str, &str)>
     ensures some { IfSome result (λ split. parts_of argument.now
         ≡ split.0.now ∷ parts_of split.1.now) }
     ensures none { IfNone result (parts_of argument.now ≡ argument.now ∷ []) }
@@ -69,21 +88,53 @@ fn split_field(argument: &str) -> Option<(&str, &str)>
 }
 
 /// Parses the fields of the text of an image. Returns None if one of them is malformed.
-fn parse_fields(texts: ImageTexts<'_>) -> Option<(ImageSpec<'_>, PartSource<'_>)>
-    ensures some { IfSome result (IsImage texts.entry) }
-    ensures none { IfNone result (NoneIs (IsImage texts.entry)) }
+fn parse_fields(fields: ImageFields<'_>) -> Option<ImageWord<'_>>
+    ensures some { IfSome result (IsImage fields.entry) }
+    ensures none { IfNone result (NoneIs (IsImage fields.entry)) }
 {
+    let image_type = parse_code_word(CodeField::ImageType, fields.image_type)?;
+    let arch = parse_code_word(CodeField::Arch, fields.arch)?;
+    let os = parse_code_word(CodeField::Os, fields.os)?;
+    let compression = parse_code_word(CodeField::Compression, fields.compression)?;
     let image = ImageSpec {
-        name: texts.name.as_bytes(),
-        image_type: parse_code(CodeField::ImageType, texts.image_type)?,
-        arch: parse_code(CodeField::Arch, texts.arch)?,
-        os: parse_code(CodeField::Os, texts.os)?,
-        compression: parse_code(CodeField::Compression, texts.compression)?,
-        load: parse_address(texts.load)?,
-        entry: parse_address(texts.entry)?,
+        name: fields.name.as_bytes(),
+        image_type: image_type.code,
+        arch: arch.code,
+        os: os.code,
+        compression: compression.code,
+        load: parse_address(fields.load)?,
+        entry: parse_address(fields.entry)?,
         payload: &[],
     };
-    Some((image, parse_part(texts.length)?))
+    Some(ImageWord {
+        image,
+        texts: node_texts(image_type, arch, os, compression),
+        payload: parse_part(fields.length)?,
+    })
+}
+
+/// Returns the texts in the node of an image with these codes. Returns None if one of the codes has
+/// no text, or for a multi-file image.
+fn node_texts<'a>(
+    image_type: CodeWord<'a>,
+    arch: CodeWord<'a>,
+    os: CodeWord<'a>,
+    compression: CodeWord<'a>,
+) -> Option<ImageTexts<'a>>
+    ensures { option_map image_texts_model result
+        ≡ (if image_type.entry.code == multi then None
+        else four_texts (text_of_word image_type.entry) (text_of_word arch.entry)
+        (text_of_word os.entry) (text_of_word compression.entry)) }
+{
+    if image_type.code == IH_TYPE_MULTI {
+        return None;
+    }
+    Some(ImageTexts {
+        image_type: image_type.text?.as_bytes(),
+        arch: arch.text?.as_bytes(),
+        os: os.text?.as_bytes(),
+        compression: compression.text?.as_bytes(),
+    })
 }
 
 /// Parses an address, or `-` for none. Returns None exactly for any other text.

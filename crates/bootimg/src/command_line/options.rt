@@ -2,13 +2,14 @@
 
 ghost use Rattle.std.specs.Prelude.{◌≡◌, IfOk, IfErr, IfSome, IfNone, codes};
 ghost use Rattle.bootimg.specs.CommandLine.{limit_of, value_of};
-ghost use Rattle.bootimg.specs.CommandLine.{IsBadValue, IsForm, IsFormat, IsLimits, NoneIs};
+ghost use Rattle.bootimg.specs.CommandLine.{IsAlignOf, IsBadValue, IsForm, IsFormFailure};
+ghost use Rattle.bootimg.specs.CommandLine.{IsFormat, IsLimits, NoneIs};
 ghost use Rattle.bootimg.specs.Numbers.{IsNumber};
 
 use crate::command_line::table::{GREATEST_LIMIT, ZERO};
 use crate::failure::Failure;
 use crate::numbers::parse_number;
-use bi_base::Limits;
+use bi_base::{Align, Limits};
 use bi_commands::format::Format;
 use bi_norm::Form;
 use clap::ArgMatches;
@@ -33,15 +34,31 @@ fn parse_limits(argument: &str) -> Option<Limits>
     Limits::new(parse_number(argument)?, DEPTH)
 }
 
-/// Returns the form that the options give.
-pub fn form(options: &ArgMatches<'_>) -> Form
-    ensures { IsForm options.now result }
+/// Returns the form that the options give. Fails with BadValue if `--align` is given without
+/// `--external`, or is not a power of two of 4 to 1048576.
+pub fn form(options: &ArgMatches<'_>) -> Result<Form, Failure>
+    ensures form { IfOk result (IsForm options.now) }
+    ensures failure { IfErr result (IsFormFailure options.now) }
 {
-    if options.get_flag("external") {
-        Form::External
-    } else {
-        Form::Embedded
+    let external = options.get_flag("external");
+    match options.get_str("align") {
+        None if external => Ok(Form::External),
+        None => Ok(Form::Embedded),
+        Some(argument) if external => match parse_align(argument) {
+            Some(align) => Ok(Form::Aligned(align)),
+            None => Err(Failure::BadValue),
+        },
+        Some(_) => Err(Failure::BadValue),
     }
+}
+
+/// Parses an alignment. Returns None exactly for any text but a number that is a power of two of 4
+/// to 1048576.
+fn parse_align(argument: &str) -> Option<Align>
+    ensures some { IfSome result (IsAlignOf argument.now) }
+    ensures none { IfNone result (NoneIs (IsAlignOf argument.now)) }
+{
+    Align::new(parse_number(argument)?)
 }
 
 /// Returns the form of the text that the options give: JSON, or lines.

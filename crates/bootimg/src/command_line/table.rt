@@ -50,6 +50,8 @@ enum OptionForm {
     Required,
     /// `--NAME VALUE`, without a default.
     Optional,
+    /// `--NAME VALUE`, any number of times.
+    Repeated,
     /// The same, or `-SHORT VALUE`.
     Short(char),
     /// `--NAME VALUE`, with this default.
@@ -170,6 +172,7 @@ fn argument<'a>(alloc: Global, option: &OptionText) -> Arg<'a>
         OptionForm::Flag => argument.long(option.name).action(ArgAction::SetTrue),
         OptionForm::Required => with_value(argument, option).required(true),
         OptionForm::Optional => with_value(argument, option),
+        OptionForm::Repeated => with_value(argument, option).action(ArgAction::Append),
         OptionForm::Short(letter) => with_value(argument, option).short(letter),
         OptionForm::Default(value) => with_value(argument, option).default_value(value),
         OptionForm::Positional => argument.value_name(option.value_name),
@@ -277,6 +280,13 @@ const EXTERNAL_NORMAL: OptionText = OptionText {
     form: OptionForm::Flag,
 };
 
+const ALIGN: OptionText = OptionText {
+    name: "align",
+    value_name: "N",
+    help: "With --external: place each payload at a multiple of N, a power of two of 4 to 1048576",
+    form: OptionForm::Optional,
+};
+
 const EXTERNAL_BUILT: OptionText = OptionText {
     help: "Write the payloads after the tree, not inside it",
     ..EXTERNAL_NORMAL
@@ -357,28 +367,28 @@ const CAUSE: OptionText = OptionText {
 const OS: OptionText = OptionText {
     name: "os",
     value_name: "OS",
-    help: "The operating system: a name as list shows it, or a number of at most 255",
+    help: "The operating system: a name that mkimage has, or a number of at most 255",
     form: OptionForm::Required,
 };
 
 const ARCH: OptionText = OptionText {
     name: "arch",
     value_name: "ARCH",
-    help: "The processor architecture: a name as list shows it, or a number of at most 255",
+    help: "The processor architecture: a name that mkimage has, or a number of at most 255",
     form: OptionForm::Required,
 };
 
 const TYPE: OptionText = OptionText {
     name: "type",
     value_name: "TYPE",
-    help: "The image type: a name as list shows it, or a number of at most 255",
+    help: "The image type: a name that mkimage has, or a number of at most 255",
     form: OptionForm::Required,
 };
 
 const COMPRESSION: OptionText = OptionText {
     name: "compression",
     value_name: "COMPRESSION",
-    help: "The compression: a name as list shows it, or a number of at most 255",
+    help: "The compression: a name that mkimage has, or a number of at most 255",
     form: OptionForm::Default(NO_COMPRESSION),
 };
 
@@ -417,6 +427,29 @@ const LENGTHS: OptionText = OptionText {
     form: OptionForm::Positionals,
 };
 
+const CONFIGURATIONS: OptionText = OptionText {
+    name: "config",
+    value_name: "NAME:KEY=IMAGE[,IMAGE]..[:KEY=..]..",
+    help: "A configuration with its lists of images, KEY one of kernel, fdt, ramdisk, firmware, \
+         loadables, script; may be given any number of times",
+    form: OptionForm::Repeated,
+};
+
+const DEFAULT_NAME: OptionText = OptionText {
+    name: "default",
+    value_name: "NAME",
+    help: "The default configuration, one of those of --config; else it is the first",
+    form: OptionForm::Optional,
+};
+
+const HASH: OptionText = OptionText {
+    name: "hash",
+    value_name: "ALGO[,ALGO]..",
+    help: "The hash nodes of each image: of crc32, md5, sha1, sha256, sha384, sha512, in this \
+         order, or none; without the option sha256",
+    form: OptionForm::Optional,
+};
+
 const DESCRIPTION: OptionText = OptionText {
     name: "description",
     value_name: "TEXT",
@@ -445,8 +478,11 @@ static READING_COMMANDS: [CommandText; 8] = [
                  flattened image tree has one normal form with --external, and another without.\n\n\
                  Signature nodes are kept, and not checked: a signature may no longer be valid. A\n\
                  note on standard error has their number, if there are any.\n\n\
+                 With --external, another note says when the payloads of a file were aligned to\n\
+                 more bytes than those of the output, as mkimage -E -B aligns them: --align keeps\n\
+                 that. With another N than 4 the output is no normal form, but means the same.\n\n\
                  Example: bootimg normalise kernel.uimage > normal.uimage",
-        options: &[EXTERNAL_NORMAL, OFFSET, LIMIT, OUTPUT, FILE],
+        options: &[EXTERNAL_NORMAL, ALIGN, OFFSET, LIMIT, OUTPUT, FILE],
     },
     CommandText {
         name: "show",
@@ -582,6 +618,7 @@ static CHANGING_COMMANDS: [CommandText; 3] = [
             NEW_TIME,
             HASHES,
             EXTERNAL_NORMAL,
+            ALIGN,
             OFFSET,
             LIMIT,
             OUTPUT,
@@ -656,9 +693,9 @@ static BUILDING_COMMANDS: [CommandText; 2] = [
              may be in a file: LEN is then @FILE. If each part is, standard input is not read.\n\
              An image of type multi or script has any number of parts, and any other image\n\
              has one.\n\n\
-             OS, ARCH, TYPE and COMPRESSION are names as list shows them, or numbers of at\n\
-             most 255. Numbers are decimal, or hexadecimal with 0x. mkimage reads addresses\n\
-             as hexadecimal without 0x, too.\n\n\
+             OS, ARCH, TYPE and COMPRESSION are names that mkimage has, or numbers of at most\n\
+             255. Numbers are decimal, or hexadecimal with 0x. mkimage reads addresses as\n\
+             hexadecimal without 0x, too.\n\n\
              Example: bootimg build-legacy --os linux --arch arm --type kernel < zImage > \
              uImage\n\
              Example: bootimg build-legacy --os linux --arch arm --type multi @zImage @initrd > \
@@ -684,20 +721,33 @@ static BUILDING_COMMANDS: [CommandText; 2] = [
         usage: "bootimg build-fit [OPTIONS] [IMAGE]... < PAYLOADS > FIT",
         after_help: "\
              Builds a flattened image tree, and writes it to standard output. Each payload has\n\
-             its SHA-256, and configuration conf-1 lists the images by their types. Of two\n\
-             devicetrees in conf-1, the second is an overlay, which U-Boot applies to the\n\
-             first.\n\n\
+             its SHA-256, or what --hash names. Without --config, configuration conf-1 lists the\n\
+             images by their types, and of two devicetrees in it the second is an overlay, which\n\
+             U-Boot applies to the first. With --config there are these configurations instead.\n\n\
              An IMAGE is NAME:TYPE:ARCH:OS:COMPRESSION:LOAD:ENTRY:LEN. TYPE, ARCH, OS and\n\
-             COMPRESSION are names as list shows them for a legacy image, or numbers of at\n\
-             most 255. LOAD and ENTRY are addresses, or - for none. LEN is the length of the\n\
-             payload in bytes. The payloads are read from standard input, one after another,\n\
-             and together are the whole input. A payload may be in a file, whose name has no\n\
-             colon: LEN is then @FILE. If each payload is, standard input is not read. Numbers\n\
-             are decimal, or hexadecimal with 0x.\n\n\
+             COMPRESSION are names that mkimage has, or numbers of at most 255. LOAD and ENTRY\n\
+             are addresses, or - for none. LEN is the length of the payload in bytes. The\n\
+             payloads are read from standard input, one after another, and together are the\n\
+             whole input. A payload may be in a file, whose name has no colon: LEN is then\n\
+             @FILE. If each payload is, standard input is not read. Numbers are decimal, or\n\
+             hexadecimal with 0x.\n\n\
              Example: bootimg build-fit kernel-1:kernel:arm:linux:none:0x8000:0x8000:4096 \
              < zImage > kernel.itb\n\
-             Example: bootimg build-fit kernel-1:kernel:arm:linux:none:0x8000:0x8000:@zImage > \
-             kernel.itb",
-        options: &[EXTERNAL_BUILT, DESCRIPTION, TIME, LIMIT, OUTPUT, IMAGES],
+             Example: bootimg build-fit --config a:kernel=k:fdt=d --config b:kernel=k:fdt=e,o \
+             k:kernel:arm64:linux:gzip:0x80000:0x80000:@Image.gz \
+             d:flat_dt:arm64:linux:none:-:-:@a.dtb e:flat_dt:arm64:linux:none:-:-:@b.dtb \
+             o:flat_dt:arm64:linux:none:-:-:@b.dtbo > boards.itb",
+        options: &[
+            CONFIGURATIONS,
+            DEFAULT_NAME,
+            HASH,
+            EXTERNAL_BUILT,
+            ALIGN,
+            DESCRIPTION,
+            TIME,
+            LIMIT,
+            OUTPUT,
+            IMAGES,
+        ],
     },
 ];

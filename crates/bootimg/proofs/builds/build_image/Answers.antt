@@ -1,7 +1,7 @@
 use Rattle.std.proofs.Common.{Err, inr, refl, ap, subst, sym, ◌∙◌}
 use Rattle.std.proofs.lemmas.Result.{err_from_is_err_and}
 use Rattle.bootimg.specs.CommandLine.{reads_input, sources_of}
-use Rattle.bootimg.specs.ReadParts.{IsReadingProblem}
+use Rattle.bootimg.specs.ReadParts.{IsReadingFailure}
 use Rattle.bootimg.specs.Runs.{BuiltOfFiles, BuiltWithInput}
 use Rattle.bootimg.proofs.BuildRuns.{all_parts_read, are_parts, as_many, no_parts_read}
 use Rattle.bootimg.proofs.builds.build_image.Goals as goal
@@ -13,7 +13,7 @@ returns-in_err-read-clause-work g c =
     let p = err_from_is_err_and c.from_residual.result c.from_residual.ensures.1 in
     no_parts_read files c.args.plan.now c.args.limits _ c.in_err-read.field-0.0 _ _
     (subst
-    (λ sources. IsReadingProblem files c.args.limits sources c.in_err-read.field-0.0 (steps c.args.files.now)
+    (λ sources. IsReadingFailure files c.args.limits sources c.in_err-read.field-0.0 (steps c.args.files.now)
     (steps c.read_parts.new.files))
     c.sources-sources.ensures c.in_err-read.ensures.failed)
     refl (p.1 ∙ ap (λ e. Err e) p.2) refl

@@ -1,7 +1,7 @@
 use Rattle.std.proofs.Common.{◌≡◌, codes, inl, rules}
 use Rattle.bootimg.specs.CommandLine.{IsBadValue, IsFitPlanFailure, IsTaskFailure, NotFit, NotPlaced, given_offset}
 use Rattle.bootimg.specs.Numbers.{IsNumber}
-use Rattle.bootimg.specs.declared.command_line.Outcome.TheVariants.{Failure}
+use Rattle.bootimg.specs.declared.command_line.NoRequest.TheVariants.{Failure}
 use Rattle.bootimg.proofs.CommandLines.{outcome_weaker}
 use Rattle.bootimg.proofs.command_line.parse_job.Goals as goal
 

@@ -25,7 +25,7 @@ loop-payload-preserved g c = (
   omega (arith, c.loop-payload.invariant.0),
   next_put c.args.directory.now c.args.payloads.now c.loop-payload.payload-index c.payload-item.result c.as_str.result.now _ _ _ _ _
       c.loop-payload-test.true c.payload-item.is c.as_str.ensures.value c.loop-payload.invariant.1 c.in-Ok.ensures.is_new
-      c.in-Ok.ensures.made c.in-Ok-fill.ensures.filled,
+      c.in-Ok.ensures.made c.in-Ok-write_payload.ensures.filled,
 )
 
 pub returns-clause-put : goal.returns-clause-put

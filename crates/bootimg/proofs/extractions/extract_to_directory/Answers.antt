@@ -16,9 +16,9 @@ returns-in-Err-extract_all g c =
 pub returns-in-Ok-save_all : goal.returns-in-Ok-save_all
 returns-in-Ok-save_all g c =
     all_saved _ _ c.args.request.now _ _ _ c.in-Ok.image.items c.deref.result.now c.image_at.result.now c.without_slashes.result.now
-    (payloads_model c.in-Ok-extract_all.all) _ _ c.with_status.result c.in-Ok.ensures.read c.in-Ok.ensures.same_files c.deref.ensures.value
+    (payloads_model c.in-Ok-extract_all.all) _ _ c.with_answer.result c.in-Ok.ensures.read c.in-Ok.ensures.same_files c.deref.ensures.value
     c.image_at.ensures c.in-Ok-extract_all.ensures.payloads c.without_slashes.ensures (ap (map payload_file) c.deref-2.ensures.value)
-    c.in-Ok-save_all.ensures.saved c.with_status.ensures refl
+    c.in-Ok-save_all.ensures.saved c.with_answer.ensures refl
 
 pub returns : goal.returns
 returns g c =

@@ -2,7 +2,6 @@ use Rattle.std.proofs.Common.{refl, subst, ap}
 use Rattle.std.proofs.Common.{Err}
 use Rattle.bi_base.specs.Writing.{WroteAndFlushed, WriteOrFlushStopped}
 use Rattle.bootimg.specs.Runs.{WroteDifferences, NotAllWritten, NotCompared}
-use Rattle.bootimg.specs.Tasks.{EndedWith}
 use Rattle.bootimg.proofs.jobs.compare_files.Goals as goal
 
 pub returns-in-Ok-write_and_flush : goal.returns-in-Ok-write_and_flush
@@ -11,7 +10,7 @@ returns-in-Ok-write_and_flush g c old new =
     WroteDifferences c.in-Ok.comparison.same _ c.in-Ok.ensures.compared
     (subst (λ bytes. WroteAndFlushed (trace c.args.output.now) bytes (trace c.write_and_flush.new.target))
     c.as_bytes.ensures.value c.in-Ok-write_and_flush.ensures)
-    c.with_status.result (subst (λ status. EndedWith status c.with_status.result) c.status.ensures c.with_status.ensures) refl
+    c.with_answer.result c.with_answer.ensures refl
 
 pub returns-in-Ok : goal.returns-in-Ok
 returns-in-Ok g c old new =
@@ -25,4 +24,4 @@ returns-in-Ok g c old new =
 pub returns : goal.returns
 returns g c old new =
     NotCompared c.in-Err.error c.in-Err.ensures.failed
-    (record { nothing_written = refl; outcome = ap (λ p. Err p) c.problem_of.ensures })
+    (record { nothing_written = refl; outcome = ap (λ p. Err p) c.compare_failure.ensures })

@@ -2,7 +2,7 @@ use Rattle.std.proofs.Common.{◌∙◌, ap, refl, subst}
 use Rattle.std.proofs.Common.{Err}
 use Rattle.bi_base.specs.Writing.{WroteAndFlushed, WriteOrFlushStopped}
 use Rattle.bootimg.specs.declared.command_line.source.ImageSource.TheVariants.{Standard}
-use Rattle.bootimg.specs.Runs.{WroteExplanation, ExplanationNotWritten, NoMemoryForExplanation, problem}
+use Rattle.bootimg.specs.Runs.{WroteExplanation, ExplanationNotWritten, NoMemoryForExplanation, source_failure}
 use Rattle.bootimg.proofs.jobs.explain.Goals as goal
 
 pub returns-in-Ok-write_and_flush : goal.returns-in-Ok-write_and_flush
@@ -11,7 +11,7 @@ returns-in-Ok-write_and_flush g c input =
     WroteExplanation
     (subst (λ bytes. WroteAndFlushed (trace c.args.output.now) bytes (trace c.write_and_flush.new.target))
     (c.as_bytes.ensures.value ∙ c.in-Ok.ensures) c.in-Ok-write_and_flush.ensures)
-    c.with_status.result c.with_status.ensures refl refl
+    c.with_answer.result c.with_answer.ensures refl refl
 
 pub returns-in-Ok : goal.returns-in-Ok
 returns-in-Ok g c input =
@@ -27,6 +27,6 @@ returns g c input =
     NoMemoryForExplanation
     (record {
       nothing_written = refl;
-      outcome = c.job_failed-in-Err.ensures ∙ ap (λ failure. Err (problem Standard failure)) c.from.ensures;
+      outcome = c.job_failed-in-Err.ensures ∙ ap (λ failure. Err (source_failure Standard failure)) c.from.ensures;
     })
     refl

@@ -13,6 +13,6 @@ returns-in-Ok-clause-done g c =
 
 pub returns-clause-failed : goal.returns-clause-failed
 returns-clause-failed g c =
-    held_failure _ _ _ _ _ _ _ c.do_job.result c.in-Err.problem _ c.in-Err.is
+    held_failure _ _ _ _ _ _ _ c.do_job.result c.in-Err.failed _ c.in-Err.is
     (c.new-memory.ensures.contents ∙ ap (λ items. Some items) c.new-bytes.ensures.items) c.new-memory.ensures.well c.do_job.ensures.work
     refl c.in_memory.ensures

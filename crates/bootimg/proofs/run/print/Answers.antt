@@ -21,4 +21,4 @@ returns-in-Err g c kind input steps is_usage =
     IsNotWritten (asked_for kind c.args.is_usage is_usage (search rules)) c.in-Err.error
     (subst (λ bytes. WriteOrFlushStopped (trace c.args.output.now) bytes (trace c.write_and_flush.new.target) c.in-Err.error)
     c.as_bytes-2.ensures.value c.in-Err.ensures)
-    c.report.ensures.line refl refl c.report.ensures.status
+    c.report_failure.ensures.line refl refl c.report_failure.ensures.status

@@ -2,6 +2,6 @@ use Rattle.std.proofs.Common.{take}
 use Rattle.bootimg.specs.CommandLine.{texts_of, AreImages}
 use Rattle.bootimg.proofs.command_line.build.parse_images.Given as goal
 
--- The arguments so far are the images and payloads so far.
+-- The arguments so far are the images, texts and payloads so far.
 abbrev pub invariant-loop-index : goal.invariant-loop-index
-invariant-loop-index l = AreImages (texts_of (take l.index l.arguments)) l.images.items l.payloads.items
+invariant-loop-index l = AreImages (texts_of (take l.index l.arguments)) l.images.items l.texts.items l.payloads.items

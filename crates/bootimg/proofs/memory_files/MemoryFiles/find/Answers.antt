@@ -4,7 +4,10 @@ use Rattle.bootimg.proofs.MemoryLogs.{found_after_all, nothing_is_found, one_ste
 use Rattle.bootimg.proofs.memory_files.MemoryFiles.find.Goals as goal
 
 pub loop-left-init : goal.loop-left-init
-loop-left-init c = record { within = omega arith; same = found_after_all c.args.self.now.log.items c.len-left.result c.args.name.now (omega arith) }
+loop-left-init c = record {
+  within = omega arith;
+  same = found_after_all c.args.self.now.log.items c.len-left.result c.args.name.now (omega arith);
+}
 
 pub returns-in-Has : goal.returns-in-Has
 returns-in-Has c =
