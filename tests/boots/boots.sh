@@ -127,14 +127,11 @@ tree_of mkimage > mkimage.its
 check "mkimage makes a tree" mkimage -E -f mkimage.its images/mkimage.itb
 check "a tree is normalised" bootimg normalise images/mkimage.itb -o images/normal.itb
 check "a tree is normalised, with payloads after it" bootimg normalise --external images/mkimage.itb -o images/external.itb
-trees="built.itb converted.itb updated.itb normal.itb external.itb"
-if bootimg normalise --help | grep -q -e --align; then
-    check "a tree is normalised, with aligned payloads after it" \
-        bootimg normalise --external --align 512 images/mkimage.itb -o images/aligned.itb
-    trees="$trees aligned.itb"
-else
-    echo "skipped: normalise has no option --align"
-fi
+check "a tree is normalised, with aligned payloads after it" \
+    bootimg normalise --external --align 512 images/mkimage.itb -o images/aligned.itb
+check "mkimage makes a tree with aligned payloads after it" mkimage -E -B 200 -f mkimage.its images/mkaligned.itb
+check "the two aligned trees mean the same" bootimg compare images/aligned.itb images/mkaligned.itb
+trees="built.itb converted.itb updated.itb normal.itb external.itb aligned.itb mkaligned.itb"
 
 # Trees that U-Boot refuses: without a time, without a description, and with a unit address.
 check "a tree without a time" bootimg update --hashes updated.dtb -o images/untimed.itb
@@ -322,7 +319,7 @@ for tree in built.itb updated.itb normal.itb; do
 done
 tail -n +2 answers/script-mkimage.itb > wanted
 for tree in $trees; do
-    case $tree in external.itb | aligned.itb)
+    case $tree in external.itb | aligned.itb | mkaligned.itb)
         check "U-Boot does with the script of $tree what it does with that of mkimage's" \
             sh -c 'tail -n +2 "$1" | diff wanted -' sh "answers/script-$tree"
         ;;
@@ -350,5 +347,5 @@ is_used_in_place() {
     starts mkimage "setenv fdt_high ffffffffffffffff" "bootm @aligned.itb#conf-1" &&
         answers start off "Using Device Tree in place at [0-9a-f]*[02468ace]00, end .*"
 }
-[ ! -e images/aligned.itb ] || check "the devicetree of aligned.itb is used in place" is_used_in_place
+check "the devicetree of aligned.itb is used in place" is_used_in_place
 finish

@@ -7,7 +7,7 @@ root=$(cd "$(dirname "$0")/../.." && pwd)
 . "$root/tests/kit"
 
 work_in_new_directory
-test_crate command_tests "bi_commands bi_norm bi_fit bi_legacy bi_base scripted_io"
+test_crate command_tests "bi_commands bi_norm bi_fit bi_legacy bi_hash bi_base scripted_io"
 link_tests commands
 run_tests
 finish

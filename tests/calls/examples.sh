@@ -7,15 +7,15 @@ set -u
 root=$(cd "$(dirname "$0")/../.." && pwd)
 . "$root/tests/kit"
 
-# examples_of FILE: writes each example of a source as a module `CRATE_FUNCTION.rt` of this directory.
+# examples_of FILE: writes each example of a source as a module `CRATE_MODULE_FUNCTION.rt` of this directory.
 examples_of() {
-    awk -v crate="$(basename "$(dirname "$(dirname "$1")")")" '
+    awk -v crate="$(basename "$(dirname "$(dirname "$1")")")" -v module="$(basename "$1" .rt)" '
         /^ *\/\/\/ # Example$/ { wanted = 1 }
         wanted && /^ *\/\/\/ ```$/ { inside = !inside; if (!inside) { wanted = 0; done = 1 }; next }
         inside { sub(/^ *\/\/\/ ?/, ""); if (/^use /) uses = uses $0 "\n"; else if (NF) body = body "    " $0 "\n" }
         done && /^ *pub fn / {
             match($0, /fn [a-z_]+/)
-            name = crate "_" substr($0, RSTART + 3, RLENGTH - 3) ".rt"
+            name = crate "_" module "_" substr($0, RSTART + 3, RLENGTH - 3) ".rt"
             print uses "use crate::files::{board, kernel};\nuse std::test::Fail;\n" > name
             print "#[test]\nfn example(rt: HostRuntime) -> Result<(), Fail> {" > name
             print "    let (board, kernel) = (board(), kernel());\n" body "    Ok(())\n}" > name
@@ -56,16 +56,17 @@ cd ..
 
 # Each of these calls has an example, and each example is one of them, so that none is left out.
 cat > calls << END
-bi_base_new
-bi_commands_extract
-bi_commands_update
-bi_describe_compare
-bi_describe_describe
-bi_fit_read
-bi_norm_build_legacy
-bi_norm_normalise
-bi_report_listing
-bi_report_verify
+bi_base_align_new
+bi_base_limits_new
+bi_commands_extract_extract
+bi_commands_update_update
+bi_describe_compare_compare
+bi_describe_describe_describe
+bi_fit_fit_read
+bi_norm_legacy_build_legacy
+bi_norm_normal_form_normalise
+bi_report_list_listing
+bi_report_verify_verify
 END
 check "these calls have an example" diff calls found
 check "each example is there as often as its heading" test "$(grep -Rh '^ */// # Example$' "$root"/crates/*/src | wc -l)" = "$(wc -l < found)"
@@ -75,9 +76,9 @@ crate_of_examples examples_of_calls "bi_commands bi_norm bi_fit bi_legacy bi_bas
 run_tests
 
 # An example that is wrong fails: here with one value that is another one.
-sed -i 's/Limits::new(63, 64).is_none()/Limits::new(63, 64).is_some()/' examples/bi_base_new.rt
-check "an example is made wrong" grep -q 'new(63, 64).is_some()' examples/bi_base_new.rt
-crate_of_examples wrong_example bi_base bi_base_new
+sed -i 's/Limits::new(63, 64).is_none()/Limits::new(63, 64).is_some()/' examples/bi_base_limits_new.rt
+check "an example is made wrong" grep -q 'new(63, 64).is_some()' examples/bi_base_limits_new.rt
+crate_of_examples wrong_example bi_base bi_base_limits_new
 try_crate --steps 20000000 --seconds 300 < /dev/null > log 2>&1
 check "it fails" grep -q '^test .* FAILED$' log
 finish

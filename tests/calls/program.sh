@@ -8,8 +8,8 @@ root=$(cd "$(dirname "$0")/../.." && pwd)
 
 work_in_new_directory
 program_crate
-link_tests program tests tests/building tests/checking tests/explaining tests/extracting tests/files tests/json tests/memory tests/offsets \
-    tests/parts tests/saving tests/scanning tests/showing tests/streams tests/unpacking tests/updating
+link_tests program tests tests/aligning tests/building tests/checking tests/explaining tests/extracting tests/files tests/json tests/memory \
+    tests/offsets tests/planning tests/parts tests/saving tests/scanning tests/showing tests/streams tests/unpacking tests/updating
 link_tests commands images
 test_modules tests images
 run_tests

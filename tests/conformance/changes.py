@@ -16,6 +16,8 @@ COMMANDS = (
     "scan", "scan --limit 200", "list --offset 1", "check --offset 64 --limit 500", "normalise --offset 0x40", "list --json --offset 73",
     "list --json", "verify --json", "describe --json", "describe --json --limit 400", "check --json", "check --json --allow unhashed",
     "show", "show --layout", "show --layout --limit 200",
+    "normalise --external --align 8", "normalise --external --align 64 --limit 500", "update --hashes --external --align 16",
+    "update --time 5 --external --align 0x100 --limit 800",
 )
 # Commands that compare a changed file with the file that it was.
 COMPARING = (
@@ -71,5 +73,5 @@ def changed_runs(vectors, count):
         command = source.choice(COMMANDS + COMPARING)
         arguments = [name if word == "NAME" else word for word in shlex.split(command)]
         status, output, errors = reference.main(arguments, bytes(file), vectors.named)
-        line = errors.decode().removeprefix("bootimg: ").removesuffix("\n")
-        yield Run(f"change {number}", name, arguments, status, output, line), bytes(file)
+        lines = "\n".join(line.removeprefix("bootimg: ") for line in errors.decode().splitlines())
+        yield Run(f"change {number}", name, arguments, status, output, lines), bytes(file)

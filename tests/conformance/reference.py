@@ -39,9 +39,12 @@ MORE_CODES = {
         37: "imx8mimage", 38: "imx8image", 39: "copro", 40: "sunxi_egon", 41: "sunxi_toc0"},
     "compression": {},
 }
+# Of the types in this table, an argument may name those that are no format of one vendor. It may name powerpc too.
+GIVEN_TYPES = (7, 14, 20, 29, 31, 32, 33, 39)
 FIELDS = ("os", "arch", "type", "compression")
 KEYS = ("kernel", "fdt", "ramdisk", "firmware", "loadables", "script")
-KEY_OF_TYPE = {2: "kernel", 8: "fdt", 3: "ramdisk", 5: "firmware", 1: "loadables", 6: "script"}
+KEY_OF_TYPE = {
+    "kernel": b"kernel", "flat_dt": b"fdt", "ramdisk": b"ramdisk", "firmware": b"firmware", "standalone": b"loadables", "script": b"script"}
 PLACES = (b"data", b"data-offset", b"data-position", b"data-size")
 DIGESTS = {
     b"crc32": lambda data: cell(zlib.crc32(data)),
@@ -74,8 +77,8 @@ def up4(number):
     return number + -number % 4
 
 
-def padded(data):
-    return data + bytes(-len(data) % 4)
+def padded(data, align=4):
+    return data + bytes(-len(data) % align)
 
 
 def cell_at(data, at):
@@ -289,8 +292,8 @@ class Blob(Header):
         return at + 12 + size
 
 
-def blob_text(cpu, reservations, root):
-    """The normal text of a blob."""
+def blob_text(cpu, reservations, root, align=4):
+    """The normal text of a blob. Its length is a multiple of `align`."""
     offsets, strings = {}, bytearray()
 
     def tokens(node):
@@ -305,7 +308,7 @@ def blob_text(cpu, reservations, root):
     memory = b"".join(struct.pack(">2Q", *pair) for pair in [*reservations, (0, 0)])
     structure = tokens(root) + cell(9)
     at = 40 + len(memory)
-    total = up4(at + len(structure) + len(strings))
+    total = len(padded(bytes(at) + structure + strings, align))
     header = struct.pack(">10I", 0xD00DFEED, total, at, at + len(structure), 40, 17, 16, cpu, len(strings), len(structure))
     return (header + memory + structure + strings).ljust(total, b"\0")
 
@@ -395,43 +398,63 @@ class Fit:
         return sum(child.name.startswith(b"signature") for node in nodes for child in node.children)
 
 
-def fit_text(cpu, reservations, root, payloads, external, limit):
-    """The normal text of a tree whose image nodes have no property that holds or places a payload, but these payloads."""
+def fit_text(cpu, reservations, root, payloads, options):
+    """The text of a tree whose image nodes have no property that holds or places a payload, but these payloads."""
+    external, align, limit = options["external"], options.get("align", 4), options["limit"]
     images, after = root.child(b"images").children, b""
     for node, payload in zip(images, payloads):
         if payload is None:
             continue
         if external:
-            after = padded(after)
+            after = padded(after, align)
             node.properties |= {b"data-offset": cell(len(after)), b"data-size": cell(len(payload))}
             after += payload
         else:
             node.properties[b"data"] = payload
-    text = blob_text(cpu, reservations, root) + after
+    text = blob_text(cpu, reservations, root, align) + after
     if len(text) > limit:
         refuse("TooLarge", limit)
     return text
 
 
-def built_fit(description, time, images, external, limit):
-    """The FIT of these images, each a name, codes, a load address, an entry point and a payload."""
+def texts_of(codes):
+    """The names that an image node has of codes, or None of one that has no name."""
+    return {field: CODES[field].get(codes[field]) for field in FIELDS}
+
+
+def lists_by_types(images):
+    """Under each key, the names of the images whose type belongs to it."""
+    lists = {}
+    for name, texts, *_ in images:
+        if texts["type"] in KEY_OF_TYPE:
+            lists.setdefault(KEY_OF_TYPE[texts["type"]], []).append(name)
+    return lists
+
+
+def built_fit(description, time, images, options):
+    """The FIT of these images, each a name, texts, a load address, an entry point and a payload."""
     text = description + b"\0"
-    root, images_node, configurations, configuration = map(Node, (b"", b"images", b"configurations", b"conf-1"))
+    root, images_node, configurations = map(Node, (b"", b"images", b"configurations"))
     root.properties = {b"#address-cells": cell(1), b"description": text, b"timestamp": cell(time)}
     root.children = [images_node, configurations]
-    configurations.properties, configurations.children = {b"default": b"conf-1\0"}, [configuration]
-    configuration.properties = {b"description": text}
-    for name, codes, load, entry, payload in images:
-        node, hash_node = Node(name), Node(b"hash-1")
-        node.properties = {field.encode(): CODES[field][codes[field]].encode() + b"\0" for field in FIELDS}
+    for name, texts, load, entry, payload in images:
+        node = Node(name)
+        node.properties = {field.encode(): texts[field].encode() + b"\0" for field in FIELDS}
         node.properties |= {key: cell(value) for key, value in ((b"load", load), (b"entry", entry)) if value is not None}
         node.properties[b"description"] = text
-        hash_node.properties = {b"algo": b"sha256\0", b"value": hashlib.sha256(payload).digest()}
-        node.children = [hash_node]
+        for number, algorithm in enumerate(options.get("hash", [b"sha256"]), 1):
+            hash_node = Node(b"hash-%d" % number)
+            hash_node.properties = {b"algo": algorithm + b"\0", b"value": DIGESTS[algorithm](payload)}
+            node.children.append(hash_node)
         images_node.children.append(node)
-        key = KEY_OF_TYPE[codes["type"]].encode()
-        configuration.properties[key] = configuration.properties.get(key, b"") + name + b"\0"
-    return fit_text(0, [], root, [payload for *_, payload in images], external, limit)
+    plan = options.get("config") or [(b"conf-1", lists_by_types(images))]
+    configurations.properties = {b"default": options.get("default", plan[0][0]) + b"\0"}
+    for name, lists in plan:
+        configuration = Node(name)
+        configuration.properties = {key: b"".join(image + b"\0" for image in names) for key, names in lists.items()}
+        configuration.properties[b"description"] = text
+        configurations.children.append(configuration)
+    return fit_text(0, [], root, [payload for *_, payload in images], options)
 
 
 # The commands.
@@ -660,10 +683,26 @@ def normal_fit(image, options):
     blob = image.blob
     for node, _, _, _ in image.images:
         node.properties = dict(image.properties(node))
-    text = fit_text(blob.cpu, blob.reservations, blob.root, image.payloads(), options["external"], options["limit"])
-    if image.signatures():
-        return 0, text, f"bootimg: note: {image.signatures()} signature nodes carried, not checked\n".encode()
-    return text
+    text = fit_text(blob.cpu, blob.reservations, blob.root, image.payloads(), options)
+    notes = [f"{image.signatures()} signature nodes carried, not checked"] if image.signatures() else []
+    if options["external"] and "align" not in options:
+        notes += notes_on_places(image, text)
+    return 0, text, text_of("bootimg: note: " + note for note in notes)
+
+
+def notes_on_places(image, text):
+    """What is noted of the payloads that the tree places after the blob, and that this text of it places elsewhere."""
+    placed = [
+        (given, before, after) for (_, payload, given, before), (*_, after) in zip(image.images, Fit(text).images)
+        if payload and given != b"data"]
+    alignment = 1048576
+    while any(before % alignment for _, before, _ in placed):
+        alignment //= 2
+    if any(after % alignment for _, _, after in placed):
+        yield f"payloads are no longer aligned to {alignment} bytes, see --align"
+    positions = sum(given == b"data-position" for given, _, _ in placed)
+    if positions:
+        yield f"{positions} fixed positions of payloads were not kept"
 
 
 def update(file, options):
@@ -1047,8 +1086,8 @@ def convert(file, options):
         if i > 0:
             codes["compression"] = 0
         name = "fdt" if code == 8 else CODES["type"][code]
-        images.append((f"{name}-1".encode(), codes, *addresses, payload))
-    return built_fit(image.name, image.time, images, False, options["limit"])
+        images.append((f"{name}-1".encode(), texts_of(codes), *addresses, payload))
+    return built_fit(image.name, image.time, images, options | {"external": False})
 
 
 def cut(data, lengths):
@@ -1087,19 +1126,19 @@ def build_legacy(files, options):
 def build_fit(files, options):
     limit, images = options["limit"], options["words"]
     payloads = parts_of(files, [length for *_, length in images], limit)
-    if len(images) > limit:
+    if len(images) > limit or len(options["config"]) > limit:
         refuse("TooLarge", limit)
     names = []
-    for i, (name, codes, _, _, _) in enumerate(images):
-        if not name or b"/" in name or codes["type"] == 4:
+    for i, (name, texts, _, _, _) in enumerate(images):
+        if not name or b"/" in name or texts["type"] == "multi":
             refuse("BadField", i)
-        if any(codes[field] not in CODES[field] for field in FIELDS):
+        if None in texts.values():
             refuse("NoCodeName", i)
         if name in names:
             refuse("DuplicateNode", i)
         names.append(name)
     whole = [(*image[:4], payload) for image, payload in zip(images, payloads)]
-    return built_fit(options["description"].encode(), options["time"], whole, options["external"], limit)
+    return built_fit(options["description"].encode(), options["time"], whole, options)
 
 
 # The command line.
@@ -1114,9 +1153,22 @@ def number(text, most=0xFFFFFFFF, least=0):
     return value
 
 
+def given_names(field):
+    """The codes of the names that an argument for a field may be."""
+    more = {
+        word: value for value, word in MORE_CODES[field].items() if word != "invalid" and (field != "type" or value in GIVEN_TYPES)}
+    return {word: value for value, word in CODES[field].items()} | more | ({"powerpc": 7} if field == "arch" else {})
+
+
 def code(field, text):
-    known = {word: value for value, word in CODES[field].items()}
+    known = given_names(field)
     return known[text] if text in known else number(text, 255)
+
+
+def text_of_code(field, text):
+    """What an image node has for this argument: a name as it is, and the name of a number, or None if it has none."""
+    value = code(field, text)
+    return text if text in given_names(field) else CODES[field].get(value)
 
 
 def key(text):
@@ -1129,6 +1181,33 @@ def kinds(text):
     if not set(text.split(",")) <= set(CONCERNS):
         raise Refused("usage: bad value")
     return text.split(",")
+
+
+def algorithms(text):
+    names = [] if text == "none" else text.encode().split(b",")
+    if not set(names) <= set(DIGESTS) or len(set(names)) < len(names):
+        raise Refused("usage: bad value")
+    return names
+
+
+def configuration(text):
+    """The name of a configuration and its lists, which are None if the text has another form."""
+    name, *pieces = text.encode().split(b":")
+    lists = {}
+    for piece in pieces:
+        key, equals, names = piece.partition(b"=")
+        if not equals or key.decode() not in KEYS or key in lists:
+            return name, None
+        lists[key] = names.split(b",")
+    return name, lists or None
+
+
+def check_configurations(configurations, images):
+    """Refuses the first configuration that has another form, a name that it cannot have, or a name in a list that no image has."""
+    for i, (name, lists) in enumerate(configurations):
+        earlier = [other for other, _ in configurations[:i]]
+        if lists is None or not name or b"/" in name or name in earlier or not set(sum(lists.values(), [])) <= images:
+            raise Refused(f"usage: bad configuration {i}")
 
 
 def name_of(text, is_escaped):
@@ -1153,10 +1232,10 @@ def image_word(i, text):
         if len(fields) != 8:
             raise Refused("usage")
         name, kind, arch, system, compression, load, entry, length = fields
-        codes = {"type": code("type", kind), "arch": code("arch", arch), "os": code("os", system)}
-        codes["compression"] = code("compression", compression)
+        texts = {"type": text_of_code("type", kind), "arch": text_of_code("arch", arch), "os": text_of_code("os", system)}
+        texts["compression"] = text_of_code("compression", compression)
         addresses = [None if it == "-" else number(it) for it in (load, entry)]
-        return (name.encode(), codes, *addresses, length_of(length))
+        return (name.encode(), texts, *addresses, length_of(length))
     except Refused:
         raise Refused(f"usage: bad image {i}") from None
 
@@ -1165,10 +1244,18 @@ def limit_of(text):
     return number(text, 0x7FFFFFFF, 64)
 
 
+def align_of(text):
+    align = number(text, 1048576, 4)
+    if align & (align - 1):
+        raise Refused("usage: bad value")
+    return align
+
+
 # For each command, its options with how each is parsed and its default. A flag has None; an option without a default has `...` if it
-# is required.
+# is required. An option whose default is a list may be given several times.
 FLAG = None
 OFFSET = {"offset": (number, "0")}
+EXTERNAL = {"external": FLAG, "align": (align_of, ())}
 COMMANDS = {
     "list": (of_image(list_image), {"json": FLAG, **OFFSET}),
     "describe": (of_image(describe), {"json": FLAG, **OFFSET}),
@@ -1177,17 +1264,19 @@ COMMANDS = {
     "check": (of_image(check), {"allow": (kinds, ()), "json": FLAG, **OFFSET}),
     "show": (of_image(show), {"layout": FLAG}),
     "scan": (of_image(scan), {}),
-    "update": (of_image(update), {"time": (number, ()), "hashes": FLAG, "external": FLAG, **OFFSET}),
+    "update": (of_image(update), {"time": (number, ()), "hashes": FLAG, **EXTERNAL, **OFFSET}),
     "extract": (of_image(extract), {
         "part": (number, ()), "image": (str, ()), "config": (str, ()), "default": FLAG, "key": (key, "kernel"), "index": (number, "0"),
         "escaped": FLAG, **OFFSET}),
-    "normalise": (of_image(normalise), {"external": FLAG, **OFFSET}),
+    "normalise": (of_image(normalise), {**EXTERNAL, **OFFSET}),
     "convert": (of_image(convert), OFFSET),
     "build-legacy": (build_legacy, {
         "os": (lambda text: code("os", text), ...), "arch": (lambda text: code("arch", text), ...),
         "type": (lambda text: code("type", text), ...), "compression": (lambda text: code("compression", text), "none"),
         "name": (str, ""), "time": (number, "0"), "load": (number, "0"), "entry": (number, "0")}),
-    "build-fit": (build_fit, {"external": FLAG, "description": (str, ""), "time": (number, "0")}),
+    "build-fit": (build_fit, {
+        **EXTERNAL, "description": (str, ""), "time": (number, "0"), "config": (lambda texts: [configuration(text) for text in texts], []),
+        "default": (str.encode, ()), "hash": (algorithms, "sha256")}),
 }
 
 
@@ -1200,13 +1289,14 @@ def split_arguments(name, options, arguments):
             words.append(word)
             continue
         option, equals, text = word[2:].partition("=")
-        if not word.startswith("--") or option not in options or option in given or options[option] is FLAG and equals:
+        is_repeated = option in options and options[option] is not FLAG and options[option][1] == []
+        if not word.startswith("--") or option not in options or option in given and not is_repeated or options[option] is FLAG and equals:
             raise Unusable(f"unexpected argument {word}")
         if options[option] is not FLAG and not equals:
             if not arguments or arguments[0].startswith("-") and arguments[0] != "-":
                 raise Unusable(f"no value for {word}")
             text = arguments.pop(0)
-        given[option] = text
+        given[option] = given.get(option, []) + [text] if is_repeated else text
     if name == "compare" and len(words) != 2 or len(words) > 1 and not name.startswith(("build-", "compare")):
         raise Unusable("wrong number of arguments")
     return given, words
@@ -1234,12 +1324,18 @@ def parse(arguments):
             values[option] = option in given
         elif option in given or how[1] != ():
             values[option] = how[0](given.get(option, how[1]))
-    for option in {"image", "config"} & set(values):
-        values[option] = name_of(values[option], values["escaped"])
+    if "align" in values and not values["external"]:
+        raise Refused("usage: bad value")
+    if name == "extract":
+        for option in {"image", "config"} & set(values):
+            values[option] = name_of(values[option], values["escaped"])
     if name == "build-legacy":
         values["words"] = [length_of(word) for word in words]
     if name == "build-fit":
+        if "default" in values and values["default"] not in [configured for configured, _ in values["config"]]:
+            raise Refused("usage: bad value")
         values["words"] = [image_word(i, word) for i, word in enumerate(words)]
+        check_configurations(values["config"], {image for image, *_ in values["words"]})
     return command, values
 
 

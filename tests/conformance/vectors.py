@@ -26,7 +26,7 @@ class Run(NamedTuple):
     arguments: list
     status: int
     output: bytes  # or None, for any output
-    errors: str  # the line without its first word, or `*` for any text
+    errors: str  # the lines, each without its first word, or `*` for any text
 
     def name(self):
         return f"{self.group}: {self.file}: {shlex.join(self.arguments)}"
@@ -225,8 +225,8 @@ class Vectors:
         return self.bytes(name) if name in self.bodies else None
 
     def expected(self, body):
-        """The status, the output and the line on standard error that a run wants."""
-        status, output, errors = None, b"", ""
+        """The status, the output and the lines on standard error that a run wants."""
+        status, output, errors = None, b"", []
         for where, line in body:
             key, _, text = line.partition(" ")
             if key == "|":
@@ -238,12 +238,12 @@ class Vectors:
             elif key == "any":
                 output = None
             elif key == "!":
-                errors = text
+                errors.append(text)
             elif key == "status":
                 status = int(text)
             else:
                 raise ValueError(f"{where}: {line}")
-        return (2 if errors else 0) if status is None else status, output, errors
+        return (2 if errors else 0) if status is None else status, output, "\n".join(errors)
 
     def all_runs(self):
         """All runs, each as a Run; a line `refused` is one for each reading command."""

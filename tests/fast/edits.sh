@@ -49,7 +49,7 @@ is_found() {
 }
 
 check "an edit whose text is not in the source is found" \
-    is_found bi_norm src/fit_building/checks.rt 's/IH_TYPE_MULTI {/4 {/' build_checks_in_another_order
+    is_found bi_norm src/fit_building/images.rt 's/ || !has_type_or_texts/ || !has_texts/' build_checks_in_another_order
 check "an edit whose function is not in the source is found" \
     is_found bi_hash src/algo.rt 's/fn find_by_name/fn find_name/' algorithm_found_by_prefix
 
@@ -130,4 +130,32 @@ check "an edit counts if an input shows that it differs" \
 sed -i 's/ok.p/FAILED\/p/' rattle
 check "an input on which nothing differs is found" \
     judged --differs "$(echo "$judgments" | sed 's|^\([a-z_]*\) .*|FAILED: toy/\1 differs|')"
+
+# A type and an edit of one of its functions. In the test with the edit only this function is replaced by its copy.
+mkdir -p named/src
+cat > named/src/sums.rt << 'END'
+impl Sum {
+    pub fn new(n: u64) -> Sum {
+        Sum { n }
+    }
+}
+END
+cat > named.edits << 'END'
+## another_sum
+refused: sums::Sum::new
+differs: new(Sum::new(Limits::new(1))).new() => 1 | 2
+file: src/sums.rt
+old: Sum { n }
+new: Sum { n: 2 }
+END
+cat > rattle << 'END'
+#!/bin/sh
+tail -n 2 src/sums.rt > "$TMPDIR/last"
+sed -n 's/^fn \(differs_[0-9]*\).*/test \1 ... ok/p' src/sums.rt
+END
+is_renamed() {
+    TMPDIR=$PWD python3 -B "$root/tests/prover/wrong_bodies.py" --differs named named.edits "$PWD/rattle" named
+    grep -F 'matches!(new(Sum::new_wrong_1(Limits::new(1))).new(), 2)' last
+}
+check "only the function of an edit is replaced by its copy" is_renamed
 finish

@@ -20,7 +20,6 @@ An edit counts only if its function is wrong by its contract. Where the prover f
 
 An edit of the first kind counts. One of the other kinds counts only if it has a line `differs:`. This shows an input for which the
 function does something else: EXPRESSION, in the module of the function, matches the pattern RIGHT, and with the edit it matches WRONG.
-In a file that begins with a line `# Not judged yet` each edit counts that the prover refuses.
 
 A function is proved from its own code and the contracts of the functions that it calls, and `rt ci` proves those. So in a check the
 functions without an edit have no code but `unreachable!()`, and a hole for their proof: rattle takes them by their contracts.
@@ -392,17 +391,11 @@ def try_round(crate, copies, edits, texts, command, kept):
     return verdicts, None
 
 
-def is_judged(edits):
-    """Returns whether the edits of a file, or of a directory, have to count by the judge."""
-    return edits.is_dir() or not edits.read_text(encoding="utf-8").startswith("# Not judged yet")
-
-
 def report(crate, edit, finding, why, wanted="refused"):
     """Prints the verdict on an edit, and returns whether it is the wanted one: `refused` or `proved`, or any for the judge."""
     counts = finding == "false" or bool(finding and edit.differs)
     is_proved = not finding and bool(PROVED.match(why))
-    is_wanted = {"refused": counts, "not proved": bool(finding), "proved": is_proved, "judged": True}[wanted]
-    wanted = "refused" if wanted == "not proved" else wanted
+    is_wanted = {"refused": counts, "proved": is_proved, "judged": True}[wanted]
     said = f"{finding}: " if finding else ""
     print(f"{wanted if is_wanted else 'FAILED'}: {crate.name}/{edit.name}: {edit.function}: {said}{why[:160]}", flush=True)
     return is_wanted
@@ -414,9 +407,16 @@ def test_of(number, expression, pattern):
     return ["", *lines, f"    assert!(rt; matches!({expression}, {pattern}));", "}"]
 
 
-def call_of(edit):
-    """Returns the pattern of the name of the function of an edit in a call of it."""
-    return re.compile(rf"\b{edit.function.rpartition('::')[2]}(?=\(|::<)")
+def call_of(copy):
+    """Returns the pattern of the name of the function of a copy in a call of it. A method is called by its type, as `Type::name(`, or, if
+    it takes `self`, as `.name(`, of whatever type the value before the dot is. Functions of the same name of other types are not called."""
+    path, _, name = copy.edit.function.rpartition("::")
+    before = r"(?<![\w.:])"
+    if copy.text.startswith(" "):
+        by_type = rf"(?<=\b{path.rpartition('::')[2]}::)"
+        takes_self = re.search(r"\bfn \w+(?:<.*?>)?\(\s*(?:&(?:'\w+ )?)?(?:mut )?self\b", copy.text)
+        before = rf"(?:{by_type}|(?<=\.))" if takes_self else by_type
+    return re.compile(rf"{before}{name}(?=\(|::<)")
 
 
 def failed_tests(crate, texts, tests, call):
@@ -445,13 +445,13 @@ def differ(crate, edits, texts, call):
     edits = [edit for edit in edits if edit.differs]
     functions = functions_of(texts)
     copies = [copy for copy in (copy_of(edit, number, texts, functions) for number, edit in enumerate(edits, 1)) if copy]
-    copies = [copy for copy in copies if call_of(copy.edit).search(copy.edit.differs[0])]
+    copies = [copy for copy in copies if call_of(copy).search(copy.edit.differs[0])]
     rounds = [(texts, [(functions[edit.function].file, 2 * at, test_of(2 * at, *edit.differs[:2])) for at, edit in enumerate(edits)])]
     copied = add_copies(copies, texts)
     tests = []
     for copy in copies:
         number = 2 * edits.index(copy.edit) + 1
-        expression = call_of(copy.edit).sub(copy.function.rpartition("::")[2], copy.edit.differs[0])
+        expression = call_of(copy).sub(copy.function.rpartition("::")[2], copy.edit.differs[0])
         tests.append((copy.original.file, number, test_of(number, expression, copy.edit.differs[2])))
     rounds[0] = (copied, rounds[0][1] + tests)
     waiting = [edit for edit in edits if all(copy.edit != edit for copy in copies)]
@@ -507,8 +507,6 @@ def main():
         del arguments[0]
     crate, edits, *call = arguments
     crate = Path(crate)
-    if wanted == "refused" and not is_judged(Path(edits)):
-        wanted = "not proved"
     # An edit for `rt must-fail` names no function.
     is_for_rt = Path(edits).name == "must-fail"
     edits = read_edits(Path(edits))

@@ -599,7 +599,7 @@ no_fit "BadPart at 0"
 no_fit "usage: bad image 0" kernel-1:kernel:arm:linux:none:0x8000:5
 no_fit "usage: bad image 1" "$kernel" ramdisk-1:ramdisk:arm:linux:none:-:-:3:0
 no_fit "usage: bad image 0" kernel-1:kernel:arm:linux:none:-:-:-
-no_fit "usage: bad image 0" kernel-1:kernel:powerpc:linux:none:-:-:5
+no_fit "usage: bad image 0" kernel-1:kernel:invalid:linux:none:-:-:5
 check "build-fit --limit 823: TooLarge at 823" refuses "TooLarge at 823" input \
     build-fit --description k --limit 823 "$kernel" "$ramdisk"
 check "build-fit --external --limit 882: TooLarge at 882" refuses "TooLarge at 882" input \

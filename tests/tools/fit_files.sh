@@ -47,9 +47,15 @@ def judge(name, good):
         print("FAILED:", name)
 
 
-def gives(name, file, wanted, *arguments, status=0):
+def gives(name, file, wanted, *arguments, status=0, notes=()):
     result = run(file, *arguments)
-    judge(name, result.stdout == wanted and result.returncode == status and not result.stderr)
+    errors = "".join(f"bootimg: note: {note}\n" for note in notes).encode()
+    judge(name, result.stdout == wanted and result.returncode == status and result.stderr == errors)
+
+
+def not_aligned(alignment):
+    """The note that payloads are no longer aligned."""
+    return f"payloads are no longer aligned to {alignment} bytes, see --align"
 
 
 def refused(name, file, line, *arguments):
@@ -99,9 +105,27 @@ embedded = tree(images(node(b"a", [(b"data", b"abc")])))
 external = tree(images(node(b"a", [(b"data-offset", cells(0)), (b"data-size", cells(3))]))) + b"abc"
 judge("the normal forms have 124 and 159 bytes", (len(embedded), len(external)) == (124, 159))
 gives("a region after free space, embedded", offset, embedded, "normalise")
-gives("a region after free space, external", offset, external, "normalise", "--external")
+gives("a region after free space, external", offset, external, "normalise", "--external", notes=[not_aligned(32)])
+gives("the same with the alignment of the form", offset, external, "normalise", "--external", "--align", "4")
 gives("its listing", offset, b"kind fit\nboot-cpu 0\ntotal-size 157\nimage a size 3 data-offset at 160\n", "list")
 gives("its payload", offset, b"abc", "extract", "--image", "a")
+
+# The note has the greatest power of two up to 2^20 that divides the offset, where the offset in the external form, 156, is none of its
+# multiples.
+def placed_at(offset):
+    """The file of one image whose payload is at this offset."""
+    blob = external[:-3]
+    return changed(blob, 96, cells(offset - len(blob))) + bytes(offset - len(blob)) + b"abc"
+
+
+for power in range(2, 23):
+    alignment = min(2**power, 2**20)
+    for at in 2**power, 3 * 2**power:
+        if at < len(external):
+            continue
+        notes = [not_aligned(alignment)] if power > 2 else []
+        for command in ["normalise"], ["update", "--hashes"]:
+            gives(f"a payload at {at}, {command[0]}", placed_at(at), external, *command, "--external", notes=notes)
 
 # `data-position` comes before `data`.
 both = [(b"data", b"old"), (b"data-position", cells(180)), (b"data-size", cells(3))]
@@ -109,6 +133,9 @@ position = tree(images(node(b"a", both)))
 judge("the blob has 180 bytes", len(position) == 180)
 new = tree(images(node(b"a", [(b"data", b"new")])))
 gives("data-position is read before data", position + b"new", new, "normalise")
+gives("and in the external form", position + b"new", external[:-3] + b"new", "normalise", "--external",
+      notes=["1 fixed positions of payloads were not kept"])
+gives("with the alignment of the form", position + b"new", external[:-3] + b"new", "normalise", "--external", "--align", "4")
 gives("its listing", position + b"new", b"kind fit\nboot-cpu 0\ntotal-size 180\nimage a size 3 data-position at 180\n", "list")
 
 # So does `data-offset`, which comes after `data-position`.
@@ -117,7 +144,7 @@ offset_first = tree(images(node(b"a", both)))
 judge("the blob has 176 bytes", len(offset_first) == 176)
 new_external = tree(images(node(b"a", [(b"data-offset", cells(0)), (b"data-size", cells(3))]))) + b"new"
 gives("data-offset is read before data", offset_first + b"new", new, "normalise")
-gives("and in the external form", offset_first + b"new", new_external, "normalise", "--external")
+gives("and in the external form", offset_first + b"new", new_external, "normalise", "--external", notes=[not_aligned(16)])
 gives("its listing", offset_first + b"new", b"kind fit\nboot-cpu 0\ntotal-size 176\nimage a size 3 data-offset at 176\n", "list")
 gives("its payload", offset_first + b"new", b"new", "extract", "--image", "a")
 refused_by_all("and data does not help where it ends after the file", offset_first + b"ne", "OutsideFile at 100")
@@ -170,6 +197,10 @@ outside = run(three, "normalise", "--external").stdout
 judge("three payloads, external: 253 bytes", len(outside) == 253)
 gives("the external form is its own", outside, outside, "normalise", "--external")
 gives("and has the embedded one", outside, three, "normalise")
+aligned_to_8 = changed(outside[:244], 4, cells(248)) + bytes(4) + outside[244:]
+gives("with an alignment of 8", three, aligned_to_8, "normalise", "--external", "--align", "8")
+refused("it has 257 bytes", three, "TooLarge at 256", "normalise", "--external", "--align", "8", "--limit", "256")
+gives("its external form", aligned_to_8, outside, "normalise", "--external", notes=[not_aligned(8)])
 gives("the listing of the external form", outside, b"kind fit\nboot-cpu 0\ntotal-size 244\n"
       b"image a size 5 data-offset at 244\nimage b size 0 data-offset at 252\nimage c size 1 data-offset at 252\n", "list")
 for size in range(244, 253):

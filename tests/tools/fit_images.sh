@@ -17,12 +17,12 @@ need python3 python3
 need_program
 work_in_new_directory
 
-# normalise FORM IMAGE NORMAL: writes the normal form, and nothing to standard error.
+# normalise FORM IMAGE NORMAL: writes the normal form, and at most a note on payloads to standard error.
 normalise() {
     case $1 in
     external) "$root/bootimg" normalise --external < "$2" > "$3" 2> errors ;;
     embedded) "$root/bootimg" normalise < "$2" > "$3" 2> errors ;;
-    esac && [ ! -s errors ]
+    esac && ! grep -Ev '^bootimg: note: .*payloads' errors
 }
 
 # nodes IMAGE PATH: the nodes and properties from this path on, as fdtget prints them, by name in each node. The properties that
@@ -263,6 +263,62 @@ check "fdtget prints the same nodes of the signed image" same_nodes signed.itb s
 check "verify of the signed image prints what the tools do" verdicts signed.itb
 check "verify of its normal form prints the same" verdicts signed-normal.itb
 check "no note after list" sh -c "'$root/bootimg' list < signed.itb 2>&1 > listing | cmp - empty"
+
+# Payloads that mkimage aligned or placed, and that the external normal form places again. There the first payload begins at an odd multiple
+# of 4 bytes, so that each alignment of 8 bytes and more is noted.
+
+# notes_nothing INPUT ARGUMENT..: the program succeeds, and writes nothing to standard error.
+notes_nothing() {
+    input=$1
+    shift
+    "$root/bootimg" "$@" < "$input" > output 2> errors && cmp errors empty
+}
+
+# places IMAGE: the length of the blob, and the offset of each payload from there on, as od and fdtget print them.
+places() {
+    od -An -j 4 -N 4 -t u4 --endian=big "$1"
+    for name in $(fdtget -l "$1" /images); do
+        fdtget "$1" "/images/$name" data-offset
+    done
+}
+
+# same_places IMAGE OTHER: the same places in both, which mean the same.
+same_places() {
+    places "$1" > places.one && places "$2" | diff places.one - && "$root/bootimg" compare "$1" "$2" > differences && [ ! -s differences ]
+}
+
+check "the blob of the external normal form" test "$(($(places normal-external.itb | head -n 1) % 8))" = 4
+kept="payloads are no longer aligned to"
+for pair in 0x8:8 0x200:512 0x1000:4096 0x100000:1048576 0x200000:1048576; do
+    bytes=${pair%:*}
+    mkimage -E -B "$bytes" -f made.its aligned.itb > /dev/null
+    for command in normalise "update --hashes"; do
+        check "the note after $command with payloads at multiples of $bytes" \
+            prints aligned.itb 0 "bootimg: note: $kept ${pair#*:} bytes, see --align" $command --external
+        check "no note after $command --align 4" notes_nothing aligned.itb $command --external --align 4
+        check "$command --align 4 writes the same payloads" cmp normal-external.itb output
+        # The greatest alignment is 0x100000.
+        [ "$bytes" != 0x200000 ] || continue
+        check "no note after $command --align $bytes" notes_nothing aligned.itb $command --external --align "$bytes"
+        check "payloads are where mkimage -B $bytes places them" same_places aligned.itb output
+    done
+done
+mkimage -E -B 0x4 -f made.its aligned.itb > /dev/null
+check "no note on multiples of 4" notes_nothing aligned.itb normalise --external
+check "the note on fixed positions" prints position.itb 0 "bootimg: note: 3 fixed positions of payloads were not kept" normalise --external
+check "no note with --align 4" notes_nothing position.itb normalise --external --align 4
+check "no note on them in the embedded form" notes_nothing position.itb normalise
+mkimage -E -p 0x1000 -B 0x1000 -f signed.its -k keys signed-position.itb > log 2>&1 || cat log
+for command in normalise "update --hashes"; do
+    check "three notes after $command" prints signed-position.itb 0 "bootimg: note: 2 signature nodes carried, not checked
+bootimg: note: $kept 4096 bytes, see --align
+bootimg: note: 3 fixed positions of payloads were not kept" $command --external
+done
+for align in 0 1 2 3 5 6 4095 2097152 4k ""; do
+    check "no alignment: '$align'" prints made.itb 2 "bootimg: usage: bad value" normalise --external --align "$align"
+done
+check "an alignment of embedded payloads" prints made.itb 2 "bootimg: usage: bad value" normalise --align 4096
+check "an alignment of an update that is embedded" prints made.itb 2 "bootimg: usage: bad value" update --hashes --align 8
 
 # An image with external payloads that mkimage -F writes again: with -E they stay after the tree, and without it they are values of
 # data, and data-offset is left.

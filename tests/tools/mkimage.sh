@@ -128,17 +128,72 @@ cat > tree.its << 'END'
     };
 };
 END
-# same_tree [-E]: the stand-in makes the normal form of mkimage's tree.
-same_tree() {
-    "$real" -f tree.its "$@" wanted > log 2>&1 && "$stand_in" -f tree.its "$@" got > log 2> errors || { cat log; return 1; }
+# same_tree_of SOURCE [-E] [ARGUMENT..]: the stand-in makes the normal form of mkimage's tree of the source.
+same_tree_of() {
+    source=$1 form=
+    shift
+    [ "${1-}" != -E ] || form=--external
+    "$real" -f "$source" "$@" wanted > log 2>&1 && "$stand_in" -f "$source" "$@" got > log 2> errors || { cat log; return 1; }
     [ ! -s errors ] || { cat errors; return 1; }
-    "$root/bootimg" normalise ${1:+--external} < wanted 2> log | cmp - got
+    "$root/bootimg" normalise $form < wanted 2> log | cmp - got
 }
+# same_tree [-E] [ARGUMENT..]: the same of tree.its.
+same_tree() {
+    same_tree_of tree.its "$@"
+}
+check "with -t" same_tree -t
+mkdir parts
+cp data parts/inner
+sed 's/("data")/("inner")/' tree.its > inner.its
+check "a payload that dtc does not find" sh -c '! "$1" -f inner.its got' sh "$stand_in"
+check "with options of dtc" same_tree_of inner.its -D "-I dts -O dtb -p 2000 -i parts"
 check "a flattened image tree" same_tree
 check "its digests are good" sh -c '"$1" verify < got | tail -n 1 | grep -Fq "summary good 9 bad 0"' sh "$root/bootimg"
 check "with the payloads after the tree" same_tree -E
 check "mkimage lists it" "$real" -l got
 check "it has the time" test "$(fdtget -t u got / timestamp)" = 1700000000
+
+# Trees of -f auto.
+for board in first second third; do
+    echo "/dts-v1/; / { model = \"$board\"; };" | dtc -q -O dtb -o "$board.dtb"
+done
+# same_auto ARGUMENT..: the trees of -f auto with these arguments differ only in the creator, which is mkimage.
+same_auto() {
+    rm -f wanted got
+    "$real" -f auto "$@" wanted > log 2>&1 || { cat log; return 1; }
+    "$stand_in" -q -f auto "$@" got > log 2>&1 && [ ! -s log ] || { cat log; return 1; }
+    "$root/bootimg" compare wanted got > differences
+    [ $? = 1 ] && [ "$(wc -l < differences)" = 1 ] && grep -Fq -e '-property / creator "U-Boot mkimage ' differences ||
+        { cat differences; false; }
+}
+kernel="-A arm -O linux -T kernel -C none -a 8000 -e 8040 -n name -d data"
+check "-f auto of a kernel" same_auto $kernel
+check "with a ramdisk" same_auto $kernel -i bytes4
+check "with a devicetree" same_auto $kernel -b first.dtb
+check "with three devicetrees and a ramdisk" same_auto $kernel -b first.dtb -i bytes4 -b second.dtb -b third.dtb
+check "each devicetree has a configuration" test "$("$root/bootimg" list < got | grep -c '^key conf-[123] fdt ok fdt-[123]$')" = 3
+check "the third devicetree" gives third.dtb got extract --config conf-3 --key fdt
+check "the ramdisk" gives bytes4 got extract --config conf-2 --key ramdisk
+check "the first one is the default" gives first.dtb got extract --default --key fdt
+check "mkimage lists it" "$real" -l got
+check "with the payloads after the tree" same_auto -E $kernel -b first.dtb -b second.dtb
+check "they are after it" sh -c '"$1" list < got | grep -Fq "image fdt-2 size $(wc -c < second.dtb) data-offset at "' sh "$root/bootimg"
+check "with aligned payloads" same_auto -E -B 1000 $kernel -b first.dtb
+check "the first is aligned" sh -c '"$1" list < got | grep -Eq "^image kernel-1 size 5001 data-offset at (4096|8192)$"' sh "$root/bootimg"
+check "without a time" env SOURCE_DATE_EPOCH= "$stand_in" -q -f auto $kernel got
+for type in standalone kernel ramdisk multi firmware script filesystem kernel_noload; do
+    check "-f auto of type $type" same_auto -A ppc -O u-boot -T "$type" -C gzip -a 0x100 -d data -b first.dtb
+done
+check "-f auto of the defaults" same_auto -d data
+check "-f auto without an architecture" same_auto -A invalid -d data
+check "with options of dtc, which are not used" same_auto -D "-I dts" -d data -b first.dtb
+check "with a name that has quotes" same_auto -n 'it is "quoted" \n $HOME' -d data
+mkdir -p "some where"
+cp first.dtb "some where/a \"board\".v1.dtb"
+check "a devicetree whose name has spaces and quotes" same_auto $kernel -b "some where/a \"board\".v1.dtb"
+cp first.dtb without-end
+check "a devicetree whose name has no end" same_auto $kernel -b without-end
+check "data whose name has a colon" same_auto -d c:d
 
 # A Makefile does not need to be changed.
 cat > Makefile << 'END'
@@ -173,10 +228,10 @@ refuses() {
     [ ! -e refused ] && [ ! -s output ] && [ "$(wc -l < errors)" = 1 ] && grep -Fq -e "$text" errors ||
         { cat output errors; false; }
 }
-for option in -x -s -F -r -t; do
+for option in -x -s -F -r; do
     check "$option is refused" refuses "the option $option is not one of this stand-in" "$option" -d data
 done
-for option in -k -K -g -G -c -N -o -p -B -b -i -D -R; do
+for option in -k -K -g -G -c -N -o -R; do
     check "$option is refused" refuses "the option $option is not one of this stand-in" "$option" value -f tree.its
 done
 check "a long option is refused" refuses "is not one of this stand-in" --architecture arm -d data
@@ -185,7 +240,14 @@ for type in imximage kwbimage flat_dt firmware_ivt nothing; do
 done
 # mkimage takes the addresses of such an image from its data.
 check "the operating system tee is refused" refuses "the operating system 'tee' is not one of those" -O tee -d data
-check "-f auto is refused" refuses "-f auto is not one" -f auto -d data
+check "-p is refused" refuses "-p sets fixed positions of payloads, which bootimg does not write" -p 1000 -f tree.its
+check "-b is refused with a source" refuses "-b and -i need -f auto" -b first.dtb -f tree.its
+check "-i is refused without a source" refuses "-b and -i need -f auto" -i bytes4 -d data
+check "-f auto without data" refuses "no data: -f auto needs -d FILE" -f auto -b first.dtb
+check "-f auto of two ramdisks" refuses "-f auto with -T ramdisk takes no -i" -f auto -T ramdisk -d data -i bytes4
+check "-f auto of a missing devicetree" refuses "missing cannot be read" -f auto -d data -b missing
+check "-f auto of a missing ramdisk" refuses "missing cannot be read" -f auto -d data -i missing
+check "-f auto with an address of more than 32 bits" refuses "-a takes a number of at most 32 bits" -f auto -a 0x100000000 -d data
 check "no data" refuses "no data" -A arm
 check "data that is missing" refuses "missing is empty, or cannot be read" -d missing
 check "an empty part" sh -c ': > empty'
