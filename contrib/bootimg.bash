@@ -36,17 +36,17 @@ _bootimg() {
         *)
             files=yes
             case ${COMP_WORDS[1]} in
-            normalise | normalize) words="--external --offset --limit -o --output" ;;
+            normalise | normalize) words="--external --align --offset --limit -o --output" ;;
             show) words="--layout --limit -o --output" ;;
             list | describe | verify) words="--json --offset --limit -o --output" ;;
             scan) words="--limit -o --output" ;;
             convert) words="--offset --limit -o --output" ;;
             compare | diff) words="--quiet --json --limit -o --output" ;;
             check) words="--allow --json --offset --limit -o --output" ;;
-            update) words="--time --hashes --external --offset --limit -o --output" ;;
+            update) words="--time --hashes --external --align --offset --limit -o --output" ;;
             extract) words="--part --image --config --default --all --key --index --escaped --offset --limit -o --output" ;;
             build-legacy) files= words="--os --arch --type --compression --name --time --load --entry --limit -o --output" ;;
-            build-fit) files= words="--external --description --time --limit -o --output" ;;
+            build-fit) files= words="--config --default --hash --external --align --description --time --limit -o --output" ;;
             explain)
                 files= words="Truncated BadMagic BadHeaderCrc BadDataCrc BadPartTable BadPart BadTotalSize BadVersion BadOffset BadToken BadName"
                 words+=" BadNameOffset PropertyAfterChild DuplicateProperty DuplicateNode TooDeep NoImages BadCell NoSize OutsideFile TooLarge"

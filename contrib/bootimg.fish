@@ -46,6 +46,8 @@ complete -c bootimg -n '__bootimg_is normalise normalize list describe verify ch
     -d 'Where the image begins in the input'
 complete -c bootimg -n '__bootimg_is list describe compare diff verify check' -l json -d 'Write JSON instead of lines'
 complete -c bootimg -n '__bootimg_is normalise normalize update build-fit' -l external -d 'Write the payloads after the tree'
+complete -c bootimg -n '__bootimg_is normalise normalize update build-fit' -l align -x \
+    -d 'Place each payload at a multiple of N'
 complete -c bootimg -n '__bootimg_is update build-legacy build-fit' -l time -x -d 'The time of creation, in seconds since 1970'
 complete -c bootimg -n '__bootimg_is build-legacy build-fit' -a '(__bootimg_part)'
 
@@ -74,6 +76,10 @@ complete -c bootimg -n '__bootimg_is build-legacy' -l name -x -d 'The name'
 complete -c bootimg -n '__bootimg_is build-legacy' -l load -x -d 'The load address'
 complete -c bootimg -n '__bootimg_is build-legacy' -l entry -x -d 'The entry point'
 complete -c bootimg -n '__bootimg_is build-fit' -l description -x -d 'The description'
+complete -c bootimg -n '__bootimg_is build-fit' -l config -x -d 'A configuration with its lists'
+complete -c bootimg -n '__bootimg_is build-fit' -l default -x -d 'The default configuration'
+complete -c bootimg -n '__bootimg_is build-fit' -l hash -x -d 'The algorithms of the hash nodes' \
+    -a 'none crc32 md5 sha1 sha256 sha384 sha512'
 complete -c bootimg -n '__bootimg_is explain' -a 'Truncated BadMagic BadHeaderCrc BadDataCrc BadPartTable BadPart BadTotalSize
     BadVersion BadOffset BadToken BadName BadNameOffset PropertyAfterChild DuplicateProperty DuplicateNode TooDeep NoImages BadCell
     NoSize OutsideFile TooLarge NoCodeName TooManyParts EmptyPart BadField Unsupported'
