@@ -84,6 +84,38 @@ piping_failed promise limits laws source new_source target new_target input byte
     (NoWrite is_write)
     (λ e. write_is_no_read (laws.wraps_once WriteFailed ReadFailed (sym is_write ∙ e))) is_write stopped
 
+-- The command failed over a new sink.
+pub command_failed : {V E T : Type 0} (promise : CommandPromise V E) (limits : Limits) → PromiseLaws promise → (trace : T → WriteTrace)
+    (source new_source : ReadTrace) (target new_target : WriteTrace) (input bytes : List ℕ) (old new : BufferedSink T) (error : E)
+    → ReadWhole source.remaining new_source.remaining bytes → input ≡ bytes
+    → (state_of trace old).held ≡ [] → (state_of trace old).trace ≡ target → (state_of trace new).trace ≡ new_target
+    → CommandFailed (BufferFails trace) promise.wraps (promise.is_text input) (promise.has_error input) old new error
+    → TransferFailed source new_source target new_target promise.is_text (λ input. PipeError promise limits input error)
+    (error ≡ promise.wraps ReadFailed) (error ≡ promise.wraps WriteFailed)
+command_failed promise limits laws trace source new_source target new_target input bytes old new error read same none begins ends failed =
+    rw (sym begins, sym ends)
+    (piping_failed promise limits laws source new_source (state_of trace old).trace (state_of trace new).trace input bytes (Err error)
+    read same
+    (failed_writing trace promise.wraps (promise.is_text input) (promise.has_error input) old new error none failed))
+
+-- The command appended its output to a new sink, and finishing the sink failed.
+pub finish_failed : {V E T : Type 0} (promise : CommandPromise V E) (limits : Limits) → PromiseLaws promise → (trace : T → WriteTrace)
+    (source new_source : ReadTrace) (target new_target : WriteTrace) (input bytes : List ℕ) (value : V) (old mid : BufferedSink T)
+    (new : WriteTrace) (cause : Error) (error : E)
+    → ReadWhole source.remaining new_source.remaining bytes → input ≡ bytes
+    → (state_of trace old).held ≡ [] → (state_of trace old).trace ≡ target → new ≡ new_target
+    → Appended (BufferAppends trace) (promise.is_output value input) old mid
+    → Wrote {V = Unit {0}} WroteAndFlushed WriteOrFlushStopped (state_of trace mid).trace (state_of trace mid).held (Err cause) new
+    → error ≡ promise.wraps cause
+    → TransferFailed source new_source target new_target promise.is_text (λ input. PipeError promise limits input error)
+    (error ≡ promise.wraps ReadFailed) (error ≡ promise.wraps WriteFailed)
+finish_failed promise limits laws trace source new_source target new_target input bytes value old mid new cause error read same none begins
+    ends appended finished wrapped =
+    rw (sym begins, sym ends)
+    (piping_failed promise limits laws source new_source (state_of trace old).trace new input bytes (Err error) read same
+    (SinkFailed appended.text cause (laws.is_text value input appended.text appended.is_text)
+    (finished_writing trace (promise.is_output value input) old mid new (Err cause) none appended finished) wrapped))
+
 -- What failed with traced streams failed with plain ones.
 pub moving_failed : (source new_source : ReadTrace) (target new_target : WriteTrace) (IsOutput : List ℕ → List ℕ → Type 0)
     (HasError : List ℕ → Type 0) (read_failed write_failed : Type 0)

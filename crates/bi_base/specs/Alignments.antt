@@ -25,8 +25,8 @@ IsAlignment-prop bytes one other =
       exponent = same i;
       least = is_prop→PathP (λ i. 2 ≤ same i) (λ i. le_prop) one.least other.least i;
       most = is_prop→PathP (λ i. same i ≤ 20) (λ i. le_prop) one.most other.most i;
-      is_power = is_prop→PathP (λ i. bytes ≡ 2 ^ same i) (λ i. ℕ_set bytes (2 ^ same i)) one.is_power
-          other.is_power i;
+      is_power = is_prop→PathP (λ i. bytes ≡ 2 ^ same i) (λ i. ℕ_set bytes (2 ^ same i))
+          one.is_power other.is_power i;
     }
   where
     same : one.exponent ≡ other.exponent

@@ -43,7 +43,9 @@ pub fn pipe<C: Command, S: TracedRead, T: TracedWrite>(
 {
     let input = read_all_traced(alloc, source, limits)?;
     let mut sink = BufferedSink::new(target);
-    run_and_finish(alloc, command, &input, limits, &mut sink)
+    let value = command.run(alloc, &input, limits, &mut sink)?;
+    sink.finish()?;
+    Ok(value)
 }
 
 /// Reads an input to its end, runs a command on it, writes the output and flushes: `pipe` over a
@@ -67,29 +69,4 @@ pub fn pipe_to<C: Command, R: Read, W: Write>(
     let mut source = TracedReader::new(reader);
     let mut target = TracedWriter::new(writer);
     pipe(alloc, command, &mut source, &mut target, limits)
-}
-
-/// Runs a command over a sink with an empty buffer, and finishes the sink.
-fn run_and_finish<C: Command, T: TracedWrite>(
-    alloc: Global,
-    command: &C,
-    input: &[u8],
-    limits: Limits,
-    sink: &mut BufferedSink<'_, T>,
-) -> Result<C::Value, C::Failure>
-    requires can { C.can_run command.now }
-    requires short { length input.now ≤ limits.file }
-    requires none_held { (state_of T.trace sink.now).held ≡ [] }
-    ensures same_borrow { (state_of T.trace sink.new).borrow ≡ (state_of T.trace sink.old).borrow }
-    ensures written { IfOk result (λ value. Appended WroteAndFlushed
-        ((C.promise command.now limits).is_output value input.now)
-        (state_of T.trace sink.old).trace (state_of T.trace sink.new).trace) }
-    ensures failed { let promise = C.promise command.now limits in
-        IfErr result (CommandFailed WriteOrFlushStopped promise.wraps (promise.is_text input.now)
-        (promise.has_error input.now)
-        (state_of T.trace sink.old).trace (state_of T.trace sink.new).trace) }
-{
-    let value = command.run(alloc, input, limits, sink)?;
-    sink.finish()?;
-    Ok(value)
 }
