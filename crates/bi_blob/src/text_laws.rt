@@ -47,7 +47,7 @@ pub fn text_encodes_its_tree()
 {}
 
 /// A text of a tree, and a text of any events, is as long as its header, memory reservation block,
-/// structure block and strings block together, padded to a multiple of four. The token of a node's
+/// structure block and strings block together, padded to a multiple of its alignment. The token of a node's
 /// start has five bytes and the name, that of a property twelve bytes and the value, each padded to
 /// a multiple of four, and that of a node's end four bytes (profile of this project; Devicetree
 /// Specification, 5.4.1).
@@ -85,10 +85,10 @@ pub fn blob_has_content()
     ensures { BlobHasContent }
 {}
 
-/// Boot processors, memory reservations and trees that differ have texts that differ, if one of
-/// the texts has at most 0x7fffffff bytes. Two equal files that each begin with a text of at most
-/// 0x7fffffff bytes have texts of the same boot processor, memory reservations and tree, and the
-/// same bytes after the texts.
+/// Boot processors, memory reservations and trees that differ have texts that differ, if both texts
+/// have the same alignment and one of them has at most 0x7fffffff bytes. Two equal files that each
+/// begin with a text of at most 0x7fffffff bytes, with the same alignment, have texts of the same
+/// boot processor, memory reservations and tree, and the same bytes after the texts.
 pub fn text_has_one_content()
     ensures text { TextHasOneContent }
     ensures rest { TextWithRestHasOneContent }

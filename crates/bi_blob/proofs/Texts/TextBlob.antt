@@ -57,7 +57,8 @@ blocks_of_text cpu total reserved structure strings rest cpu_fits within fits = 
     file = front ++ (reserved ++ (structure ++ (strings ++ rest)))
 
     cells : HasCells file cpu total (length reserved) (length structure) (length strings)
-    cells = has_cells cpu total (length reserved) (length structure) (length strings) (reserved ++ (structure ++ (strings ++ rest))) cpu_fits
+    cells = has_cells cpu total (length reserved) (length structure) (length strings)
+        (reserved ++ (structure ++ (strings ++ rest))) cpu_fits
         within fits
 
     long : length front ≡ 40
@@ -85,7 +86,8 @@ pub tree_text_has_parts : (align cpu : ℕ) (reservations : List Reservation) (r
     (reservation_block reservations) (structure_block (events_of root)) (strings_block (events_of root))
 unfolding text_of_events
 tree_text_has_parts align cpu reservations root rest aligned cpu_fits short =
-    subst (λ total. HasParts (text_of_blocks align cpu reserved structure strings ++ rest) cpu total reserved structure strings) (sym is_length)
+    subst (λ total. HasParts (text_of_blocks align cpu reserved structure strings ++ rest) cpu total reserved structure strings)
+    (sym is_length)
     (text_has_parts align cpu reserved structure strings rest positive cpu_fits (subst (λ n. n < 2 ^ 32) is_length (omega (arith, short))))
   where
     positive : 0 < align

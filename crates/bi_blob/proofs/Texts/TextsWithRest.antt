@@ -49,7 +49,8 @@ normal_text_with_rest_tells_content cpu other_cpu reservations other_reservation
     let tells = normal_text_tells_content cpu other_cpu reservations other_reservations root other_root text other_text is other_is
     normal other_normal short in (
       (λ same.
-          let both = texts_agree 4 cpu other_cpu reservations other_reservations root other_root rest other_rest IsAlignment-four is.cpu_fits
+          let both = texts_agree 4 cpu other_cpu reservations other_reservations root other_root rest other_rest IsAlignment-four
+          is.cpu_fits
           other_is.cpu_fits
           (subst (λ text. length text ≤ longest_text) normal.is_text short)
           (subst (λ text. length text ≤ longest_text) other_normal.is_text other_short)
