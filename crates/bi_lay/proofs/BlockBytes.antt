@@ -34,7 +34,8 @@ pub text_bytes : (align cpu : ℕ) (reserved structure strings : List ℕ) (rese
     ≡ text_of_blocks align cpu reserved structure strings
 unfolding text_of_blocks
 text_bytes align cpu reserved structure strings reserved_size structure_size strings_size is_reserved is_structure is_strings =
-    (λ j. (blob_header cpu (text_length align (is_reserved j) (is_structure j) (is_strings j)) (is_reserved j) (is_structure j) (is_strings j)
+    (λ j. (blob_header cpu (text_length align (is_reserved j) (is_structure j) (is_strings j)) (is_reserved j) (is_structure j)
+    (is_strings j)
     ++ (reserved ++ structure ++ strings))
     ++ padding_to align (length_before_padding (is_reserved j) (is_structure j) (is_strings j)))
     ∙ append_assoc header (reserved ++ structure ++ strings) padding

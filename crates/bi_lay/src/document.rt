@@ -235,8 +235,8 @@ impl<'a> Doc<'a> {
         self.aligned_size(Align::four())
     }
 
-    /// Returns the length in bytes of the document's text that `close_aligned` closes with this
-    /// alignment, or None if that text has more than 0x7fffffff bytes. Takes time linear in the
+    /// Returns the length in bytes of the document's text with this alignment, as `close_aligned`
+    /// measures it, or None if that text has more than 0x7fffffff bytes. Takes time linear in the
     /// number of events. Requires: `is_closed` is true.
     pub fn aligned_size(&self, align: Align) -> Option<u32>
         requires { stage_of_events self.now.events ≡ AfterRoot }
@@ -282,7 +282,7 @@ impl<'a> Doc<'a> {
     }
 
     /// Returns the length of the document's text in bytes, given the sizes of its blocks and its
-    /// alignment.
+    /// alignment. Requires: these are the sizes of the document's blocks.
     pub(crate) fn total_size(&self, sizes: BlockSizes) -> u32
         requires { AreBlockSizes self.now sizes }
         ensures size { result ≡ length (text_of (align_bytes sizes.align) self.now) }
@@ -299,6 +299,7 @@ impl<'a> Doc<'a> {
     /// text leaves it.
     ///
     /// Takes time linear in the length of the text, and allocates nothing itself.
+    /// Requires: these are the sizes of the document's blocks.
     pub(crate) fn put<S: Sink>(&self, sizes: BlockSizes, sink: &mut S) -> Result<(), Error>
         requires { AreBlockSizes self.now sizes }
         ensures { let text = text_of (align_bytes sizes.align) self.now in

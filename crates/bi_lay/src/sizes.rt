@@ -15,8 +15,8 @@ const LONGEST_TEXT: u64 = 0x7fff_ffff;
 /// The header's size in bytes (Devicetree Specification, 5.2).
 const HEADER_SIZE: u32 = 40;
 
-/// The sizes of the blocks of a text in bytes, and what its length is a multiple of. The text is
-/// not too long.
+/// The sizes in bytes of the blocks of a text, and the alignment of its length. The text is not too
+/// long.
 #[derive(Clone, Copy)]
 pub(crate) struct BlockSizes {
     pub(crate) align: Align,

@@ -91,6 +91,7 @@ pub(crate) fn put_string<S: Sink>(bytes: &[u8], sink: &mut S) -> Result<(), Erro
 }
 
 /// Appends the zeros that pad this many bytes to a multiple of four. Fails as the sink does.
+/// Requires: `size` is at most `usize::MAX - 3`.
 fn put_padding<S: Sink>(size: usize, sink: &mut S) -> Result<(), Error>
     requires { size + 3 < 2 ^ 64 }
     ensures { Wrote S.appends S.fails sink.old (padding_to 4 size) result sink.new }
