@@ -1,4 +1,5 @@
-use Rattle.std.proofs.Common.{◌≡◌, ℕ, ◌+◌, ◌<◌, ◌^◌, Bool, true, false, not, List, [], ◌∷◌, ◌++◌, map, flat_map, filter, length, Option, Some, None}
+use Rattle.std.proofs.Common.{◌≡◌, ℕ, ◌+◌, ◌<◌, ◌^◌, Bool, true, false, not, List, [], ◌∷◌, ◌++◌, map, flat_map, filter, length, Option}
+use Rattle.std.proofs.Common.{Some, None}
 use Rattle.std.proofs.Common.{bytes_eq, codes, refl, sym, ap, ap₂, ◌∙◌, nat_cmp, option_and_then, append-nil}
 use Rattle.std.specs.Prelude.{nat_eq, ◌||◌, IsTrue}
 use Rattle.std.specs.List.{AllByRecursion, list_all, ends_with}
@@ -24,7 +25,7 @@ use Rattle.bi_fit.specs.Building.{built_hash_nodes, built_images, list_property,
 use Rattle.bi_fit.specs.Building.{built_tree, configuration_name, configuration_by_types, plan_by_types, type_name}
 use Rattle.bi_fit.specs.Building.{names_of_images, configuration_names, IsImageSpec, CanBeBuilt, IsConfigurationSpec, IsPlanFor}
 use Rattle.bi_fit.specs.Laws.{listed_by_name, list_by_names, HasConfigurations, BuiltHasConfigurations, list_of_built}
-use Rattle.bi_fit.specs.Laws.{BuiltHasConfiguration}
+use Rattle.bi_fit.specs.Laws.{BuiltByTypesHasConfiguration}
 use Rattle.bi_fit.proofs.BuiltTrees.{among_each, names-built_configurations, tested_child, text_before_nul-text_value}
 use Rattle.bi_fit.proofs.NameLists.{ends_later, list_of_names}
 use Rattle.bi_fit.proofs.TreeContents.{tested_name}
@@ -204,7 +205,8 @@ value_lists images specs (name ∷ later) found no_zero =
 -- The node of a configuration is found by its name.
 abbrev IsNodeIn : HeadModel → Nodes PropertyMap → ConfigurationSpecModel → Type 0
 IsNodeIn head nodes configuration =
-    (found : Sibling PropertyMap) × (node_named nodes configuration.name ≡ Some found) × (found.own ≡ configuration_by_name head configuration)
+    (found : Sibling PropertyMap) × (node_named nodes configuration.name ≡ Some found) ×
+    (found.own ≡ configuration_by_name head configuration)
 
 -- What is found among later configurations is found among all, where the first has another name.
 node_found_later : (head : HeadModel) (configuration : ConfigurationSpecModel) (later some : List ConfigurationSpecModel) →
@@ -374,8 +376,8 @@ list_of_own : (images some : List ImageSpecModel) → AllByRecursion (HasOwnPayl
 list_of_own images [] have = refl
 list_of_own images (image ∷ some) have = ap ListedImages (listed_as_they_are images (image ∷ some) have)
 
-pub built_has_configuration : BuiltHasConfiguration
-built_has_configuration head algorithms images can =
+pub built_by_types_has_configuration : BuiltByTypesHasConfiguration
+built_by_types_has_configuration head algorithms images can =
     let has = has_configurations head (plan_by_types algorithms images) images can (by_types_is images, tt) (tt, tt) refl in
     record {
       listed = λ key.

@@ -23,10 +23,12 @@ use Rattle.bi_fit.specs.declared.form.Form.{Form}
 use Rattle.bi_fit.specs.declared.form.Form.TheVariants.{Embedded, External, Aligned}
 use Rattle.bi_fit.specs.Names.{is_payload_name, images_name, data_name, data_offset_name, data_position_name, data_size_name}
 use Rattle.bi_fit.specs.ImageTree.{without_payload, without_payloads}
-use Rattle.bi_fit.specs.Text.{alignment_of, blob_alignment, with_payload, with_payloads, end_after, normal_tree, blob_of, after_blob, payloads_after, fit_text}
+use Rattle.bi_fit.specs.Text.{alignment_of, blob_alignment, with_payload, with_payloads, end_after, normal_tree, blob_of, after_blob}
+use Rattle.bi_fit.specs.Text.{payloads_after, fit_text}
 use Rattle.bi_fit.specs.KnownFiles.{tree_with_images, plain_images, plain_tree, SmallestIsFit, NoneIsNotEmpty, only_data}
 use Rattle.bi_fit.specs.KnownFiles.{nested_tree, nested_image_tree, OnlyImagesHavePayloads, UnusedHaveNoMeaning, region_of, shared_region}
-use Rattle.bi_fit.specs.KnownFiles.{three_tree, ThreeImagesAreAligned, SharedRegionIsRepeated, ThreeImagesHaveTexts, ChildrenKeepOrder, PositionIsBeforeData}
+use Rattle.bi_fit.specs.KnownFiles.{three_tree, ThreeImagesAreAligned, SharedRegionIsRepeated, ThreeImagesHaveTexts, ChildrenKeepOrder}
+use Rattle.bi_fit.specs.KnownFiles.{PositionIsBeforeData}
 use Rattle.bi_fit.specs.KnownFiles.{OffsetIsBeforeData, PositionIsBeforeOffset, PayloadsAreAligned, offset_file, OffsetIsFromAlignedEnd}
 use Rattle.bi_fit.proofs.PayloadProperties.{taken_out}
 use Rattle.bi_fit.proofs.BuiltTrees.{none_found}
@@ -47,7 +49,8 @@ no_entries = by_length (entries empty) (sym (len-entries empty) ∙ len-empty (s
 -- The text of a tested tree, with bytes after it, is a blob of it.
 pub blob_by_test : (root : Root (List Property)) (rest : List ℕ) → is_tree root ≡ true → list_all (λ byte. ltb byte 256) rest ≡ true →
     length (text_of_tree 4 0 [] root) ≤ longest_text → IsBlob (text_of_tree 4 0 [] root ++ rest) 0 [] (tree_with_places [] root)
-blob_by_test root rest tree bytes short = text_blob 4 0 [] root rest IsAlignment-four (content_by_test root tree) short (bytes_by_test rest bytes)
+blob_by_test root rest tree bytes short = text_blob 4 0 [] root rest IsAlignment-four (content_by_test root tree) short
+    (bytes_by_test rest bytes)
 
 -- Only properties of payloads leave none.
 all_taken_out : (properties : List Property) → AllByRecursion (λ property. not (is_payload_name property.0) ≡ false) properties →

@@ -11,7 +11,8 @@ use Rattle.bi_fit.specs.Names.{data_name}
 use Rattle.bi_fit.specs.ImageTree.{without_payload, without_payloads}
 use Rattle.bi_fit.specs.Text.{alignment_of, blob_alignment, with_payload, with_payloads, end_after}
 use Rattle.bi_fit.specs.TakenDigests.{algorithm_if_hashed, with_first_digest, images_with_digests_from}
-use Rattle.bi_fit.specs.NormalNodes.{HasCellSize, next_begin, next_end, AreWithin, properties_by_name, nodes_by_name, begin_events, image_properties}
+use Rattle.bi_fit.specs.NormalNodes.{HasCellSize, next_begin, next_end, AreWithin, properties_by_name, nodes_by_name, begin_events}
+use Rattle.bi_fit.specs.NormalNodes.{image_properties}
 use Rattle.bi_fit.specs.NormalNodes.{sorted_image_children, sorted_images}
 use Rattle.bi_fit.proofs.FormAlignments.{form-positive}
 use Rattle.bi_fit.proofs.PayloadAreas.{payloads_end-le}

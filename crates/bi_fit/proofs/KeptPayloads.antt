@@ -1,4 +1,5 @@
-use Rattle.std.proofs.Common.{◌≡◌, ◌⊎◌, ◌↔◌, ℕ, suc, ◌+◌, ◌-◌, ◌%◌, Bool, true, false, List, [], ◌∷◌, ◌++◌, map, filter, length, Option, Some, None}
+use Rattle.std.proofs.Common.{◌≡◌, ◌⊎◌, ◌↔◌, ℕ, suc, ◌+◌, ◌-◌, ◌%◌, Bool, true, false, List, [], ◌∷◌, ◌++◌, map, filter, length, Option}
+use Rattle.std.proofs.Common.{Some, None}
 use Rattle.std.proofs.Common.{◌<◌, ◌≤◌, drop, get_or, IfSome, inl, inr, refl, sym, ap, subst, ◌∙◌, add-one, is_some, true≢false, arith}
 use Rattle.std.proofs.Math.Seq.{drop-cons}
 use Rattle.std.proofs.lemmas.List.{drop_all}
@@ -10,8 +11,10 @@ use Rattle.bi_fit.specs.declared.image.Place.{Place}
 use Rattle.bi_fit.specs.declared.image.Place.TheVariants.{Absent, Data, DataOffset, DataPosition}
 use Rattle.bi_fit.specs.Content.{ImageModel, image_model, FitModel, IsHeld, IsReadImage, tree_of}
 use Rattle.bi_fit.specs.NormalNodes.{payloads_of}
-use Rattle.bi_fit.specs.Kept.{PlacedPayload, payload_if_placed, placed_payloads, AreAligned, StayAligned, IsAlignmentOf, LosesAlignment, places_of_nodes, external_places, IsKeptOf, IsKeptOfFile}
-use Rattle.bi_fit.specs.KeptImages.{offset_if_placed, is_at_position, placed_images, placed_offset, AreAlignedImages, IsAlignmentOfImages, has_position}
+use Rattle.bi_fit.specs.Kept.{PlacedPayload, payload_if_placed, placed_payloads, AreAlignedInFile, AreAlignedInText, IsAlignmentOf, LosesAlignment}
+use Rattle.bi_fit.specs.Kept.{places_of_nodes, external_places, IsKeptOf, IsKeptOfFile}
+use Rattle.bi_fit.specs.KeptImages.{offset_if_placed, is_at_position, placed_images, placed_offset, AreAlignedImages, IsAlignmentOfImages}
+use Rattle.bi_fit.specs.KeptImages.{has_position}
 use Rattle.bi_fit.specs.Text.{end_after, payloads_end, payload_places, blob_of, fit_text}
 use Rattle.bi_fit.specs.declared.form.Form.{Form}
 use Rattle.bi_fit.specs.declared.form.Form.TheVariants.{Embedded, External, Aligned}
@@ -90,7 +93,7 @@ placed_images-same base end (image ∷ later) = by (λ end. placed_images-same b
 
 -- Which of them are aligned in the file, image by image.
 pub aligned_images : (bytes base end : ℕ) (images : List Image) →
-    AreAligned bytes (placed_images base end images) ↔ AreAlignedImages bytes images
+    AreAlignedInFile bytes (placed_images base end images) ↔ AreAlignedImages bytes images
 aligned_images bytes base end [] = (λ all. all, λ all. all)
 aligned_images bytes base end (image ∷ later) =
     let new = base + up_to 4 end in
@@ -101,17 +104,17 @@ aligned_images bytes base end (image ∷ later) =
       | inl left_out ↦ (
         λ all. (
           subst (λ offset. IfSome offset (λ offset. offset % bytes ≡ 0)) (sym left_out.no_offset) tt,
-          more.0 (subst (λ first. AreAligned bytes (first ++ rest)) left_out.no_payload all),
+          more.0 (subst (λ first. AreAlignedInFile bytes (first ++ rest)) left_out.no_payload all),
         ),
-        λ all. subst (λ first. AreAligned bytes (first ++ rest)) (sym left_out.no_payload) (more.1 all.1),
+        λ all. subst (λ first. AreAlignedInFile bytes (first ++ rest)) (sym left_out.no_payload) (more.1 all.1),
       )
       | inr is ↦ (
         λ all.
-            let each : AreAligned bytes (offsets_of_payload is.old new (is_at_position image.place payload) ∷ rest) =
-            subst (λ first. AreAligned bytes (first ++ rest)) is.one all in
+            let each : AreAlignedInFile bytes (offsets_of_payload is.old new (is_at_position image.place payload) ∷ rest) =
+            subst (λ first. AreAlignedInFile bytes (first ++ rest)) is.one all in
             (subst (λ offset. IfSome offset (λ offset. offset % bytes ≡ 0)) (sym is.offset) each.0, more.0 each.1),
         λ all.
-            subst (λ first. AreAligned bytes (first ++ rest)) (sym is.one)
+            subst (λ first. AreAlignedInFile bytes (first ++ rest)) (sym is.one)
             (subst (λ offset. IfSome offset (λ offset. offset % bytes ≡ 0)) is.offset all.0, more.1 all.1),
       )
     ]
@@ -122,9 +125,9 @@ IsPlacedAligned bytes new image = IfSome (placed_offset (image_model image)) (λ
 
 -- Those of an image and of those after it stay aligned.
 pub stay_aligned-cons : (bytes base end : ℕ) (image : Image) (later : List Image) →
-    StayAligned bytes (placed_images base end (image ∷ later))
+    AreAlignedInText bytes (placed_images base end (image ∷ later))
     ↔ (IsPlacedAligned bytes (base + up_to 4 end) image
-    × StayAligned bytes (placed_images base (end_after 4 end (image_model image).payload) later))
+    × AreAlignedInText bytes (placed_images base (end_after 4 end (image_model image).payload) later))
 stay_aligned-cons bytes base end image later =
     let new = base + up_to 4 end in
     let payload = (image_model image).payload in
@@ -133,17 +136,17 @@ stay_aligned-cons bytes base end image later =
       | inl left_out ↦ (
         λ all. (
           subst (λ offset. IfSome offset (λ offset. new % bytes ≡ 0)) (sym left_out.no_offset) tt,
-          subst (λ first. StayAligned bytes (first ++ rest)) left_out.no_payload all,
+          subst (λ first. AreAlignedInText bytes (first ++ rest)) left_out.no_payload all,
         ),
-        λ all. subst (λ first. StayAligned bytes (first ++ rest)) (sym left_out.no_payload) all.1,
+        λ all. subst (λ first. AreAlignedInText bytes (first ++ rest)) (sym left_out.no_payload) all.1,
       )
       | inr is ↦ (
         λ all.
-            let each : StayAligned bytes (offsets_of_payload is.old new (is_at_position image.place payload) ∷ rest) =
-            subst (λ first. StayAligned bytes (first ++ rest)) is.one all in
+            let each : AreAlignedInText bytes (offsets_of_payload is.old new (is_at_position image.place payload) ∷ rest) =
+            subst (λ first. AreAlignedInText bytes (first ++ rest)) is.one all in
             (subst (λ offset. IfSome offset (λ offset. new % bytes ≡ 0)) (sym is.offset) each.0, each.1),
         λ all.
-            subst (λ first. StayAligned bytes (first ++ rest)) (sym is.one)
+            subst (λ first. AreAlignedInText bytes (first ++ rest)) (sym is.one)
             (subst (λ offset. IfSome offset (λ offset. new % bytes ≡ 0)) is.offset all.0, all.1),
       )
     ]
@@ -194,13 +197,13 @@ module _ (images : List Image) (i : ℕ) (d : Image) (within : i < length images
 
   -- Those that stay aligned in the text.
   pub stay_from : (bytes base end : ℕ) →
-      StayAligned bytes (placed_images base end (drop i images))
+      AreAlignedInText bytes (placed_images base end (drop i images))
       ↔ (IsPlacedAligned bytes (base + up_to 4 end) (get_or images i d)
-      × StayAligned bytes (placed_images base (end_after 4 end (image_model (get_or images i d)).payload) (drop (i + 1) images)))
+      × AreAlignedInText bytes (placed_images base (end_after 4 end (image_model (get_or images i d)).payload) (drop (i + 1) images)))
   stay_from bytes base end =
       let step = stay_aligned-cons bytes base end (get_or images i d) (drop (i + 1) images) in (
-        λ all. step.0 (subst (λ images. StayAligned bytes (placed_images base end images)) images_from all),
-        λ both. subst (λ images. StayAligned bytes (placed_images base end images)) (sym images_from) (step.1 both),
+        λ all. step.0 (subst (λ images. AreAlignedInText bytes (placed_images base end images)) images_from all),
+        λ both. subst (λ images. AreAlignedInText bytes (placed_images base end images)) (sym images_from) (step.1 both),
       )
 
   -- Where the payloads end.
@@ -276,7 +279,8 @@ read_places file none [] are = refl
 read_places file none (image ∷ images) are = absurd are
 read_places file (node name own children later) [] are = absurd are
 read_places file (node name own children later) (image ∷ images) are =
-    ap (λ place. place ∷ places_of_nodes file later) (sym are.0.place) ∙ ap (λ places. image.place ∷ places) (read_places file later images are.1)
+    ap (λ place. place ∷ places_of_nodes file later) (sym are.0.place) ∙ ap (λ places. image.place ∷ places)
+    (read_places file later images are.1)
 
 module _ (content : FitModel) (held : IsHeld content) (images : List Image) (are : map image_model images ≡ content.images) where
   -- Its image nodes.

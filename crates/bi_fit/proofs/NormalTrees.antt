@@ -217,7 +217,8 @@ module _ (content : FitModel) (held : IsHeld content) where
           ap (λ children. events (node [] (entries (with_time changes.time (properties_by_name (root_of content.blob).own))) children none))
           (sym (root_children changes.hashes form (tree_of content).payloads digests (λ own. AreProperties (properties_of own))
           (root_of content.blob).children held_nodes is_digests)
-          ∙ ap (λ nodes. with_each entries (with_children_of images_name (with_payloads (alignment_of form) 0 (tree_of content).payloads) nodes))
+          ∙ ap (λ nodes. with_each entries
+          (with_children_of images_name (with_payloads (alignment_of form) 0 (tree_of content).payloads) nodes))
           (sym (with_new_images changes.hashes (tree_of content).payloads (tree_of content).root.children)))
 
       -- They may follow one another, and they end the root.

@@ -39,7 +39,8 @@ have_payloads alignment file at end (payload ∷ payloads) none apart there = ab
 have_payloads alignment file at end (payload ∷ payloads) (node name own children later) apart there = (
   has_payload file at (at + event_width (NodeStart name)) (up_to (blob_alignment alignment) end) alignment own payload apart.0 there.0,
   have_payloads alignment file
-      (place_after_events at (events (node name (entries (with_payload alignment (up_to (blob_alignment alignment) end) payload own)) (with_each entries children) none)))
+      (place_after_events at (events (node name (entries (with_payload alignment (up_to (blob_alignment alignment) end) payload own))
+      (with_each entries children) none)))
       (end_after (blob_alignment alignment) end payload) payloads later apart.1 there.1,
 )
 
@@ -59,7 +60,8 @@ length-payload_area align end [] positive = omega arith
 length-payload_area align end (None ∷ later) positive = length-payload_area align end later positive
 length-payload_area align end (Some payload ∷ later) positive =
     let next : ℕ = up_to align end + length payload in
-    let rest : next + length (payload_area align next later) ≡ payloads_end align next later = length-payload_area align next later positive in
+    let rest : next + length (payload_area align next later)
+    ≡ payloads_end align next later = length-payload_area align next later positive in
     let pad : end + length (padding_to align end) ≡ up_to align end = length-padding_to align end positive in
     omega (
       arith,

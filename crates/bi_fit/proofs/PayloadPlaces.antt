@@ -62,7 +62,8 @@ external_payloads_are_placed form align tree aligned short is =
     let images = same_in_some _ is.images (sym found.1 ∙ ap image_nodes root ∙ is.has_images) in
     let base = text_base form tree tree_is short in
     let whole = ap (λ n. n % align) base ∙ (each_external_text_has_its_length form align tree aligned).blob_is_whole in
-    subst (λ nodes. AllZip (IsAlignedPlace align text) (each_own nodes) (payload_places align (length (blob_of form tree)) 0 tree.payloads)) images
+    subst (λ nodes. AllZip (IsAlignedPlace align text) (each_own nodes) (payload_places align (length (blob_of form tree)) 0 tree.payloads))
+    images
     (subst (λ base. AllZip (IsAlignedPlace align text)
     (each_own (with_places found.0 (with_each entries (with_payloads (alignment_of form) 0 tree.payloads tree_is.images))))
     (payload_places align base 0 tree.payloads)) base

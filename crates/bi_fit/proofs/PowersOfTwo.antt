@@ -6,11 +6,7 @@ use Rattle.bi_fit.specs.Kept.{IsPower}
 
 -- Powers of two up to 1048576, and the numbers that they divide.
 
--- A power of two is positive.
-pub power-positive : (a : ℕ) → IsPower a → 0 < a
-power-positive a is = omega (arith, is.is_power, pow_pos is.exponent)
-
--- It is at most 1048576.
+-- A power of two is at most 1048576.
 pub power-small : (a : ℕ) → IsPower a → a ≤ 0x100000
 power-small a is = let most : 2 ^ is.exponent ≤ 2 ^ 20 = pow_mono is.most in omega (arith, is.is_power)
 

@@ -1,4 +1,5 @@
-use Rattle.std.proofs.Common.{◌≡◌, ℕ, ◌%◌, ◌<◌, ◌≤◌, List, [], ◌∷◌, ◌++◌, length, Option, Some, refl, sym, ap, subst, ◌∙◌, arith, length-append}
+use Rattle.std.proofs.Common.{◌≡◌, ℕ, ◌%◌, ◌<◌, ◌≤◌, List, [], ◌∷◌, ◌++◌, length, Option, Some, refl, sym, ap, subst, ◌∙◌, arith}
+use Rattle.std.proofs.Common.{length-append}
 use Rattle.bi_base.specs.Limits.{Limits}
 use Rattle.bi_base.proofs.AlignmentLaws.{alignment-positive}
 use Rattle.bi_blob.specs.Tree.{depth_of}
@@ -76,7 +77,8 @@ each_external_text_has_its_length form align tree aligned = record {
     length-payload_area align 0 tree.payloads (subst (λ n. 0 < n) (ap blob_alignment aligned) (form-positive form)),
   );
   blob_is_whole = subst (λ n. length (blob_of form tree) % n ≡ 0) (ap blob_alignment aligned)
-      (has_text_length (blob_alignment (alignment_of form)) tree.cpu tree.reservations (normal_tree form tree) (form-aligned form)).is_whole;
+      (has_text_length (blob_alignment (alignment_of form)) tree.cpu tree.reservations (normal_tree form tree)
+      (form-aligned form)).is_whole;
 }
 
 -- The text in a form is made with the alignment of the form alone.

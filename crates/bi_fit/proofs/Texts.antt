@@ -18,7 +18,8 @@ use Rattle.bi_fit.specs.ImageTree.{ImageTree, each_own, image_nodes, with_image_
 use Rattle.bi_fit.specs.ImageTree.{IsImageTree}
 use Rattle.bi_fit.specs.Payloads.{external_base}
 use Rattle.bi_fit.specs.File.{IsFitFile}
-use Rattle.bi_fit.specs.Text.{alignment_of, blob_alignment, with_payloads, end_after, normal_tree, blob_of, payload_area, after_blob, fit_text}
+use Rattle.bi_fit.specs.Text.{alignment_of, blob_alignment, with_payloads, end_after, normal_tree, blob_of, payload_area, after_blob}
+use Rattle.bi_fit.specs.Text.{fit_text}
 use Rattle.bi_fit.proofs.FormAlignments.{form-aligned, form-positive}
 use Rattle.bi_fit.proofs.PayloadProperties.{without-with_payload}
 use Rattle.bi_fit.proofs.Trees.{children_of-with_each, children_of-with_places, children_of-with_children_of, with_children_of-back}
@@ -51,9 +52,11 @@ without-with_payloads alignment end [] none apart = refl
 without-with_payloads alignment end [] (node name own children later) apart = absurd apart
 without-with_payloads alignment end (payload ∷ payloads) none apart = refl
 without-with_payloads alignment end (payload ∷ payloads) (node name own children later) apart =
-    ap (λ own. node name own children (without_payloads (with_payloads alignment (end_after (blob_alignment alignment) end payload) payloads later)))
+    ap (λ own. node name own children
+    (without_payloads (with_payloads alignment (end_after (blob_alignment alignment) end payload) payloads later)))
     (without-with_payload alignment (up_to (blob_alignment alignment) end) payload own apart.0)
-    ∙ ap (node name own children) (without-with_payloads alignment (end_after (blob_alignment alignment) end payload) payloads later apart.1)
+    ∙ ap (node name own children)
+    (without-with_payloads alignment (end_after (blob_alignment alignment) end payload) payloads later apart.1)
 
 -- The blob of a text begins it, and is a blob of its tree.
 pub blob_of_text : (form : Form) (tree : ImageTree) → IsImageTree tree → length (fit_text form tree) ≤ longest_text →
@@ -78,7 +81,8 @@ pub text_has_payloads : (form : Form) (tree : ImageTree) → IsImageTree tree �
     AreThere (alignment_of form) (fit_text form tree) 0 tree.payloads
 text_has_payloads Embedded tree is short = embedded_are_there (fit_text Embedded tree) 0 tree.payloads
 text_has_payloads form tree is short =
-    external_are_there (blob_alignment (alignment_of form)) (fit_text form tree) (blob_of form tree) 0 tree.payloads (form-positive form) refl
+    external_are_there (blob_alignment (alignment_of form)) (fit_text form tree) (blob_of form tree) 0 tree.payloads
+    (form-positive form) refl
     (omega (arith, text_base form tree is short))
     (omega (arith, short))
 
@@ -88,7 +92,8 @@ normal_images : (form : Form) (tree : ImageTree) (is : IsImageTree tree) →
 normal_images form tree is =
     children_of-with_each entries images_name (with_image_nodes (with_payloads (alignment_of form) 0 tree.payloads) tree.root).children
     ∙ ap (option_map (with_each entries))
-    (children_of-with_children_of images_name (with_payloads (alignment_of form) 0 tree.payloads) tree.root.children is.images is.has_images)
+    (children_of-with_children_of images_name
+    (with_payloads (alignment_of form) 0 tree.payloads) tree.root.children is.images is.has_images)
 
 -- The same at the places of the layout.
 pub text_images : (form : Form) (tree : ImageTree) (is : IsImageTree tree) →
@@ -104,7 +109,8 @@ normal_root : (form : Form) (tree : ImageTree) → IsImageTree tree →
 normal_root form tree is =
     ap tree_without_payloads (has_one_order (with_image_nodes (with_payloads (alignment_of form) 0 tree.payloads) tree.root)).is_same
     ∙ ap (λ children. record { own = tree.root.own; children = children })
-    (with_children_of-back images_name (with_payloads (alignment_of form) 0 tree.payloads) without_payloads tree.root.children is.images is.has_images
+    (with_children_of-back images_name
+    (with_payloads (alignment_of form) 0 tree.payloads) without_payloads tree.root.children is.images is.has_images
     (without-with_payloads (alignment_of form) 0 tree.payloads is.images is.apart))
 
 -- A text means its image tree, and its tree has the places of the layout.
@@ -130,4 +136,5 @@ pub depth-normal_tree : (form : Form) (tree : ImageTree) → depth_of (normal_tr
 depth-normal_tree form tree =
     ap (λ n. max (n + 1) 0)
     (sym (depth-with_each entries (with_image_nodes (with_payloads (alignment_of form) 0 tree.payloads) tree.root).children)
-    ∙ depth-with_children_of images_name (with_payloads (alignment_of form) 0 tree.payloads) (depth-with_payloads (alignment_of form) 0 tree.payloads) tree.root.children)
+    ∙ depth-with_children_of images_name (with_payloads (alignment_of form) 0 tree.payloads)
+    (depth-with_payloads (alignment_of form) 0 tree.payloads) tree.root.children)

@@ -158,7 +158,8 @@ nodes-with_payloads alignment end (payload ∷ payloads) (node name own children
   record {
     is_name = are.0.is_name;
     is_own = properties-with_payload alignment (up_to (blob_alignment alignment) end) payload own apart.0.bytes are.0.is_own;
-    is_new = subst (IsNew name) (sym (names-with_payloads alignment (end_after (blob_alignment alignment) end payload) payloads later)) are.0.is_new;
+    is_new = subst (IsNew name)
+        (sym (names-with_payloads alignment (end_after (blob_alignment alignment) end payload) payloads later)) are.0.is_new;
   },
   are.1,
   nodes-with_payloads alignment (end_after (blob_alignment alignment) end payload) payloads later apart.1 are.2,

@@ -12,8 +12,8 @@ use Rattle.bi_fit.specs.declared.document.image_node.ImageNode.{ImageNode}
 use Rattle.bi_fit.specs.declared.form.Form.{Form}
 use Rattle.bi_fit.specs.declared.payload_area.PayloadArea.{PayloadArea}
 use Rattle.bi_fit.specs.ImageTree.{without_payload}
-use Rattle.bi_fit.specs.NormalNodes.{MayAdd, HasDistinctNames, HasCellSize, next_begin, nodes_by_name}
-use Rattle.bi_fit.specs.NormalNodes.{sorted_image_children, leaf_nodes}
+use Rattle.bi_fit.specs.NormalNodes.{MayAdd, HasDistinctNames, HasCellSize, next_begin}
+use Rattle.bi_fit.specs.NormalNodes.{nodes_by_name, sorted_image_children, leaf_nodes}
 use Rattle.bi_fit.specs.Leaves.{leaf_model}
 use Rattle.bi_fit.specs.NameOrders.{HasOrder}
 use Rattle.bi_fit.specs.TakenDigests.{HaveDigests, after_digests}
@@ -38,8 +38,8 @@ digests_left (OfNode parent) =
 digests_left (Leaves nodes) = []
 
 -- The children may be added to a document with these names. The order of a file, or the properties
--- of the given nodes, are by these names. There are digests for the hash nodes of the file, and none
--- of its nodes has two properties with the same name.
+-- of the given nodes, are by these names. There are digests for the hash nodes of the file, and no
+-- node of it has two properties with the same name.
 abbrev pub AreAddable : List (List ℕ) → ImageChildren → Type 0
 AreAddable names (OfNode parent) =
     HasOrder names parent.order.now parent.node

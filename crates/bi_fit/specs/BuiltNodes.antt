@@ -93,7 +93,8 @@ abbrev pub built_image_nodes : Form → (end : ℕ) → HeadModel → List Algo 
     → Nodes (List Property)
 built_image_nodes form end head algorithms images =
     with_each entries
-    (with_payloads (alignment_of form) end (built_payloads images) (built_images head algorithms images))
+    (with_payloads (alignment_of form) end (built_payloads images)
+    (built_images head algorithms images))
 
 -- The node `images`, without its siblings.
 abbrev pub built_images_node : Form → HeadModel → List Algo → List ImageSpecModel

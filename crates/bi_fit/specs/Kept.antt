@@ -14,7 +14,7 @@ use Rattle.bi_fit.specs.Text.{blob_of, payload_places}
 use Rattle.bi_fit.specs.Content.{place_of}
 
 -- What the text of a file in the form External keeps of where the payloads of the file are (profile
--- of this project). That is no part of what a file means.
+-- of this project). It does not belong to the meaning of a file.
 
 -- A payload that is not empty and that `data-offset` or `data-position` of a file gives.
 pub record PlacedPayload : Type 0 where
@@ -55,37 +55,36 @@ pub record IsPower (bytes : ℕ) : Type 0 where
   pub is_power : bytes ≡ 2 ^ exponent
 
 -- Each of these payloads is at a multiple of a number of bytes in the file.
-abbrev pub AreAligned : (bytes : ℕ) → List PlacedPayload → Type 0
-AreAligned bytes placed = AllByRecursion (λ payload. payload.old_offset % bytes ≡ 0) placed
+abbrev pub AreAlignedInFile : (bytes : ℕ) → List PlacedPayload → Type 0
+AreAlignedInFile bytes placed = AllByRecursion (λ payload. payload.old_offset % bytes ≡ 0) placed
 
--- So are they in the text.
-abbrev pub StayAligned : (bytes : ℕ) → List PlacedPayload → Type 0
-StayAligned bytes placed = AllByRecursion (λ payload. payload.new_offset % bytes ≡ 0) placed
+-- Each of these payloads is at a multiple of a number of bytes in the text.
+abbrev pub AreAlignedInText : (bytes : ℕ) → List PlacedPayload → Type 0
+AreAlignedInText bytes placed = AllByRecursion (λ payload. payload.new_offset % bytes ≡ 0) placed
 
 -- This is the alignment that payloads have in the file: the greatest power of two up to 1048576
 -- that divides the offset of each.
 pub record IsAlignmentOf (placed : List PlacedPayload) (bytes : ℕ) : Type 0 where
   pub is_power : IsPower bytes
-  pub divides : AreAligned bytes placed
-  pub greatest : (other : ℕ) → IsPower other → AreAligned other placed → other ≤ bytes
+  pub divides : AreAlignedInFile bytes placed
+  pub greatest : (other : ℕ) → IsPower other → AreAlignedInFile other placed → other ≤ bytes
 
 -- Payloads have this alignment in the file, and not all of them have it in the text. So there is at
 -- least one of them.
 pub record LosesAlignment (placed : List PlacedPayload) (bytes : ℕ) : Type 0 where
   pub is_alignment : IsAlignmentOf placed bytes
-  pub is_lost : ¬ (StayAligned bytes placed)
+  pub is_lost : ¬ (AreAlignedInText bytes placed)
 
--- What a text in a form keeps of these payloads. In the form External it has the alignment that
--- they lose, if they lose one, and how many of them `data-position` gives. In any other form
--- nothing is said of them.
+-- What a text in the form External keeps of these payloads: the alignment that they lose, if they
+-- lose one, and how many of them `data-position` gives.
 pub record IsKeptOf (placed : List PlacedPayload) (kept : Kept) : Type 0 where
-  pub alignment : (bytes : ℕ) → (kept.alignment ≡ Some bytes) ↔ LosesAlignment placed bytes
-  pub positions : kept.positions ≡ length (filter (λ payload. payload.has_position) placed)
+  pub alignment : (bytes : ℕ) → (kept.lost_alignment ≡ Some bytes) ↔ LosesAlignment placed bytes
+  pub positions : kept.lost_positions ≡ length (filter (λ payload. payload.has_position) placed)
 
 -- Nothing is said of payloads.
 pub record SaysNothing (kept : Kept) : Type 0 where
-  pub alignment : kept.alignment ≡ None
-  pub positions : kept.positions ≡ 0
+  pub alignment : kept.lost_alignment ≡ None
+  pub positions : kept.lost_positions ≡ 0
 
 -- What the text of `new` in the form External keeps of the payloads of a file that means `old`. The
 -- payloads of both are the same.
@@ -95,8 +94,8 @@ pub record IsKeptOfFile (file : List ℕ) (old new : ImageTree) (kept : Kept) : 
       (placed_payloads (places_of_nodes file is_file.images) old.payloads (external_places new))
       kept
 
--- What the text of `new` in a form keeps of the payloads of a file that means `old`. It is said in
--- the form External alone.
+-- What the text of `new` in a form keeps of the payloads of a file that means `old`. In any
+-- other form nothing is said of them.
 abbrev pub IsKept : Form → (file : List ℕ) → (old new : ImageTree) → Kept → Type 0
 IsKept External file old new kept = IsKeptOfFile file old new kept
 IsKept form file old new kept = SaysNothing kept

@@ -18,7 +18,7 @@ offset_if_placed (DataOffset offset) (Some (byte ∷ later)) = Some offset
 offset_if_placed (DataPosition offset) (Some (byte ∷ later)) = Some offset
 offset_if_placed place payload = None
 
--- That of an image.
+-- The same, of an image.
 abbrev pub placed_offset : ImageModel → Option ℕ
 placed_offset image = offset_if_placed image.place image.payload
 
@@ -27,20 +27,19 @@ abbrev pub is_at_position : Place → Option (List ℕ) → Bool
 is_at_position (DataPosition offset) (Some (byte ∷ later)) = true
 is_at_position place payload = false
 
--- Whether that of an image is so.
+-- Whether the payload of an image is not empty and `data-position` gives it.
 abbrev pub has_position : ImageModel → Bool
 has_position image = is_at_position image.place image.payload
 
--- The payloads of images that count, if the blob of the text has `base` bytes, and the payloads
--- before these end at `end`.
+-- The payloads of images that are not empty and that `data-offset` or `data-position` gives. The
+-- blob of the text has `base` bytes, and the payloads before these end at `end`.
 abbrev pub placed_images : (base end : ℕ) → List Image → List PlacedPayload
 placed_images base end [] = []
 placed_images base end (image ∷ later) =
     payload_if_placed image.place (image_model image).payload (Some (base + up_to 4 end))
     ++ placed_images base (end_after 4 end (image_model image).payload) later
 
--- The payload of each of these images that counts is at a multiple of a number of bytes in the
--- file.
+-- Each of these payloads is at a multiple of a number of bytes in the file.
 abbrev pub AreAlignedImages : (bytes : ℕ) → List Image → Type 0
 AreAlignedImages bytes images =
     AllByRecursion
@@ -52,7 +51,7 @@ pub record IsAlignmentOfImages (images : List Image) (bytes : ℕ) : Type 0 wher
   pub divides : AreAlignedImages bytes images
   pub greatest : (other : ℕ) → IsPower other → AreAlignedImages other images → other ≤ bytes
 
--- A power of two is the greatest of those up to `most` that divide an offset.
+-- The greatest power of two up to `most` that divides an offset.
 pub record IsPowerWithin (most offset bytes : ℕ) : Type 0 where
   pub is_power : IsPower bytes
   pub same : (other : ℕ) → IsPower other

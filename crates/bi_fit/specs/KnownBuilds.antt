@@ -214,7 +214,7 @@ plan_of_boards = record {
 abbrev pub tree_of_boards : ImageTree
 tree_of_boards = built_tree known_head plan_of_boards images_of_boards
 
--- The two hash nodes of a payload, in byte order.
+-- The two hash nodes of a payload, with the properties of each in byte order.
 abbrev pub hashes_of_board : (payload : List ℕ) → Nodes (List Property)
 hashes_of_board payload =
     node (codes "hash-1")
@@ -239,7 +239,7 @@ properties_of_devicetree payload =
     ∷ (codes "type", text_value (codes "flat_dt"))
     ∷ []
 
--- The tree of both boards in byte order.
+-- The tree of both boards, with the properties of each node in byte order.
 abbrev pub known_tree_of_boards : Root (List Property)
 known_tree_of_boards = record {
   own =

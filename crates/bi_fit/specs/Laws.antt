@@ -127,7 +127,7 @@ SameTextSameJudgement =
     → length (fit_text form tree) ≤ longest_text → fit_text form tree ≡ fit_text form other
     → judgement tree ≡ judgement other
 
--- The form with the alignment 4 is the form External.
+-- The text in the form Aligned with the alignment 4 is the text in the form External.
 abbrev pub AlignedByFourIsExternal : Type 0
 AlignedByFourIsExternal =
     (align : Align) (tree : ImageTree) → align_bytes align ≡ 4
@@ -191,8 +191,8 @@ good_hashes number (algo ∷ later) image =
     }
     ∷ good_hashes (number + 1) later image
 
--- The payloads of a built tree are those of its images in their order, and each image has one hash
--- node with each algorithm of the plan, in their order, with the verdict Good.
+-- The payloads of a built tree are those of its images in their order. Each image has one hash node
+-- for each entry of the plan's algorithms, in their order, and the verdict on each is Good.
 pub record HasGoodPayloads (head : HeadModel) (plan : PlanModel) (images : List ImageSpecModel)
     : Type 0 where
   pub payloads : (built_tree head plan images).payloads ≡ map (λ image. Some image.payload) images
@@ -223,7 +223,7 @@ listed_by_name images name = record {
   payload = option_map (λ image. image.payload) (find (λ image. bytes_eq image.name name) images);
 }
 
--- What a list of these names is: none if there is no name.
+-- What a configuration lists by these names. It has no key if there is no name.
 abbrev pub list_by_names : List ImageSpecModel → List (List ℕ) → ListResult
 list_by_names images [] = NoKey
 list_by_names images (name ∷ later) = ListedImages (map (listed_by_name images) (name ∷ later))
@@ -240,13 +240,13 @@ pub record HasConfigurations (head : HeadModel) (plan : PlanModel) (images : Lis
       plan.configurations
   pub default : default_of (built_tree head plan images) ≡ Some plan.default
 
--- Each tree that can be built has.
+-- This holds for each tree that can be built.
 abbrev pub BuiltHasConfigurations : Type 0
 BuiltHasConfigurations =
     (head : HeadModel) (plan : PlanModel) (images : List ImageSpecModel) → CanBeBuilt head images
     → IsPlanFor (names_of_images images) plan → HasConfigurations head plan images
 
--- What a list of these images is: none if there is no image.
+-- What a configuration lists by the names of these images. It has no key if there is no image.
 abbrev pub list_of_built : List ImageSpecModel → ListResult
 list_of_built [] = NoKey
 list_of_built (image ∷ later) =
@@ -255,7 +255,7 @@ list_of_built (image ∷ later) =
 
 -- The configuration of a tree that is built by types lists the images of each type under its key,
 -- in their order, and it is the default.
-pub record HasConfiguration (head : HeadModel) (algorithms : List Algo)
+pub record HasConfigurationByTypes (head : HeadModel) (algorithms : List Algo)
     (images : List ImageSpecModel) : Type 0 where
   pub listed : (key : Key)
       → listed_of (built_tree head (plan_by_types algorithms images) images) configuration_name key
@@ -263,8 +263,8 @@ pub record HasConfiguration (head : HeadModel) (algorithms : List Algo)
   pub default : default_of (built_tree head (plan_by_types algorithms images) images)
       ≡ Some configuration_name
 
--- Each tree that can be built by types has.
-abbrev pub BuiltHasConfiguration : Type 0
-BuiltHasConfiguration =
+-- This holds for each tree that can be built by types.
+abbrev pub BuiltByTypesHasConfiguration : Type 0
+BuiltByTypesHasConfiguration =
     (head : HeadModel) (algorithms : List Algo) (images : List ImageSpecModel)
-    → CanBeBuilt head images → HasConfiguration head algorithms images
+    → CanBeBuilt head images → HasConfigurationByTypes head algorithms images

@@ -13,7 +13,7 @@ use Rattle.bi_fit.specs.ImageTree.{ImageTree, with_image_nodes}
 -- payload is the value of a property `data`. In the form External the payloads follow the blob, in
 -- the order of the image nodes, and the properties `data-offset` and `data-size` of each image
 -- node have their offsets and sizes. In this form the alignment is 4. The form Aligned is the same
--- with another alignment.
+-- with the alignment that it gives.
 
 -- The alignment of the payloads that follow the blob in a form: each begins at a multiple of it,
 -- and the length of the blob is one too. In the form Embedded no payload follows the blob.
@@ -22,7 +22,7 @@ alignment_of Embedded = None
 alignment_of External = Some 4
 alignment_of (Aligned align) = Some (align_bytes align)
 
--- What the length of the blob is a multiple of, by the alignment of the payloads that follow it.
+-- The alignment of the blob's length: that of the payloads after it, or 4 if none follow.
 abbrev pub blob_alignment : Option ℕ → ℕ
 blob_alignment None = 4
 blob_alignment (Some align) = align

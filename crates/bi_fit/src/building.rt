@@ -103,8 +103,8 @@ pub struct Plan<'a> {
 /// compression has a zero byte. Each configuration has a different name that a node may have, and
 /// lists only names of images. The default is one of the configurations.
 ///
-/// Takes time linear in the length of the text and in the number of images, and that of each
-/// payload for each algorithm.
+/// Takes time linear in the length of the text and in the number of images. It also digests each
+/// payload once for each algorithm.
 ///
 /// Errors: TooLarge at `limits.file()`, if the text is longer than that, unless memory runs out;
 /// OutOfMemory; those of the sink. After an error of the sink, the sink is as a failed `put` of the
@@ -151,7 +151,7 @@ pub fn append_built<S: Sink>(
 /// digests of its payload by these algorithms. One configuration, `conf-1`, which is the default,
 /// lists the images by their types: each under the key for its type, if there is one.
 ///
-/// Requires: the images can be built, as for `append_built`.
+/// Requires: the description and the images are as `append_built` requires them.
 ///
 /// The time and the errors are those of `append_built`.
 pub fn append_built_by_types<S: Sink>(

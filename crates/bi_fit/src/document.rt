@@ -162,7 +162,8 @@ impl<'a> Fit<'a> {
 }
 
 /// Fails with TooLarge at the limit if the text of a document with this alignment and `after` more
-/// bytes are longer than that.
+/// bytes are longer than that. Requires: the document is closed, and `after` is at most the limit,
+/// which is at most 0x7fffffff.
 fn check_length(document: &Doc<'_>, align: Align, after: u32, limit: u32) -> Result<(), Fault>
     requires closed { stage_of_events document.now.events ≡ AfterRoot }
     requires within { after ≤ limit }

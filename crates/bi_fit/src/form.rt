@@ -22,8 +22,7 @@ pub enum Form {
 impl Form {
     ghost use Rattle.bi_fit.specs.Text.{alignment_of, blob_alignment};
 
-    /// Returns what the length of the blob is a multiple of, and the offsets of the payloads after
-    /// it, if there are any.
+    /// Returns the alignment of the blob's length and of the payloads that follow the blob.
     pub(crate) fn align(self) -> Align
         ensures { align_bytes result ≡ blob_alignment (alignment_of self) }
     {

@@ -6,7 +6,7 @@ ghost use Rattle.bi_fit.specs.ImageTree.{ImageTree};
 ghost use Rattle.bi_fit.specs.Content.{image_model, tree_of};
 ghost use Rattle.bi_fit.specs.Documents.{length_after_blob as length_after_blob_of};
 ghost use Rattle.bi_fit.specs.Judgement.{signature_count};
-ghost use Rattle.bi_fit.specs.Kept.{IsKept, IsPower, LosesAlignment, StayAligned};
+ghost use Rattle.bi_fit.specs.Kept.{IsKept, IsPower, LosesAlignment, AreAlignedInText};
 ghost use Rattle.bi_fit.specs.KeptImages.{IsAlignmentOfImages, IsPowerWithin, placed_images};
 ghost use Rattle.bi_fit.specs.KeptImages.{placed_offset as offset_of, has_position as is_fixed};
 ghost use Rattle.bi_fit.specs.NormalNodes.{payloads_of};
@@ -20,9 +20,9 @@ use crate::payload_area::{PayloadArea, length_after_blob};
 /// The greatest alignment that is looked for, in bytes.
 const MOST: u32 = 0x10_0000;
 
-/// What a user is told after a file was written anew as the text of what it means: the signature
-/// nodes that the text still has, and what it does not keep of where the file has its payloads. No
-/// part of this is in the meaning of the file.
+/// The notes for a user after a file was replaced by the text of its image tree: the signature nodes
+/// that the text still has, and what it does not keep of the places of the payloads. No part of this
+/// is in the meaning of the file.
 #[derive(Clone, Copy, Debug, Default, PartialEq, Eq)]
 pub struct Kept {
     /// How many signature nodes the text has. No signature is checked.
@@ -31,17 +31,17 @@ pub struct Kept {
     /// 1048576 that divides the offset of each in the file, if the offset of one of them in the
     /// text is not a multiple of it. The payloads are those that are not empty and that
     /// `data-offset` or `data-position` of the file gives. None unless the form is External.
-    pub alignment: Option<u32>,
-    /// How many of these payloads `data-position` gives. The text has them at other offsets. 0
-    /// unless the form is External.
-    pub positions: usize,
+    pub lost_alignment: Option<u32>,
+    /// How many of these payloads `data-position` gives. The text gives each by `data-offset`
+    /// instead. 0 unless the form is External.
+    pub lost_positions: usize,
 }
 
 impl<'a> Fit<'a> {
     /// Returns what the text of an image tree in this form, with this length in bytes, keeps of the
     /// file. Takes time linear in the number of images and of the children of image nodes and of
-    /// configuration nodes, and allocates nothing. Requires: the tree has the payloads and the
-    /// signature nodes of this one, and this is the length of its text.
+    /// configuration nodes, and allocates nothing. Requires: the image tree has the payloads and the
+    /// signature nodes of the file, and `size` is the length of its text, at most 0x7fffffff.
     pub fn kept(&self, form: Form, size: u32) -> Kept
         requires after { length_after_blob_of form (tree_of self.now).payloads ≤ size }
         requires small { size ≤ longest_text }
@@ -64,14 +64,15 @@ impl<'a> Fit<'a> {
         };
         Kept {
             signatures,
-            alignment: lost_alignment(images, size - after),
-            positions: images.iter().filter(|image| has_position(image)).count(),
+            lost_alignment: lost_alignment(images, size - after),
+            lost_positions: images.iter().filter(|image| has_position(image)).count(),
         }
     }
 }
 
 /// Returns the alignment that the payloads of images have in their file and lose in a text in the
-/// form External. The blob of the text has `base` bytes.
+/// form External. The blob of the text has `base` bytes. Requires: the text is not longer than the
+/// longest text.
 fn lost_alignment(images: &[Image<'_>], base: u32) -> Option<u32>
     requires { base + payloads_end 4 0 (payloads_of images.now) ≤ longest_text }
     ensures lost { IfSome result (LosesAlignment (placed_images base 0 images.now)) }
@@ -99,7 +100,7 @@ fn alignment_of(images: &[Image<'_>]) -> u32
     power
 }
 
-/// Returns the greatest power of two up to `most` that divides an offset.
+/// Returns the greatest power of two up to `most` that divides an offset. Requires: `most` is a power of two.
 fn power_within(most: u32, offset: u32) -> u32
     requires { IsPower most }
     ensures { IsPowerWithin most offset result }
@@ -112,11 +113,12 @@ fn power_within(most: u32, offset: u32) -> u32
 }
 
 /// Returns whether the payloads of images begin at multiples of `alignment` in a text in the form
-/// External. The blob of the text has `base` bytes.
+/// External. The blob of the text has `base` bytes. Requires: the text is not longer than the longest
+/// text, and `alignment` is a power of two.
 fn stay_aligned(images: &[Image<'_>], base: u32, alignment: u32) -> bool
     requires within { base + payloads_end 4 0 (payloads_of images.now) ≤ longest_text }
     requires power { IsPower alignment }
-    ensures { (result ≡ true) ↔ StayAligned alignment (placed_images base 0 images.now) }
+    ensures { (result ≡ true) ↔ AreAlignedInText alignment (placed_images base 0 images.now) }
 {
     let mut area = PayloadArea::new(Form::External);
     for image in images {

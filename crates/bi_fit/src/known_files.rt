@@ -52,9 +52,9 @@ pub fn three_images_have_texts()
     ensures three { ThreeImagesHaveTexts }
 {}
 
-/// With the alignment 8 the texts of the same three images have a blob of 248 bytes and payloads at
-/// offsets 0, 8 and 8 from its end: 257 bytes. With the alignment 4 they are those in the form
-/// External.
+/// With the alignment 8 the text of the same three images has a blob of 248 bytes and payloads at
+/// offsets 0, 8 and 8 from its end: 257 bytes. With 16 the text has 273 bytes, with 4096 it has
+/// 8,193, and with 4 it is the text in the form External.
 pub fn three_images_are_aligned()
     ensures aligned { ThreeImagesAreAligned }
 {}

@@ -8,7 +8,7 @@ ghost use Rattle.bi_fit.specs.Laws.{AlignedByFourIsExternal, EachExternalTextHas
 ghost use Rattle.bi_fit.specs.Laws.{PayloadsEndLater};
 ghost use Rattle.bi_fit.specs.Laws.{ExternalPayloadsArePlaced, PayloadsAreAtPlaces};
 ghost use Rattle.bi_fit.specs.Laws.{BuiltIsAccepted, BuiltHasGoodPayloads, ReadsNames};
-ghost use Rattle.bi_fit.specs.Laws.{BuiltHasConfigurations, BuiltHasConfiguration};
+ghost use Rattle.bi_fit.specs.Laws.{BuiltHasConfigurations, BuiltByTypesHasConfiguration};
 
 /// As a flattened image tree, a file has at most one meaning.
 pub fn one_meaning()
@@ -107,8 +107,8 @@ pub fn payloads_end_later()
 {}
 
 /// Each payload of an external text is at the offset that the layout gives it: the first multiple
-/// of the alignment, counted from the end of the blob, that is not before the end of the payloads
-/// before it. The offset in the text is a multiple of the alignment too. The text has at most
+/// of the alignment, counted from the end of the blob, at or after the end of the previous payload.
+/// The offset in the text is a multiple of the alignment too. The text has at most
 /// 0x7fffffff bytes.
 pub fn external_payloads_are_placed()
     ensures { ExternalPayloadsArePlaced }
@@ -121,9 +121,9 @@ pub fn built_is_accepted()
     ensures { BuiltIsAccepted }
 {}
 
-/// The payloads of a built tree are those of its images in their order. Each image has a hash node
-/// with each algorithm of the plan, which has the digest of its payload, and the verdict on it is
-/// Good.
+/// The payloads of a built tree are those of its images in their order. Each image has one hash
+/// node for each entry of the plan's algorithms, in their order. It has the digest of the payload,
+/// and the verdict on it is Good.
 pub fn built_has_good_payloads()
     ensures { BuiltHasGoodPayloads }
 {}
@@ -143,6 +143,6 @@ pub fn built_has_configurations()
 
 /// The configuration of a tree that is built by types lists, under each key, the images with the
 /// type of that key in their order. It is the default.
-pub fn built_has_configuration()
-    ensures { BuiltHasConfiguration }
+pub fn built_by_types_has_configuration()
+    ensures { BuiltByTypesHasConfiguration }
 {}

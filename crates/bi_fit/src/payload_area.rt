@@ -37,6 +37,7 @@ impl PayloadArea {
 
     /// Places the payload of one more image, and returns where it begins if it follows the blob.
     /// Changes nothing for an image without a payload. The end saturates at `usize::MAX`.
+    /// Requires: the end is at least 2^20 below 2^64.
     pub(crate) fn place(&mut self, payload: Option<&[u8]>) -> usize
         requires { self.old.end + 0xfffff < 2 ^ 64 }
         ensures begin { result ≡ next_begin self.old.form self.old.end }
@@ -87,7 +88,8 @@ fn payloads_end(images: &[Image<'_>], align: Align, limit: u32) -> Result<u32, F
 }
 
 /// Appends the payloads of images in their order, each after zeros up to a multiple of this
-/// alignment, even an empty payload. Fails as the sink does.
+/// alignment, even an empty payload. Fails as the sink does. Requires: the payloads, so placed, end
+/// within the longest text.
 pub(crate) fn put_payloads<S: Sink>(
     images: &[Image<'_>],
     align: Align,
@@ -107,7 +109,8 @@ pub(crate) fn put_payloads<S: Sink>(
 }
 
 /// Places one more payload in an area with this alignment, and appends it after zeros up to a
-/// multiple of the alignment. Fails as the sink does.
+/// multiple of the alignment. Fails as the sink does. Requires: the area has this alignment, and the
+/// payload ends within the longest text.
 fn put_payload<S: Sink>(
     area: &mut PayloadArea,
     align: Align,

@@ -15,7 +15,7 @@ pub fn updated_is_image_tree()
     ensures { UpdatedIsImageTree }
 {}
 
-/// The text of an updated tree in either form, if it is no longer than the limit on files, is
+/// The text of an updated tree in any form, if it is no longer than the limit on files, is
 /// accepted under limits that hold the tree, and means the updated tree. The limit on files is at
 /// most 0x7fffffff.
 pub fn updated_is_accepted()

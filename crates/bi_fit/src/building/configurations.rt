@@ -14,7 +14,8 @@ use crate::document::Leaf;
 use crate::property_names::PropertyNames;
 use std::alloc::{AllocError, Global};
 
-/// Returns the nodes of configurations with these lists. Fails if memory runs out.
+/// Returns the nodes of configurations with these lists. Fails if memory runs out. Requires:
+/// `names` are the names of a built tree, and the lists are those of the configurations.
 pub(super) fn configuration_leaves<'a, 'b>(
     alloc: Global,
     names: &'b PropertyNames<'a>,

@@ -143,7 +143,7 @@ fn add_built_image_nodes<'a>(
     Ok(())
 }
 
-/// Adds the node of the configurations, with all of them.
+/// Adds the node `configurations`, with the configuration nodes.
 fn add_configurations<'a>(
     alloc: Global,
     doc: &mut Doc<'a>,

@@ -41,8 +41,9 @@ fn name_of_number(alloc: Global, number: usize) -> Result<String, AllocError>
     format!(in alloc; "hash-{number}")
 }
 
-/// Returns the hash nodes with these names, algorithms and digests. The digests are those of a
-/// payload, one after another. Fails if memory runs out.
+/// Returns the hash nodes with these names, algorithms and digests. Fails if memory runs out.
+/// Requires: `names` are the names of a built tree, `hash_names` those of its hash nodes, and
+/// `digests` those of one payload, one after another.
 pub(super) fn hash_leaves<'a, 'b>(
     alloc: Global,
     names: &'b PropertyNames<'a>,

@@ -77,7 +77,8 @@ pub(super) fn image_properties<'a, 'b>(
     Ok(properties)
 }
 
-/// Returns the properties of the node of the configurations, of which this is the default.
+/// Returns the properties of the node `configurations`, with the name of the default. Requires: the
+/// names are those of a built tree.
 pub(super) fn default_properties<'a, 'b>(
     alloc: Global,
     names: &'b PropertyNames<'a>,
@@ -92,7 +93,8 @@ pub(super) fn default_properties<'a, 'b>(
     Ok(properties)
 }
 
-/// Returns the properties of a configuration with these lists.
+/// Returns the properties of a configuration with these lists. Requires: the names are those of a
+/// built tree.
 pub(super) fn configuration_properties<'a, 'b>(
     alloc: Global,
     names: &'b PropertyNames<'a>,
@@ -120,7 +122,8 @@ pub(super) fn configuration_properties<'a, 'b>(
     Ok(properties)
 }
 
-/// Returns the properties of a hash node with this algorithm and this digest.
+/// Returns the properties of a hash node with this algorithm and this digest. Requires: the names are
+/// those of a built tree.
 pub(super) fn hash_properties<'a, 'b>(
     alloc: Global,
     names: &'b PropertyNames<'a>,

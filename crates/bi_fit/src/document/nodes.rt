@@ -21,7 +21,7 @@ use bi_fdt::NodeRef;
 use bi_lay::Doc;
 use std::alloc::{AllocError, Global};
 
-/// A node without children that a document gets.
+/// A node without children, to be added to a document.
 #[derive(Drop)]
 pub(crate) struct Leaf<'a, 'b> {
     /// The name.
@@ -69,7 +69,8 @@ pub(crate) fn begin_with<'a>(
     properties.add_to(doc)
 }
 
-/// Adds nodes without children, in their order, as children of the innermost open node.
+/// Adds nodes without children, in their order, as children of the innermost open node. Requires: the
+/// properties are by the names of the document, and each node may be added.
 pub(crate) fn add_leaves<'a>(doc: &mut Doc<'a>, leaves: &[Leaf<'a, '_>]) -> Result<(), AllocError>
     requires names { AllByRecursion (λ leaf. doc.old.names ≡ leaf.properties.names) leaves.now }
     requires may { MayAdd doc.old (events (leaf_nodes (map leaf_model leaves.now))) }

@@ -114,8 +114,9 @@ impl<'a, 'b> PropertyMap<'a, 'b> {
     /// Gives an image node this payload instead of any other, or none. Removes `data`,
     /// `data-offset`, `data-position` and `data-size`, and adds the properties of the payload. In
     /// the form Embedded, that is `data`, which has its bytes. In the other forms, these are
-    /// `data-offset`, which is `begin`, and `data-size`; the payload has fewer than 2^32 bytes.
-    /// `begin` is the offset of an external payload in bytes from the end of the blob.
+    /// `data-offset`, which is `begin`, and `data-size`. `begin` is the offset of an external payload
+    /// in bytes from the end of the blob. Requires: unless the form is Embedded, the payload has
+    /// fewer than 2^32 bytes.
     ///
     /// Fails if memory runs out. Which properties the map then has is not specified.
     pub(super) fn set_payload(

@@ -19,7 +19,8 @@ plan_of algorithms configuration = record {
 
 -- It is the plan by types if the configuration is.
 is_by_types : (algorithms : List Algo) (images : List ImageSpecModel) (configuration : ConfigurationSpec) →
-    configuration_spec_model configuration ≡ configuration_by_types images → plan_of algorithms configuration ≡ plan_by_types algorithms images
+    configuration_spec_model configuration ≡ configuration_by_types images → plan_of algorithms configuration
+    ≡ plan_by_types algorithms images
 is_by_types algorithms images configuration is =
     ap (λ model. record { configurations = model ∷ []; default = model.name; algorithms = algorithms }) is
 

@@ -42,7 +42,8 @@ add_image_node-requires c =
     let image = named_model (get_or images index no_named_image) in
     let end = c.loop-index.area.end in
     let target = with_events c.args.doc.now (events (built_image_nodes c.args.form 0 head algorithms (named_models images))) in
-    let later = built_image_nodes c.args.form (end_after (blob_alignment (alignment_of c.args.form)) end (Some image.payload)) head algorithms
+    let later = built_image_nodes c.args.form
+    (end_after (blob_alignment (alignment_of c.args.form)) end (Some image.payload)) head algorithms
     (named_models (drop (index + 1) images)) in
     let digests = c.deref.ensures.value ∙ ap (λ digests. digests.items) (sym c.index-parts-index.is)
     ∙ digests_at (λ digests. digests.items) c.args.parts.digests.now algorithms images index c.index-parts-index.result
@@ -60,12 +61,14 @@ add_image_node-requires c =
           (from_entries (built_image_properties head image)) c.loop-index.invariant.names c.in_ok-image_properties.ensures;
       small = c.loop-index.invariant.small;
       sized = subst (λ form. HasCellSize form (Some image.payload)) (sym c.loop-index.invariant.form) sized;
-      children = subst (AllByRecursion (λ (leaf : Leaf). c.loop-index.doc.names ≡ leaf.properties.names)) (sym c.deref-in-loop-index.ensures.value)
+      children = subst (AllByRecursion (λ (leaf : Leaf). c.loop-index.doc.names ≡ leaf.properties.names))
+          (sym c.deref-in-loop-index.ensures.value)
           (each-weaker (λ (leaf : Leaf). leaf.properties.names ≡ built_names)
           (λ (leaf : Leaf). c.loop-index.doc.names ≡ leaf.properties.names)
           (λ leaf same. c.loop-index.invariant.names ∙ sym same) c.in_ok-hashes.hashes.items c.in_ok-hashes.ensures.same_names);
       may = subst (λ nodes. MayAdd c.loop-index.doc (events nodes)) (sym same)
-          (may_add_first c.loop-index.doc target image.name (entries (placed_properties c.args.form (next_begin c.args.form end) head image))
+          (may_add_first c.loop-index.doc target image.name
+          (entries (placed_properties c.args.form (next_begin c.args.form end) head image))
           (built_image_children algorithms image.payload) later
           (subst (IsAdding c.loop-index.doc target)
           (nodes_at c.args.form end head algorithms images index no_named_image c.loop-index-test.true) c.loop-index.invariant.adding));
@@ -106,12 +109,14 @@ loop-index-preserved c =
     c.in_ok-image_properties.field-0 (map leaf_model c.deref-in-loop-index.result.now)
     c.loop-index.invariant.form c.in_ok-image_properties.ensures hashes in
     let added : c.add_image_node.new.doc
-    ≡ with_events c.loop-index.doc (events (built_image_node c.args.form (next_begin c.args.form c.loop-index.area.end) head algorithms image)) =
+    ≡ with_events c.loop-index.doc
+    (events (built_image_node c.args.form (next_begin c.args.form c.loop-index.area.end) head algorithms image)) =
     c.in_ok-add_image_node.ensures.added ∙ ap (λ nodes. with_events c.loop-index.doc (events nodes)) same in
     rw at (record {
       adding = subst (IsAdding c.add_image_node.new.doc target)
           (nodes_later c.args.form c.loop-index.area.end image.payload head algorithms rest)
-          (adding_later c.loop-index.doc target image.name (entries (placed_properties c.args.form (next_begin c.args.form c.loop-index.area.end) head image))
+          (adding_later c.loop-index.doc target image.name
+          (entries (placed_properties c.args.form (next_begin c.args.form c.loop-index.area.end) head image))
           (built_image_children algorithms image.payload) later adding c.add_image_node.new.doc added);
       within = within_later c.args.form c.loop-index.area.end payload (built_payloads rest) within;
       small = small;

@@ -57,7 +57,8 @@ add_leaves-requires-clause-names c =
     let names : c.begin_with.new.doc.names ≡ built_names =
     ap (λ document. document.names) c.in_ok-begin_with.ensures.added ∙ c.requires.doc_names in
     subst (AllByRecursion (λ (leaf : Leaf). c.begin_with.new.doc.names ≡ leaf.properties.names)) (sym c.deref.ensures.value)
-    (each-weaker (λ (leaf : Leaf). leaf.properties.names ≡ built_names) (λ (leaf : Leaf). c.begin_with.new.doc.names ≡ leaf.properties.names)
+    (each-weaker (λ (leaf : Leaf). leaf.properties.names ≡ built_names)
+    (λ (leaf : Leaf). c.begin_with.new.doc.names ≡ leaf.properties.names)
     (λ leaf same. names ∙ sym same) c.in_ok-leaves.leaves.items c.in_ok-leaves.ensures.same_names)
 
 pub add_leaves-requires-clause-may : goal.add_leaves-requires-clause-may

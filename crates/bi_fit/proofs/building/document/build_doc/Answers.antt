@@ -43,7 +43,8 @@ add_built_images-requires-clause-may c =
     c.in_ok-begin_with.ensures.added
     ∙ ap (λ properties. with_events c.in_ok-doc.doc (begin_events [] properties.by_name)) c.in_ok-properties.ensures in
     may_add_images c.args.form head plan images c.in_ok-doc.doc
-    (started (goal.at.add_built_images-requires-clause-may c).In_ok-doc) c.requires.prepared.can c.requires.prepared.is_plan c.begin_with.new.doc begun
+    (started (goal.at.add_built_images-requires-clause-may c).In_ok-doc) c.requires.prepared.can c.requires.prepared.is_plan
+    c.begin_with.new.doc begun
 
 pub add_configurations-requires-clause-may : goal.add_configurations-requires-clause-may
 add_configurations-requires-clause-may c =
@@ -54,7 +55,8 @@ add_configurations-requires-clause-may c =
     c.in_ok-begin_with.ensures.added
     ∙ ap (λ properties. with_events c.in_ok-doc.doc (begin_events [] properties.by_name)) c.in_ok-properties.ensures in
     may_add_configurations c.args.form head plan images c.in_ok-doc.doc
-    (started (goal.at.add_configurations-requires-clause-may c).In_ok-doc) c.requires.prepared.can c.requires.prepared.is_plan c.begin_with.new.doc begun
+    (started (goal.at.add_configurations-requires-clause-may c).In_ok-doc) c.requires.prepared.can c.requires.prepared.is_plan
+    c.begin_with.new.doc begun
     c.add_built_images.new.doc c.in_ok-add_built_images.ensures.added
 
 pub end-requires : goal.end-requires

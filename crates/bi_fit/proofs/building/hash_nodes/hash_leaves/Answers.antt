@@ -16,9 +16,11 @@ split_at-requires c =
     let algorithms = c.args.algorithms.now in
     let index = c.loop-index.index in
     let payload = c.requires.digests.0 in
-    let left = c.loop-index.invariant.left payload c.requires.digests.1 ∙ digests_from algorithms index Crc32 payload c.loop-index-test.true in
+    let left = c.loop-index.invariant.left payload c.requires.digests.1 ∙ digests_from algorithms index Crc32 payload c.loop-index-test.true
+    in
     subst (λ size. size ≤ length c.loop-index.left.now) (sym c.digest_size.ensures)
-    (has_next_digest (get_or algorithms index Crc32) payload (built_digests (drop (index + 1) algorithms) payload) c.loop-index.left.now left)
+    (has_next_digest (get_or algorithms index Crc32) payload
+    (built_digests (drop (index + 1) algorithms) payload) c.loop-index.left.now left)
 
 pub bounds-hash_names-index : goal.bounds-hash_names-index
 bounds-hash_names-index c =

@@ -30,8 +30,8 @@ returns-clause-kept c new same long =
     (YieldsList-from_slice images cc) c.filter.ensures.closure (λ x b q k. search (rules, tests))) in
     let kept : Kept = record {
       signatures = c.signature_count-signatures.result;
-      alignment = c.lost_alignment.result;
-      positions = c.count.result;
+      lost_alignment = c.lost_alignment.result;
+      lost_positions = c.count.result;
     } in
     subst (λ form. IsKept form content.blob.file (tree_of content) new kept) (sym form)
     (kept_of_file content held images c.images-images.ensures new size after kept same is_long is_after (record {

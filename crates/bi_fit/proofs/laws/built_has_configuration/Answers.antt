@@ -1,5 +1,0 @@
-use Rattle.bi_fit.proofs.BuiltConfigurations.{built_has_configuration}
-use Rattle.bi_fit.proofs.laws.built_has_configuration.Goals as goal
-
-pub returns : goal.returns
-returns c = built_has_configuration
