@@ -6,7 +6,8 @@ use Rattle.std.specs.Option.{is_some}
 use Rattle.std.proofs.lemmas.Bool.Decides.{Decides-not}
 use Rattle.bi_base.specs.Limits.{Limits}
 use Rattle.bi_blob.specs.Layout.{is_among}
-use Rattle.bi_blob.proofs.CheckDecisions.{le_decides, eq_decides, both_decide, all_decide, lacks_byte, lacks_byte_decides, is_new, is_new_decides}
+use Rattle.bi_blob.proofs.CheckDecisions.{le_decides, eq_decides, both_decide, all_decide, lacks_byte, lacks_byte_decides, is_new}
+use Rattle.bi_blob.proofs.CheckDecisions.{is_new_decides}
 use Rattle.bi_blob.proofs.CheckDecisions.{is_child_name, is_child_name_decides, first_failing, fault_by_test}
 use Rattle.bi_fit.specs.declared.form.Form.{Form}
 use Rattle.bi_fit.specs.declared.key.Key.{Key}

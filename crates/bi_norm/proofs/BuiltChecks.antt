@@ -21,7 +21,8 @@ use Rattle.bi_fit.specs.Building.{names_of_images, configuration_names}
 use Rattle.bi_fit.specs.NamedImages.{head_model}
 use Rattle.bi_fit.proofs.BuiltConfigurations.{by_types_is_plan}
 use Rattle.bi_norm.specs.declared.fit_building.ImageSpec.{ImageSpec}
-use Rattle.bi_norm.specs.FitBuilding.{PlanSpecModel, GivenImage, given_images, spec_model, spec_models, whole_plan, plan_of_tree, BuildCheck}
+use Rattle.bi_norm.specs.FitBuilding.{PlanSpecModel, GivenImage, given_images, spec_model, spec_models, whole_plan, plan_of_tree}
+use Rattle.bi_norm.specs.FitBuilding.{BuildCheck}
 use Rattle.bi_norm.specs.FitBuilding.{HasDefault, FitsLimit, HasKnownDefault, BuildPasses, build_fault, spec_checks, configuration_checks}
 use Rattle.bi_norm.specs.FitBuilding.{names_of_specs, early_checks, first_image_checks, IsBuildFaultAs, IsBuildErrorAs}
 use Rattle.bi_norm.specs.BuildChecks.{AllPass, IsFirstFailure, IsImagesError}
@@ -44,7 +45,7 @@ pub can_be_built : (head : Head) (plan : PlanSpecModel) (images : List ImageSpec
 can_be_built head plan images text each distinct =
     record { description = text; each = each; distinct = subst AreDistinct (sym (names-spec_models plan images)) distinct }
 
--- The default is one of the configurations, also if it is the first.
+-- The default is one of the configurations, even if it is only the first by default.
 default_is : (first : ConfigurationSpecModel) (later : List ConfigurationSpecModel) (default : Option (List ℕ)) (algorithms : List Algo)
     (images : List ImageSpecModel) → HasKnownDefault (first ∷ later) default →
     is_among (whole_plan (first ∷ later) default algorithms images).default (configuration_names (first ∷ later)) ≡ true

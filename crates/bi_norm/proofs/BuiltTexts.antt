@@ -16,7 +16,7 @@ use Rattle.bi_fit.specs.Laws.{IsAcceptedAs}
 use Rattle.bi_fit.specs.NamedImages.{head_model}
 use Rattle.bi_fit.specs.Text.{fit_text}
 use Rattle.bi_fit.proofs.BuiltVerdicts.{built_is_accepted, built_has_good_payloads}
-use Rattle.bi_fit.proofs.BuiltConfigurations.{built_has_configurations, built_has_configuration}
+use Rattle.bi_fit.proofs.BuiltConfigurations.{built_has_configurations, built_by_types_has_configuration}
 use Rattle.bi_norm.specs.declared.fit_building.ImageSpec.{ImageSpec}
 use Rattle.bi_norm.specs.FitBuilding.{PlanSpecModel, given_images, spec_models, plan_of_tree, tree_of_images, BuildPasses, build_fault}
 use Rattle.bi_norm.specs.FitBuilding.{HasDefault, FitsLimit, configuration_checks, names_of_specs, early_checks, checks_without_memory}
@@ -60,7 +60,7 @@ module _ (limits : Limits) (form : Form) (head : Head) (plan : PlanSpecModel) (i
             (omega (arith, same, short)) (omega (arith, same, most)));
         payloads = built_has_good_payloads (head_model head) (plan_of_tree plan images) (spec_models plan images);
         configurations = built_has_configurations (head_model head) (plan_of_tree plan images) (spec_models plan images) can is_plan;
-        by_types = λ none. built_has_configuration (head_model head) plan.algorithms (spec_models plan images) can;
+        by_types = λ none. built_by_types_has_configuration (head_model head) plan.algorithms (spec_models plan images) can;
       }
 
   -- An error of laying out the text is one of building.

@@ -16,7 +16,8 @@ use Rattle.bi_fit.specs.declared.building.ConfigurationSpec.{ConfigurationSpec}
 use Rattle.bi_fit.specs.declared.key.Key.TheVariants.{Kernel, Fdt, Ramdisk, Firmware, Loadables, Script}
 use Rattle.bi_fit.specs.Building.{ConfigurationSpecModel, configuration_names, IsConfigurationSpec}
 use Rattle.bi_fit.specs.NamedImages.{names_listed, configuration_spec_model, configuration_spec_models}
-use Rattle.bi_norm.specs.FitBuilding.{BuildCheck, ListsImages, HasNewConfigurationName, IndexedConfiguration, configuration_checks, ListsOnly}
+use Rattle.bi_norm.specs.FitBuilding.{BuildCheck, ListsImages, HasNewConfigurationName, IndexedConfiguration, configuration_checks}
+use Rattle.bi_norm.specs.FitBuilding.{ListsOnly}
 use Rattle.bi_norm.specs.BuildChecks.{AllPass, IsFirstFailure, holds_name, lists_only}
 use Rattle.bi_norm.proofs.LeftChecks.{AreLeftChecks, all_checks_left, fails_first, left_after}
 
@@ -102,7 +103,8 @@ module _ (image_names : List (List ℕ)) (configurations : List ConfigurationSpe
       left = left_after all own_checks (from_index (index + 1)) left
           (λ limits form head plan images. ((can.is_name, can.of_images), (new, tt)));
       can = λ later.
-          passed.can (subst (AllByRecursion (IsConfigurationSpec image_names)) (sym (drop_more configurations index d within)) (can, later));
+          passed.can (subst (AllByRecursion (IsConfigurationSpec image_names)) (sym (drop_more configurations index d within))
+          (can, later));
     }
 
   -- After the last configuration none are left.
@@ -124,7 +126,7 @@ holds_name-is_among : (set : BTreeSet (Bor (List ℕ))) (held : List (List ℕ))
     holds_name set name ≡ is_among name.now held
 holds_name-is_among set held holds name = holds.each name
 
--- The same of all names.
+-- The same for all names.
 all_among : (set : BTreeSet (Bor (List ℕ))) (held : List (List ℕ)) → HoldsNames set held → (names : List (Bor (List ℕ))) →
     list_all (holds_name set) names ≡ true → AllByRecursion (λ name. IsTrue (is_among name held)) (bytes_of names)
 all_among set held holds [] are = tt
@@ -142,7 +144,7 @@ module _ (set : BTreeSet (Bor (List ℕ))) (held : List (List ℕ)) (holds : Hol
   abbrev In : Bor (List (Bor (List ℕ))) → Bool
   In names = list_all (holds_name set) names.now
 
-  -- A configuration that lists only names in a set,
+  -- If the test is true, a configuration lists only names in the set,
   pub lists_only_is : lists_only set configuration ≡ true → ListsOnly held (configuration_spec_model configuration)
   lists_only_is are key =
       let kernel = and_parts (In configuration.kernel) _ are in
@@ -160,7 +162,7 @@ module _ (set : BTreeSet (Bor (List ℕ))) (held : List (List ℕ)) (holds : Hol
         | Script ↦ all_among set held holds configuration.script.now script.0
       ]
 
-  -- and one that does not.
+  -- and the other way round.
   pub lists_only_back : ListsOnly held (configuration_spec_model configuration) → lists_only set configuration ≡ true
   lists_only_back is =
       both_true (all_among_back set held holds configuration.kernel.now (is Kernel))

@@ -1,4 +1,5 @@
-use Rattle.std.proofs.Common.{◌≡◌, ℕ, ◌≤◌, Bool, true, false, List, [], ◌∷◌, length, map, flat_map, Option, Some, refl, sym, ap, ◌∙◌, subst, arith}
+use Rattle.std.proofs.Common.{◌≡◌, ℕ, ◌≤◌, Bool, true, false, List, [], ◌∷◌, length, map, flat_map, Option, Some, refl, sym, ap, ◌∙◌, subst}
+use Rattle.std.proofs.Common.{arith}
 use Rattle.std.proofs.Common.{if◌then◌else◌}
 use Rattle.std.specs.Prelude.{◌==◌, unwrap_or}
 use Rattle.std.specs.List.{AllByRecursion}
@@ -12,7 +13,7 @@ use Rattle.bi_fit.specs.Building.{ImageSpecModel, type_name, plan_by_types, IsTe
 use Rattle.bi_fit.specs.Judgement.{CheckedHash}
 use Rattle.bi_fit.specs.Laws.{good_hashes}
 use Rattle.bi_fit.proofs.BuiltVerdicts.{built_is_accepted, built_has_good_payloads}
-use Rattle.bi_fit.proofs.BuiltConfigurations.{by_types_is_plan, built_has_configuration}
+use Rattle.bi_fit.proofs.BuiltConfigurations.{by_types_is_plan, built_by_types_has_configuration}
 use Rattle.bi_fit.proofs.BuiltTrees.{tested_child}
 use Rattle.bi_fit.proofs.TreeContents.{tested_name}
 use Rattle.bi_hash.specs.declared.algo.Algo.TheVariants.{Sha256}
@@ -258,7 +259,7 @@ converted_has_its_parts image is can =
     record {
       payloads = good.payloads ∙ payloads_are_parts image (keys_of_type image.image_type) image.parts can.1.1.1.1.1.0;
       verdicts = subst (AllByRecursion (λ (hash : CheckedHash). hash.verdict ≡ Good)) (sym good.verdicts) (all_good images);
-      configuration = built_has_configuration head (Sha256 ∷ []) images (converted_can_be_built image is);
+      configuration = built_by_types_has_configuration head (Sha256 ∷ []) images (converted_can_be_built image is);
     }
 
 -- The text of a converted image is accepted.

@@ -17,7 +17,7 @@ use Rattle.bi_fit.specs.declared.key.Key.TheVariants.{Script}
 use Rattle.bi_fit.specs.Building.{HeadModel, ImageSpecModel, type_name, built_tree, plan_by_types}
 use Rattle.bi_fit.specs.ImageTree.{ImageTree}
 use Rattle.bi_fit.specs.Judgement.{verdicts_of}
-use Rattle.bi_fit.specs.Laws.{IsAcceptedAs, HasConfiguration}
+use Rattle.bi_fit.specs.Laws.{IsAcceptedAs, HasConfigurationByTypes}
 use Rattle.bi_fit.specs.Text.{fit_text}
 use Rattle.bi_hash.specs.declared.algo.Algo.TheVariants.{Sha256}
 use Rattle.bi_hash.specs.declared.verdicts.Verdict.TheVariants.{Good}
@@ -184,7 +184,7 @@ pub record HasConvertedParts (image : LegacyImage) : Type 0 where
   pub payloads : (fit_of image).payloads ≡ map Some image.parts
   pub verdicts : AllByRecursion (λ hash. hash.verdict ≡ Good) (verdicts_of (fit_of image))
   pub configuration :
-      HasConfiguration (head_of_image image) (Sha256 ∷ []) (converted_images image)
+      HasConfigurationByTypes (head_of_image image) (Sha256 ∷ []) (converted_images image)
 
 -- The law that each legacy image that can be converted has such a tree.
 abbrev pub ConvertedHasItsParts : Type 0

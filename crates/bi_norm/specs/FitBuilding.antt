@@ -19,7 +19,7 @@ use Rattle.bi_fit.specs.Building.{ImageSpecModel, ConfigurationSpecModel, PlanMo
 use Rattle.bi_fit.specs.Building.{plan_by_types, configuration_names}
 use Rattle.bi_fit.specs.ImageTree.{ImageTree}
 use Rattle.bi_fit.specs.NamedImages.{head_model, configuration_spec_models}
-use Rattle.bi_fit.specs.Laws.{IsAcceptedAs, HasGoodPayloads, HasConfigurations, HasConfiguration}
+use Rattle.bi_fit.specs.Laws.{IsAcceptedAs, HasGoodPayloads, HasConfigurations, HasConfigurationByTypes}
 use Rattle.bi_fit.specs.Text.{fit_text}
 use Rattle.bi_legacy.specs.Codes.{os_names, arch_names, type_names, compression_names}
 use Rattle.bi_legacy.specs.Codes.{name_of_code}
@@ -32,7 +32,7 @@ use Rattle.bi_norm.specs.Converting.{code_name}
 -- Building a flattened image tree from images with the codes of legacy headers or with texts, and
 -- from a plan of its configurations and hash nodes (profile of this project).
 
--- The texts in an image node that are the names of codes, or are given in their place.
+-- The texts in an image node: the names of its codes, or texts that are given instead.
 pub record ImageTextsModel : Type 0 where
   pub image_type : List ℕ
   pub arch : List ℕ
@@ -48,8 +48,8 @@ image_texts_model texts = record {
 }
 
 -- What a caller plans: configurations, the name of the default one, if it is given, the algorithms
--- of the hash nodes of each image, and for each image in its order, if they are given, the texts in
--- place of its codes.
+-- of the hash nodes of each image, and for each image, in order, the texts that are given instead
+-- of its codes, if any.
 pub record PlanSpecModel : Type 0 where
   pub configurations : List ConfigurationSpecModel
   pub default : Option (List ℕ)
@@ -71,7 +71,7 @@ plan_spec_model plan = record {
 abbrev pub plain_plan : PlanSpecModel
 plain_plan = record { configurations = []; default = None; algorithms = Sha256 ∷ []; texts = [] }
 
--- An image to be built, with the texts that are given in place of its codes, if there are any.
+-- An image to be built, with the texts that are given instead of its codes, if there are any.
 pub record GivenImage : Type 0 where
   pub spec : ImageSpec
   pub texts : Option ImageTextsModel
@@ -187,7 +187,7 @@ pub record HasNames (spec : ImageSpec) : Type 0 where
   pub image_type : IsSome (name_of_code type_names spec.image_type)
   pub compression : IsSome (name_of_code compression_names spec.compression)
 
--- Each code has a name, if no texts are given in place of the codes.
+-- Each code has a name, if no texts are given instead of the codes.
 abbrev pub HasNamesIfNeeded : ImageSpec → Option ImageTextsModel → Type 0
 HasNamesIfNeeded spec None = HasNames spec
 HasNamesIfNeeded spec (Some texts) = ⊤
@@ -322,7 +322,7 @@ pub record IsBuiltAs (limits : Limits) (form : Form) (head : Head) (plan : PlanS
   pub configurations :
       HasConfigurations (head_model head) (plan_of_tree plan images) (spec_models plan images)
   pub by_types : plan.configurations ≡ []
-      → HasConfiguration (head_model head) plan.algorithms (spec_models plan images)
+      → HasConfigurationByTypes (head_model head) plan.algorithms (spec_models plan images)
 
 -- The fault, the error and the text of building without a plan: nothing is given but the SHA-256 of
 -- each image.

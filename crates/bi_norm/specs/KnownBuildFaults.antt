@@ -137,7 +137,7 @@ pub record BuildChecksHaveOrder (any : Bor (List ℕ)) : Type 0 where
 abbrev pub BuildFaultsAreKnown : Type 0
 BuildFaultsAreKnown = (any : Bor (List ℕ)) → HaveBuildFaults any × BuildChecksHaveOrder any
 
--- Building a tree with this description and these images never runs out of memory, in either form.
+-- Building a tree with this description and these images never runs out of memory, in any form.
 abbrev pub NeedsNoMemory : Bor (List ℕ) → List ℕ → List ImageSpec → Type 0
 NeedsNoMemory any description images =
     (form : Form)

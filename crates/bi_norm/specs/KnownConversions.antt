@@ -76,8 +76,8 @@ pub record ConvertFaultsAreKnown : Type 0 where
   pub four_parts : HasConvertFault (known_image 4 0 (codes "y" ∷ known_parts)) TooManyParts 64
   pub two_scripts : HasConvertFault (known_image 6 0 (codes "x" ∷ codes "y" ∷ [])) TooManyParts 64
 
--- The image of each type with a name, except multi-file images, becomes an image of this type: the
--- type has one key, under which images of this type are listed.
+-- Each type with a name, except that of multi-file images, has exactly one key, and the images
+-- under this key have this type.
 abbrev pub TypesHaveTheirKeys : Type 0
 TypesHaveTheirKeys =
     AllByRecursion

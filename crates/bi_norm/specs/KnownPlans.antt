@@ -196,7 +196,7 @@ pub record PlanChecksHaveOrder (any : Bor (List ℕ)) : Type 0 where
 abbrev pub PlanFaultsAreKnown : Type 0
 PlanFaultsAreKnown = (any : Bor (List ℕ)) → HavePlanFaults any × PlanChecksHaveOrder any
 
--- Building a tree with this plan and these images never runs out of memory, in either form.
+-- Building a tree with this plan and these images never runs out of memory, in any form.
 abbrev pub PlanNeedsNoMemory : Bor (List ℕ) → PlanSpecModel → List ImageSpec → Type 0
 PlanNeedsNoMemory any plan images =
     (form : Form)

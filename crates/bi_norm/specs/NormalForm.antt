@@ -42,14 +42,14 @@ pub record IsNormaliseOutput (limits : Limits) (form : Form) (count : ℕ) (file
     pub normal : IsNormalForm limits form file text
     pub signatures : count ≡ meaning_signature_count normal.meaning
 
--- What the text of `new` in a form keeps of where the payloads of a file are that means `old`.
--- Nothing is said of them for a legacy image.
+-- What the text of `new`, in a form, keeps of the places of the payloads in a file that means
+-- `old`. For a legacy image, `kept` says nothing.
 abbrev pub IsKeptOfImage : Form → (file : List ℕ) → (old new : Meaning) → Kept → Type 0
 IsKeptOfImage form file (OfFit old) (OfFit new) kept = IsKept form file old new kept
 IsKeptOfImage form file old new kept = SaysNothing kept
 
--- The text is the normal form of the file, and this is what it keeps of the file: the number counts
--- the signature nodes.
+-- The text is the normal form of the file, and this is what it does not keep of the file.
+-- `kept.signatures` counts the signature nodes.
 pub record IsNormaliseKept (limits : Limits) (form : Form) (kept : Kept) (file text : List ℕ)
     : Type 0
   where
@@ -80,24 +80,6 @@ normalise_promise form limits = record {
 pub normalise_laws : (form : Form) (limits : Limits) → PromiseLaws (normalise_promise form limits)
 normalise_laws form limits = record {
   is_text = λ count file text is. is.normal;
-  wraps_once = λ a b same. same;
-  no_read_error = λ file is. is;
-  no_write_error = λ file is. is;
-}
-
--- What normalising promises as a command that says what is kept.
-abbrev pub normalise_with_kept_promise : Form → Limits → CommandPromise Kept Error
-normalise_with_kept_promise form limits = record {
-  is_output = λ kept file text. IsNormaliseKept limits form kept file text;
-  is_text = IsNormalForm limits form;
-  has_error = IsNormaliseError limits form;
-  wraps = λ error. error;
-}
-
-pub normalise_with_kept_laws : (form : Form) (limits : Limits)
-    → PromiseLaws (normalise_with_kept_promise form limits)
-normalise_with_kept_laws form limits = record {
-  is_text = λ kept file text is. is.output.normal;
   wraps_once = λ a b same. same;
   no_read_error = λ file is. is;
   no_write_error = λ file is. is;

@@ -31,7 +31,7 @@ pub fn cut<'a>(alloc: Global, input: &'a [u8], lengths: &[u32]) -> Result<Vec<&'
 }
 
 /// Checks that pieces of these lengths together are the whole input. Fails as `cut` does, but never
-/// with OutOfMemory.
+/// with OutOfMemory. Requires: the input has at most 0x7fffffff bytes.
 fn check_lengths(input: &[u8], lengths: &[u32]) -> Result<(), Fault>
     requires { length input.now ≤ longest_text }
     ensures ok { OnOk result (sum lengths.now ≡ length input.now) }

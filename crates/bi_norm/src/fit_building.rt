@@ -58,20 +58,21 @@ pub struct ImageTexts<'a> {
     pub compression: &'a [u8],
 }
 
-/// The configurations and the hash nodes of a flattened image tree to be built, and texts in place
+/// The configurations and the hash nodes of a flattened image tree to be built, and texts instead
 /// of the codes of images.
 #[derive(Clone, Copy, Debug, PartialEq, Eq)]
 pub struct PlanSpec<'a> {
-    /// The configurations, in their order. If there is none, one configuration, `conf-1`, lists the
-    /// images by their types.
+    /// The configurations, in their order. If there are none, one configuration, `conf-1`, lists
+    /// the images by their types.
     pub configurations: &'a [ConfigurationSpec<'a>],
-    /// The name of the default configuration. If there is none, it is the first configuration.
+    /// The name of the default configuration. If none is given, the first configuration is the
+    /// default.
     pub default: Option<&'a [u8]>,
     /// The algorithms of the hash nodes of each image: the first is that of `hash-1`, and so on.
     pub algorithms: &'a [Algo],
-    /// For each image, in the order of the images: texts that its node has in place of the names of
-    /// its codes, if there are any. Images without an element have their codes. Elements without an
-    /// image are ignored.
+    /// For each image, in the order of the images: texts for its node instead of the names of its
+    /// codes, if there are any. Images without an element have the names of their codes. Elements
+    /// without an image are ignored.
     pub texts: &'a [Option<ImageTexts<'a>>],
 }
 
@@ -165,7 +166,7 @@ pub fn build_fit_into<S: Sink>(
 ///
 /// Each configuration has the description, and for each key with at least one name, these names in
 /// their order. Each image has a hash node for each algorithm, in their order, even if an algorithm
-/// is there twice: `hash-1`, `hash-2`, and so on.
+/// occurs twice: `hash-1`, `hash-2`, and so on.
 ///
 /// Fails with the first of these errors that applies:
 ///
@@ -176,7 +177,7 @@ pub fn build_fit_into<S: Sink>(
 ///   multi; NoCodeName, if it has no texts and one of its codes has no name; DuplicateNode, if an
 ///   earlier image has its name;
 /// - for each configuration in order, at its index, counted from 0: BadField, if its name is empty
-///   or has a zero byte or a `/`, or no image has a name that it lists; DuplicateNode, if an
+///   or has a zero byte or a `/`, or it lists a name that no image has; DuplicateNode, if an
 ///   earlier configuration has its name;
 /// - BadField at the number of configurations, if there is a default and no configuration has this
 ///   name;
@@ -186,8 +187,9 @@ pub fn build_fit_into<S: Sink>(
 /// name, type and codes, or texts, of the first image are accepted, and then instead of any other
 /// error.
 ///
-/// Takes n log n time for n images, configurations and names that they list, and that of laying out
-/// the text, even if it is longer than the limit.
+/// Takes n log n time for n images, configurations and names that they list. Laying out takes time
+/// linear in the length of the text, even if it is longer than the limit, and each algorithm reads
+/// each payload once.
 pub fn build_fit_as(
     alloc: Global,
     head: Head<'_>,
@@ -232,7 +234,9 @@ pub fn build_fit_as_into<S: Sink>(
     append_planned(alloc, head, &named, plan, form, limits, sink)
 }
 
-/// Appends the text of the tree of images that passed their checks, with a plan that did.
+/// Appends the text of the tree of images with a plan.
+///
+/// Requires: the images and the plan passed their checks.
 ///
 /// The errors are those of `append_built`.
 fn append_planned<S: Sink>(

@@ -1,7 +1,7 @@
-//! Small legacy images with what they are converted to, small inputs with their pieces, small plans,
-//! small trees that cannot be built, and small files that are compared or whose normal texts are too
-//! long. Each function does nothing: what it ensures is a fact about the definitions. One of them
-//! calls the function of a law, from which its fact follows.
+//! Small files and plans, and what is made of them: legacy images that are converted, inputs with
+//! their pieces, plans, trees that cannot be built, files that are compared, and files whose normal
+//! texts are too long. Each function does nothing: what it ensures is a fact about the definitions.
+//! One of them calls the function of a law, from which its fact follows.
 
 ghost use Rattle.bi_norm.specs.KnownConversions.{ConversionsAreKnown, ConvertFaultsAreKnown};
 ghost use Rattle.bi_norm.specs.KnownConversions.{TypesHaveTheirKeys};
@@ -12,7 +12,8 @@ ghost use Rattle.bi_norm.specs.KnownBuildFaults.{BuildFaultsAreKnown, RefusalsAr
 ghost use Rattle.bi_norm.specs.KnownPlans.{BuildPlansAreKnown, PlanFaultsAreKnown};
 ghost use Rattle.bi_norm.specs.KnownPlans.{PlanRefusalsAreKnown};
 
-/// Small legacy images of each type become images of known names, keys, compressions and addresses.
+/// Small legacy images of each type become images of known names, types, compressions and
+/// addresses.
 pub fn conversions_are_known()
     ensures { ConversionsAreKnown }
 {}
@@ -23,7 +24,8 @@ pub fn convert_faults_are_known()
     ensures { ConvertFaultsAreKnown }
 {}
 
-/// The images of each type are listed under the key for images of this type.
+/// Each type of a legacy image that has a name, except multi, has exactly one key, and the images
+/// under this key have this type.
 pub fn types_have_their_keys()
     ensures { TypesHaveTheirKeys }
 {}
@@ -45,8 +47,8 @@ pub fn build_faults_are_known()
     ensures { BuildFaultsAreKnown }
 {}
 
-/// Small plans have known defaults, and images of known texts. Without a default it is the first
-/// configuration.
+/// Small plans have known defaults, and images of known texts. If a plan gives no default, the
+/// first configuration is the default.
 pub fn build_plans_are_known()
     ensures { BuildPlansAreKnown }
 {}

@@ -28,6 +28,5 @@ pub use kind::{Kind, kind_of};
 pub use legacy::build_legacy;
 pub use legacy_text::append_legacy;
 pub use normal_form::{
-    Normaliser, NormaliserWithKept, normalise, normalise_aligned, normalise_into, normalise_to,
-    normalise_with_kept,
+    Normaliser, normalise, normalise_aligned, normalise_into, normalise_to, normalise_with_kept,
 };

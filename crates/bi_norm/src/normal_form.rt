@@ -9,7 +9,6 @@ ghost use Rattle.bi_fit.specs.Reading.{IsReadFit};
 ghost use Rattle.bi_legacy.specs.Reading.{IsReadLegacy};
 ghost use Rattle.bi_norm.specs.NormalForm.{IsNormalForm, IsNormaliseError, IsNormaliseOutput};
 ghost use Rattle.bi_norm.specs.NormalForm.{IsNormaliseKept, normalise_promise, normalise_laws};
-ghost use Rattle.bi_norm.specs.NormalForm.{normalise_with_kept_promise, normalise_with_kept_laws};
 
 use crate::image::BootImage;
 use crate::legacy_text::append_legacy;
@@ -97,9 +96,10 @@ pub fn normalise_into<S: Sink>(
     Ok(kept.signatures)
 }
 
-/// Appends the normal form of a boot image to a sink, as `normalise_into` does. Returns what it
-/// keeps of the file that is no part of what the file means. Of a legacy image that is nothing: no
-/// signature nodes, no alignment and no positions.
+/// Appends the normal form of a boot image to a sink, as `normalise_into` does. Returns what a user
+/// should know beyond the meaning of the file: the number of signature nodes, and the alignment and
+/// the positions of payloads that the text does not keep. For a legacy image there are none of
+/// these.
 ///
 /// The errors are those of `normalise_into`.
 pub fn normalise_with_kept<S: Sink>(
@@ -120,8 +120,8 @@ pub fn normalise_with_kept<S: Sink>(
     }
 }
 
-/// Appends the normal form of a legacy image that was read under the limits, and returns that
-/// nothing is said of it.
+/// Appends the normal form of a legacy image that was read under the limits, and returns a `Kept`
+/// that says nothing.
 fn emit_legacy<S: Sink>(
     alloc: Global,
     image: &Legacy<'_>,
@@ -140,7 +140,7 @@ fn emit_legacy<S: Sink>(
 }
 
 /// Appends the normal form of a flattened image tree that was read under the limits, and returns
-/// what it keeps. All allocations are made before the first byte is appended.
+/// its `Kept`. All allocations are made before the first byte is appended.
 fn emit_fit<S: Sink>(
     alloc: Global,
     fit: &Fit<'_>,
@@ -189,37 +189,6 @@ impl Command for Normaliser {
     ghost wraps_from = { λ _ _ _ _ same. same };
 
     ghost laws = { λ normaliser. normalise_laws normaliser.form };
-}
-
-/// Normalising, as a command that returns what is kept: `normalise_with_kept` with `form`.
-#[derive(Clone, Copy, Debug, PartialEq, Eq)]
-pub struct NormaliserWithKept {
-    /// Where the normal form of a flattened image tree has the payloads.
-    pub form: Form,
-}
-
-impl Command for NormaliserWithKept {
-    type Value = Kept;
-
-    type Failure = Error;
-
-    ghost can_run = { λ _. ⊤ };
-
-    ghost promise = { λ normaliser. normalise_with_kept_promise normaliser.form };
-
-    fn run<S: Sink>(
-        &self,
-        alloc: Global,
-        input: &[u8],
-        limits: Limits,
-        sink: &mut S,
-    ) -> Result<Kept, Error> {
-        normalise_with_kept(alloc, input, self.form, limits, sink)
-    }
-
-    ghost wraps_from = { λ _ _ _ _ same. same };
-
-    ghost laws = { λ normaliser. normalise_with_kept_laws normaliser.form };
 }
 
 /// Reads a boot image to its end, writes its normal form, and flushes: `pipe_to` with a

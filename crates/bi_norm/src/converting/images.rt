@@ -23,8 +23,8 @@ pub(super) struct CodeNames {
     pub(super) compression: &'static str,
 }
 
-/// Returns the images of a legacy image that can be converted, in the order of its parts. `names`
-/// are the names of its codes.
+/// Returns the images of a legacy image, in the order of its parts. Fails if memory runs out.
+/// Requires: it can be converted, and `names` are the names of its codes.
 pub(super) fn images_of<'a>(
     alloc: Global,
     image: &Legacy<'a>,
@@ -50,7 +50,8 @@ pub(super) fn images_of<'a>(
     Ok(images)
 }
 
-/// Returns the image of the first part. It has the compression of the legacy image.
+/// Returns the image of the first part. It has the compression of the legacy image. Requires:
+/// `names` are the names of the codes in these fields.
 fn first_image<'a>(fields: Fields<'a>, names: CodeNames, key: Key, part: &'a [u8]) -> NamedImage<'a>
     requires { AreCodeNames (image_of fields []) names }
     ensures image { let image = image_of fields.entry [] in

@@ -20,6 +20,8 @@ use std::alloc::Global;
 /// Makes all checks of what is to be built, except the last: that the text is within the limit.
 /// Returns the images with the texts of their nodes.
 ///
+/// Errors: those of `build_fit_as`, except TooLarge for the length of the text.
+///
 /// Takes n log n time for n images, configurations and names that they list.
 pub(super) fn check<'a>(
     alloc: Global,

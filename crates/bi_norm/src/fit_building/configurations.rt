@@ -20,6 +20,7 @@ use std::alloc::Global;
 use std::collections::BTreeSet;
 
 /// Makes the checks of each configuration in turn. `image_names` are the names of the images.
+/// Requires: there are fewer than 2^32 configurations.
 ///
 /// Errors, at the index of the configuration: BadField, if a node may not have its name or it lists
 /// a name that no image has; DuplicateNode, if an earlier configuration has its name. Or
@@ -79,7 +80,7 @@ fn are_among(names: &[&[u8]], set: &BTreeSet<&[u8]>) -> bool
 }
 
 /// Fails with BadField at the number of configurations, if there is a default and no configuration
-/// has this name.
+/// has this name. Requires: there are fewer than 2^32 configurations.
 pub(super) fn check_default(
     configurations: &[ConfigurationSpec<'_>],
     default: Option<&[u8]>,

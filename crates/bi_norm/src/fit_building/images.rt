@@ -34,7 +34,11 @@ pub(super) struct CheckedImages<'a> {
 }
 
 /// Makes the checks of each image in turn, and returns the images with the texts of their nodes.
-/// OutOfMemory occurs only after those checks of the first image that look at no other image.
+/// Requires: there are fewer than 2^32 images.
+///
+/// Errors, at the index of the image: those of `check_image`; DuplicateNode, if an earlier image
+/// has its name. Or OutOfMemory, which occurs only after those checks of the first image that look
+/// at no other image.
 pub(super) fn check_images<'a>(
     alloc: Global,
     images: &[ImageSpec<'a>],

@@ -49,7 +49,8 @@ returns-clause-appended g c =
     result_appended_as g.S.Sink.appends (IsTextOfTree limits Embedded (built_tree head (plan_by_types (Sha256 ∷ []) images) images))
     (IsConvertedFile limits file) c.args.sink.now c.append_built_by_types.new.sink c.append_built_by_types.result
     (λ text is. is_converted limits file parsed
-    (built_tree head (plan_by_types (Sha256 ∷ []) images) images) text c.in_ok-image.ensures.read c.in_ok-names.ensures.can most same is) c.append_built_by_types.ensures.appended
+    (built_tree head (plan_by_types (Sha256 ∷ []) images) images) text c.in_ok-image.ensures.read c.in_ok-names.ensures.can most same is)
+    c.append_built_by_types.ensures.appended
 
 pub returns-clause-failed : goal.returns-clause-failed
 returns-clause-failed g c =

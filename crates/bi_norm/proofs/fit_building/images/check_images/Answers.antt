@@ -1,4 +1,5 @@
-use Rattle.std.proofs.Common.{◌≡◌, ℕ, ◌+◌, ◌<◌, ◌≤◌, List, [], ◌∷◌, ◌++◌, map, take, take_all, get_or, length, Option, sym, ap, subst, ◌∙◌, rules, arith}
+use Rattle.std.proofs.Common.{◌≡◌, ℕ, ◌+◌, ◌<◌, ◌≤◌, List, [], ◌∷◌, ◌++◌, map, take, take_all, get_or, length, Option, sym, ap, subst, ◌∙◌}
+use Rattle.std.proofs.Common.{rules, arith}
 use Rattle.std.proofs.lemmas.Bool.{not-true, not-false}
 use Rattle.std.proofs.lemmas.Result.{err_from_is_err_and}
 use Rattle.bi_base.proofs.ListMembers.{each-map}
@@ -14,7 +15,8 @@ use Rattle.bi_norm.specs.declared.fit_building.ImageTexts.{ImageTexts}
 use Rattle.bi_norm.specs.BuildChecks.{AllPass, IsFirstFailure, fields_and_names}
 use Rattle.bi_norm.specs.FitBuilding.{GivenImage, texts_models, given_images, spec_model}
 use Rattle.bi_norm.proofs.ImageChecks.{names_of_given, names-given_images, length-given_images, no_spec, no_given, given_here}
-use Rattle.bi_norm.proofs.ImageChecks.{image_names_more, named_more, image_fails, name_fails, first_passed, passed_more, passed_all, can_all}
+use Rattle.bi_norm.proofs.ImageChecks.{image_names_more, named_more, image_fails, name_fails, first_passed, passed_more, passed_all}
+use Rattle.bi_norm.proofs.ImageChecks.{can_all}
 use Rattle.bi_norm.proofs.fit_building.images.check_images.Goals as goal
 
 -- The images with their texts.
@@ -45,7 +47,8 @@ returns-in_err-next-clause-failed c =
     rw (p.1, p.2)
     (image_fails (given_of texts images) index no_given (within_given texts images index c.loop-index-test.true)
     c.loop-index.invariant.passed c.in_err-next.field-0.0
-    (subst (λ (image : GivenImage). IsFirstFailure (fields_and_names index image) c.in_err-next.field-0.0) here c.in_err-next.ensures.fault))
+    (subst (λ (image : GivenImage). IsFirstFailure (fields_and_names index image) c.in_err-next.field-0.0) here
+    c.in_err-next.ensures.fault))
 
 pub returns-in_err-insert-clause-failed : goal.returns-in_err-insert-clause-failed
 returns-in_err-insert-clause-failed c =
