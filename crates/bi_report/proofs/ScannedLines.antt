@@ -140,7 +140,7 @@ next_line limits input old lines new count (first, are, same) appended = (
       ∙ ap (λ l. old ++ l) (sym (concat-append first (appended.text ∷ []) ∙ ap (λ l. concat first ++ l) (append-nil appended.text))),
 )
 
--- There are no lines for images that mean nothing.
+-- An image that means nothing has no line.
 lines_of_more : (limits : Limits) (input old new : List ℕ) (count more : ℕ) → HasFirstLines limits input count old new →
     HasNoImage limits input count (count + more) → HasFirstLines limits input (count + more) old new
 lines_of_more limits input old new count zero first none =

@@ -130,8 +130,8 @@ pub record HasStrongAlgorithm (algorithms : List Algo) : Type 0 where
   pub is_there : Contains algorithms algo
   pub is_strong : Contains strong_algorithms (algorithm_name algo)
 
--- The law that nothing in an image tree that is built is a concern, if one of the algorithms of its
--- hash nodes is strong, or if it has no image.
+-- The law that a built image tree has no concerns, if one of the algorithms of its hash nodes is
+-- strong or it has no images.
 abbrev pub BuiltIsClean : Type 0
 BuiltIsClean =
     (allowed : Allowed) (head : HeadModel) (plan : PlanModel) (images : List ImageSpecModel)

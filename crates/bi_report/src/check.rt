@@ -111,7 +111,7 @@ impl Allowed {
 ///
 /// Errors, the first that applies: those of `BootImage::read`; TooLarge at the limit, if the
 /// payloads of a flattened image tree together are longer than that, each counted for each image
-/// that has it. OutOfMemory may come in place of any of these, but only after the checks of a
+/// that has it. OutOfMemory may come instead of any of these, but only after the checks of a
 /// legacy image, or of the header and the memory reservation block of a blob. No payload is hashed
 /// before the lengths of the payloads are checked.
 pub fn check(alloc: Global, file: &[u8], allowed: Allowed, limits: Limits) -> Result<String, Error>

@@ -12,8 +12,8 @@ pub fn empty_is_clean()
     ensures { EmptyIsClean }
 {}
 
-/// Nothing in an image tree that is built is a concern, if one of the algorithms of its hash nodes
-/// is strong, or if it has no image.
+/// A built image tree has no concerns, if one of the algorithms of its hash nodes is strong or it
+/// has no images.
 pub fn built_is_clean()
     ensures { BuiltIsClean }
 {}

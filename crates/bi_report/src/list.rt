@@ -24,7 +24,7 @@ use std::io::{Read, Write};
 ///
 /// Errors, the first that applies: TooLarge at the limit, if the file is longer; Truncated at 0, if
 /// it has fewer than four bytes; BadMagic at 0; those of `Legacy::read` or of `Fit::read`.
-/// OutOfMemory may come in place of any of these, but only after the checks of a legacy image, or
+/// OutOfMemory may come instead of any of these, but only after the checks of a legacy image, or
 /// of the header and the memory reservation block of a blob.
 ///
 /// # Example

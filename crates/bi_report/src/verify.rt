@@ -53,7 +53,7 @@ pub struct Report {
 ///
 /// Errors, the first that applies: TooLarge at the limit, if the file is longer; Truncated at 0, if
 /// it has fewer than four bytes; BadMagic at 0; those of `Legacy::read` or of `Fit::read`.
-/// OutOfMemory may come in place of any of these, but only after the checks of a legacy image, or
+/// OutOfMemory may come instead of any of these, but only after the checks of a legacy image, or
 /// of the header and the memory reservation block of a blob.
 ///
 /// # Example
@@ -213,8 +213,8 @@ fn put_checksum_lines<S: Sink>(sink: &mut S) -> Result<(), Error>
     put_report_line(ReportLine::GoodChecksum(b"data"), sink)
 }
 
-/// Appends the report on a flattened image tree that was read, and returns whether no verdict is
-/// other than Good. Fails with OutOfMemory before the first byte, or as the sink does.
+/// Appends the report on a flattened image tree, and returns whether no verdict is other than Good.
+/// Fails with OutOfMemory before the first byte, or as the sink does. Requires: the tree was read.
 fn verify_fit<S: Sink>(
     alloc: Global,
     fit: &Fit,
@@ -236,7 +236,8 @@ fn verify_fit<S: Sink>(
 }
 
 /// Appends the report on a flattened image tree with this number of each verdict. Fails as the sink
-/// does.
+/// does. Requires: in the file of the digests, the payload of each image is at its place, and
+/// `counts` are the numbers of the verdicts of the tree.
 fn put_report<'a, S: Sink>(
     fit: &Fit<'a>,
     digests: &RegionDigests<'a>,
@@ -275,7 +276,8 @@ fn put_after_hashes<S: Sink>(counts: Counts, format: Format, sink: &mut S) -> Re
     }
 }
 
-/// Appends each hash node of a flattened image tree. Fails as the sink does.
+/// Appends each hash node of a flattened image tree. Fails as the sink does. Requires: in the file
+/// of the digests, the payload of each image is at its place.
 fn put_images<'a, S: Sink>(
     fit: &Fit<'a>,
     digests: &RegionDigests<'a>,

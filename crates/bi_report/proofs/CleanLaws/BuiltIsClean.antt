@@ -63,7 +63,7 @@ all_strong algorithms images (inl has) = images_strong algorithms (strong_passes
 all_strong algorithms images (inr none) =
     subst (AllByRecursion (λ image. HasStrongOne (good_hashes 1 algorithms image))) (sym none) tt
 
--- What a configuration lists is no bad list, and no image is missing.
+-- A configuration has no bad list, and none of the images that it lists is missing.
 no_bad_list : (images : List ImageSpecModel) (listed : List (List ℕ)) → list_by_names images listed ≢ BadList
 no_bad_list images [] is = absurd cc
 no_bad_list images (name ∷ later) is = absurd cc

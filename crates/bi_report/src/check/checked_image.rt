@@ -89,7 +89,7 @@ impl<'a> JudgedFit<'a> {
     ghost use Rattle.bi_report.specs.CheckedImages.{concerns_left};
     ghost use Rattle.bi_report.specs.FoundConcerns.{found_in_fit};
 
-    /// Computes the digests.
+    /// Computes the digests. Requires: the tree was read.
     ///
     /// Errors: TooLarge at the limit, if the payloads are longer; OutOfMemory.
     fn new(alloc: Global, fit: Fit<'a>, limits: Limits) -> Result<JudgedFit<'a>, Error>

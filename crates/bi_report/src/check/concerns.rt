@@ -43,7 +43,8 @@ impl<'a, 'b> Concerns<'a, 'b> {
     }
 
     /// Returns the concerns about a flattened image tree that was read from this file, whose hash
-    /// nodes are judged by these digests.
+    /// nodes are judged by these digests. Requires: in the file of the digests, the payload of each
+    /// image is at its place.
     pub fn of_fit(file: &[u8], fit: &'b Fit<'a>, digests: &'b RegionDigests<'a>) -> Concerns<'a, 'b>
         requires placed { AreAtTheirPlaces digests.now fit.now.images }
         ensures { concerns_left result ≡ found_in_fit file.now fit.entry.now }

@@ -71,7 +71,8 @@ pub(super) struct AllImageConcerns<'a, 'b> {
 
 impl<'a, 'b> AllImageConcerns<'a, 'b> {
     /// Returns the concerns about the images of a flattened image tree, whose hash nodes are judged
-    /// by these digests.
+    /// by these digests. Requires: in the file of the digests, the payload of each image is at its
+    /// place.
     pub(super) fn new(fit: &'b Fit<'a>, digests: &'b RegionDigests<'a>) -> AllImageConcerns<'a, 'b>
         requires placed { AreAtTheirPlaces digests.now fit.now.images }
         ensures { images_left result ≡ flat_map found_in_image (images_of_blob fit.entry.now) }

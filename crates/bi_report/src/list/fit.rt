@@ -33,7 +33,8 @@ pub const KEYS: [Key; 6] = [
     Key::Script,
 ];
 
-/// Appends the listing of a flattened image tree that was read, in a form. Fails as the sink does.
+/// Appends the listing of a flattened image tree, in a form. Fails as the sink does. Requires: the
+/// tree was read.
 pub(super) fn list_fit<S: Sink>(fit: &Fit, format: Format, sink: &mut S) -> Result<(), Error>
     requires held { IsHeld fit.now }
     ensures { Wrote S.appends S.fails sink.old (read_listing_text format fit.now) result sink.new }

@@ -43,8 +43,8 @@ const SHORT_VERSION: u32 = 16;
 /// The version of the reader.
 const READER_VERSION: u32 = 17;
 
-/// Returns how many of its bytes an image claims that begins as a blob: the total size, if the
-/// header passes its checks.
+/// Returns how many of its bytes an image claims: the total size, if the header passes its checks.
+/// Requires: the image begins as a blob.
 pub(super) fn blob_claim(image: &[u8]) -> usize
     requires { BeginsAs image.now kind.Fit }
     ensures claim { IsClaim image.now result }
@@ -73,6 +73,8 @@ fn has_good_header(image: &[u8]) -> bool
 }
 
 /// Returns whether the header of a blob places the three blocks after itself and within the blob.
+/// Requires: `header_size` is the size of the header, at most the length of the image, and `total`
+/// is the total size of the blob.
 fn places_blocks(image: &[u8], header_size: usize, total: usize) -> bool
     requires size { header_size ≡ header_length image.now }
     requires total { total ≡ totalsize image.now }
@@ -108,6 +110,7 @@ fn header_size(image: &[u8]) -> usize
 }
 
 /// Returns the offset of the end of the structure block: in version 16 the end of the blob.
+/// Requires: the image does not end before the header does.
 fn structure_end(image: &[u8]) -> usize
     requires { header_length image.now ≤ length image.now }
     ensures { result ≡ end_of_structure image.now }

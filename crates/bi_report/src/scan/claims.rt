@@ -18,7 +18,8 @@ use bi_legacy::offsets::{IH_HCRC, IH_SIZE, IH_TIME};
 use bi_norm::{Kind, kind_of};
 
 /// Checks that the images at all offsets of a file claim together no more bytes than the limit.
-/// Returns an offset such that no image claims bytes there or after it.
+/// Returns an offset, at most the length of the file: no image that begins there or later claims
+/// any bytes.
 ///
 /// Error: TooLarge at the limit, if they claim more.
 pub(super) fn check_claims(file: &[u8], limits: Limits) -> Result<usize, Fault>
@@ -55,8 +56,8 @@ fn claim_of(image: &[u8]) -> usize
     }
 }
 
-/// Returns how many of its bytes an image claims that begins as a legacy image: the header and the
-/// data, if the checksum of the header is right and all of the data is there.
+/// Returns how many of its bytes an image claims: the header and the data, if the checksum of the
+/// header is right and all of the data is there. Requires: the image begins as a legacy image.
 fn legacy_claim(image: &[u8]) -> usize
     requires { BeginsAs image.now kind.Legacy }
     ensures claim { IsClaim image.now result }
@@ -73,6 +74,7 @@ fn legacy_claim(image: &[u8]) -> usize
 }
 
 /// Returns the CRC-32 of the header of a legacy image, with zeros instead of its checksum.
+/// Requires: the image has at least 64 bytes.
 fn header_checksum(image: &[u8]) -> u32
     requires { 64 ≤ length image.now }
     ensures { result ≡ crc32_of (header_without_checksum image.now) }

@@ -1,7 +1,7 @@
 //! The offsets in a file at which an image may begin.
 
-ghost use Rattle.std.specs.Prelude.{◌≡◌, ◌≤◌, length};
-ghost use Rattle.bi_report.specs.ImageStarts.{HasNoMagic};
+ghost use Rattle.std.specs.Prelude.{◌≡◌, ◌<◌, ◌≤◌, ◌⊎◌, length};
+ghost use Rattle.bi_report.specs.ImageStarts.{HasMagic, HasNoMagic, IsNextMagic};
 
 use bi_blob::format::MAGIC as BLOB_MAGIC;
 use bi_legacy::MAGIC as LEGACY_MAGIC;
@@ -48,8 +48,8 @@ impl<'a> ImageStarts<'a> {
             file,
             from: 0,
             end,
-            legacy: next_magic(file, LEGACY_MAGIC, 0, 0, end),
-            blob: next_magic(file, BLOB_MAGIC, 0, 0, end),
+            legacy: find_magic(file, LEGACY_MAGIC, 0, end),
+            blob: find_magic(file, BLOB_MAGIC, 0, end),
         }
     }
 }
@@ -79,20 +79,34 @@ impl<'a> Iterator for ImageStarts<'a> {
 }
 
 /// Returns the first offset, from `from` on and before `end`, at which a file has a magic number.
-/// Returns `end` if there is none. If `known` is not before `from`, it is that offset. Requires:
-/// there is none from `from` on and before `known`.
+/// Returns `end` if there is none. If `known` is not before `from`, it is that offset, and there is
+/// no search.
+///
+/// Requires: `from` and `known` are not after `end`, and the file does not end before `end`. The
+/// file has the magic number at no offset from `from` on and before `known`. It has it at `known`,
+/// unless `known` is before `from` or is the end.
 fn next_magic(file: &[u8], magic: u32, known: usize, from: usize, end: usize) -> usize
     requires order { from ≤ end }
     requires within { end ≤ length file.now }
     requires known_within { known ≤ end }
-    requires known { HasNoMagic file.now magic from known }
-    ensures from { from ≤ result }
-    ensures end { result ≤ end }
-    ensures first { HasNoMagic file.now magic from result }
+    requires none_before { HasNoMagic file.now magic from known }
+    requires known { (known < from) ⊎ ((known ≡ end) ⊎ HasMagic file.now magic known) }
+    ensures { IsNextMagic file.now magic from end result }
 {
     if from <= known {
         return known;
     }
+    find_magic(file, magic, from, end)
+}
+
+/// Searches a file for a magic number. Returns the first offset, from `from` on and before `end`,
+/// at which the file has it, or `end` if there is none. Requires: `from` is not after `end`, and
+/// the file does not end before `end`.
+fn find_magic(file: &[u8], magic: u32, from: usize, end: usize) -> usize
+    requires order { from ≤ end }
+    requires within { end ≤ length file.now }
+    ensures { IsNextMagic file.now magic from end result }
+{
     // A magic number at the last offset has three bytes more.
     let last = file.len().min(end + 3);
     match memmem::find(&file[from..last], &magic.to_be_bytes()) {

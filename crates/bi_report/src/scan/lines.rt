@@ -23,7 +23,8 @@ use bi_norm::{BootImage, kind_of};
 use std::alloc::Global;
 
 /// Appends the line of each boot image inside a file, in the order of their offsets. Fails only
-/// with OutOfMemory. Requires: no image claims bytes at `end` or after it.
+/// with OutOfMemory. Requires: `end` is at most the length of the file, and no image that begins
+/// there or later claims any bytes.
 pub(super) fn put_lines(
     alloc: Global,
     file: &[u8],
@@ -43,7 +44,7 @@ pub(super) fn put_lines(
 }
 
 /// Appends the line of the boot image at an offset of a file, if one is accepted there. Fails only
-/// with OutOfMemory.
+/// with OutOfMemory. Requires: the offset is before the end of the file.
 fn put_line_at(
     alloc: Global,
     file: &[u8],
@@ -69,6 +70,7 @@ fn put_line_at(
 }
 
 /// Appends the line of a legacy image that was read, at an offset. Fails as the sink does.
+/// Requires: the image has at least 64 bytes.
 fn put_legacy_line<S: Sink>(
     image: &[u8],
     legacy: &Legacy,
