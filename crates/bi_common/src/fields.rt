@@ -187,7 +187,8 @@ pub(crate) fn put_digits<S: Sink>(bytes: &[u8], sink: &mut S) -> Result<(), Erro
     Ok(())
 }
 
-/// Appends two hexadecimal digits for each byte of a piece. Fails as the sink does.
+/// Appends two hexadecimal digits for each byte of a piece. Fails as the sink does. Requires: the
+/// piece has at most 512 bytes.
 fn put_digits_of_piece<S: Sink>(piece: &[u8], sink: &mut S) -> Result<(), Error>
     requires { length piece.now ≤ 512 }
     ensures { Wrote S.appends S.fails sink.old (hexadecimal_digits piece.now) result sink.new }
@@ -263,7 +264,7 @@ fn put_shown_byte<S: Sink>(byte: u8, sink: &mut S) -> Result<(), Error>
     }
 }
 
-/// Returns a hexadecimal digit in upper case.
+/// Returns a hexadecimal digit in upper case. Requires: the value is less than 16.
 pub(crate) fn upper_digit(value: u8) -> u8
     requires { value < 16 }
     ensures { result ≡ digit_glyph true value }

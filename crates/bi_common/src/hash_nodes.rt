@@ -38,7 +38,8 @@ impl<'a, 'b> HashNodes<'a, 'b> {
     ghost use Rattle.bi_common.specs.HashedImages.{found_hash_of, found_hashes, found_left};
     ghost use Rattle.bi_common.specs.HashedImages.{hashes_left};
 
-    /// Returns the hash nodes of the image of a node.
+    /// Returns the hash nodes of the image of a node. Requires: in the file of the digests, the
+    /// payload of the image is at its place.
     pub fn new(
         node: NodeRef<'a, 'b>,
         image: &Image<'a>,
@@ -115,7 +116,8 @@ pub(crate) fn is_hash(child: NodeRef) -> bool
     child.name().starts_with(b"hash")
 }
 
-/// Judges a hash node of the image of this name with this payload.
+/// Judges a hash node of the image of this name with this payload. Requires: the payload, if there
+/// is one, is within the file of the digests.
 fn judge<'a>(
     image: &'a [u8],
     node: NodeRef<'a, '_>,
@@ -202,7 +204,7 @@ impl<'a, 'b> HashedImages<'a, 'b> {
     ghost use Rattle.bi_common.specs.HashedImages.{hashed_left, images_of_blob};
 
     /// Returns the images of a flattened image tree, whose hash nodes are judged by these digests
-    /// of regions of its file.
+    /// of regions of its file. Requires: the payload of each image is in this file at its place.
     pub fn new(fit: &'b Fit<'a>, digests: &'b RegionDigests<'a>) -> HashedImages<'a, 'b>
         requires placed { AreAtTheirPlaces digests.now fit.now.images }
         ensures { hashed_left result ≡ images_of_blob fit.entry.now }

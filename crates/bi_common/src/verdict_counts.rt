@@ -53,7 +53,7 @@ impl Counts {
 }
 
 /// Returns the digests of a flattened image tree. Each that a verdict needs is computed. Fails if
-/// memory runs out.
+/// memory runs out. Requires: the tree was read.
 pub fn digests_of_verdicts<'a>(
     alloc: Global,
     bounded: BoundedFit<'_, 'a>,
@@ -69,7 +69,8 @@ pub fn digests_of_verdicts<'a>(
 }
 
 /// Judges each hash node of a flattened image tree, so that each digest that a verdict needs is
-/// kept, and returns how many of them have each verdict. Fails if memory runs out.
+/// kept, and returns how many of them have each verdict. Fails if memory runs out. Requires: the
+/// tree was read, and in the file of the digests, the payload of each image is at its place.
 pub fn count_verdicts<'a>(
     fit: &Fit<'a>,
     digests: &mut RegionDigests<'a>,
@@ -91,8 +92,9 @@ pub fn count_verdicts<'a>(
     Ok(counts)
 }
 
-/// Judges each hash node of an image with this payload, and counts the verdicts. Requires: with the
-/// children of the image, fewer than 2^31 are counted. Fails if memory runs out.
+/// Judges each hash node of an image with this payload, and counts the verdicts. Fails if memory
+/// runs out. Requires: with the children of the image, fewer than 2^31 are counted, and the
+/// payload, if there is one, is within the file of the digests.
 fn count_image<'a>(
     counts: &mut Counts,
     image: NodeRef<'a, '_>,
@@ -118,7 +120,8 @@ fn count_image<'a>(
 }
 
 /// Judges a child of an image node with this payload, if it is a hash node, and counts the verdict.
-/// Requires: fewer than 2^31 are counted. Fails if memory runs out.
+/// Fails if memory runs out. Requires: fewer than 2^31 are counted, and the payload, if there is
+/// one, is within the file of the digests.
 fn count_child(
     counts: &mut Counts,
     child: NodeRef,
