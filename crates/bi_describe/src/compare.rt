@@ -52,7 +52,7 @@ pub struct Comparison {
 /// Returns whether two boot images mean the same. Images of different kinds do not.
 ///
 /// Errors, the first that applies: One with the fault of the first file; Other with that of the
-/// second one. OutOfMemory may come in place of any of these, but only after the first file has
+/// second one. OutOfMemory may come instead of any of these, but only after the first file has
 /// passed the checks of a legacy image, or of the header and the memory reservation block of a
 /// blob.
 pub fn have_same_meaning(
@@ -74,7 +74,7 @@ pub fn have_same_meaning(
 ///
 /// Errors, the first that applies: One with the fault of the first file; Other with that of the
 /// second one; if the meanings differ, One and then Other with TooLarge at the limit, if a meaning
-/// is too long to describe. OutOfMemory may come in place of any of these, but only after the first
+/// is too long to describe. OutOfMemory may come instead of any of these, but only after the first
 /// file has passed the checks of a legacy image, or of the header and the memory reservation block
 /// of a blob.
 ///

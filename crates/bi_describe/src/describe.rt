@@ -35,7 +35,7 @@ use std::io::{Read, Write};
 ///
 /// Errors, the first that applies: those of `BootImage::read`; TooLarge at the limit, if the
 /// payloads of a flattened image tree together are longer than that, each counted for each image
-/// that has it, or if the description is. OutOfMemory may come in place of any of these, but only
+/// that has it, or if the description is. OutOfMemory may come instead of any of these, but only
 /// after the checks of a legacy image, or of the header and the memory reservation block of a blob.
 /// No payload is hashed before the lengths of the payloads are checked.
 ///
