@@ -71,7 +71,7 @@ given_type_names =
     ∷ record { code = 33; name = codes "pmmc" }
     ∷ record { code = 39; name = codes "copro" } ∷ []
 
--- The code of a name in such a list, or None if it has none.
+-- The code of the first entry with this name in a list, or None if no entry has it.
 abbrev pub code_of_name : List CodeName → (name : List ℕ) → Option ℕ
 code_of_name [] name = None
 code_of_name (entry ∷ later) name =
@@ -79,7 +79,7 @@ code_of_name (entry ∷ later) name =
 
 -- ---- all names
 
--- The name of a code that says nothing.
+-- The name of code 0, in the tables of operating systems, architectures and image types.
 abbrev pub invalid_names : List CodeName
 invalid_names = record { code = 0; name = codes "invalid" } ∷ []
 

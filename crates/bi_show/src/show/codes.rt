@@ -1,4 +1,4 @@
-//! All names of codes in U-Boot's own tables.
+//! The names of codes in U-Boot's own tables, and the codes of names.
 
 ghost use Rattle.std.specs.Prelude.{◌≡◌, ◌++◌, ℕ, List, map, option_map};
 ghost use Rattle.bi_legacy.specs.Codes.{name_of_code, compression_names};
@@ -10,8 +10,8 @@ ghost use Rattle.bi_show.specs.CodeNames.{code_of_entry};
 /// A code and its name.
 type CodeName = (u8, &'static str);
 
-// U-Boot, boot/image.c: uimage_os, uimage_arch, uimage_type, as `mkimage` 2023.01 has them. The
-// names that a listing uses come first.
+// U-Boot, boot/image.c: uimage_os, uimage_arch, uimage_type, uimage_comp, as `mkimage` 2023.01 has
+// them. The names that a listing uses come first.
 
 const OS_NAMES: [CodeName; 25] = [
     (2, "netbsd"),
@@ -97,7 +97,7 @@ const COMPRESSION_NAMES: [CodeName; 7] = [
     (6, "zstd"),
 ];
 
-/// The other names of image types: the formats of vendors come after the first.
+/// All other names of image types: `invalid`, then the formats of vendors.
 const OTHER_TYPE_NAMES: [CodeName; 26] = [
     (0, "invalid"),
     (9, "kwbimage"),
@@ -127,7 +127,7 @@ const OTHER_TYPE_NAMES: [CodeName; 26] = [
     (41, "sunxi_toc0"),
 ];
 
-/// The name of a code that says nothing.
+/// The name of code 0, in the tables of operating systems, architectures and image types.
 const INVALID_NAMES: [CodeName; 1] = [(0, "invalid")];
 
 /// Returns a name of an operating system's code.

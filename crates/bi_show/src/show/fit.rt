@@ -32,7 +32,8 @@ use bi_hash::RegionDigests;
 use bi_report::check::{Concerns, put_concerns};
 use std::alloc::{AllocError, Global};
 
-/// Returns the page of a flattened image tree that was read from this file.
+/// Returns the page of a flattened image tree of a file. Requires: reading the file under the
+/// limits gives this tree.
 ///
 /// Errors: TooLarge at the limit, if the payloads are longer; OutOfMemory.
 pub(super) fn fit_page(
@@ -52,8 +53,9 @@ pub(super) fn fit_page(
     Ok(page)
 }
 
-/// Returns the page of a flattened image tree that was read from this file, and whose payloads are
-/// within the bound.
+/// Returns the page of a flattened image tree of a file. Requires: reading the file under the
+/// limits gives this tree, its payloads are within the bound, and in the file of the digests, the
+/// payload of each image is at its place.
 fn page_of<'a>(
     alloc: Global,
     file: &[u8],
@@ -82,8 +84,9 @@ fn page_of<'a>(
     Ok(page)
 }
 
-/// Returns the lines of the concerns about a flattened image tree that was read from this file, and
-/// whose payloads are within the bound.
+/// Returns the lines of the concerns about a flattened image tree of a file. Requires: reading the
+/// file under the limits gives this tree, its payloads are within the bound, and in the file of the
+/// digests, the payload of each image is at its place.
 fn concern_lines<'a>(
     alloc: Global,
     file: &[u8],

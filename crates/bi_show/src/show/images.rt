@@ -19,7 +19,8 @@ use bi_fit::{Fit, Image, Place};
 use bi_hash::RegionDigests;
 use std::alloc::{AllocError, Global};
 
-/// Returns the table of the images.
+/// Returns the table of the images. Requires: in the file of the digests, the payload of each image
+/// is at its place.
 pub(super) fn image_rows<'a>(
     alloc: Global,
     fit: &Fit<'a>,
@@ -46,7 +47,8 @@ pub(super) fn image_rows<'a>(
     Ok(rows)
 }
 
-/// Appends the rows of the images.
+/// Appends the rows of the images. Requires: in the file of the digests, the payload of each image
+/// is at its place.
 fn add_images<'a>(
     alloc: Global,
     rows: &mut Vec<Row>,
@@ -68,7 +70,8 @@ fn add_images<'a>(
     Ok(())
 }
 
-/// Returns the row of the image of a node.
+/// Returns the row of the image of a node. Requires: in the file of the digests, the payload of the
+/// image is at its place.
 fn image_row<'a>(
     alloc: Global,
     node: NodeRef<'a, '_>,

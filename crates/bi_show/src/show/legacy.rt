@@ -23,7 +23,8 @@ use bi_legacy::{Fields, Legacy, Part};
 use bi_report::check::{Concerns, put_concerns};
 use std::alloc::{AllocError, Global};
 
-/// Returns the page of a legacy image that was read from this file.
+/// Returns the page of a legacy image of a file. Requires: reading the file under the limits gives
+/// this image.
 pub(super) fn legacy_page(
     alloc: Global,
     file: &[u8],
@@ -47,7 +48,8 @@ pub(super) fn legacy_page(
     Ok(page)
 }
 
-/// Returns the lines of the concerns about a legacy image that was read from this file.
+/// Returns the lines of the concerns about a legacy image of a file. Requires: reading the file
+/// under the limits gives this image.
 fn concern_lines(
     alloc: Global,
     file: &[u8],

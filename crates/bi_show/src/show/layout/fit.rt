@@ -40,7 +40,7 @@ const VERSION_WITHOUT_STRUCTURE_SIZE: u32 = 16;
 const PAIR_SIZE: u64 = 16;
 
 /// Returns the table of the regions of a flattened image tree and its file, if the layout is
-/// wanted, or else no rows.
+/// wanted, or else no rows. Requires: the tree was read.
 pub(in crate::show) fn fit_layout(
     alloc: Global,
     fit: &Fit,
@@ -61,7 +61,7 @@ pub(in crate::show) fn fit_layout(
     layout_rows(alloc, regions, fit.images(), content_end(fit) as u64, size)
 }
 
-/// Appends the regions of the header and the blocks of the blob.
+/// Appends the regions of the header and the blocks of the blob. Requires: the tree was read.
 fn add_blocks(regions: &mut Vec<LayoutRegion>, fit: &Fit) -> Result<(), AllocError>
     requires held { IsHeld fit.now }
     ensures { OnOk result (regions.new.items ≡ regions.old.items
@@ -94,7 +94,8 @@ fn add_blocks(regions: &mut Vec<LayoutRegion>, fit: &Fit) -> Result<(), AllocErr
     Ok(())
 }
 
-/// Returns the number in a cell of the header that each version has.
+/// Returns the number in a cell of the header. Requires: the tree was read, and the cell ends
+/// within the first 36 bytes, so the header of each version has it.
 fn header_cell(fit: &Fit, at: usize) -> u32
     requires held { IsHeld fit.now }
     requires each_version { at + 4 ≤ 36 }
@@ -103,7 +104,7 @@ fn header_cell(fit: &Fit, at: usize) -> u32
     cell_at(fit.blob().file(), at)
 }
 
-/// Returns the length of the header.
+/// Returns the length of the header. Requires: the tree was read.
 fn header_length(fit: &Fit) -> u64
     requires held { IsHeld fit.now }
     ensures { result ≡ length_of_header fit.now.blob.file }
@@ -115,7 +116,7 @@ fn header_length(fit: &Fit) -> u64
     }
 }
 
-/// Returns the size of the memory reservation block.
+/// Returns the size of the memory reservation block. Requires: the tree was read.
 fn reservations_size(fit: &Fit) -> u64
     requires held { IsHeld fit.now }
     ensures size { result ≡ length (reservation_block fit.now.blob.reservations) }
@@ -124,7 +125,7 @@ fn reservations_size(fit: &Fit) -> u64
     PAIR_SIZE * (fit.blob().reservation_count() as u64 + 1)
 }
 
-/// Returns the end of the structure block.
+/// Returns the end of the structure block. Requires: the tree was read.
 fn structure_end(fit: &Fit) -> u64
     requires held { IsHeld fit.now }
     ensures { result ≡ end_of_structure fit.now.blob.file }

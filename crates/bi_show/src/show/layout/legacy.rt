@@ -65,7 +65,8 @@ fn has_part_table(image_type: u8) -> bool
     image_type == IH_TYPE_MULTI || image_type == IH_TYPE_SCRIPT
 }
 
-/// Returns the end of the part table: the offset of the first part, if there is one.
+/// Returns the end of the part table: the offset of the first part, if there is one. Requires:
+/// images of this type have a part table.
 fn part_table_end(image: &Legacy) -> u64
     requires has { IsTrue (is_part_table_type image.now.image.image_type) }
     ensures { result ≡ 64 + length (part_table image.now.image.parts) }
