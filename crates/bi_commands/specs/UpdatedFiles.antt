@@ -67,8 +67,8 @@ pub record IsUpdateOutput (changes : Changes) (limits : Limits) (form : Form) (c
   pub is : IsUpdated changes limits form file text
   pub signatures : count ≡ meaning_signature_count (updated_meaning changes is.meaning)
 
--- The text is that of the updated file, and this is what it keeps of the file: the number counts the
--- signature nodes.
+-- The text is that of the updated file, and this is what it does not keep of the file.
+-- `kept.signatures` counts the signature nodes.
 pub record IsUpdateKept (changes : Changes) (limits : Limits) (form : Form) (kept : Kept)
     (file text : List ℕ) : Type 0 where
   pub output : IsUpdateOutput changes limits form kept.signatures file text
@@ -115,24 +115,6 @@ pub update_laws : (changes : Changes) (form : Form) (limits : Limits)
     → PromiseLaws (update_promise changes form limits)
 update_laws changes form limits = record {
   is_text = λ count file text with_changes. with_changes.is;
-  wraps_once = λ a b same. same;
-  no_read_error = λ file is. is;
-  no_write_error = λ file is. is;
-}
-
--- What updating promises as a command that says what is kept.
-abbrev pub update_with_kept_promise : Changes → Form → Limits → CommandPromise Kept Error
-update_with_kept_promise changes form limits = record {
-  is_output = λ kept file text. IsUpdateKept changes limits form kept file text;
-  is_text = IsUpdated changes limits form;
-  has_error = IsUpdateError changes limits form;
-  wraps = λ error. error;
-}
-
-pub update_with_kept_laws : (changes : Changes) (form : Form) (limits : Limits)
-    → PromiseLaws (update_with_kept_promise changes form limits)
-update_with_kept_laws changes form limits = record {
-  is_text = λ kept file text updated. updated.output.is;
   wraps_once = λ a b same. same;
   no_read_error = λ file is. is;
   no_write_error = λ file is. is;

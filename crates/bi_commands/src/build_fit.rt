@@ -16,8 +16,8 @@ use std::alloc::{AllocError, Global};
 use std::io::{Read, Write};
 
 /// Building a flattened image tree, as a command: `build_fit_as_into` with these images and this
-/// plan. The payloads are given, or are consecutive pieces of the input. It may only be run if there
-/// are as many payloads as images.
+/// plan. The payloads are given, or are consecutive pieces of the input. Requires: there are as many
+/// payloads as images.
 #[derive(Clone, Copy, Debug, PartialEq, Eq)]
 pub struct FitBuilder<'a> {
     /// The description and the time.
@@ -47,7 +47,7 @@ impl<'a> Command for FitBuilder<'a> {
     ///
     /// Errors, the first that applies: BadPart at the beginning of the first piece of the input
     /// that does not fit, or at the end of the pieces, if bytes are left; those of `build_fit_as`.
-    /// OutOfMemory comes only for an input that can be cut, and then in place of any other error.
+    /// OutOfMemory occurs only for an input that can be cut, and then instead of any other error.
     fn run<S: Sink>(
         &self,
         alloc: Global,
@@ -71,11 +71,11 @@ impl<'a> Command for FitBuilder<'a> {
 
 /// Reads the payloads of a flattened image tree to the end of the input, writes the flattened image
 /// tree of these images, and flushes: `pipe_to` with a `FitBuilder`. Consecutive pieces of the
-/// input, of these lengths in bytes, take the place of the payloads that the images have. It may
-/// only be called if there are as many lengths as images.
+/// input, of these lengths in bytes, take the place of the payloads that the images have. Requires:
+/// there are as many lengths as images.
 ///
 /// The errors are those of `pipe_to`, and of the input those of `FitBuilder::run`. OutOfMemory may
-/// also come before anything is read.
+/// also occur before anything is read.
 pub fn build_fit_to<R: Read, W: Write>(
     alloc: Global,
     reader: &mut R,
@@ -103,7 +103,8 @@ pub fn build_fit_to<R: Read, W: Write>(
     pipe_to(alloc, &builder, reader, writer, limits)
 }
 
-/// Returns these images with these payloads, in their order.
+/// Returns these images with these payloads, in their order. Fails if memory runs out. Requires:
+/// there are as many payloads as images.
 fn with_payloads<'a>(
     alloc: Global,
     images: &[ImageSpec<'a>],

@@ -40,8 +40,8 @@ impl<'a> Command for LegacyBuilder<'a> {
     ///
     /// Errors, the first that applies: with parts, BadPart at the beginning of the first piece of
     /// the input that does not fit, or at the end of the pieces, if bytes are left; those of
-    /// `bi_legacy::emit`. OutOfMemory comes only for an input that can be cut, or without parts,
-    /// and then in place of any other error.
+    /// `bi_legacy::emit`. OutOfMemory occurs only for an input that can be cut, or without parts,
+    /// and then instead of any other error.
     fn run<S: Sink>(
         &self,
         alloc: Global,
@@ -62,7 +62,7 @@ impl<'a> Command for LegacyBuilder<'a> {
 /// pieces of the input, of these lengths in bytes.
 ///
 /// The errors are those of `pipe_to`, and of the input those of `LegacyBuilder::run`. OutOfMemory
-/// may also come before anything is read.
+/// may also occur before anything is read.
 pub fn build_legacy_to<R: Read, W: Write>(
     alloc: Global,
     reader: &mut R,
@@ -83,7 +83,8 @@ pub fn build_legacy_to<R: Read, W: Write>(
     pipe_to(alloc, &builder, reader, writer, limits)
 }
 
-/// Appends the legacy image of these fields and parts to a sink.
+/// Appends the legacy image of these fields and parts to a sink. Requires: the input has at most
+/// `limits.file()` bytes.
 fn build_legacy_into<S: Sink>(
     alloc: Global,
     input: &[u8],
@@ -105,8 +106,8 @@ fn build_legacy_into<S: Sink>(
     Ok(())
 }
 
-/// Returns the contents of the parts, with an input of at most 0x7fffffff bytes: without parts the
-/// whole input as the only one. Fails as `fill` does.
+/// Returns the contents of the parts, with an input: without parts the whole input as the only one.
+/// Fails as `fill` does. Requires: the input has at most 0x7fffffff bytes.
 fn contents_of<'a>(
     alloc: Global,
     input: &'a [u8],

@@ -86,7 +86,7 @@ impl From<ConfigError> for ExtractError {
 /// Errors, the first that applies: Failed with the error of `BootImage::read`; WrongKind, if a part
 /// is selected of a flattened image tree, or anything else of a legacy image; NoPart; NoImage;
 /// Config with NoConfig, NoKey, BadList or Missing; NoIndex; NoPayload. NoConfig also comes if the
-/// default configuration is selected and there is no default. Failed with OutOfMemory comes only
+/// default configuration is selected and there is no default. Failed with OutOfMemory occurs only
 /// for a legacy image, or for a file whose header and memory reservation block, as those of a blob,
 /// have no fault.
 ///
@@ -130,7 +130,7 @@ fn select_part<'a>(image: &Legacy<'a>, select: Select) -> Result<&'a [u8], Extra
     }
 }
 
-/// Returns the payload of a flattened image tree that is selected.
+/// Returns the payload of a flattened image tree that is selected. Requires: the tree was read.
 fn select_payload<'a>(
     alloc: Global,
     fit: &Fit<'a>,
@@ -151,7 +151,7 @@ fn select_payload<'a>(
     }
 }
 
-/// Returns the payload of the image of this name.
+/// Returns the payload of the image of this name. Requires: the tree was read.
 fn payload_by_name<'a>(fit: &Fit<'a>, name: &[u8]) -> Result<&'a [u8], ExtractError>
     requires held { IsHeld fit.now }
     ensures chosen { IfOk result (λ bytes. choice_by_name (tree_of fit.now) name.now

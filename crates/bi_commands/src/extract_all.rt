@@ -57,7 +57,7 @@ pub fn extract_all<'a>(alloc: Global, file: &'a [u8], limits: Limits) -> Result<
     payloads_of(alloc, &image, limits)
 }
 
-/// Returns the payloads of a boot image that was read.
+/// Returns the payloads of a boot image. Requires: the image was read.
 ///
 /// Errors: TooLarge at the limit, if they are longer; OutOfMemory.
 fn payloads_of<'a>(
@@ -93,7 +93,7 @@ fn payloads_of_legacy<'a>(alloc: Global, image: &Legacy<'a>) -> Result<Payloads<
     Ok(Payloads { payloads })
 }
 
-/// Returns the payloads of a flattened image tree.
+/// Returns the payloads of a flattened image tree. Requires: the tree was read.
 ///
 /// Errors: TooLarge at the limit, if they are longer; OutOfMemory.
 fn payloads_of_fit<'a>(alloc: Global, fit: &Fit<'a>, limits: Limits) -> Result<Payloads<'a>, Error>

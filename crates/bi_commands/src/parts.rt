@@ -33,7 +33,8 @@ pub(crate) fn pieces<'a>(alloc: Global, lengths: &[u32]) -> Result<Vec<Part<'a>>
 }
 
 /// Returns the contents of parts, in their order: the bytes that are given, and as the others
-/// consecutive pieces of an input of at most 0x7fffffff bytes, which together are the whole input.
+/// consecutive pieces of an input, which together are the whole input. Requires: the input has at
+/// most 0x7fffffff bytes.
 ///
 /// Errors: those of `bi_norm::cut` for the input and the lengths of the parts that have one.
 pub(crate) fn fill<'a>(
@@ -62,6 +63,7 @@ pub(crate) fn fill<'a>(
 
 /// Checks that the parts with a length are together the whole input. Fails with BadPart at the
 /// beginning of the first one that does not fit, or at the end of the last one, if bytes are left.
+/// Requires: the input has at most 0x7fffffff bytes.
 fn check_lengths(input: &[u8], parts: &[Part<'_>]) -> Result<(), Fault>
     requires { length input.now ≤ 0x7fffffff }
     ensures ok { OnOk result (sum (map input_length_of parts.now) ≡ length input.now) }

@@ -10,7 +10,6 @@ ghost use Rattle.bi_legacy.specs.Reading.{IsReadLegacy};
 ghost use Rattle.bi_commands.specs.UpdatedFiles.{IsUpdated, IsUpdateOutput, IsUpdateError};
 ghost use Rattle.bi_commands.specs.UpdatedFiles.{HasNewDigests, IsDigestsError};
 ghost use Rattle.bi_commands.specs.UpdatedFiles.{IsUpdateKept, update_promise, update_laws};
-ghost use Rattle.bi_commands.specs.UpdatedFiles.{update_with_kept_promise, update_with_kept_laws};
 
 use bi_base::{Align, Command, Error, Limits, Sink, VecSink, pipe_to};
 use bi_common::payload_bounds::BoundedFit;
@@ -29,7 +28,7 @@ use std::io::{Read, Write};
 /// the limit, if `changes.hashes` is set and the payloads of a flattened image tree together are
 /// longer than that, each counted for each image that has it; TooLarge at the limit, if the text of
 /// a flattened image tree is longer. No payload is hashed before the lengths of the payloads are
-/// checked. OutOfMemory comes only after the checks of a legacy image, or of the header and the
+/// checked. OutOfMemory occurs only after the checks of a legacy image, or of the header and the
 /// memory reservation block of a blob.
 ///
 /// # Example
@@ -104,8 +103,9 @@ pub fn update_into<S: Sink>(
 }
 
 /// Appends the normal text of a boot image with these changes to a sink, as `update_into` does.
-/// Returns what it keeps of the file that is no part of what the file means. Of a legacy image that
-/// is nothing: no signature nodes, no alignment and no positions.
+/// Returns what a user should know beyond the meaning of the file: the number of signature nodes,
+/// and the alignment and the positions of payloads that the text does not keep. For a legacy image
+/// there are none of these.
 ///
 /// The errors are those of `update_into`.
 pub fn update_with_kept<S: Sink>(
@@ -160,40 +160,6 @@ impl Command for Updater {
     ghost laws = { λ updater. update_laws updater.changes updater.form };
 }
 
-/// Updating, as a command that returns what is kept: `update_with_kept` with these changes and this
-/// form.
-#[derive(Clone, Copy, Debug, PartialEq, Eq)]
-pub struct UpdaterWithKept {
-    /// What changes.
-    pub changes: Changes,
-    /// Where the text of a flattened image tree has the payloads.
-    pub form: Form,
-}
-
-impl Command for UpdaterWithKept {
-    type Value = Kept;
-
-    type Failure = Error;
-
-    ghost can_run = { λ _. ⊤ };
-
-    ghost promise = { λ updater. update_with_kept_promise updater.changes updater.form };
-
-    fn run<S: Sink>(
-        &self,
-        alloc: Global,
-        input: &[u8],
-        limits: Limits,
-        sink: &mut S,
-    ) -> Result<Kept, Error> {
-        update_with_kept(alloc, input, self.changes, self.form, limits, sink)
-    }
-
-    ghost wraps_from = { λ _ _ _ _ same. same };
-
-    ghost laws = { λ updater. update_with_kept_laws updater.changes updater.form };
-}
-
 /// Reads a boot image to its end, writes its normal text with these changes, and flushes: `pipe_to`
 /// with an `Updater`. Returns the number of signature nodes, which is 0 for a legacy image.
 ///
@@ -212,8 +178,8 @@ pub fn update_to<R: Read, W: Write>(
     pipe_to(alloc, &Updater { changes, form }, reader, writer, limits)
 }
 
-/// Appends the normal text of a legacy image that was read under the limits, with these changes.
-/// Returns that nothing is said of it.
+/// Appends the normal text of a legacy image that was read under the limits, with these changes,
+/// and returns a `Kept` that says nothing.
 fn update_legacy<S: Sink>(
     alloc: Global,
     image: &Legacy<'_>,
@@ -234,7 +200,7 @@ fn update_legacy<S: Sink>(
 }
 
 /// Appends the normal text of a flattened image tree that was read under the limits, with these
-/// changes. Returns what it keeps.
+/// changes, and returns its `Kept`.
 fn update_fit<S: Sink>(
     alloc: Global,
     fit: &Fit<'_>,

@@ -36,5 +36,6 @@ returns-in_err-build_fit_as_into-clause-failed g c =
     let p = err_from_is_err_and c.from_residual-in_err-build_fit_as_into.result c.from_residual-in_err-build_fit_as_into.ensures.1 in
     rw (p.1, p.2)
     (not_appended g.S.Sink.fails c.args.limits c.args.self.now.form c.args.self.now.head (plan_spec_model c.args.self.now.plan) given
-    c.args.self.now.payloads.now c.args.input.now contents images c.args.sink.now c.build_fit_as_into.new.sink c.in_err-build_fit_as_into.field-0.0 completed
+    c.args.self.now.payloads.now c.args.input.now contents images c.args.sink.now c.build_fit_as_into.new.sink
+    c.in_err-build_fit_as_into.field-0.0 completed
     c.in_err-build_fit_as_into.ensures.failed)
