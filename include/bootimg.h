@@ -61,11 +61,6 @@ extern "C" {
 #define BOOTIMG_WRONG_ARGUMENT 4u
 #define BOOTIMG_NOT_FOUND 5u
 
-/* Deprecated: the names that these had before version 0.3.0. The next minor version leaves them
- * out. */
-#define BOOTIMG_DONE BOOTIMG_OK
-#define bootimg_answer bootimg_result
-
 /* The causes for which a file is refused: `cause` of bootimg_result, and `number` of
  * bootimg_cause_name. */
 enum bootimg_cause {

@@ -62,7 +62,8 @@ pub(crate) fn key_of(number: u32) -> Option<Key>
     }
 }
 
-/// Returns whether a number has the bit of a mask, which is a power of two.
+/// Returns whether a number has the bit of a mask, which is a power of two. Requires: the mask is
+/// not 0.
 pub(crate) fn has_bit(mask: u32, number: u32) -> bool
     requires { 0 < mask }
     ensures { result ≡ is_set mask number }

@@ -58,8 +58,8 @@ pub extern "C" fn bootimg_images(
     }
 }
 
-/// Writes the images of a flattened image tree that was read to an array, and the answer. Returns
-/// the status.
+/// Writes the images of a flattened image tree to an array, and the answer. Returns the status.
+/// Requires: the tree was read.
 fn fill_images(fit: &Fit<'_>, elements: &mut [ImageElement], answer: &mut Answer) -> u32
     requires { IsHeld fit.now }
     ensures { FillsBuffer (IsThisOutput (image_elements fit.now.blob.file

@@ -49,8 +49,8 @@ pub extern "C" fn bootimg_normalise(
     }
 }
 
-/// Writes the normal form of a legacy image that was read from this file under the limits, and
-/// the answer. Returns the status.
+/// Writes the normal form of a legacy image of a file, and the answer. Returns the status.
+/// Requires: reading the file under the limits gives this image.
 fn normalise_legacy(
     alloc: Global,
     file: &[u8],

@@ -94,6 +94,8 @@ pub extern "C" fn bootimg_property_value(
 }
 
 /// Writes the properties of a node of a file to an array, and the answer. Returns the status.
+/// Requires: the file has at least 16 bytes, and has the name and the value of each property at
+/// their places.
 fn fill_properties(
     file: &[u8],
     node: NodeRef<'_, '_>,
@@ -119,7 +121,8 @@ fn fill_properties(
     DONE
 }
 
-/// Returns the element of a property of a file.
+/// Returns the element of a property of a file. Requires: the file has at least 16 bytes, and has
+/// the name and the value of the property at their places.
 fn property_element(file: &[u8], property: Property<'_>) -> PropertyElement
     requires header { 16 ≤ length file.now }
     requires regions { HasPropertyBytes file.now (file_property_of property) }

@@ -76,7 +76,8 @@ fn part_at(image: &Legacy<'_>, index: usize) -> Option<Region>
     })
 }
 
-/// Returns where the selected payload is in a flattened image tree that was read.
+/// Returns where the selected payload is in a flattened image tree. Requires: the tree was read,
+/// and the payload of each image is in its file at its place.
 fn find_payload(alloc: Global, fit: &Fit<'_>, select: Select) -> Result<Region, ExtractError>
     requires held { IsHeld fit.now }
     requires placed { ArePlaced fit.now }
@@ -96,8 +97,8 @@ fn find_payload(alloc: Global, fit: &Fit<'_>, select: Select) -> Result<Region, 
     }
 }
 
-/// Returns where the payload of the image with the given name is, in a flattened image tree that
-/// was read.
+/// Returns where the payload of the image with the given name is, in a flattened image tree.
+/// Requires: the tree was read, and the payload of each image is in its file at its place.
 fn find_by_name(fit: &Fit<'_>, name: &[u8]) -> Result<Region, ExtractError>
     requires held { IsHeld fit.now }
     requires placed { ArePlaced fit.now }
@@ -113,8 +114,9 @@ fn find_by_name(fit: &Fit<'_>, name: &[u8]) -> Result<Region, ExtractError>
     payload_at(fit, index).ok_or(ExtractError::NoPayload)
 }
 
-/// Returns where the payload of image `index` is, in a flattened image tree that was read. Returns
-/// None if there is no such image, or it has no payload.
+/// Returns where the payload of image `index` is, in a flattened image tree. Returns None if there
+/// is no such image, or it has no payload. Requires: the payload of each image is in the file of
+/// the tree at its place.
 fn payload_at(fit: &Fit<'_>, index: usize) -> Option<Region>
     requires placed { ArePlaced fit.now }
     ensures found { let payload = option_and_then (λ image. image.payload)
@@ -147,7 +149,8 @@ fn offset_of(place: Place) -> Option<u32>
 }
 
 /// Returns where the payload is of the image at the given index among those that the configuration
-/// with the given name lists under a key, in a flattened image tree that was read.
+/// with the given name lists under a key, in a flattened image tree. Requires: the tree was read,
+/// and the payload of each image is in its file at its place.
 fn find_by_configuration(
     alloc: Global,
     fit: &Fit<'_>,
@@ -172,7 +175,8 @@ fn find_by_configuration(
 }
 
 /// Returns where the payload is of the image at the given index among those that the default
-/// configuration lists under a key, in a flattened image tree that was read.
+/// configuration lists under a key, in a flattened image tree. Requires: the tree was read, and the
+/// payload of each image is in its file at its place.
 fn find_by_default(
     alloc: Global,
     fit: &Fit<'_>,

@@ -94,6 +94,7 @@ fn hash_elements(alloc: Global, fit: &Fit<'_>) -> Result<Vec<HashElement>, Alloc
 }
 
 /// Adds the elements of the hash nodes of an image with this payload. Fails if memory runs out.
+/// Requires: the payload, if there is one, is within the file of the digests.
 fn push_hashes(
     elements: &mut Vec<HashElement>,
     image: NodeRef<'_, '_>,
@@ -115,7 +116,7 @@ fn push_hashes(
 }
 
 /// Adds the element of a child of an image with this payload, if it is a hash node. Fails if memory
-/// runs out.
+/// runs out. Requires: the payload, if there is one, is within the file of the digests.
 fn push_child(
     elements: &mut Vec<HashElement>,
     image: NodeRef<'_, '_>,

@@ -14,8 +14,9 @@ use bi_legacy::Legacy;
 use bi_norm::append_legacy;
 use std::alloc::Global;
 
-/// Writes the normal text of a legacy image that was read from this file under the limits to the
-/// beginning of a buffer, and the answer. Returns the status. No other memory holds the text.
+/// Writes the normal text of a legacy image of a file to the beginning of a buffer, and the answer.
+/// Returns the status. No other memory holds the text. Requires: reading the file under the limits
+/// gives this image.
 pub(crate) fn write_legacy(
     alloc: Global,
     file: &[u8],
