@@ -4,7 +4,7 @@
 #
 #   contrib/page/module.sh LIBRARY MODULE
 #
-# The file LIBRARY is the one that `rt lib` makes, and MODULE the one that rattle gives to the kit's clang. So rattle gets, in place of the
+# The file LIBRARY is the one that `rt lib` makes, and MODULE the one that rattle gives to the kit's clang. So rattle gets, instead of the
 # kit's compilers, a directory whose clang copies what it compiles. What an earlier `rt lib` has proved in crates/bi_c is not proved again.
 set -eu
 

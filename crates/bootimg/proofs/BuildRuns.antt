@@ -1,4 +1,5 @@
-use Rattle.std.proofs.Common.{◌≡◌, ◌++◌, ◌+◌, ◌<◌, ◌∙◌, ℕ, Bool, true, List, [], ◌∷◌, Option, Result, Ok, Err, length, map, take, drop, get_or}
+use Rattle.std.proofs.Common.{◌≡◌, ◌++◌, ◌+◌, ◌<◌, ◌∙◌, ℕ, Bool, true, List, [], ◌∷◌, Option, Result, Ok, Err, length, map, take, drop}
+use Rattle.std.proofs.Common.{get_or}
 use Rattle.std.proofs.Common.{ap, inl}
 use Rattle.std.proofs.Common.{inr, refl, subst, sym, add-one}
 use Rattle.std.specs.Prelude.{suc}

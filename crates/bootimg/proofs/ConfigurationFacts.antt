@@ -18,7 +18,6 @@ use Rattle.bootimg.specs.ConfigurationWords.{configuration_model, configuration_
 use Rattle.bootimg.specs.ConfigurationWords.{name_of_word, IsConfigurationWord, IsDefault, IsFirstBadConfiguration, IsListText}
 use Rattle.bootimg.specs.Words.{parts_of}
 use Rattle.bootimg.specs.declared.command_line.configurations.ConfigurationWord.{ConfigurationWord}
-use Rattle.bootimg.specs.declared.command_line.configurations.KeyList.{KeyList}
 use Rattle.bootimg.proofs.CommandLines.{texts_push, zip_push}
 use Rattle.bootimg.proofs.KeyLists.{same_listed_names}
 use Rattle.bootimg.proofs.ListedTexts.{distinct_here, values_around}

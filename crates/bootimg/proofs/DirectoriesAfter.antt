@@ -12,9 +12,9 @@ use Rattle.bootimg.specs.Directories.{AreFilesNotPut, AreFilesPut, AreFilesRemov
 use Rattle.bootimg.specs.Directories.{IsDirectoryNotInPlace, IsDirectoryNotSaved, IsDirectorySaved, IsFileNotFilled, IsFilePut, NameIsUsed}
 use Rattle.bootimg.specs.Directories.{NewDirectoryFailed, NextNotFilled, NextNotMade, NoNewDirectory, PuttingFailed, TakingNameFailed}
 use Rattle.bootimg.specs.Files.{ClosedIn, Directory, DirectoryMade, DirectoryNotRemoved, DirectoryNotRenamed, DirectoryRemoved}
-use Rattle.bootimg.specs.Files.{DirectoryRenamed, Entry, FileStep, MadeIn, Names, NoFile, NotClosedIn, NotMadeIn, NotRemovedIn, RemovedIn}
+use Rattle.bootimg.specs.Files.{DirectoryRenamed, FileStep, MadeIn, Names, NoFile, NotClosedIn, NotMadeIn, NotRemovedIn, RemovedIn}
 use Rattle.bootimg.specs.Files.{NameTaken, TookSteps}
-use Rattle.bootimg.specs.FilesAfter.{AreSameNames, HasDirectory, HaveContents, after_renaming, after_step, after_steps, with_entry_at}
+use Rattle.bootimg.specs.FilesAfter.{HasDirectory, HaveContents, after_renaming, after_step, after_steps, with_entry_at}
 use Rattle.bootimg.specs.FilesAfter.{with_file, with_files, without_file, written_bytes}
 use Rattle.bootimg.proofs.FilesAfter.{HaveContents-first, HaveContents-later, LeftAfterFailure, Touches, after_steps-append, filled_file}
 use Rattle.bootimg.proofs.FilesAfter.{is_no_file, kept_is_left, keeps_same, not_made_keeps, removed_is_left, taken_change_nothing}

@@ -1,4 +1,4 @@
-use Rattle.std.proofs.Common.{◌≡◌, ◌+◌, List, Err, refl, arith}
+use Rattle.std.proofs.Common.{◌≡◌, List, Err, refl, arith}
 use Rattle.bi_base.specs.Limits.{Limits}
 use Rattle.bi_base.specs.Pipes.{IsTracedPipe}
 use Rattle.bi_base.specs.Traces.{ReadTrace, WriteTrace}

@@ -50,8 +50,8 @@ alignment_keeps (Some bytes) old new logs = logs_keep old new (alignment_line by
 
 notes_keep : (kept : Kept) (old new : WriteTrace) → Notes kept old new → new.writer ≡ old.writer
 notes_keep kept old new notes =
-    count_keeps kept.positions (positions_line kept.positions) notes.second new notes.positions
-    ∙ alignment_keeps kept.alignment notes.first notes.second notes.alignment
+    count_keeps kept.lost_positions (positions_line kept.lost_positions) notes.second new notes.positions
+    ∙ alignment_keeps kept.lost_alignment notes.first notes.second notes.alignment
     ∙ count_keeps kept.signatures (note_line kept.signatures) old notes.first notes.signatures
 
 -- The reader is the same after an image was read, or not read, from its source.

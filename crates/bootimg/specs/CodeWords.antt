@@ -1,7 +1,7 @@
-use Rattle.std.specs.Prelude.{ℕ, ◌<◌, ◌^◌, ◌≡◌, ◌==◌, List, Option, Some, None, if◌then◌else◌}
+use Rattle.std.specs.Prelude.{ℕ, ◌<◌, ◌^◌, ◌≡◌, List, Option, Some, None}
 use Rattle.bi_legacy.specs.Codes.{CodeName, os_names, arch_names, type_names, compression_names}
 use Rattle.bi_legacy.specs.Codes.{name_of_code}
-use Rattle.bi_norm.specs.FitBuilding.{ImageTextsModel, multi}
+use Rattle.bi_norm.specs.FitBuilding.{ImageTextsModel}
 use Rattle.bi_show.specs.AllCodes.{code_of_name, given_os_names, given_arch_names, given_type_names}
 use Rattle.bootimg.specs.declared.codes.CodeField.{CodeField}
 use Rattle.bootimg.specs.declared.codes.CodeField.TheVariants.{Os, Arch, ImageType}

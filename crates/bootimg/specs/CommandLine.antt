@@ -488,7 +488,7 @@ abbrev pub list_of : ImageFields → List (List ℕ)
 list_of fields = fields.name.now ∷ fields.image_type.now ∷ fields.arch.now ∷ fields.os.now
     ∷ fields.compression.now ∷ fields.load.now ∷ fields.entry.now ∷ fields.length.now ∷ []
 
--- The texts in the node of an image, in place of its codes. There are none if one of the codes has
+-- The texts in the node of an image, instead of its codes. There are none if one of the codes has
 -- no text, or for a multi-file image: neither can be built.
 abbrev pub HasTexts : ImageFields → ImageSpec → Option ImageTexts → Type 0
 HasTexts fields spec texts =
@@ -578,8 +578,8 @@ pub record IsBadPlan (options : ArgMatches) (index : ℕ) : Type 0 where
   pub first_bad : IsFirstBadConfiguration (names_of_specs images)
       (values_of options (codes "config")) index
 
--- The failure of options of `build-fit` that are no plan: of a bad value, else of the first bad
--- image, else of the first bad configuration.
+-- The failure of options of `build-fit` that give no plan: that of a bad value, or else that of the
+-- first bad image, or else that of the first bad configuration.
 abbrev pub IsFitPlanFailure : ArgMatches → Failure → Type 0
 IsFitPlanFailure options BadValue = (¬ HasFitValues options) ⊎ HasNoForm options
 IsFitPlanFailure options (BadImage index) =

@@ -92,7 +92,7 @@ pub data FileStep : Type 0 where
   Closed : (name : List ℕ) → (file : WriteTrace) → FileStep
   -- Closing the new file of this name failed.
   NotClosed : (name : List ℕ) → (file : WriteTrace) → FileStep
-  -- The file of the first name took the second one, in place of the file that had it.
+  -- The file of the first name took the second one, instead of the file that had it.
   Renamed : (name new_name : List ℕ) → FileStep
   -- The file of the first name did not take the second one: each file has the name that it had.
   NotRenamed : (name new_name : List ℕ) → FileStep

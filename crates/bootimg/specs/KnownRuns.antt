@@ -122,7 +122,7 @@ pub record CompareLinesAreKnown : Type 0 where
       ≡ codes "bootimg: b: BadHeaderCrc at 4\n"
   pub out_of_memory : line_of_comparing compare.OutOfMemory ≡ codes "bootimg: out of memory\n"
 
--- The lines on what is kept.
+-- The notes: on signature nodes, and on what is not kept.
 pub record NotesAreKnown : Type 0 where
   pub one : note_line 1 ≡ codes "bootimg: note: 1 signature nodes carried, not checked\n"
   pub many : note_line 12 ≡ codes "bootimg: note: 12 signature nodes carried, not checked\n"

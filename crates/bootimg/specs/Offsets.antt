@@ -26,6 +26,7 @@ promise_at offset promise limits = record {
   wraps = (promise limits).wraps;
 }
 
+-- The promise at an offset has the laws of promises, since the promise itself has them.
 pub laws_at : {V E : Type 0} (offset : ℕ) (promise : Limits → CommandPromise V E)
     → ((limits : Limits) → PromiseLaws (promise limits)) → (limits : Limits)
     → PromiseLaws (promise_at offset promise limits)

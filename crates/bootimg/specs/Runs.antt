@@ -98,14 +98,14 @@ abbrev pub NotesAlignment : (alignment : Option ℕ) → (old new : WriteTrace) 
 NotesAlignment None old new = new ≡ old
 NotesAlignment (Some bytes) old new = Logs old (alignment_line bytes) new
 
--- What is kept of the input was noted: the lines on signature nodes, on the alignment and on fixed
--- positions, in this order, each if there is something to say.
+-- The notes were written: the lines on signature nodes, on an alignment and on fixed positions, in
+-- this order, each if there is something to say.
 pub record Notes (kept : Kept) (old new : WriteTrace) : Type 0 where
   pub first : WriteTrace
   pub second : WriteTrace
   pub signatures : NotesCount kept.signatures (note_line kept.signatures) old first
-  pub alignment : NotesAlignment kept.alignment first second
-  pub positions : NotesCount kept.positions (positions_line kept.positions) second new
+  pub alignment : NotesAlignment kept.lost_alignment first second
+  pub positions : NotesCount kept.lost_positions (positions_line kept.lost_positions) second new
 
 -- The failure is about an image from this source, or about the output file of this name.
 abbrev pub source_failure : ImageSource → Failure → SourceFailure
@@ -410,7 +410,7 @@ abbrev pub failure_in_memory : Failure → Failure
 failure_in_memory (Call WriteFailed) = Call OutOfMemory
 failure_in_memory failure = failure
 
--- A job failed with this source_failure, with an output that is held in memory.
+-- A job with an output that is held in memory failed in this way.
 pub record IsHeldFailure (files : KnownFiles) (job : Job) (limits : Limits) (before after : Inputs)
     (failed : SourceFailure) : Type 0
   where
@@ -528,8 +528,7 @@ pub data IsOutputRun (files : KnownFiles) (job : Job) (limits : Limits) (run : R
         → IsSavedWork files job limits name (inputs_before run) (inputs_after run) outcome
         → run.new_output ≡ run.output → IsOutputRun files job limits run outcome (Some name)
 
--- How a run ends: with notes on what is kept of the input, if there are any, or with the line of a
--- failure.
+-- How a run ends: with the notes, if there is something to note, or with the line of a failure.
 pub data IsEnd (errors new_errors : WriteTrace) (status : ℕ) (outcome : Result Done SourceFailure)
     : Type 0
   where

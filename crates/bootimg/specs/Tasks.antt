@@ -222,5 +222,6 @@ task_laws task limits = record {
 abbrev pub plan_promise : ImagePlan → Limits → CommandPromise Done Failure
 plan_promise plan = promise_at plan.offset (task_promise plan.task)
 
+-- The promise of a plan has the laws of promises.
 pub plan_laws : (plan : ImagePlan) (limits : Limits) → PromiseLaws (plan_promise plan limits)
 plan_laws plan = laws_at plan.offset (task_promise plan.task) (task_laws plan.task)

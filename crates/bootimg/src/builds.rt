@@ -193,7 +193,8 @@ fn build<'a, S: TracedRead, T: TracedWrite>(
     }
 }
 
-/// Runs the command that builds the image of these parts. Fails as `pipe` does.
+/// Runs the command that builds the image of these parts. Fails as `pipe` does, or with OutOfMemory
+/// before anything is read.
 fn run_builder<S: TracedRead, T: TracedWrite>(
     alloc: Global,
     plan: &BuildPlan<'_>,
@@ -215,39 +216,16 @@ fn run_builder<S: TracedRead, T: TracedWrite>(
             };
             pipe(alloc, &builder, input, output, limits)
         }
-        BuildPlan::Fit(plan) => run_fit_builder(alloc, plan, parts, limits, input, output),
+        BuildPlan::Fit(plan) => {
+            let lent = lend_configurations(alloc, &plan.configurations)?;
+            run_fit_builder(alloc, plan, &lent, parts, limits, input, output)
+        }
     }
-}
-
-/// Runs the command that builds the flattened image tree with these payloads. Fails as `pipe` does,
-/// or with OutOfMemory before anything is read.
-fn run_fit_builder<S: TracedRead, T: TracedWrite>(
-    alloc: Global,
-    plan: &FitPlan<'_>,
-    payloads: &[Part<'_>],
-    limits: Limits,
-    input: &mut S,
-    output: &mut T,
-) -> Result<(), Error>
-    requires one_each { length payloads.now ≡ length plan.now.images.items }
-    ensures { IsTracedPipe (fit_promise plan.now payloads.now limits) limits (S.trace input.old)
-        (S.trace input.new) (T.trace output.old) (T.trace output.new) result }
-{
-    let configurations = lend_configurations(alloc, &plan.configurations)?;
-    pipe_fit(
-        alloc,
-        plan,
-        &configurations,
-        payloads,
-        limits,
-        input,
-        output,
-    )
 }
 
 /// Runs the command that builds the flattened image tree with these configurations and payloads.
 /// Fails as `pipe` does.
-fn pipe_fit<S: TracedRead, T: TracedWrite>(
+fn run_fit_builder<S: TracedRead, T: TracedWrite>(
     alloc: Global,
     plan: &FitPlan<'_>,
     configurations: &[ConfigurationSpec<'_>],

@@ -121,7 +121,7 @@ pub fn compare_lines_are_known()
     ensures { CompareLinesAreKnown }
 {}
 
-/// The notes on signature nodes are known lines.
+/// The notes on signature nodes, on an alignment and on fixed positions are known lines.
 pub fn notes_are_known()
     ensures { NotesAreKnown }
 {}

@@ -64,14 +64,14 @@ fn put_source<E: TracedWrite>(
     }
 }
 
-/// Writes the lines on what a text keeps of its input, each if there is something to say: on
-/// signature nodes, on an alignment, and on fixed positions. A failed write is ignored.
+/// Writes the notes, each if there is something to say: on the signature nodes of a text, and on an
+/// alignment and fixed positions that it does not keep of its input. A failed write is ignored.
 pub fn put_notes<E: TracedWrite>(kept: Kept, errors: &mut E)
     ensures { Notes kept (E.trace errors.old) (E.trace errors.new) }
 {
     note_signatures(kept.signatures, errors);
-    note_alignment(kept.alignment, errors);
-    note_positions(kept.positions, errors);
+    note_alignment(kept.lost_alignment, errors);
+    note_positions(kept.lost_positions, errors);
 }
 
 /// Writes the line on the signature nodes of a text, if there are any.

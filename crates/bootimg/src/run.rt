@@ -56,7 +56,8 @@ pub fn run<'a, R: Read, W: Write, E: Write>(
 /// A failure is written to `errors`: one line, or clap's text if it rejects the arguments. The line
 /// has the name of the file, if the failure is about an image in a file or the output file. After
 /// the normal form of a flattened image tree with signature nodes, also an updated one, a note with
-/// their number is written to `errors`. A failed write to `errors` is ignored.
+/// their number is written to `errors`. In the form External, so are notes on the alignment and the
+/// fixed positions that payloads lose, if they do. A failed write to `errors` is ignored.
 pub fn run_with_files<'a, R: Read, W: Write, E: Write, F: FileSystem>(
     alloc: Global,
     arguments: &'a [&'a str],

@@ -33,7 +33,8 @@ pub struct Done {
     /// concern, `scan` wrote a line, and the images that `compare` compared mean the same. The
     /// answer of any other command is good.
     pub good: bool,
-    /// What a normal form or an updated one keeps of the input.
+    /// The signature nodes of a normal form or an updated one, and what it does not keep of the
+    /// input.
     pub kept: Kept,
 }
 

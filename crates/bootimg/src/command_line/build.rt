@@ -37,7 +37,7 @@ pub struct FitPlan<'a> {
     pub head: Head<'a>,
     /// The images, with empty payloads.
     pub images: Vec<ImageSpec<'a>>,
-    /// The texts of each image in place of its codes, if there are any.
+    /// The texts of each image instead of its codes, if there are any.
     pub texts: Vec<Option<ImageTexts<'a>>>,
     /// The configurations. If there is none, one configuration lists the images by their types.
     pub configurations: Vec<ConfigurationWord<'a>>,
@@ -166,7 +166,7 @@ pub fn fit_plan<'a>(alloc: Global, options: &ArgMatches<'a>) -> Result<FitPlan<'
 struct BuiltImages<'a> {
     /// The images, with empty payloads.
     images: Vec<ImageSpec<'a>>,
-    /// The texts of each image in place of its codes, if there are any.
+    /// The texts of each image instead of its codes, if there are any.
     texts: Vec<Option<ImageTexts<'a>>>,
     /// Where the payload of each image comes from.
     payloads: Vec<PartSource<'a>>,

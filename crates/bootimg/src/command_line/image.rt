@@ -21,7 +21,7 @@ use bi_norm::{ImageSpec, ImageTexts};
 pub struct ImageWord<'a> {
     /// The image, with an empty payload.
     pub image: ImageSpec<'a>,
-    /// The texts of its node, in place of its codes. There are none if one of the codes has no
+    /// The texts of its node, instead of its codes. There are none if one of the codes has no
     /// text, or for a multi-file image: neither can be built.
     pub texts: Option<ImageTexts<'a>>,
     /// Where its payload comes from.

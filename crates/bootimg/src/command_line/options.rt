@@ -35,7 +35,7 @@ fn parse_limits(argument: &str) -> Option<Limits>
 }
 
 /// Returns the form that the options give. Fails with BadValue if `--align` is given without
-/// `--external`, or is not a power of two of 4 to 1048576.
+/// `--external`, or is not a power of two from 4 to 1048576.
 pub fn form(options: &ArgMatches<'_>) -> Result<Form, Failure>
     ensures form { IfOk result (IsForm options.now) }
     ensures failure { IfErr result (IsFormFailure options.now) }
@@ -52,8 +52,8 @@ pub fn form(options: &ArgMatches<'_>) -> Result<Form, Failure>
     }
 }
 
-/// Parses an alignment. Returns None exactly for any text but a number that is a power of two of 4
-/// to 1048576.
+/// Parses an alignment. Returns None exactly for any text but a number that is a power of two from
+/// 4 to 1048576.
 fn parse_align(argument: &str) -> Option<Align>
     ensures some { IfSome result (IsAlignOf argument.now) }
     ensures none { IfNone result (NoneIs (IsAlignOf argument.now)) }

@@ -283,7 +283,7 @@ const EXTERNAL_NORMAL: OptionText = OptionText {
 const ALIGN: OptionText = OptionText {
     name: "align",
     value_name: "N",
-    help: "With --external: place each payload at a multiple of N, a power of two of 4 to 1048576",
+    help: "With --external: place payloads at multiples of N, a power of two from 4 to 1048576",
     form: OptionForm::Optional,
 };
 
@@ -453,7 +453,7 @@ const HASH: OptionText = OptionText {
 const DESCRIPTION: OptionText = OptionText {
     name: "description",
     value_name: "TEXT",
-    help: "The description of the tree, of each image and of the configuration",
+    help: "The description of the tree, of each image and of each configuration",
     form: OptionForm::Optional,
 };
 
@@ -480,14 +480,14 @@ static READING_COMMANDS: [CommandText; 8] = [
                  note on standard error has their number, if there are any.\n\n\
                  With --external, another note says when the payloads of a file were aligned to\n\
                  more bytes than those of the output, as mkimage -E -B aligns them: --align keeps\n\
-                 that. With another N than 4 the output is no normal form, but means the same.\n\n\
+                 that. Unless N is 4, the output is not a normal form but means the same thing.\n\n\
                  Example: bootimg normalise kernel.uimage > normal.uimage",
         options: &[EXTERNAL_NORMAL, ALIGN, OFFSET, LIMIT, OUTPUT, FILE],
     },
     CommandText {
         name: "show",
         aliases: &[],
-        about: "Show an image to a person",
+        about: "Print an overview of an image",
         usage: "bootimg show [OPTIONS] [IMAGE]",
         after_help: "\
                  Reads an image, and writes to standard output a page for a person, in aligned\n\
@@ -587,7 +587,7 @@ static READING_COMMANDS: [CommandText; 8] = [
         usage: "bootimg scan [OPTIONS] [IMAGE]",
         after_help: "\
                  Reads a file, such as what a flash chip holds, and writes to standard output a\n\
-                 line for each image inside it, also for one inside another: the offset of its\n\
+                 line for each image in it, even one that is inside another: the offset of its\n\
                  first byte, legacy or fit, how many bytes it has, and the name of a legacy image\n\
                  or the number of images of a flattened image tree. An image may begin at any\n\
                  offset. Bytes that other commands would refuse have no line.\n\n\

@@ -4,7 +4,8 @@ use Rattle.bootimg.specs.declared.command_line.NoRequest.TheVariants.{Failure}
 use Rattle.bootimg.proofs.CommandLines.{outcome_weaker}
 use Rattle.bootimg.proofs.command_line.parse_task.Goals as goal
 use Rattle.bootimg.proofs.command_line.parse_task.Goals.{in-normalise+in_ok-form-in-normalise, in-show, in-list, in-describe, in-verify}
-use Rattle.bootimg.proofs.command_line.parse_task.Goals.{in-check+in_ok-allowed_kinds-in-check, in-update+in_ok-changes-in-update+in_ok-form-in-update}
+use Rattle.bootimg.proofs.command_line.parse_task.Goals.{in-check+in_ok-allowed_kinds-in-check}
+use Rattle.bootimg.proofs.command_line.parse_task.Goals.{in-update+in_ok-changes-in-update+in_ok-form-in-update}
 use Rattle.bootimg.proofs.command_line.parse_task.Goals.{in-scan, in-extract+in_ok-selection-in-extract, in-convert}
 
 pub returns-clause-task : goal.returns-clause-task

@@ -116,7 +116,8 @@ pub returns-in_err-convert_into-in-Convert-clause-failed : goal.returns-in_err-c
 returns-in_err-convert_into-in-Convert-clause-failed g c =
     let limits = c.args.limits in
     let image = c.args.image.now in
-    let p = err_from_is_err_and c.from_residual-in_err-convert_into-in-Convert.result c.from_residual-in_err-convert_into-in-Convert.ensures.1 in
+    let p = err_from_is_err_and c.from_residual-in_err-convert_into-in-Convert.result
+    c.from_residual-in_err-convert_into-in-Convert.ensures.1 in
     rw (c.in-Convert.is, p.1)
     (call_failed g.S.Sink.fails (IsConvertedFile limits image) (IsConvertError limits image)
     c.args.sink.now c.convert_into.new.sink c.in_err-convert_into-in-Convert.field-0.0 p.0 p.2

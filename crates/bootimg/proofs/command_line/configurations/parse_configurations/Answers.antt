@@ -1,4 +1,4 @@
-use Rattle.std.proofs.Common.{◌≡◌, ◌∙◌, Bor, List, ℕ, [], get_or, ap, inl, refl, subst, sym, true≢false}
+use Rattle.std.proofs.Common.{◌∙◌, Bor, List, ℕ, [], get_or, inl, subst, sym, true≢false}
 use Rattle.std.proofs.lemmas.Bool.{not-true, not-false}
 use Rattle.bi_blob.specs.NameSets.{HoldsNames}
 use Rattle.bi_blob.specs.Tree.{IsChildName}

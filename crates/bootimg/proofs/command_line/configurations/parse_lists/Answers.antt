@@ -1,4 +1,4 @@
-use Rattle.std.proofs.Common.{◌∙◌, ap, lit<, inl, refl, subst, sym}
+use Rattle.std.proofs.Common.{◌∙◌, ap, lit<, inl, refl, subst}
 use Rattle.std.specs.Str.Iter.{split_text, split_has_more, split_pattern}
 use Rattle.std.proofs.lemmas.Iterator.Consumers.{YieldsList-end, YieldsList-so_far, YieldsList-turn}
 use Rattle.std.proofs.lemmas.Iterator.Splits.{YieldsList-from_str_split}

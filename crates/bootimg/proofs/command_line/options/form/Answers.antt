@@ -1,4 +1,4 @@
-use Rattle.std.proofs.Common.{◌≡◌, ◌∙◌, ℕ, List, codes, IfNone, true, false, Some, None, refl, subst, sym}
+use Rattle.std.proofs.Common.{ℕ, List, codes, IfNone, true, false, Some, refl, subst}
 use Rattle.bi_fit.specs.declared.form.Form.{Form}
 use Rattle.bi_fit.specs.declared.form.Form.TheVariants.{Embedded, External, Aligned}
 use Rattle.bootimg.specs.CommandLine.{IsAlignOf, IsExternal, IsFormWith, NoneIs}
@@ -38,7 +38,8 @@ returns-in-None-parse_align-clause-failure c =
     } in
     let argument = c.in-Some.argument.now in
     let given = text_given options (codes "align") c.get_str.result c.in-Some.argument c.get_str.ensures c.in-Some.is in
-    let no_align : NoneIs (IsAlignOf argument) = subst (λ found. IfNone found (NoneIs (IsAlignOf argument))) c.in-None-parse_align.is c.parse_align.ensures.none in (
+    let no_align : NoneIs (IsAlignOf argument) = subst
+    (λ found. IfNone found (NoneIs (IsAlignOf argument))) c.in-None-parse_align.is c.parse_align.ensures.none in (
       refl,
       record {
         external = true;
