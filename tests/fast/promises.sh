@@ -21,7 +21,7 @@ copy_here crates.txt 'crates/*/src' 'crates/*/specs' README.md docs/PROMISES.md 
 check "the tables are those of the sources" python3 "$root/tests/fast/promises.py" copy
 [ "$failed" = 0 ] || finish
 
-# is_found FILE OLD NEW LINE: with the text NEW in place of OLD in this file of the copy, this line is printed, and no other file is
+# is_found FILE OLD NEW LINE: with the text NEW instead of OLD in this file of the copy, this line is printed, and no other file is
 # changed.
 is_found() {
     cp "copy/$1" original

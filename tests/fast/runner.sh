@@ -1,5 +1,5 @@
 #!/bin/sh
-# Tries ./test in a copy, with a stub in place of each script and of rt: which scripts its arguments start, in which order, what it
+# Tries ./test in a copy, with a stub instead of each script and of rt: which scripts its arguments start, in which order, what it
 # prints if one fails, and how it ends. A run takes less than a second.
 set -u
 

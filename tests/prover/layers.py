@@ -8,12 +8,13 @@ it these lines:
     needed: CRATE FUNCTION                  the function of a crate above
 
 CHECK is a command that runs `rattle check`: CHECK UPPER CRATE=COPY.. FLAG.. checks the crate UPPER, in the current directory, over the
-copies of crates in these directories: of the lower crate, and of those between the two.
+copies of crates in these directories: of the lower crates, and of those between them and UPPER.
 
-A function is proved from its own code and the contracts of the functions that it calls. So in a check the other functions of both crates
-have no code but `unreachable!()`, and a hole for their proof: rattle takes them by their contracts. The script prints a line for each piece.
-It is refused if a goal of the function stays open, or if an answer to one of its goals is wrong. It is not enough that an answer names a
-part that the weaker clause does not have. Each function also has to be proved where nothing is taken away.
+A function is proved from its own code and the contracts of the functions that it calls. So in a check the other functions of all these
+crates have no code but `unreachable!()`, and a hole for their proof: rattle takes them by their contracts. The script prints a line for
+each piece. It is refused if a goal of the function stays open, or if an answer to one of its goals is wrong. It is not enough that an
+answer names a part that the weaker clause does not have. Each function also has to be proved where nothing is taken away: one check of
+each upper crate shows this of all its functions.
 """
 
 import os
@@ -89,14 +90,13 @@ def write_copy(directory, crate, texts, kept):
 
 
 def batches_of(crates, pieces):
-    """Returns the pieces in batches, each for one check: of the same two crates, and with functions of their own, none of which names a
-    function whose clause another piece takes away."""
+    """Returns the pieces in batches, each for one check: of one upper crate, and with functions of their own, none of which names a function
+    whose clause another piece takes away. So each function meets only its own weaker clause, of whichever crates the others are."""
     batches = []
     for piece in pieces:
         code = code_of(crates, piece)
         for batch in batches:
-            pair = (batch[0].lower, batch[0].upper)
-            if pair == (piece.lower, piece.upper) and not any(
+            if batch[0].upper == piece.upper and not any(
                 piece.function == other.function or names(code, other) or names(code_of(crates, other), piece) for other in batch
             ):
                 batch.append(piece)
@@ -124,35 +124,42 @@ def uses_of(crates):
     return {name: [used for used in row.split() if used in names] for name, row in rows}
 
 
-def between(crates, lower, upper):
-    """Returns the lower crate, and each crate that uses it, directly or by others, and that the upper crate uses."""
+def between(crates, lowers, upper):
+    """Returns these lower crates, and each crate that uses one, directly or by others, and that the upper crate uses."""
     uses = uses_of(crates)
 
-    def reaches(name, target):
-        return name == target or any(reaches(used, target) for used in uses[name])
+    def reaches(name, targets):
+        return name in targets or any(reaches(used, targets) for used in uses[name])
 
-    return [name for name in uses if name != upper and reaches(upper, name) and reaches(name, lower)]
+    return [name for name in uses if name != upper and reaches(upper, {name}) and reaches(name, lowers)]
 
 
-def check(crates, lower, upper, texts, functions, command):
-    """Checks these functions of the upper crate over the lower one with these sources. Returns a verdict on each: whether it is refused,
-    and why; or none, and why not."""
-    above = sources_of(crates / upper)
+def check(crates, pieces, is_weaker, command):
+    """Checks the functions of these pieces, all of one crate, over copies of those below it, with the weaker clauses or with nothing taken
+    away. Returns a verdict on each: whether it is refused, and why; or none, and why not."""
+    upper, functions = pieces[0].upper, {piece.function: None for piece in pieces}
+    texts = {name: sources_of(crates / name) for name in (*between(crates, {piece.lower for piece in pieces}, upper), upper)}
+    # The lines that rattle names are those of the copy.
+    places = functions_of(remove_bodies(texts[upper], functions)[0])
+    try:
+        for piece in pieces:
+            if piece.function not in places:
+                raise ValueError(f"{upper} has no function {piece.function}")
+            if is_weaker:
+                texts[piece.lower][piece.file] = weaken(texts[piece.lower][piece.file], piece)
+    except (KeyError, ValueError) as error:
+        return {function: (None, str(error)) for function in functions}
     with tempfile.TemporaryDirectory() as directory:
-        copies = {name: Path(directory, name) for name in (*between(crates, lower, upper), upper)}
-        for name, copy in copies.items():
-            sources = {lower: texts, upper: above}.get(name) or sources_of(crates / name)
-            write_copy(copy, crates / name, sources, functions if name == upper else set())
-        below = [f"{name}={copy}" for name, copy in copies.items() if name != upper]
+        for name in texts:
+            write_copy(Path(directory, name), crates / name, texts[name], functions if name == upper else {})
+        below = [f"{name}={directory}/{name}" for name in texts if name != upper]
         only = [word for function in functions for word in ("--only", function)]
         how = {"stdin": subprocess.DEVNULL, "stdout": subprocess.PIPE, "stderr": subprocess.STDOUT, "text": True, "errors": "replace"}
-        output = subprocess.run([*command, upper, *below, "--allow-holes", *only], cwd=copies[upper], **how).stdout
+        output = subprocess.run([*command, upper, *below, "--allow-holes", *only], cwd=f"{directory}/{upper}", **how).stdout
     unread = re.search(r"^/\S*/(?:src|specs)/.*: error.*", output, re.M)
     why = unread[0] if unread else fault(output, lambda name: name in functions)
     if why:
         return {function: (None, "\n".join([why, *output.splitlines()[-20:]])) for function in functions}
-    # The lines that rattle names are those of the copy.
-    places = functions_of(remove_bodies(above, functions)[0])
     return {function: verdict(output, upper, function, places[function]) for function in functions}
 
 
@@ -165,23 +172,6 @@ def verdict(output, crate, name, function):
     return (True, telling[0]) if telling else (False, why)
 
 
-def judge(crates, batch, command):
-    """Returns a line for each piece of a batch."""
-    lower, upper = batch[0].lower, batch[0].upper
-    whole = sources_of(crates / lower)
-    weaker = dict(whole)
-    try:
-        for piece in batch:
-            weaker[piece.file] = weaken(weaker[piece.file], piece)
-            if not code_of(crates, piece):
-                raise ValueError(f"{upper} has no function {piece.function}")
-    except (KeyError, ValueError) as error:
-        return [f"FAILED: {piece.name}: {error}" for piece in batch]
-    functions = {piece.function: None for piece in batch}
-    over_whole, over_weaker = (check(crates, lower, upper, texts, functions, command) for texts in (whole, weaker))
-    return [line_of(piece, over_whole[piece.function], over_weaker[piece.function]) for piece in batch]
-
-
 def line_of(piece, over_whole, over_weaker):
     place = f"{piece.name}: {piece.upper} {piece.function}"
     if over_whole[0] is not False or not PROVED.match(over_whole[1]):
@@ -191,14 +181,19 @@ def line_of(piece, over_whole, over_weaker):
 
 def main():
     crates, pieces, *command = sys.argv[1:]
-    crates = Path(crates)
-    batches = batches_of(crates, list(read_pieces(Path(pieces))))
+    crates, pieces = Path(crates), list(read_pieces(Path(pieces)))
     # The highest crates take longest, and are the first.
     order = list(uses_of(crates))
-    batches.sort(key=lambda batch: order.index(batch[0].upper), reverse=True)
+    pieces.sort(key=lambda piece: order.index(piece.upper), reverse=True)
     is_refused = True
     with ThreadPoolExecutor(os.cpu_count()) as pool:
-        for lines in pool.map(lambda batch: judge(crates, batch, command), batches):
+        over_whole, over_weaker = {}, []
+        for upper in dict.fromkeys(piece.upper for piece in pieces):
+            own = [piece for piece in pieces if piece.upper == upper]
+            over_whole[upper] = pool.submit(check, crates, own, False, command)
+            over_weaker += [(batch, pool.submit(check, crates, batch, True, command)) for batch in batches_of(crates, own)]
+        for batch, verdicts in over_weaker:
+            lines = [line_of(piece, over_whole[piece.upper].result()[piece.function], verdicts.result()[piece.function]) for piece in batch]
             print("\n".join(lines), flush=True)
             is_refused &= all(line.startswith("refused: ") for line in lines)
     return 0 if is_refused else 1

@@ -1,10 +1,10 @@
 """Tries the wrong bodies of a crate, which are in tests/prover/wrong_bodies/CRATE.edits, and prints a line for each.
 
-wrong_bodies.py [--unchanged | --judge | --differs] CRATE_DIRECTORY EDITS [CALL CRATE]: `CALL check CRATE` runs `rattle check` on the crate
-in the current directory, and `CALL try CRATE` runs its tests. The script adds the flags --incremental, --allow-holes and --only to a
-check. Without CALL nothing is tried, and only the edits that cannot be made are printed. With --unchanged the edits change nothing, and a function has
-to be proved but for the holes of others. With --judge each line says what was found, also of an edit that does not count. With --differs
-only the lines `differs:` are tried.
+wrong_bodies.py [--refused | --differs | --unchanged | --judge] CRATE_DIRECTORY EDITS [CALL CRATE]: `CALL check CRATE` runs `rattle check`
+on the crate in the current directory, and `CALL try CRATE` runs its tests. The script adds the flags --incremental, --allow-holes and
+--only to a check. Without CALL nothing is tried, and only the edits that cannot be made are printed. With --refused the lines `differs:`
+are not tried, and with --differs nothing else is. With --unchanged the edits change nothing, and a function has to be proved but for the
+holes of others. With --judge each line says what was found, even of an edit that does not count.
 
 EDITS is a file with a heading for each edit, `## NAME`, or a directory of edits for `rt must-fail`. Below its heading an edit has a line
 `refused: FUNCTION`, maybe a line `differs: EXPRESSION => RIGHT | WRONG`, and then the lines of an edit for `rt must-fail`, which change
@@ -220,7 +220,7 @@ def copy_proof(directory, crate, function, copy):
 
 
 def write_hole(directory, crate, function):
-    """Writes a proof with a hole in place of that of a function."""
+    """Writes a proof with a hole instead of that of a function."""
     proof, name = Path(directory, "proofs", *function.split("::")), function.rpartition("::")[2]
     shutil.rmtree(proof, ignore_errors=True)
     proof.mkdir(parents=True)
@@ -501,10 +501,8 @@ def try_all(crate, edits, texts, command, wanted):
 
 def main():
     arguments = sys.argv[1:]
-    modes = {"--unchanged": "proved", "--judge": "judged", "--differs": "different"}
-    wanted = modes.get(arguments[0], "refused")
-    if arguments[0] in modes:
-        del arguments[0]
+    mode = arguments.pop(0) if arguments[0].startswith("--") else None
+    wanted = {"--unchanged": "proved", "--judge": "judged"}.get(mode, "refused")
     crate, edits, *call = arguments
     crate = Path(crate)
     # An edit for `rt must-fail` names no function.
@@ -526,8 +524,8 @@ def main():
         # The text of a later change may be there only after an earlier one.
         unchanged = [tuple((file, old, old) for file, old, _ in edit.changes if texts[file].count(old) == 1) for edit in applicable]
         applicable = [edit._replace(changes=changes) for edit, changes in zip(applicable, unchanged)]
-    all_wanted = wanted in ("proved", "judged") or differ(crate, applicable, texts, call)
-    all_wanted &= wanted == "different" or try_all(crate, applicable, texts, [call[0], "check", *call[1:]], wanted)
+    all_wanted = mode not in (None, "--differs") or differ(crate, applicable, texts, call)
+    all_wanted &= mode == "--differs" or try_all(crate, applicable, texts, [call[0], "check", *call[1:]], wanted)
     return 0 if all_wanted and len(applicable) == len(edits) else 1
 
 

@@ -2,13 +2,14 @@
 # Tries wrong bodies of functions, which are in tests/prover/wrong_bodies: the prover has to refuse the function that each edit names.
 # The wrong bodies of a crate are tried together, in a copy of the crate over the other crates as they are built, so this takes much
 # less time than `rt must-fail`, which checks a crate once for each edit. The checks are in tests/prover/wrong_bodies.py, and so is what
-# makes an edit count. As many crates are tried at a time as there are processors. The arguments name the crates; without any, all are
-# tried. The script needs python3, and installs Debian's if it is missing and the script runs as root.
+# makes an edit count. As many crates are tried at a time as there are processors. The arguments name the crates. Without any, all are
+# tried, but not their lines `differs:`, which tests/calls/differs.sh tries. The script needs python3, and installs Debian's if it is
+# missing and the script runs as root.
 #
 # Before the crates there may be one of these:
 # --unchanged: the edits change nothing, and each function has to be proved: a copy that is refused without its edit would show nothing
-# --judge: what is found of each edit is printed, also of one that does not count
-# --differs: only the lines `differs:` are tried, and nothing is proved
+# --judge: what is found of each edit is printed, even of one that does not count
+# --differs: only the lines `differs:` are tried. Nothing is proved, so this needs no libraries
 set -u
 
 root=$(cd "$(dirname "$0")/../.." && pwd)
@@ -42,6 +43,7 @@ check | try)
 esac
 
 mode=
+[ $# != 0 ] || mode=--refused
 wanted=refused
 case ${1-} in
 --unchanged) wanted=proved ;;

@@ -17,7 +17,8 @@ time=1700000000
 export SOURCE_DATE_EPOCH=$time
 boards=$(seq 60)
 
-# No payload after the blob is at a multiple of 8 by chance: the length of the kernel is 4 more than one, rounded up to 4.
+# The length of the kernel is 4 more than a multiple of 8. So of the payloads that mkimage -E places at multiples of 4, one is not at a
+# multiple of 8, and normalise --external has no lost alignment to note.
 noise 1 70004 > kernel
 for board in $boards; do
     echo "/dts-v1/; / { model = \"board $board\"; compatible = \"maker,board-$board\"; };" | dtc -q -O dtb -o "$board.dtb"

@@ -93,9 +93,9 @@ builds_kernel() {
 
 check "names, and the whole input as the one part" builds_kernel \
     --os linux --arch arm --type kernel --load 0x8000 --entry 0x8040 --time 1000000000
-check "decimal numbers in place of names" builds_kernel \
+check "decimal numbers instead of names" builds_kernel \
     --os 5 --arch 2 --type 2 --compression 0 --load 32768 --entry 32832 --time 1000000000 70001
-check "hexadecimal numbers in place of names" builds_kernel \
+check "hexadecimal numbers instead of names" builds_kernel \
     --os 0x05 --arch 0x2 --type 0x2 --compression 0x0 --load 0x8000 --entry 0x8040 --time 0x3B9aca00 0x11171
 
 # Flattened image trees.

@@ -35,11 +35,8 @@ header=$root/include/bootimg.h
 
 # The header.
 printf '#include <bootimg.h>\n#include <bootimg.h>\nint main(void) { return 0; }\n' > header.c
-# The names of the version before.
-printf '#include <bootimg.h>\nbootimg_answer answer;\nint main(void) { return bootimg_version(0, 0, &answer) == BOOTIMG_DONE; }\n' > old.c
 for compiler in "gcc -std=c99" "clang -std=c99" "g++ -x c++ -std=c++98 -Wno-long-long" "clang++ -x c++"; do
     check "the header compiles: $compiler" $compiler -Wall -Wextra -pedantic -Werror -I"$root/include" -fsyntax-only header.c
-    check "so do the old names: $compiler" $compiler -Wall -Wextra -pedantic -Werror -I"$root/include" -fsyntax-only old.c
 done
 # The header against the sources: names, parameters and their types, the layout of the struct, and the numbers of the statuses.
 check "the functions of the header are those of the sources" \

@@ -163,7 +163,7 @@ check "another image of a configuration is found" is_found 'converted: show' \
 check "a signature that is left out is found" is_found 'signed: show' '/^signature/,/^$/d' 'the signatures on the page'
 check "that a signature is verified is found" is_found 'signed: show' 's/not verified/verified/' 'the signatures on the page'
 check "a concern that is left out is found" is_found 'verdicts: show' '/^unhashed/d' 'the concerns on the page'
-check "no concerns in place of some are found" is_found 'hash-short: show' '/^concerns/,$d' 'is wanted, not'
+check "no concerns instead of some are found" is_found 'hash-short: show' '/^concerns/,$d' 'is wanted, not'
 check "a region that is left out is found" is_found 'converted: show --layout' '/^strings/d' 'the end of the regions'
 check "free space too much is found" is_found 'two: show --layout' \
     '/^free space/s/[0-9]+$/1&/' 'the end of the regions\|no region has\|where the free'

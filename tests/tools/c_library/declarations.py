@@ -117,7 +117,7 @@ print("\n".join(lines))
 for name in sorted({*declared, *exported}):
     if declared.get(name) != exported.get(name):
         sys.exit(f"{name}: the header has {declared.get(name)}, and the source {exported.get(name)}")
-constants = {*re.findall(r"^(?:#define|   ) (BOOTIMG_\w+) (?:= )?\w+,?$", header, re.M)} - {"BOOTIMG_DONE"}
+constants = {*re.findall(r"^(?:#define|   ) (BOOTIMG_\w+) (?:= )?\w+,?$", header, re.M)}
 if constants != {*numbers}:
     sys.exit(f"the header and the source differ in {constants ^ {*numbers}}")
 version = re.search(r'VERSION: &str = "(.*)"', sources["causes.rt"])[1]
