@@ -55,7 +55,8 @@ fn after_byte(register: u32, byte: u8) -> u32
     (register >> 8) ^ entry(0, lowest ^ byte)
 }
 
-/// Returns the entry of one of the sixteen tables at the given index.
+/// Returns the entry of one of the sixteen tables at the given index. Requires: `table` is less
+/// than 16.
 fn entry(table: usize, index: u8) -> u32
     requires { table < 16 }
     ensures { result ≡ table_entry table index }

@@ -47,10 +47,10 @@ pub fn text_encodes_its_tree()
 {}
 
 /// A text of a tree, and a text of any events, is as long as its header, memory reservation block,
-/// structure block and strings block together, padded to a multiple of its alignment. The token of a node's
-/// start has five bytes and the name, that of a property twelve bytes and the value, each padded to
-/// a multiple of four, and that of a node's end four bytes (profile of this project; Devicetree
-/// Specification, 5.4.1).
+/// structure block and strings block together, padded to a multiple of its alignment. The token of
+/// a node's start has five bytes and the name, that of a property twelve bytes and the value, each
+/// padded to a multiple of four, and that of a node's end four bytes (profile of this project;
+/// Devicetree Specification, 5.4.1).
 pub fn each_text_has_its_length()
     ensures trees { EachTextHasItsLength }
     ensures events { TextOfEventsHasItsLength }

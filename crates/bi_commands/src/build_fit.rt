@@ -16,8 +16,8 @@ use std::alloc::{AllocError, Global};
 use std::io::{Read, Write};
 
 /// Building a flattened image tree, as a command: `build_fit_as_into` with these images and this
-/// plan. The payloads are given, or are consecutive pieces of the input. Requires: there are as many
-/// payloads as images.
+/// plan. The payloads are given, or are consecutive pieces of the input. Requires: there are as
+/// many payloads as images.
 #[derive(Clone, Copy, Debug, PartialEq, Eq)]
 pub struct FitBuilder<'a> {
     /// The description and the time.

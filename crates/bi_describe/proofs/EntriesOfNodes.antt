@@ -40,7 +40,7 @@ pub appended_first : (start first later target after : List EntryModel) → star
 appended_first start first later target after left is =
     ap (λ l. l ++ later) is ∙ append_assoc start first later ∙ left
 
--- The same for nodes that are no image nodes.
+-- The same for nodes that are not image nodes.
 pub plain-first : (s : Sibling FileNode) →
     plain_entries (node s.name s.own s.children s.later) ≡ plain_entries (alone s) ++ plain_entries s.later
 plain-first s =

@@ -133,7 +133,7 @@ same_node : {Own : Type 0} (name : List ℕ) (own : Own) (children others later 
 same_node name own children others later more below after =
     ap (λ nodes. node name own nodes later) below ∙ ap (λ nodes. node name own others nodes) after
 
--- The described nodes have the properties of the nodes of the tree: those that are no image nodes,
+-- The described nodes have the properties of the nodes of the tree: those that are not image nodes,
 plain_properties : (nodes : Nodes PropertyMap) → properties_by_node (with_each plain_node nodes) ≡ nodes
 plain_properties none = refl
 plain_properties (node name own children later) =

@@ -53,7 +53,7 @@ pub record DescribedNode : Type 0 where
   pub properties : PropertyMap
   pub payload : NodePayload
 
--- A node that is no image node.
+-- A node that is not an image node.
 abbrev pub plain_node : PropertyMap → DescribedNode
 plain_node properties = record { properties = properties; payload = NotAnImage }
 

@@ -36,7 +36,7 @@ abbrev pub has_line : List (List ℕ) → List ℕ → Bool
 has_line lines line = list_any (bytes_eq line) lines
 
 -- The counterpart of a line of the first list: the first line of the second list that has its key
--- and is no line of the first list. There is none if the second list has the line itself.
+-- and is not a line of the first list. There is none if the second list has the line itself.
 abbrev pub counterpart : (one other : List (List ℕ)) → List ℕ → Option (List ℕ)
 counterpart one other line =
     if has_line other line then None
@@ -70,8 +70,8 @@ is_counterpart one other line = list_any (λ first. is_found (counterpart one ot
 
 -- What is written for a line of the second list: nothing if the first list has it, or if it is a
 -- counterpart, so that it was written before; or else the line with the sign `+`. Lines are
--- compared by their bytes. In a description only reservation lines can come twice, and these are no
--- counterparts, so this is the same as by place.
+-- compared by their bytes. In a description only reservation lines can come twice, and these are
+-- not counterparts, so this is the same as by place.
 abbrev pub lines_for_second : (one other : List (List ℕ)) → List ℕ → List ℕ
 lines_for_second one other line =
     if has_line one line || is_counterpart one other line then [] else signed_line 43 line

@@ -53,7 +53,7 @@ only_data_value = (codes "data", codes "q") ∷ []
 
 -- A tree with the image `a`, whose payload is `abc` and which has a hash node and a node below
 -- that, the image `b` with an empty payload, and the image `c` without one. Another node has a
--- child `images`, whose child is no image.
+-- child `images`, whose child is not an image.
 abbrev pub images_tree : ImageTree
 images_tree = record {
   cpu = 0;

@@ -33,7 +33,7 @@ takes_in_turn a b c first second one two =
       room = omega (arith, length-append first second, one.room, two.room);
     }
 
--- No room for bytes after others is no room for both together.
+-- If there is no room for bytes after others, there is none for both together.
 pub no_room_after : FailsAfter Takes HasNoRoom
 no_room_after a b c first second error one failed =
     record {
@@ -41,7 +41,7 @@ no_room_after a b c first second error one failed =
       is = failed.is ∙ ap (λ limit. Refused (too_large limit)) one.same_limit;
     }
 
--- No room for some bytes is no room for these and more.
+-- If there is no room for some bytes, there is none for these and more.
 pub no_room_before : FailsBefore HasNoRoom
 no_room_before a b first second error failed =
     record {

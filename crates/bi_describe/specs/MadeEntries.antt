@@ -16,7 +16,7 @@ use Rattle.bi_describe.specs.TreeEntries.{PropertyEntry, node_entries}
 abbrev pub property_entries : PropertyMap → List EntryModel
 property_entries properties = map PropertyEntry (entries properties)
 
--- The entries of nodes that are no image nodes.
+-- The entries of nodes that are not image nodes.
 abbrev pub plain_entries : Nodes FileNode → List EntryModel
 plain_entries nodes = node_entries (with_each plain_node (nodes_by_name nodes))
 

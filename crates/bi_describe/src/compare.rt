@@ -197,7 +197,7 @@ fn mean_the_same(
     }
 }
 
-/// Describes the image of the first file.
+/// Describes the image of the first file. Requires: the image was read.
 fn describe_one(
     alloc: Global,
     image: &BootImage<'_>,
@@ -217,7 +217,7 @@ fn describe_one(
     }
 }
 
-/// Describes the image of the second file.
+/// Describes the image of the second file. Requires: the image was read.
 fn describe_other(
     alloc: Global,
     image: &BootImage<'_>,

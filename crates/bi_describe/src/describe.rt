@@ -151,7 +151,7 @@ pub fn describe_json_to<R: Read, W: Write>(
     pipe_to(alloc, &describer, reader, writer, limits)
 }
 
-/// Returns the description of what a boot image that was read means, in a form.
+/// Returns the description of what a boot image means, in a form. Requires: the image was read.
 ///
 /// Errors: TooLarge at the limit, if the payloads or the description are longer; OutOfMemory.
 pub(crate) fn describe_image(
@@ -175,8 +175,8 @@ pub(crate) fn describe_image(
     }
 }
 
-/// Does nothing. Its contract states that the description of an image that was read is ASCII, in
-/// each form.
+/// Does nothing. Its contract states that the description of an image is ASCII, in each form.
+/// Requires: the image was read.
 fn description_is_ascii(image: &BootImage, format: Format)
     requires held { IsHeldImage image.now }
     ensures { IsAscii (description_text format (meaning_of image.now)) }
@@ -186,8 +186,8 @@ fn description_is_ascii(image: &BootImage, format: Format)
     }
 }
 
-/// Appends the description of what a boot image that was read means, in a form. Each refusal and
-/// each allocation comes before the first byte.
+/// Appends the description of what a boot image means, in a form. Each refusal and each allocation
+/// comes before the first byte. Requires: the image was read.
 fn describe_into<S: Sink>(
     alloc: Global,
     image: &BootImage,

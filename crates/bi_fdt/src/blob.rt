@@ -235,7 +235,8 @@ fn check_before_tree(file: &[u8], limits: Limits) -> Result<usize, Fault>
     )
 }
 
-/// Returns the bytes of the strings block of a file that has its header and the block.
+/// Returns the bytes of the strings block of a file. Requires: the file has the first 36 bytes of
+/// its header, and the whole block.
 fn strings_block(file: &[u8]) -> &[u8]
     requires header { 36 ≤ length file.now }
     requires strings { header.strings_end file.now ≤ length file.now }
@@ -245,7 +246,8 @@ fn strings_block(file: &[u8]) -> &[u8]
     &file[strings..strings + size_dt_strings(file) as usize]
 }
 
-/// Returns the blocks that hold the tree of a file whose header was checked.
+/// Returns the blocks that hold the tree of a file. Requires: its header was checked, and `strings`
+/// are the bytes of its strings block.
 fn tree_blocks<'a, 's>(file: &'a [u8], strings: &'s Strings<'a>) -> Blocks<'a, 's>
     requires header { Header file.now }
     requires strings { strings.now ≡ (tree_blocks_of file.now).strings }

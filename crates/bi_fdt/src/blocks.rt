@@ -29,7 +29,8 @@ pub(crate) struct Blocks<'a, 's> {
 }
 
 /// Returns the number of the token at `place`. Fails with Truncated if the structure block ends
-/// before the number does.
+/// before the number does. Requires: the blocks are within a file of fewer than 2^31 bytes, and
+/// `place` is at most three bytes after the end of the structure block.
 pub(crate) fn number_at(blocks: Blocks, place: usize) -> Result<u32, Fault>
     requires blocks { AreBlocks blocks }
     requires within { place ≤ blocks.end + 3 }
@@ -44,7 +45,9 @@ pub(crate) fn number_at(blocks: Blocks, place: usize) -> Result<u32, Fault>
     Ok(cell_at(blocks.file, place))
 }
 
-/// Returns the name of the root. Its token is at `place`.
+/// Returns the name of the root. Its token is at `place`. Requires: the blocks are within a file of
+/// fewer than 2^31 bytes, the number of the token is within the structure block, and the limit on
+/// the depth is at least 1.
 pub(crate) fn root_name<'a>(
     blocks: Blocks<'a, '_>,
     place: usize,
@@ -69,7 +72,9 @@ pub(crate) fn root_name<'a>(
     Ok(name)
 }
 
-/// Returns the name of a child, while `depth` nodes are open. Its token is at `place`.
+/// Returns the name of a child, while `depth` nodes are open. Its token is at `place`. Requires:
+/// the blocks are within a file of fewer than 2^31 bytes, and the number of the token is within the
+/// structure block.
 pub(crate) fn child_name<'a>(
     blocks: Blocks<'a, '_>,
     place: usize,
@@ -101,6 +106,8 @@ pub(crate) fn child_name<'a>(
 }
 
 /// Returns the property whose token is at `place`. Its name has no number yet: `number` is 0.
+/// Requires: the blocks are within a file of fewer than 2^31 bytes, and the number of the token is
+/// within the structure block.
 pub(crate) fn property_at(
     blocks: Blocks,
     place: usize,
@@ -151,6 +158,8 @@ pub(crate) fn property_at(
 }
 
 /// Returns the offset in the strings block of the name of the property with the token at `place`.
+/// Requires: the blocks are within a file of fewer than 2^31 bytes, and the number of the token and
+/// the two cells after it are within the structure block.
 pub(crate) fn name_offset(blocks: Blocks, place: usize) -> usize
     requires blocks { AreBlocks blocks }
     requires within { place + 12 ≤ blocks.end }

@@ -55,7 +55,8 @@ pub(crate) struct Growing<'a> {
 }
 
 impl<'a> Growing<'a> {
-    /// Returns a tree whose root has started at `place`.
+    /// Returns a tree whose root has started at `place`. Requires: the name has fewer than 2^32
+    /// bytes.
     pub(crate) fn new(
         alloc: Global,
         strings: &Strings<'a>,
@@ -138,7 +139,9 @@ impl<'a> Growing<'a> {
 
     /// Adds a property to the innermost open node, which has no child yet. Its name is at offset
     /// `at` of the strings block. Fails with DuplicateProperty if a property already has the name.
-    /// After an error, the tree is not usable.
+    /// After an error, the tree is not usable. Requires: the name in the property is that at offset
+    /// `at`, which a zero byte ends, and the tree has no more entries than there are bytes before
+    /// the property.
     pub(crate) fn add_property(
         &mut self,
         property: PropertyEntry,
@@ -166,7 +169,8 @@ impl<'a> Growing<'a> {
         Ok(())
     }
 
-    /// Ends the innermost open node. Returns whether it was the root.
+    /// Ends the innermost open node. Returns whether it was the root. Requires: the tree has fewer
+    /// than 2^31 entries.
     pub(crate) fn end_node(&mut self) -> bool
         requires grown { IsGrown self.old }
         requires few { length self.old.entries.items < 2 ^ 31 }

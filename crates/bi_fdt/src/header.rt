@@ -60,7 +60,7 @@ pub(crate) fn check_header(file: &[u8], limits: Limits) -> Result<(), Fault>
     check_places(file, limits)
 }
 
-/// Checks the offsets of the three blocks, in order.
+/// Checks the offsets of the three blocks, in order. Requires: the file has its whole header.
 fn check_places(file: &[u8], limits: Limits) -> Result<(), Fault>
     requires whole { length_of_header file.now ≤ length file.now }
     ensures ok { OnOk result (HasNoFault (HeaderPasses limits file.now) place_checks) }
@@ -103,6 +103,7 @@ fn header_length(file: &[u8]) -> usize
 }
 
 /// Returns the offset of the end of the structure block: in version 16 the end of the blob.
+/// Requires: the file has its whole header.
 pub(crate) fn structure_end(file: &[u8]) -> usize
     requires { length_of_header file.now ≤ length file.now }
     ensures { result ≡ end_of_structure file.now }

@@ -37,7 +37,8 @@ impl<'a> Model for KeptNames<'a> {
 }
 
 impl<'a> KeptNames<'a> {
-    /// Returns the names of a table.
+    /// Returns the names of a table. Requires: the heads and the tails of the table are those of
+    /// its names, which are distinct.
     pub(crate) fn new(table: NameTable<'a>) -> KeptNames<'a>
         requires { IsNameTable table }
         ensures { result ≡ names_in_table table.entry }

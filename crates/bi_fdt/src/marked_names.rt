@@ -52,7 +52,8 @@ impl<'a> MarkedNames<'a> {
 
     /// Adds the name at offset `at` to those of the properties of the node with this mark, and
     /// returns its number. Returns None if the node already has the name. Reads at most 127 bytes
-    /// of the name, however long it is. Fails if memory runs out.
+    /// of the name, however long it is. Fails if memory runs out. Requires: `name` is the name at
+    /// offset `at`, which a zero byte ends.
     pub(crate) fn insert(
         &mut self,
         at: usize,

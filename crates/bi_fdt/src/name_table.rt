@@ -41,8 +41,9 @@ impl<'a> NameTable<'a> {
     }
 
     /// Returns, for each name at the first multiples of 64, the number of all of its blocks
-    /// together. The names end at these offsets. The last name comes first. Fails if memory runs
-    /// out.
+    /// together. The last name comes first. Fails if memory runs out. Requires: the names end at
+    /// these offsets, there is one offset for each name, and the heads and the tails of the table
+    /// are those of its names.
     pub(crate) fn block_numbers(
         &mut self,
         alloc: Global,
@@ -60,8 +61,9 @@ impl<'a> NameTable<'a> {
         block_numbers(alloc, &mut self.tails, strings, ends)
     }
 
-    /// Adds a name if it is not there yet, and returns its number. The tail of the name has the
-    /// number `tail`. Fails if memory runs out. The names are then unchanged.
+    /// Adds a name if it is not there yet, and returns its number. Fails if memory runs out. The
+    /// names are then unchanged. Requires: the tail of the name has the number `tail`, and the
+    /// heads and the tails of the table are those of its names.
     pub(crate) fn add(&mut self, name: &'a [u8], tail: usize) -> Result<usize, AllocError>
         requires table { IsNameTable self.old }
         requires tail { IsTail self.old.tails tail name.now }

@@ -18,7 +18,9 @@ use std::alloc::{AllocError, Global};
 const NO_BLOCKS: usize = 0;
 
 /// Returns the number of all blocks together of the name at offset `at`, which ends at `end`, from
-/// the number for the name 64 bytes later. Fails if memory runs out.
+/// the number for the name 64 bytes later. Fails if memory runs out. Requires: the offset is within
+/// the strings, the name ends at `end`, and `later` is that number, if there is a name 64 bytes
+/// later.
 fn blocks_before<'a>(
     tails: &mut NameParts<'a>,
     strings: &'a [u8],
@@ -44,7 +46,8 @@ fn blocks_before<'a>(
 }
 
 /// Returns, for each name at the first multiples of 64, the number of all of its blocks together.
-/// The names end at these offsets. The last name comes first. Fails if memory runs out.
+/// The last name comes first. Fails if memory runs out. Requires: the names end at these offsets,
+/// and there is one offset for each name.
 pub(crate) fn block_numbers<'a>(
     alloc: Global,
     tails: &mut NameParts<'a>,
@@ -68,7 +71,8 @@ pub(crate) fn block_numbers<'a>(
 }
 
 /// Returns the number of the tail of the name at offset `at`, which ends at `end`. `numbers` are
-/// those of the blocks of the names at the multiples of 64.
+/// those of the blocks of the names at the multiples of 64. Requires: the name does not end before
+/// it begins, and there are more than `end / 64` numbers.
 pub(crate) fn tail_at(numbers: &[usize], at: usize, end: usize) -> usize
     requires order { at ≤ end }
     requires within { end / 64 < length numbers.now }

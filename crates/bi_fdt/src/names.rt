@@ -5,7 +5,8 @@ ghost use Rattle.bi_blob.specs.Tokens.{name_from};
 ghost use Rattle.bi_blob.specs.Tree.{HasNoZero};
 ghost use Rattle.bi_blob.specs.BlobFaults.{HasName};
 
-/// Returns the name at offset `at`. Returns None if no zero byte ends it before `end`.
+/// Returns the name at offset `at`. Returns None if no zero byte ends it before `end`. Requires:
+/// `end` is at most the number of the bytes.
 pub(crate) fn name_at<'a>(bytes: &'a [u8], at: usize, end: usize) -> Option<&'a [u8]>
     requires { end ≤ length bytes.now }
     ensures some { IsSome result ↔ HasName bytes.entry.now at end }

@@ -44,7 +44,8 @@ impl<'a, 'b> NodeRef<'a, 'b> {
         NodeRef { blob, index: 0 }
     }
 
-    /// Returns the node at an index of the table of a blob.
+    /// Returns the node at an index of the table of a blob. Requires: the index is that of a node
+    /// in the table.
     pub(crate) fn at(blob: &'b Blob<'a>, index: usize) -> NodeRef<'a, 'b>
         requires { HasNodeAt blob.now.table index }
         ensures node { node_of result ≡ node_in blob.entry.now.table index }

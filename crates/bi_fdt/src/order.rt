@@ -62,7 +62,8 @@ fn pair_keys(alloc: Global, keys: &[usize]) -> Result<Vec<(usize, usize)>, Alloc
     Ok(pairs)
 }
 
-/// Sorts the pairs of the properties of each node of a blob. Each entry of its table has a pair.
+/// Sorts the pairs of the properties of each node of a blob. Requires: each entry of its table has
+/// a pair.
 fn sort_properties(blob: &Blob<'_>, pairs: &mut [(usize, usize)])
     requires { length pairs.old ≡ length blob.now.table }
     ensures count { length pairs.new ≡ length pairs.old }

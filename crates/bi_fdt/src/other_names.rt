@@ -8,7 +8,8 @@ use crate::name_parts::NameParts;
 use std::alloc::{AllocError, Global};
 
 /// Returns the numbers among other parts of these parts, which are blocks, each with the blocks
-/// after it. The number of no blocks comes first. Fails if memory runs out.
+/// after it. The number of no blocks comes first. Fails if memory runs out. Requires: the blocks
+/// after each part have the number of a part before it, and no other part is given twice.
 pub(crate) fn tails_among<'a>(
     alloc: Global,
     parts: &[(usize, &'a [u8])],

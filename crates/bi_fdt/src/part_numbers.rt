@@ -41,7 +41,7 @@ impl<'a> PartNumbers<'a> {
     }
 
     /// Returns the number of the part with the given bytes and a tail with the number `tail`.
-    /// Returns None if it does not have one.
+    /// Returns None if it does not have one. Requires: there is at least one map.
     pub(crate) fn get(&self, tail: usize, bytes: &'a [u8]) -> Option<usize>
         requires { 0 < bucket_count self.now }
         ensures { result ≡ number_in self.now (tail, bytes.entry) }
@@ -52,7 +52,7 @@ impl<'a> PartNumbers<'a> {
     }
 
     /// Gives a number to the part with the given bytes and a tail with the number `tail`. If memory
-    /// runs out, the numbers are unchanged.
+    /// runs out, the numbers are unchanged. Requires: there is at least one map.
     pub(crate) fn insert(
         &mut self,
         tail: usize,
@@ -75,7 +75,7 @@ impl<'a> PartNumbers<'a> {
 }
 
 /// Returns the index, below `count`, of the map of the part with the given bytes and a tail with
-/// the number `tail`.
+/// the number `tail`. Requires: `count` is not 0.
 fn bucket_at(tail: usize, bytes: &[u8], count: usize) -> usize
     requires { 0 < count }
     ensures bucket { result ≡ bucket_of count (tail, bytes.entry.now) }

@@ -21,8 +21,8 @@ pub struct NameRanks<'a> {
     pub ranks: Vec<usize>,
 }
 
-/// Returns these distinct names in byte order, each with its number, which is its index. Fails if
-/// memory runs out.
+/// Returns these names in byte order, each with its number, which is its index. Fails if memory
+/// runs out. Requires: the names are distinct.
 fn order_names<'a>(
     alloc: Global,
     names: &[&'a [u8]],
@@ -50,7 +50,8 @@ fn names_of_order<'a>(
     order.iter().map(|numbered| numbered.1).collect(alloc)
 }
 
-/// Returns the index of each name in this order, by its number. Fails if memory runs out.
+/// Returns the index of each name in this order, by its number. Fails if memory runs out. Requires:
+/// the order is that of these names.
 fn ranks_of_order(
     alloc: Global,
     names: &[&[u8]],

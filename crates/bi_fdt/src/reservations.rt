@@ -9,7 +9,8 @@ use bi_base::{Cause, Fault, refuse, two_cells_at};
 pub(crate) const PAIR_SIZE: usize = 16;
 
 /// Returns the number of the reservations in the block at offset `at`. Fails with Truncated at the
-/// first pair, up to and including the end pair, that ends after `total`.
+/// first pair, up to and including the end pair, that ends after `total`. Requires: the block
+/// begins no later than `total`, which is at most the length of the file and less than 2^32.
 pub(crate) fn count_reservations(file: &[u8], at: usize, total: usize) -> Result<usize, Fault>
     requires begins { at ≤ total }
     requires within { total ≤ length file.now }

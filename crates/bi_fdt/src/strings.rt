@@ -108,7 +108,7 @@ pub(crate) fn ends_of_names(alloc: Global, bytes: &[u8]) -> Result<Vec<usize>, A
 }
 
 /// Returns the offset of the first zero byte from offset `at` on, or the length of the bytes if
-/// there is none.
+/// there is none. Requires: the offset is within the bytes, or at their end.
 fn end_of_name(bytes: &[u8], at: usize) -> usize
     requires { at ≤ length bytes.now }
     ensures { result ≡ at + length (name_from bytes.now at) }

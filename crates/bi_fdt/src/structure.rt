@@ -20,7 +20,9 @@ use bi_blob::format::{BEGIN_NODE, END, NOP};
 use std::alloc::Global;
 
 /// Returns the table of the tree that the structure block holds, and the names of its properties.
-/// The fault is that of the first check that fails.
+/// The fault is that of the first check that fails. Requires: the blocks are within a file of fewer
+/// than 2^31 bytes, the structure block does not end before it begins, and the limit on the depth
+/// is from 1 to 64.
 pub(crate) fn read_tree<'a>(
     alloc: Global,
     blocks: Blocks<'a, '_>,
@@ -42,7 +44,8 @@ pub(crate) fn read_tree<'a>(
     Ok(reading.growing.into_table())
 }
 
-/// Returns the offset of the token of the root.
+/// Returns the offset of the token of the root. Requires: the blocks are within a file of fewer
+/// than 2^31 bytes, and the structure block does not end before it begins.
 fn skip_to_root(blocks: Blocks) -> Result<usize, Fault>
     requires blocks { AreBlocks blocks }
     requires ordered { blocks.begin ≤ blocks.end }
@@ -66,7 +69,9 @@ fn skip_to_root(blocks: Blocks) -> Result<usize, Fault>
     }
 }
 
-/// Reads the token of the root, which is at `place`.
+/// Reads the token of the root, which is at `place`. Requires: the blocks are within a file of
+/// fewer than 2^31 bytes, the limit on the depth is at least 1, the token is FDT_BEGIN_NODE, and
+/// the tokens before it pass their checks and begin no node.
 fn begin_root<'a>(
     alloc: Global,
     blocks: Blocks<'a, '_>,
@@ -89,7 +94,8 @@ fn begin_root<'a>(
     })
 }
 
-/// Reads the tokens inside the root.
+/// Reads the tokens inside the root. Requires: the blocks are within a file of fewer than 2^31
+/// bytes, the limit on the depth is at most 64, and `reading` is that of a reader inside the root.
 fn read_root<'a>(
     alloc: Global,
     blocks: Blocks<'a, '_>,
@@ -111,7 +117,8 @@ fn read_root<'a>(
     }
 }
 
-/// Checks the tokens after the root, from `place` on.
+/// Checks the tokens after the root, from `place` on. Requires: the blocks are within a file of
+/// fewer than 2^31 bytes, and `place` is at most three bytes after the end of the structure block.
 fn check_after_root(blocks: Blocks, place: usize) -> Result<(), Fault>
     requires blocks { AreBlocks blocks }
     requires within { place ≤ blocks.end + 3 }

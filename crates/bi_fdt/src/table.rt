@@ -112,7 +112,8 @@ pub(crate) fn name_numbers(alloc: Global, entries: &[Entry]) -> Result<Vec<usize
         .collect(alloc)
 }
 
-/// Returns the `length` bytes of a file from offset `at`, or as many of them as it has.
+/// Returns the `length` bytes of a file from offset `at`, or as many of them as it has. Requires:
+/// `at` and `length` together are less than 2^64.
 fn slice_at(file: &[u8], at: usize, length: usize) -> &[u8]
     requires { at + length < 2 ^ 64 }
     ensures { result.now ≡ slice file.entry.now at length }
@@ -122,7 +123,8 @@ fn slice_at(file: &[u8], at: usize, length: usize) -> &[u8]
     &file[begin..end]
 }
 
-/// Sets the number of the properties of the node whose entry is at `index`.
+/// Sets the number of the properties of the node whose entry is at `index`. Requires: there is an
+/// entry at `index`.
 pub(crate) fn set_property_count(entries: &mut [Entry], index: usize, property_count: u32)
     requires { index < length entries.old }
     ensures { (node_entry : NodeEntry) → slice_get entries.old index ≡ Some (entry.Node node_entry)
@@ -138,6 +140,7 @@ pub(crate) fn set_property_count(entries: &mut [Entry], index: usize, property_c
 }
 
 /// Sets the index of the entry after the last descendant of the node whose entry is at `index`.
+/// Requires: there is an entry at `index`.
 pub(crate) fn set_after(entries: &mut [Entry], index: usize, after: u32)
     requires { index < length entries.old }
     ensures { (node_entry : NodeEntry) → slice_get entries.old index ≡ Some (entry.Node node_entry)

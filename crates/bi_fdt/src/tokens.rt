@@ -21,7 +21,9 @@ pub(crate) struct Reading<'a> {
 }
 
 /// Reads the token at `reading.place`, inside the root. Returns whether the root has ended. Fails
-/// with the fault of the first of its checks that fails, or if memory runs out.
+/// with the fault of the first of its checks that fails, or if memory runs out. Requires: the
+/// blocks are within a file of fewer than 2^31 bytes, the limit on the depth is at most 64, and
+/// `reading` is that of a reader inside the root.
 pub(crate) fn step<'a>(
     alloc: Global,
     blocks: Blocks<'a, '_>,
@@ -57,7 +59,9 @@ pub(crate) fn step<'a>(
     Ok(has_ended)
 }
 
-/// Reads the token FDT_BEGIN_NODE at `reading.place`, with the same errors.
+/// Reads the token FDT_BEGIN_NODE at `reading.place`, with the same errors. Requires: the blocks
+/// are within a file of fewer than 2^31 bytes, the limit on the depth is at most 64, `reading` is
+/// that of a reader inside the root, and the token is FDT_BEGIN_NODE.
 fn begin_node<'a>(
     alloc: Global,
     blocks: Blocks<'a, '_>,
@@ -82,7 +86,9 @@ fn begin_node<'a>(
     Ok(())
 }
 
-/// Reads the token FDT_PROP at `reading.place`, with the same errors.
+/// Reads the token FDT_PROP at `reading.place`, with the same errors. Requires: the blocks are
+/// within a file of fewer than 2^31 bytes, `reading` is that of a reader inside the root, and the
+/// token is FDT_PROP.
 fn add_property<'a>(
     blocks: Blocks<'a, '_>,
     depth_limit: usize,

@@ -56,6 +56,7 @@ impl<'a> UsedNames<'a> {
 
     /// Returns the number of the name at offset `at`. A name that was not used before gets the next
     /// number. Reads at most 127 bytes of the name, however long it is. Fails if memory runs out.
+    /// Requires: `name` is the name at offset `at`, which a zero byte ends.
     pub(crate) fn number_at(&mut self, at: usize, name: &'a [u8]) -> Result<usize, AllocError>
         requires there { HasName self.old.strings at (length self.old.strings) }
         requires name { name.now ≡ name_from self.old.strings at }

@@ -11,7 +11,8 @@ use Rattle.bi_fit.specs.declared.image.Place.{Place}
 use Rattle.bi_fit.specs.declared.image.Place.TheVariants.{Absent, Data, DataOffset, DataPosition}
 use Rattle.bi_fit.specs.Content.{ImageModel, image_model, FitModel, IsHeld, IsReadImage, tree_of}
 use Rattle.bi_fit.specs.NormalNodes.{payloads_of}
-use Rattle.bi_fit.specs.Kept.{PlacedPayload, payload_if_placed, placed_payloads, AreAlignedInFile, AreAlignedInText, IsAlignmentOf, LosesAlignment}
+use Rattle.bi_fit.specs.Kept.{PlacedPayload, payload_if_placed, placed_payloads, AreAlignedInFile, AreAlignedInText}
+use Rattle.bi_fit.specs.Kept.{IsAlignmentOf, LosesAlignment}
 use Rattle.bi_fit.specs.Kept.{places_of_nodes, external_places, IsKeptOf, IsKeptOfFile}
 use Rattle.bi_fit.specs.KeptImages.{offset_if_placed, is_at_position, placed_images, placed_offset, AreAlignedImages, IsAlignmentOfImages}
 use Rattle.bi_fit.specs.KeptImages.{has_position}

@@ -181,8 +181,8 @@ three_aligned align offset =
     text_of_tree align 0 [] (tree_with_images (three_external_nodes offset))
     ++ (codes "hello" ++ (replicate (offset - 5) 0 ++ codes "x"))
 
--- This is the text of the three images in the form Aligned with this alignment. The blob has `total` bytes, and the text has
--- `size` bytes.
+-- This is the text of the three images in the form Aligned with this alignment. The blob has
+-- `total` bytes, and the text has `size` bytes.
 pub record AreAlignedTo (align offset total size : ℕ) : Type 0 where
   pub is_text : (chosen : Align) → align_bytes chosen ≡ align
       → fit_text (Aligned chosen) three_tree ≡ three_aligned align offset

@@ -53,7 +53,8 @@ impl<'a> Fit<'a> {
 }
 
 /// Returns whether both blobs have the same boot processor, the same memory reservations and the
-/// same nodes, without the properties that give the payloads of images.
+/// same nodes, without the properties that give the payloads of images. Requires: in each blob, no
+/// node has two properties with the same name.
 fn are_same_blobs<'a>(alloc: Global, own: &Blob<'a>, other: &Blob<'a>) -> Result<bool, AllocError>
     requires distinct { EachOwn HasDistinctNames (alone (root_node (root_of own.now))) }
     requires other_distinct { EachOwn HasDistinctNames (alone (root_node (root_of other.now))) }
@@ -67,7 +68,7 @@ fn are_same_blobs<'a>(alloc: Global, own: &Blob<'a>, other: &Blob<'a>) -> Result
 }
 
 /// Returns whether the trees of both blobs have the same nodes, without the properties that give
-/// the payloads of images.
+/// the payloads of images. Requires: in each blob, no node has two properties with the same name.
 fn have_same_trees<'a>(alloc: Global, own: &Blob<'a>, other: &Blob<'a>) -> Result<bool, AllocError>
     requires distinct { EachOwn HasDistinctNames (alone (root_node (root_of own.now))) }
     requires other_distinct { EachOwn HasDistinctNames (alone (root_node (root_of other.now))) }

@@ -120,7 +120,8 @@ impl<'a> Fit<'a> {
     }
 
     /// Builds the document of the normal text of the updated tree. The text may be longer than the
-    /// limit.
+    /// limit. Requires: `digests` are those that `new_digests` returns for these changes. Unless
+    /// the form is Embedded, the payloads end within the longest text.
     ///
     /// Errors: TooLarge at `limits.file()`, only if the text is longer than that; OutOfMemory.
     fn build_updated_doc<'b>(
@@ -178,7 +179,8 @@ fn check_length(document: &Doc<'_>, align: Align, after: u32, limit: u32) -> Res
     }
 }
 
-/// Adds the memory reservations of a blob.
+/// Adds the memory reservations of a blob. Requires: each reservation is one that the block can
+/// hold: not both of its numbers are zero.
 fn add_reservations(doc: &mut Doc<'_>, blob: &Blob<'_>) -> Result<(), AllocError>
     requires { AllByRecursion IsReservation blob.now.reservations }
     ensures added { OnOk result (doc.new ≡ with_reservations doc.old blob.now.reservations) }

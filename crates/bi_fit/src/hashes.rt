@@ -54,7 +54,8 @@ impl<'a> Fit<'a> {
     }
 }
 
-/// Adds the hash nodes of an image with the given payload, with their verdicts.
+/// Adds the hash nodes of an image with the given payload, with their verdicts. Requires: the
+/// payload, if there is one, is within the file of the digests.
 fn check_image<'a>(
     checked: &mut Vec<Checked<'a>>,
     image: NodeRef<'a, '_>,
@@ -77,7 +78,8 @@ fn check_image<'a>(
     Ok(())
 }
 
-/// Judges a hash node of an image with the given name and payload.
+/// Judges a hash node of an image with the given name and payload. Requires: the payload, if there
+/// is one, is within the file of the digests.
 fn check_hash<'a>(
     image: &'a [u8],
     node: NodeRef<'a, '_>,

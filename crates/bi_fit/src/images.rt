@@ -32,7 +32,9 @@ struct PayloadFile<'a> {
     ghost small: { external_base < 2 ^ 33 },
 }
 
-/// Reads the images that are the children of a node.
+/// Reads the images that are the children of a node. Requires: the file has at most 0x7fffffff
+/// bytes, `total_size` is the length in its header, and the value of each property `data` of an
+/// image begins in the file.
 pub(crate) fn read_images<'a>(
     alloc: Global,
     file: &'a [u8],
@@ -64,7 +66,8 @@ pub(crate) fn read_images<'a>(
     Ok(images)
 }
 
-/// Reads an image node.
+/// Reads an image node. Requires: the value of its property `data`, if it has one, begins in the
+/// file.
 fn read_image<'a>(file: PayloadFile<'a>, node: NodeRef<'a, '_>) -> Result<Image<'a>, Fault>
     requires { HasDataInFile file.bytes.now (node_of node).own }
     ensures image { IfOk result (λ image. IsReadImage
@@ -81,7 +84,8 @@ fn read_image<'a>(file: PayloadFile<'a>, node: NodeRef<'a, '_>) -> Result<Image<
 }
 
 /// Reads the payload of an image node, from the first of `data-position`, `data-offset` and `data`
-/// that the node has.
+/// that the node has. Requires: the value of its property `data`, if it has one, begins in the
+/// file.
 fn read_payload<'a>(
     file: PayloadFile<'a>,
     node: NodeRef<'a, '_>,
@@ -110,7 +114,8 @@ fn read_payload<'a>(
 }
 
 /// Reads a region of a file. One property has its offset, counted from `base`, the other its size.
-/// Also returns its offset in the file.
+/// Also returns its offset in the file. Requires: the file has at most 0x7fffffff bytes, and `base`
+/// is less than 2^33.
 fn read_region<'a>(
     file: &'a [u8],
     base: usize,

@@ -20,9 +20,9 @@ use crate::payload_area::{PayloadArea, length_after_blob};
 /// The greatest alignment that is looked for, in bytes.
 const MOST: u32 = 0x10_0000;
 
-/// The notes for a user after a file was replaced by the text of its image tree: the signature nodes
-/// that the text still has, and what it does not keep of the places of the payloads. No part of this
-/// is in the meaning of the file.
+/// The notes for a user after a file was replaced by the text of its image tree: the signature
+/// nodes that the text still has, and what it does not keep of the places of the payloads. No part
+/// of this is in the meaning of the file.
 #[derive(Clone, Copy, Debug, Default, PartialEq, Eq)]
 pub struct Kept {
     /// How many signature nodes the text has. No signature is checked.
@@ -40,8 +40,8 @@ pub struct Kept {
 impl<'a> Fit<'a> {
     /// Returns what the text of an image tree in this form, with this length in bytes, keeps of the
     /// file. Takes time linear in the number of images and of the children of image nodes and of
-    /// configuration nodes, and allocates nothing. Requires: the image tree has the payloads and the
-    /// signature nodes of the file, and `size` is the length of its text, at most 0x7fffffff.
+    /// configuration nodes, and allocates nothing. Requires: the image tree has the payloads and
+    /// the signature nodes of the file, and `size` is the length of its text, at most 0x7fffffff.
     pub fn kept(&self, form: Form, size: u32) -> Kept
         requires after { length_after_blob_of form (tree_of self.now).payloads ≤ size }
         requires small { size ≤ longest_text }
@@ -100,7 +100,8 @@ fn alignment_of(images: &[Image<'_>]) -> u32
     power
 }
 
-/// Returns the greatest power of two up to `most` that divides an offset. Requires: `most` is a power of two.
+/// Returns the greatest power of two up to `most` that divides an offset. Requires: `most` is a
+/// power of two.
 fn power_within(most: u32, offset: u32) -> u32
     requires { IsPower most }
     ensures { IsPowerWithin most offset result }
@@ -113,8 +114,8 @@ fn power_within(most: u32, offset: u32) -> u32
 }
 
 /// Returns whether the payloads of images begin at multiples of `alignment` in a text in the form
-/// External. The blob of the text has `base` bytes. Requires: the text is not longer than the longest
-/// text, and `alignment` is a power of two.
+/// External. The blob of the text has `base` bytes. Requires: the text is not longer than the
+/// longest text, and `alignment` is a power of two.
 fn stay_aligned(images: &[Image<'_>], base: u32, alignment: u32) -> bool
     requires within { base + payloads_end 4 0 (payloads_of images.now) ≤ longest_text }
     requires power { IsPower alignment }

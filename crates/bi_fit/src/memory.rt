@@ -6,7 +6,7 @@ ghost use Rattle.bi_base.specs.declared.fault.Error.TheVariants.{OutOfMemory};
 use bi_base::Error;
 use std::alloc::AllocError;
 
-/// Returns the result of a call whose only error is `OutOfMemory`.
+/// Returns the result of a call. Requires: its error, if there is one, is `OutOfMemory`.
 pub(crate) fn only_memory<T>(outcome: Result<T, Error>) -> Result<T, AllocError>
     requires { IfErr outcome (λ error. error ≡ OutOfMemory) }
     ensures value { IfOk result (λ value. outcome ≡ Ok value) }

@@ -76,7 +76,7 @@ impl<'a> NameOrder<'a> {
 
 /// Adds the names of the properties that a text adds, changes or leaves out to those of the
 /// properties of a blob, except those that a property of the blob has. Returns the number of each.
-/// Fails if memory runs out.
+/// Fails if memory runs out. Requires: the names are those of the properties of the blob.
 fn number_changed<'a>(
     blob: &Blob<'a>,
     names: &mut Vec<&'a [u8]>,
@@ -96,8 +96,9 @@ fn number_changed<'a>(
     })
 }
 
-/// Returns the number of a name. If no property of the blob has the name, it is added to the names,
-/// which begin with those of the blob. Fails if memory runs out.
+/// Returns the number of a name. If no property of the blob has the name, it is added to the names.
+/// Fails if memory runs out. Requires: the name has fewer than 128 bytes, and the names begin with
+/// those of the blob.
 fn number_name<'a>(
     blob: &Blob<'a>,
     names: &mut Vec<&'a [u8]>,

@@ -42,6 +42,7 @@ impl<'a> Fit<'a> {
 }
 
 /// Adds the digests for the hash nodes of an image node with the given payload, in their order.
+/// Requires: the payload, if there is one, is within the file of the digests.
 fn append_digests(
     digests: &mut Vec<u8>,
     image: NodeRef<'_, '_>,

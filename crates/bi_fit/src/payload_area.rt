@@ -109,8 +109,8 @@ pub(crate) fn put_payloads<S: Sink>(
 }
 
 /// Places one more payload in an area with this alignment, and appends it after zeros up to a
-/// multiple of the alignment. Fails as the sink does. Requires: the area has this alignment, and the
-/// payload ends within the longest text.
+/// multiple of the alignment. Fails as the sink does. Requires: the area has this alignment, and
+/// the payload ends within the longest text.
 fn put_payload<S: Sink>(
     area: &mut PayloadArea,
     align: Align,

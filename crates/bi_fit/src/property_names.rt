@@ -48,7 +48,9 @@ impl<'a> Model for PropertyNames<'a> {
 impl<'a> PropertyNames<'a> {
     ghost use Rattle.bi_fit.specs.ChangedNames.{AreRankedNames};
 
-    /// Returns these names, which are in byte order, each once. The ranks are their indices.
+    /// Returns these names. The ranks are their indices. Requires: the names are in byte order,
+    /// each once, and the ranks are those of the properties that a text adds, changes or leaves
+    /// out.
     pub(crate) fn new(names: Vec<&'a [u8]>, ranks: ChangedNumbers) -> PropertyNames<'a>
         requires { AreRankedNames (bytes_of names.items) ranks }
         ensures { result ≡ bytes_of names.entry.items }

@@ -24,7 +24,8 @@ impl<'a> Fit<'a> {
     }
 }
 
-/// Returns the number of signature nodes among the children of these nodes.
+/// Returns the number of signature nodes among the children of these nodes. Requires: these nodes
+/// have fewer than 2^31 children together.
 fn count_signatures(parents: Siblings) -> usize
     requires { length (children_of_each (siblings_left parents)) < 2 ^ 31 }
     ensures count { result ≡ length (flat_map file_signatures (siblings_left parents.entry)) }
@@ -37,7 +38,8 @@ fn count_signatures(parents: Siblings) -> usize
     count
 }
 
-/// Returns the number of signature nodes among the children of a node.
+/// Returns the number of signature nodes among the children of a node. Requires: the node has fewer
+/// than 2^31 children.
 fn count_children(parent: NodeRef) -> usize
     requires { length (siblings (node_of parent).children) < 2 ^ 31 }
     ensures { result ≡ length (file_signatures (node_of parent.entry)) }

@@ -42,6 +42,8 @@ impl<'a> Model for FitText<'a> {
 impl<'a> FitText<'a> {
     /// Lays out a document and, unless the form is Embedded, the payloads of these images after it,
     /// which take `after` bytes. Takes time linear in the number of the document's events.
+    /// Requires: the document is closed, the payloads take `after` bytes after its blob, and
+    /// `after` is at most the limit, which is at most 0x7fffffff.
     ///
     /// Error: TooLarge at the limit, if the text is longer than that.
     pub(crate) fn new(

@@ -168,6 +168,7 @@ impl Hasher for Sha512 {
 }
 
 /// Writes a digest to the first bytes of `out`, and zeros after it. Returns its length in bytes.
+/// Requires: the digest has at most 64 bytes.
 fn write_digest(digest: &[u8], out: &mut [u8; 64]) -> usize
     requires { length digest.now ≤ 64 }
     ensures length { result ≡ length digest.now }

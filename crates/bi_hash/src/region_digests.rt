@@ -153,7 +153,8 @@ impl<'a> RegionDigests<'a> {
     }
 
     /// Returns the digest of a region with this algorithm, with zeros after it. Reads the region if
-    /// the digest was not computed before. It does not then keep the digest.
+    /// the digest was not computed before. It does not then keep the digest. Requires: the region
+    /// is within the file.
     fn kept_or_computed(&self, algo: Algo, region: Region) -> [u8; 64]
         requires within { IsRegionOf self.now region }
         ensures { result ≡ padded_digest algo (bytes_of_region self.now region) }
@@ -168,6 +169,7 @@ impl<'a> RegionDigests<'a> {
     }
 
     /// Computes the digest of a region with this algorithm, with zeros after it. Reads the region.
+    /// Requires: the region is within the file.
     fn compute(&self, algo: Algo, region: Region) -> [u8; 64]
         requires within { IsRegionOf self.now region }
         ensures { result ≡ padded_digest algo (bytes_of_region self.now region) }

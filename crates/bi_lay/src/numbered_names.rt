@@ -67,7 +67,7 @@ impl<'a> NumberedNames<'a> {
         self.in_block.as_slice()
     }
 
-    /// Returns the name with this number.
+    /// Returns the name with this number. Requires: a name has this number.
     pub(crate) fn name(&self, number: usize) -> &'a [u8]
         requires { number < length self.now.by_number }
         ensures { result.now ≡ name_numbered self.now.by_number number }
@@ -89,7 +89,8 @@ impl<'a> NumberedNames<'a> {
     }
 
     /// Adds the name with this number, as `add` does. Takes a constant number of steps, except at
-    /// the first use of a number, which looks the name up by its bytes.
+    /// the first use of a number, which looks the name up by its bytes. Requires: a name has this
+    /// number.
     ///
     /// If memory runs out, the names are unchanged.
     pub(crate) fn add_numbered(&mut self, number: usize) -> Result<usize, AllocError>

@@ -18,8 +18,8 @@ struct Scan {
     is_new: bool,
 }
 
-/// Returns whether no child of the innermost open node has the given name. After these items,
-/// `depth` nodes are open.
+/// Returns whether no child of the innermost open node has the given name. Requires: after these
+/// items, `depth` nodes are open, at least one.
 pub(crate) fn is_new_child(items: &[Item<'_>], depth: usize, name: &[u8]) -> bool
     requires open { depth ≡ length (open_nodes (stage_of_events (events_of_items items.now))) }
     requires some { 0 < depth }
@@ -37,6 +37,7 @@ pub(crate) fn is_new_child(items: &[Item<'_>], depth: usize, name: &[u8]) -> boo
 }
 
 /// Returns the scan after one more item, for the children of the innermost of `depth` open nodes.
+/// Requires: the depth is less than the greatest `usize`.
 fn scan_after(scan: Scan, item: &Item<'_>, depth: usize, name: &[u8]) -> Scan
     requires { scan.depth + 1 < 2 ^ 64 }
     ensures { (stage : Stage) → IsScan name.now depth scan stage →
@@ -55,7 +56,8 @@ fn scan_after(scan: Scan, item: &Item<'_>, depth: usize, name: &[u8]) -> Scan
     }
 }
 
-/// Returns whether the name is still new after a node with the name `child` begins.
+/// Returns whether the name is still new after a node with the name `child` begins. Requires: the
+/// depth is less than the greatest `usize`.
 fn is_new_after(scan: Scan, child: &[u8], depth: usize, name: &[u8]) -> bool
     requires { scan.depth + 1 < 2 ^ 64 }
     ensures child { scan.depth ≡ depth →

@@ -35,7 +35,7 @@ pub(crate) struct BlobParts<'a> {
 }
 
 /// Appends the text of these parts, given the sizes of its blocks and its alignment. Fails as the
-/// sink does.
+/// sink does. Requires: the sizes are those of the blocks of these parts.
 pub(crate) fn put_text<S: Sink>(
     parts: BlobParts<'_>,
     sizes: BlockSizes,

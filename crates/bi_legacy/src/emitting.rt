@@ -90,8 +90,8 @@ pub fn emit_updated_image<S: Sink>(
     emit_with(fields, parts, image.normal_data_checksum(), limits, sink)
 }
 
-/// Appends the normal text of an image with these fields and parts. The CRC-32 of its normal data
-/// may be known.
+/// Appends the normal text of an image with these fields and parts. Requires: the given checksum,
+/// if there is one, is the CRC-32 of its normal data.
 fn emit_with<S: Sink>(
     fields: Fields<'_>,
     parts: &[&[u8]],
@@ -171,7 +171,8 @@ fn start_of_parts(image_type: u8, parts: &[&[u8]]) -> usize
 }
 
 /// Returns the end of the last of these parts. The first begins at `start`, and each later one at
-/// the next multiple of four. Returns None if the end is after `most`.
+/// the next multiple of four. Returns None if the end is after `most`. Requires: `most` is less
+/// than 2^32.
 fn end_within(start: usize, parts: &[&[u8]], most: usize) -> Option<usize>
     requires { most < 2 ^ 32 }
     ensures { let end = parts_end_from start (map length (bytes_of parts.now)) in
@@ -187,7 +188,8 @@ fn end_within(start: usize, parts: &[&[u8]], most: usize) -> Option<usize>
     if end > most { None } else { Some(end) }
 }
 
-/// Fails with EmptyPart at `64 + 4 * index` for the first part that is empty.
+/// Fails with EmptyPart at `64 + 4 * index` for the first part that is empty. Requires: with `n`
+/// parts, `64 + 4 * n` is less than 2^32.
 fn check_parts(parts: &[&[u8]]) -> Result<(), Fault>
     requires { 64 + 4 * length parts.now < 2 ^ 32 }
     ensures ok { OnOk result (HasNoFault EmitPartPasses (emit_part_checks 0 (bytes_of parts.now))) }

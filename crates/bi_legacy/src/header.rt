@@ -49,7 +49,8 @@ pub(crate) fn check_header(file: &[u8], limits: Limits) -> Result<(), Fault>
     Ok(())
 }
 
-/// Returns the CRC-32 of the header of a file, with zeros instead of its checksum.
+/// Returns the CRC-32 of the header of a file, with zeros instead of its checksum. Requires: the
+/// file has at least 64 bytes.
 fn header_checksum(file: &[u8]) -> u32
     requires { 64 ≤ length file.now }
     ensures { result ≡ crc32_of (header_without_checksum file.now) }

@@ -155,7 +155,8 @@ fn parse<'a>(file: &'a [u8], limits: Limits) -> Result<Legacy<'a>, Fault>
     })
 }
 
-/// Returns the data of a file whose header was checked.
+/// Returns the data of a file whose header was checked. Requires: the file has its header and its
+/// data.
 fn body_at<'a>(file: &'a [u8]) -> &'a [u8]
     requires whole { 64 ≤ length file.now }
     requires within { 64 + u32_at file.now 12 ≤ length file.now }
@@ -165,7 +166,7 @@ fn body_at<'a>(file: &'a [u8]) -> &'a [u8]
     &file[HEADER_SIZE..HEADER_SIZE + size]
 }
 
-/// Returns the fields of a file whose header was checked.
+/// Returns the fields of a file whose header was checked. Requires: the file has at least 64 bytes.
 fn fields_of<'a>(file: &'a [u8]) -> Fields<'a>
     requires { 64 ≤ length file.now }
     ensures { image_of result (read_image file.entry.now).parts ≡ read_image file.entry.now }

@@ -39,7 +39,8 @@ impl<'a> Model for PartRanges<'a> {
 
 impl<'a> PartRanges<'a> {
     /// Returns the ranges of the parts in the part table, or that of the whole data as the one
-    /// part.
+    /// part. Requires: `part_count` is the number of the parts, the part table, if there is one, is
+    /// within the data, and the data has fewer than 2^31 bytes.
     pub(crate) fn new(body: &'a [u8], has_table: bool, part_count: usize) -> PartRanges<'a>
         requires count { part_count ≡ length (part_sizes has_table body.now) }
         requires room { first_part_offset has_table body.now ≤ length body.now }
@@ -76,7 +77,8 @@ impl<'a> Iterator for PartRanges<'a> {
     }
 }
 
-/// Returns the size of the part table of this many parts, or 0 for data without one.
+/// Returns the size of the part table of this many parts, or 0 for data without one. Requires: a
+/// part table of this many parts has fewer than 2^64 bytes.
 pub(crate) fn table_size(has_table: bool, part_count: usize) -> usize
     requires { 4 * (part_count + 1) < 2 ^ 64 }
     ensures { result ≡ if has_table then 4 * (part_count + 1) else 0 }
@@ -84,7 +86,9 @@ pub(crate) fn table_size(has_table: bool, part_count: usize) -> usize
     if has_table { 4 * (part_count + 1) } else { 0 }
 }
 
-/// Returns the size of part `index`: that in the part table, or the size of the data.
+/// Returns the size of part `index`: that in the part table, or the size of the data. Requires:
+/// there is a part with this index, the part table, if there is one, is within the data, and the
+/// data has fewer than 2^31 bytes.
 fn size_at(body: &[u8], has_table: bool, index: usize) -> usize
     requires within { index < length (part_sizes has_table body.now) }
     requires room { first_part_offset has_table body.now ≤ length body.now }

@@ -25,7 +25,7 @@ pub(crate) struct PartTable {
 }
 
 /// Counts the parts in the data of an image of this type, and finds the end of the last one. The
-/// data of an image without a part table is one part.
+/// data of an image without a part table is one part. Requires: the data has fewer than 2^31 bytes.
 ///
 /// Fails with BadPartTable at 64 if the part table has no end, else with BadPart at `64 + 4 * k`
 /// for the first part k that ends after the data.
@@ -46,7 +46,8 @@ pub(crate) fn find_parts(image_type: u8, body: &[u8]) -> Result<PartTable, Fault
     }
 }
 
-/// Reads the part table at the start of some data. The errors are those of `find_parts`.
+/// Reads the part table at the start of some data. The errors are those of `find_parts`. Requires:
+/// the data has fewer than 2^31 bytes.
 fn read_part_table(body: &[u8]) -> Result<PartTable, Fault>
     requires { length body.now < 2 ^ 31 }
     ensures ok { OnOk result (HasNoFault (TablePasses body.now) (table_checks body.now)) }
@@ -79,7 +80,9 @@ fn count_sizes(body: &[u8]) -> Option<usize>
 }
 
 /// Returns the end of the last of the parts in a part table, or of the table itself if there are no
-/// parts. Fails with BadPart for the first part that ends after the data.
+/// parts. Fails with BadPart for the first part that ends after the data. Requires: `part_count` is
+/// the number of the parts, the part table is within the data, and the data has fewer than 2^31
+/// bytes.
 fn end_of_parts(body: &[u8], part_count: usize) -> Result<usize, Fault>
     requires count { part_count ≡ length (table_sizes body.now) }
     requires room { 4 * (part_count + 1) ≤ length body.now }
@@ -102,7 +105,8 @@ fn end_of_parts(body: &[u8], part_count: usize) -> Result<usize, Fault>
     Ok(end)
 }
 
-/// Returns the offset in the file of the size of part `index`, a cell of the part table.
+/// Returns the offset in the file of the size of part `index`, a cell of the part table. Requires:
+/// the offset is less than 2^32.
 pub(crate) fn table_offset(index: usize) -> u32
     requires { 64 + 4 * index < 2 ^ 32 }
     ensures { result ≡ 64 + 4 * index }

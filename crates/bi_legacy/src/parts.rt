@@ -39,6 +39,8 @@ impl<'a> Model for Parts<'a> {
 
 impl<'a> Parts<'a> {
     /// Returns the parts of some data: those in its part table, or the whole as the one part.
+    /// Requires: the table is that of the data, which has fewer than 2^31 bytes, and all parts end
+    /// within the data.
     pub(crate) fn new(body: &'a [u8], has_table: bool, table: PartTable) -> Parts<'a>
         requires { IsPartTable has_table body.now table }
         ensures { let body = body.entry.now in

@@ -22,8 +22,8 @@ pub(crate) struct DataSummary {
     pub(crate) checksum: u32,
 }
 
-/// Appends the normal text of an image with these fields and parts. Its normal data has this size
-/// and checksum.
+/// Appends the normal text of an image with these fields and parts. Requires: its normal data has
+/// this size and checksum, and the name has at most 32 bytes.
 pub(crate) fn put_image<S: Sink>(
     fields: Fields<'_>,
     parts: &[&[u8]],
@@ -41,7 +41,7 @@ pub(crate) fn put_image<S: Sink>(
     put_data(fields.image_type, parts, sink)
 }
 
-/// Returns the CRC-32 of the normal data.
+/// Returns the CRC-32 of the normal data. Requires: the normal data has fewer than 2^32 bytes.
 pub(crate) fn data_checksum(image_type: u8, parts: &[&[u8]]) -> u32
     requires { length (normal_body image_type (bytes_of parts.now)) < 2 ^ 32 }
     ensures { result ≡ crc32 (normal_body image_type (bytes_of parts.now)) }
@@ -52,7 +52,7 @@ pub(crate) fn data_checksum(image_type: u8, parts: &[&[u8]]) -> u32
 }
 
 /// Returns the header checksum to be written: the CRC-32 of the header with zeros instead of its
-/// checksum.
+/// checksum. Requires: the name has at most 32 bytes.
 fn checksum_to_write(fields: Fields<'_>, summary: DataSummary) -> u32
     requires { length fields.name.now ≤ 32 }
     ensures { let field = name_field fields.entry.name.now in
@@ -64,7 +64,8 @@ fn checksum_to_write(fields: Fields<'_>, summary: DataSummary) -> u32
     sum.finish()
 }
 
-/// Appends a header with these fields and this header checksum.
+/// Appends a header with these fields and this header checksum. Requires: the name has at most 32
+/// bytes.
 fn put_header<S: Sink>(
     fields: Fields<'_>,
     checksum: u32,
@@ -96,7 +97,7 @@ fn put_header<S: Sink>(
     put_name(fields.name, sink)
 }
 
-/// Appends a name, and zeros up to the end of its field.
+/// Appends a name, and zeros up to the end of its field. Requires: the name has at most 32 bytes.
 fn put_name<S: Sink>(name: &[u8], sink: &mut S) -> Result<(), Error>
     requires { length name.now ≤ 32 }
     ensures { Wrote S.appends S.fails sink.old (name_field name.now) result sink.new }
@@ -105,7 +106,7 @@ fn put_name<S: Sink>(name: &[u8], sink: &mut S) -> Result<(), Error>
     sink.put(&[0; NAME_SIZE][name.len()..])
 }
 
-/// Appends the normal data.
+/// Appends the normal data. Requires: the normal data has fewer than 2^32 bytes.
 fn put_data<S: Sink>(image_type: u8, parts: &[&[u8]], sink: &mut S) -> Result<(), Error>
     requires { length (normal_body image_type (bytes_of parts.now)) < 2 ^ 32 }
     ensures { let body = normal_body image_type (bytes_of parts.now) in
@@ -117,7 +118,7 @@ fn put_data<S: Sink>(image_type: u8, parts: &[&[u8]], sink: &mut S) -> Result<()
     put_joined_parts(parts, sink)
 }
 
-/// Appends the part table.
+/// Appends the part table. Requires: the parts together have fewer than 2^32 bytes.
 fn put_part_table<S: Sink>(parts: &[&[u8]], sink: &mut S) -> Result<(), Error>
     requires { length (joined_parts (bytes_of parts.now)) < 2 ^ 32 }
     ensures { Wrote S.appends S.fails sink.old (part_table (bytes_of parts.now)) result sink.new }

@@ -19,7 +19,8 @@ use Rattle.bi_fit.specs.Building.{ImageSpecModel, ConfigurationSpecModel, PlanMo
 use Rattle.bi_fit.specs.Building.{plan_by_types, configuration_names}
 use Rattle.bi_fit.specs.ImageTree.{ImageTree}
 use Rattle.bi_fit.specs.NamedImages.{head_model, configuration_spec_models}
-use Rattle.bi_fit.specs.Laws.{IsAcceptedAs, HasGoodPayloads, HasConfigurations, HasConfigurationByTypes}
+use Rattle.bi_fit.specs.Laws.{IsAcceptedAs, HasGoodPayloads, HasConfigurations}
+use Rattle.bi_fit.specs.Laws.{HasConfigurationByTypes}
 use Rattle.bi_fit.specs.Text.{fit_text}
 use Rattle.bi_legacy.specs.Codes.{os_names, arch_names, type_names, compression_names}
 use Rattle.bi_legacy.specs.Codes.{name_of_code}

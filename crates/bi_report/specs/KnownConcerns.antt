@@ -29,7 +29,7 @@ use Rattle.bi_report.specs.KnownTexts.{hash_with, three_root}
 -- configurations have lists of each kind and whose default is none of them. With lists allowed, the
 -- second has those of the image and of the default. A hash node may have no algorithm, and a
 -- configuration may be there without a default. The payloads of a file of 253 bytes end where it
--- ends. Zeros after an image are no concern.
+-- ends. Zeros after an image are not a concern.
 pub record ConcernsAreKnown : Type 0 where
   pub hashes : concern_lines nothing_allowed (tree_concerns hashed_tree)
       ≡ lines

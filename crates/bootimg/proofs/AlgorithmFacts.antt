@@ -25,7 +25,7 @@ algorithms_push words algorithms word algorithm are is new = record {
   distinct = AreDistinct-push words word are.distinct new;
 }
 
--- A word that is no name of an algorithm.
+-- A word that is not the name of an algorithm.
 pub no_algorithm : (words before later : List (List ℕ)) (word : List ℕ) → words ≡ before ++ word ∷ later →
     ((algorithm : Algo) → word ≡ algorithm_name algorithm → ⊥) → NoneIs (AreAlgorithms words)
 no_algorithm words before later word is none algorithms are =

@@ -72,7 +72,7 @@ hexadecimal_digits_after digits holds =
     no_letter : AllDigits 10 (codes "0x" ++ digits) → ⊥
     no_letter all = omega (arith, all.1.0)
 
--- Any other text is no number.
+-- Any other text is not a number.
 pub is_no_number : (text : List ℕ) → is_numeral 10 text ≡ false
     → (bytes_eq (take 2 text) (codes "0x") && is_numeral 16 (drop 2 text)) ≡ false
     → NoneIs (IsNumber text)
@@ -124,7 +124,7 @@ code_with_name field argument code is = (Named is, only) where
   only other (Named named) = let e : Some other ≡ Some code = sym named ∙ is in cc
   only other (Numbered none number small) = absurd (let e : None ≡ Some code = sym none ∙ is in cc)
 
--- A number that is no name is this code and no other.
+-- A number that is not a name is this code and no other.
 numbered_code : (field : CodeField) (argument : List ℕ) (code : ℕ) → code_of_name (given_names_of field) argument ≡ None
     → IsOnlyNumber argument code → code < 2 ^ 8 → IsOnlyCode field argument code
 numbered_code field argument code none number small = (Numbered none number.0 small, only) where
@@ -132,7 +132,7 @@ numbered_code field argument code none number small = (Numbered none number.0 sm
   only other (Named named) = absurd (let e : None ≡ Some other = sym none ∙ named in cc)
   only other (Numbered no_name is_other fits) = number.1 other is_other
 
--- A word that is neither is no code.
+-- A word that is neither is not a code.
 no_code : (field : CodeField) (argument : List ℕ) → code_of_name (given_names_of field) argument ≡ None
     → ((number : ℕ) → IsNumber argument number → ¬ (number < 2 ^ 8)) → NoneIs (IsCode field argument)
 no_code field argument none too_large code (Named named) = absurd (let e : None ≡ Some code = sym none ∙ named in cc)

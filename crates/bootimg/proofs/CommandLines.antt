@@ -60,13 +60,13 @@ pub not_parsed : {T : Type 0} (Is : T → Type 0) (option : Option T) (result : 
 not_parsed Is (Some value) result same none = subst (λ r. IfErr r (IsBadValue Is)) (sym same) tt
 not_parsed Is None result same none = subst (λ r. IfErr r (IsBadValue Is)) (sym same) (refl, none)
 
--- An argument that is neither `-` nor a number is no address.
+-- An argument that is neither `-` nor a number is not an address.
 pub no_address : (argument : List ℕ) → (IsAddress argument None → ⊥) → ((number : ℕ) → IsNumber argument number → ⊥) →
     NoneIs (IsAddress argument)
 no_address argument differs none None is = differs is
 no_address argument differs none (Some number) is = none number is
 
--- An argument that is neither a number nor begins with `@` is no part.
+-- An argument that is neither a number nor begins with `@` is not a part.
 pub no_source : (argument : List ℕ) → ((rest : List ℕ) → argument ≡ 64 ∷ rest → ⊥) → ((number : ℕ) → IsNumber argument number → ⊥) →
     NoneIs (IsPartSource argument)
 no_source argument no_name none (source.Input size) is = none size is
@@ -138,7 +138,7 @@ same_image fields others word same is =
       source = subst (λ text. IsPartSource text word.payload) last is.source;
     }
 
--- A text is no image if its fields are none.
+-- A text is not an image if its fields are none.
 pub no_image_text : (argument : List ℕ) (fields : ImageFields) → parts_of argument ≡ list_of fields → NoneIs (IsImage fields) →
     NoneIs (IsImageText argument)
 no_image_text argument fields same none word is = none word (same_image fields is.0 word (sym same ∙ is.1) is.2)
@@ -181,7 +181,7 @@ texts_push arguments index d within =
     ap texts_of (take_more arguments index d within)
     ∙ map-append (λ (argument : Bor (List ℕ)). argument.now) (take index arguments) (get_or arguments index d ∷ [])
 
--- An argument that is no part is in no list of parts.
+-- An argument that is not a part is in no list of parts.
 pub no_parts : (arguments : List (Bor (List ℕ))) (index : ℕ) (d : Bor (List ℕ)) → index < length arguments →
     NoneIs (IsPartSource (get_or arguments index d).now) → NoneIs (ArePartSources (texts_of arguments))
 no_parts [] index d within none parts are = absurd (omega (arith, within))
@@ -312,7 +312,7 @@ before_taken (argument ∷ arguments) (suc index) zero text before is = is
 before_taken (argument ∷ arguments) (suc index) (suc other) text before is =
     before_taken arguments index other text (omega (arith, before)) is
 
--- The first argument that is no image.
+-- The first argument that is not an image.
 pub first_bad : (arguments : List (Bor (List ℕ))) (index : ℕ) (d : Bor (List ℕ)) (images : List ImageSpec)
     (texts : List (Option ImageTexts)) (payloads : List PartSource) → index < length arguments →
     AreImages (texts_of (take index arguments)) images texts payloads → NoneIs (IsImageText (get_or arguments index d).now) →
@@ -374,7 +374,7 @@ same_word option is also = let e = sym is ∙ also in cc
 not_both : {A : Type 0} {one : A} {P : Type 0} (option : Option A) → option ≡ None → option ≡ Some one → P
 not_both option is also = absurd (let e = sym is ∙ also in cc)
 
--- The index of a part is no number.
+-- The index of a part is not a number.
 pub no_part : (options : ArgMatches) (escaped : Bool) (argument : List ℕ) → AreGiven options (Some argument) None None false →
     AreEscaped options escaped → NoneIs (IsNumber argument) → IsSelectionFailure options BadValue
 no_part options escaped argument given flag none = record {

@@ -210,7 +210,7 @@ word_names : (words : List (Bor (List ℕ))) (name : List ℕ) →
 word_names [] name = refl
 word_names (word ∷ words) name = ap (λ later. bytes_eq (name_of_word word.now) name || later) (word_names words name)
 
--- A name that no word has is no default.
+-- A name that no word has is not a default.
 pub no_default_word : (words : List (Bor (List ℕ))) (name : List ℕ) (option : Option (List ℕ)) (found : Bool) → Some name ≡ option →
     found ≡ list_any (λ (word : Bor (List ℕ)). bytes_eq (name_of_word word.now) name) words → found ≡ false →
     (value : Option (List ℕ)) → IsDefault (texts_of words) option value → ⊥

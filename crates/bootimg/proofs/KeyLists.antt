@@ -49,7 +49,7 @@ equal_texts one other names others same = (
   sym (names_after one names) ∙ ap (after_first (λ byte. byte == 61)) same ∙ names_after other others,
 )
 
--- A text without `=` is no list.
+-- A text without `=` is not a list.
 has_equals : (key : Key) (names : List ℕ) →
     ((i : ℕ) → i < length (list_text key names) → get_or (list_text key names) i 0 ≢ 61) → ⊥
 has_equals Kernel names free = free 6 (omega arith) refl
@@ -118,7 +118,7 @@ lists_push texts lists text list are is new = record {
       (AreDistinct-push (key_names lists) (key_name list.key) are.distinct new);
 }
 
--- Texts with one that is no list are none.
+-- Texts with one that is not a list are none.
 pub bad_list : (texts before later : List (List ℕ)) (text : List ℕ) → texts ≡ before ++ text ∷ later → NoneIs (IsListText text) →
     NoneIs (AreLists texts)
 bad_list texts before later text is none lists are =

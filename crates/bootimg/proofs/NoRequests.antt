@@ -23,7 +23,8 @@ use Rattle.bootimg.specs.declared.command_line.NoRequest.TheVariants as outcome
 use Rattle.bootimg.specs.declared.failure.Failure.{Failure}
 use Rattle.bootimg.proofs.ProgramFacts.{accepted_enters, accepted_is_command, program_is_free, program_is_simple}
 
--- Arguments that clap accepts give a command, and arguments that it rejects, or whose options are no job or no limits, request nothing.
+-- Arguments that clap accepts give a command, and arguments that it rejects, or whose options are not a job or are not limits, request
+-- nothing.
 
 -- ---- what the arguments give
 
@@ -121,7 +122,7 @@ rejected_by_clap app arguments error (Err given) same kinds is =
     by (HasText not_memory text) (inl memory) = absurd (not_memory memory)
     by (HasText not_memory text) (inr among) = subst (λ o. IsNoRequest arguments o) (sym text) among
 
--- The options of the command are no job.
+-- The options of the command are not a job.
 pub no_job : {T : Type 0} (arguments : List (List ℕ)) (name : List ℕ) (options : ArgMatches) (result : Result T NoRequest)
     (failed : NoRequest) → Gives arguments name options → IsErrAnd result (λ given. given ≡ failed)
     → IsFailureOutcome (IsTaskFailure name options) failed → IfErr result (IsNoRequest arguments)
@@ -132,7 +133,7 @@ no_job arguments name options result failed gives is bad = passed_on arguments r
     no_request (outcome.Failure failure) (inr memory) = NoMemory memory
     no_request (outcome.Text text) none = absurd none
 
--- The options of the command are no limits.
+-- The options of the command are not limits.
 pub no_limits : {T : Type 0} (arguments : List (List ℕ)) (name : List ℕ) (options : ArgMatches) (job : Job) (result : Result T NoRequest)
     (failure : Failure) → Gives arguments name options → IsErrAnd result (λ given. given ≡ outcome.Failure failure) → IsJob name options job
     → IsBadValue (IsLimits (limit_of options)) failure → IfErr result (IsNoRequest arguments)

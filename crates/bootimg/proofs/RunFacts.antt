@@ -25,7 +25,7 @@ pub line_is_logged : (old new : WriteTrace) (bytes : List ℕ) (result : Result 
 line_is_logged old new bytes (Ok done) wrote = IsLogged wrote
 line_is_logged old new bytes (Err error) wrote = HasStopped error wrote
 
--- A text that is no reason why the arguments are wrong is what they ask for.
+-- A text that is not a reason why the arguments are wrong is what they ask for.
 pub asked_for : (kind : ErrorKind) (is_usage : Bool) → IsTrue is_usage ↔ IsMistake kind → is_usage ≡ false → IsAskedFor kind
 asked_for DisplayHelp is_usage says fails = inl refl
 asked_for DisplayVersion is_usage says fails = inr refl

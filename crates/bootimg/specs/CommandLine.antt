@@ -290,7 +290,7 @@ pub record IsChanges (options : ArgMatches) (changes : Changes) : Type 0 where
   pub some : ¬ ((changes.time ≡ None) × (changes.hashes ≡ false))
 
 -- The failure of options that request no changes: that nothing is to change, or else that the time
--- is no number.
+-- is not a number.
 abbrev pub IsChangesFailure : ArgMatches → Failure → Type 0
 IsChangesFailure options NoChange =
     (option_of options (codes "time") ≡ None) × ChangesHashes options false
@@ -538,7 +538,7 @@ pub record IsFitPlan (options : ArgMatches) (plan : FitPlan) : Type 0 where
   pub algorithms : AreHashes (option_of options (codes "hash")) plan.algorithms.items
   pub form : IsForm options plan.form
 
--- The first argument that is no image has this index.
+-- The first argument that is not an image has this index.
 pub record IsFirstBad (arguments : List (List ℕ)) (index : ℕ) : Type 0 where
   pub argument : List ℕ
   pub is : slice_get arguments index ≡ Some argument
@@ -546,12 +546,12 @@ pub record IsFirstBad (arguments : List (List ℕ)) (index : ℕ) : Type 0 where
   pub before : (other : ℕ) (text : List ℕ) → other < index → slice_get arguments other ≡ Some text
       → (word : ImageWord) × IsImageText text word
 
--- The failure is that of the first argument that is no image.
+-- The failure is that of the first argument that is not an image.
 abbrev pub IsBadImage : List (List ℕ) → Failure → Type 0
 IsBadImage arguments (BadImage index) = IsFirstBad arguments index
 IsBadImage arguments failure = ⊥
 
--- The failure is that of the first word that is no configuration.
+-- The failure is that of the first word that is not a configuration.
 abbrev pub IsBadConfiguration : (image_names words : List (List ℕ)) → Failure → Type 0
 IsBadConfiguration image_names words (BadConfiguration index) =
     IsFirstBadConfiguration image_names words index
@@ -569,7 +569,8 @@ pub record HasFitValues (options : ArgMatches) : Type 0 where
   pub algorithms : List Algo
   pub are_algorithms : AreHashes (option_of options (codes "hash")) algorithms
 
--- The images of `build-fit` are good, and the first word that is no configuration has this index.
+-- The images of `build-fit` are good, and the first word that is not a configuration has this
+-- index.
 pub record IsBadPlan (options : ArgMatches) (index : ℕ) : Type 0 where
   pub images : List ImageSpec
   pub texts : List (Option ImageTexts)
@@ -641,7 +642,7 @@ IsJob name options (Explain cause) =
     (name ≡ codes "explain") × IsExplained (option_of options (codes "cause")) cause
 IsJob name options (Build plan) = IsBuildPlan name options plan
 
--- Why the options of the command of this name are no task.
+-- Why the options of the command of this name are not a task.
 pub data IsTaskFailure (name : List ℕ) (options : ArgMatches) (failure : Failure) : Type 0 where
   NotFormed : name ≡ codes "normalise" → IsFormFailure options failure
       → IsTaskFailure name options failure
@@ -681,8 +682,8 @@ pub data IsOutcomeOf (error : ClapError) (given : NoRequest) : Type 0 where
   HasNoText : kind_of error ≡ error_kind.OutOfMemory → given ≡ outcome.Failure (Call OutOfMemory)
       → IsOutcomeOf error given
 
--- Why the arguments request nothing, though clap accepts them: the options of the command are no
--- job or no limits, or those of `extract --all` are no request, or memory ran out.
+-- Why the arguments request nothing, though clap accepts them: the options of the command are not a
+-- job or are not limits, or those of `extract --all` are not a request, or memory ran out.
 pub data IsRejected (arguments : List (List ℕ)) (failure : Failure) : Type 0 where
   NoJob : (name : List ℕ) (options : ArgMatches) → Gives arguments name options
       → IsTaskFailure name options failure → IsRejected arguments failure

@@ -63,8 +63,8 @@ pub record AreConfigurations (image_names words : List (List ℕ))
   pub can : AllByRecursion (IsConfigurationSpec image_names) (configuration_models configurations)
   pub distinct : AreDistinct (configuration_names (configuration_models configurations))
 
--- The first word that is no configuration has this index: the words before it are configurations,
--- and with it they are none.
+-- The first word that is not a configuration has this index: the words before it are
+-- configurations, and with it they are none.
 pub record IsFirstBadConfiguration (image_names words : List (List ℕ)) (index : ℕ) : Type 0 where
   pub configurations : List ConfigurationWord
   pub before : AreConfigurations image_names (take index words) configurations

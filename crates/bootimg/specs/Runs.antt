@@ -353,8 +353,8 @@ no_input = record {
 }
 
 -- The files of the parts were read, in their order, and then the image was built: with standard
--- input if it is to be read, and else with an input without bytes, which is no step. Or that failed
--- before standard input was read.
+-- input if it is to be read, and else with an input without bytes, which is not a step. Or that
+-- failed before standard input was read.
 pub data IsBuildWork (files : KnownFiles) (plan : BuildPlan) (limits : Limits) (work : Work)
     (old new : Option (List FileStep)) : Type 0
   where

@@ -152,7 +152,7 @@ IsNoStreamFailure (Call ReadFailed) = ⊥
 IsNoStreamFailure (Call WriteFailed) = ⊥
 IsNoStreamFailure other = ⊤
 
--- An error of a call in memory is no failed read or write.
+-- An error of a call in memory is not a failed read or write.
 call_in_memory : (HasError : Error → Type 0) → ¬ HasError ReadFailed → ¬ HasError WriteFailed
     → (failure : Failure) → IsCallFailure HasError failure → IsNoStreamFailure failure
 call_in_memory HasError no_read no_write failure is =
@@ -163,7 +163,7 @@ call_in_memory HasError no_read no_write failure is =
       by ReadFailed has = no_read has
       by WriteFailed has = no_write has
 
--- An error of extracting from a file in memory is no failed read or write.
+-- An error of extracting from a file in memory is not a failed read or write.
 extract_in_memory : (HasError : ExtractError → Type 0) → ¬ HasError (extract.Failed ReadFailed)
     → ¬ HasError (extract.Failed WriteFailed)
     → (failure : Failure) → IsExtractFailure HasError failure → IsNoStreamFailure failure

@@ -38,7 +38,8 @@ pub enum ReadPart {
 }
 
 /// Builds an image, and returns how that ended. First the files of the parts are read, in the order
-/// of the parts, then standard input, if a part is in it or if no part is named.
+/// of the parts, then standard input, if a part is in it or if no part is named. Requires: if the
+/// image is a flattened image tree, the plan has as many lengths or files as images.
 pub fn build_image<'a, S: TracedRead, T: TracedWrite, F: FileSystem>(
     alloc: Global,
     plan: &BuildPlan<'a>,
@@ -165,7 +166,9 @@ fn lend_part(read: &ReadPart) -> Part<'_>
     }
 }
 
-/// Builds the image of these parts, and returns how that ended.
+/// Builds the image of these parts, and returns how that ended. Requires: if the image is a
+/// flattened image tree, the plan has as many lengths or files as images. There are as many parts
+/// as the plan has.
 fn build<'a, S: TracedRead, T: TracedWrite>(
     alloc: Global,
     plan: &BuildPlan<'_>,
@@ -194,7 +197,8 @@ fn build<'a, S: TracedRead, T: TracedWrite>(
 }
 
 /// Runs the command that builds the image of these parts. Fails as `pipe` does, or with OutOfMemory
-/// before anything is read.
+/// before anything is read. Requires: if the image is a flattened image tree, the plan has as many
+/// lengths or files as images. There are as many parts as the plan has.
 fn run_builder<S: TracedRead, T: TracedWrite>(
     alloc: Global,
     plan: &BuildPlan<'_>,
@@ -224,7 +228,8 @@ fn run_builder<S: TracedRead, T: TracedWrite>(
 }
 
 /// Runs the command that builds the flattened image tree with these configurations and payloads.
-/// Fails as `pipe` does.
+/// Fails as `pipe` does. Requires: there are as many payloads as images, and the configurations are
+/// those of the plan.
 fn run_fit_builder<S: TracedRead, T: TracedWrite>(
     alloc: Global,
     plan: &FitPlan<'_>,

@@ -204,6 +204,7 @@ fn extracts_all(name: &str, options: &ArgMatches<'_>) -> bool
 }
 
 /// Returns what the command of this name does with the options. Fails as `parse_arguments` does.
+/// Requires: the name is that of a command, and `extract` does not have `--all`.
 fn parse_job<'a>(alloc: Global, name: &str, options: &ArgMatches<'a>) -> Result<Job<'a>, NoRequest>
     requires command { IsCommandName name.now }
     requires not_all { name.now ≡ codes "extract" → SelectsAll options.now false }
@@ -238,6 +239,8 @@ fn parse_job<'a>(alloc: Global, name: &str, options: &ArgMatches<'a>) -> Result<
 }
 
 /// Returns the task of the command of this name with the options. Fails as `parse_arguments` does.
+/// Requires: the name is that of a command other than `compare`, `explain`, `build-legacy` and
+/// `build-fit`, and `extract` does not have `--all`.
 fn parse_task(alloc: Global, name: &str, options: &ArgMatches<'_>) -> Result<Task, NoRequest>
     requires command { IsCommandName name.now }
     requires not_all { name.now ≡ codes "extract" → SelectsAll options.now false }

@@ -43,9 +43,9 @@ pub enum Failure {
     NoChange,
     /// The value of an option, or a length, is malformed or out of range.
     BadValue,
-    /// The argument at this index, counted from 0, of `build-fit` is no image.
+    /// The argument at this index, counted from 0, of `build-fit` is not an image.
     BadImage(usize),
-    /// The `--config` at this index, counted from 0, of `build-fit` is no configuration.
+    /// The `--config` at this index, counted from 0, of `build-fit` is not a configuration.
     BadConfiguration(usize),
     /// The file cannot be opened.
     CannotOpen,

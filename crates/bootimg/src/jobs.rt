@@ -58,7 +58,8 @@ impl<'a, T: Drop> From<AllocFailed<T>> for SourceFailure<'a> {
     }
 }
 
-/// Does a job, and returns how it ended.
+/// Does a job, and returns how it ended. Requires: if the job is to build a flattened image tree,
+/// it has as many lengths or files as images.
 pub fn do_job<'a, S: TracedRead, T: TracedWrite, F: FileSystem>(
     alloc: Global,
     job: &Job<'a>,

@@ -18,7 +18,7 @@ pub fn parse_number(argument: &str) -> Option<u32>
 }
 
 /// Parses the digits of a number in this base. Returns None exactly for any other text, and for a
-/// number over 0xffffffff.
+/// number over 0xffffffff. Requires: the base is from 2 to 36.
 fn number_of(digits: &str, base: u32) -> Option<u32>
     requires least_base { 2 ≤ base }
     requires most_base { base ≤ 36 }

@@ -30,7 +30,8 @@ pub fn conclude<E: TracedWrite>(outcome: Result<Done, SourceFailure<'_>>, errors
 }
 
 /// Does a job, saves the output in the file of this name, and returns how that ended. After a
-/// failure the file is as it was.
+/// failure the file is as it was. Requires: if the job is to build a flattened image tree, it has
+/// as many lengths or files as images.
 pub fn do_job_to_file<'a, S: TracedRead, F: FileSystem>(
     alloc: Global,
     job: &Job<'a>,
@@ -54,7 +55,8 @@ pub fn do_job_to_file<'a, S: TracedRead, F: FileSystem>(
     }
 }
 
-/// Does a job, and returns how it ended and the whole output.
+/// Does a job, and returns how it ended and the whole output. Requires: if the job is to build a
+/// flattened image tree, it has as many lengths or files as images.
 fn do_job_in_memory<'a, S: TracedRead, F: FileSystem>(
     alloc: Global,
     job: &Job<'a>,

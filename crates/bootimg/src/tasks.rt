@@ -58,7 +58,8 @@ impl Done {
 }
 
 impl Task {
-    /// Appends what the task makes of an image to a sink, and returns how that ended.
+    /// Appends what the task makes of an image to a sink, and returns how that ended. Requires: the
+    /// image is not longer than the limit on files.
     ///
     /// After an error of the task, the sink is unchanged. After an error of the sink, the sink is
     /// as a failed `put` of the output leaves it.

@@ -86,7 +86,7 @@ plain_above byte plain =
     let low = (and_parts (leb 0x21 byte) (leb byte 0x7e) first.0).0 in
     omega (arith, leb-true 0x21 byte low)
 
--- It is no percent sign.
+-- It is not a percent sign.
 pub plain_no_percent : (byte : ℕ) → is_plain byte ≡ true → byte ≡ 37 → ⊥
 plain_no_percent byte plain =
     eqb-false byte 37 (not-true (eqb byte 37) (and_parts (leb 0x21 byte && leb byte 0x7e) (not (eqb byte 37)) plain).1)
@@ -172,7 +172,7 @@ same_shown one other same = where_ways (ways one) (ways other)
     where_ways (Others some other_than text) (Dash also texts) = absurd (not_as_dash one (sym text ∙ same ∙ texts))
     where_ways (Others some other_than text) (Others some_also other_also texts) = same_shown_bytes one other (sym text ∙ same ∙ texts)
 
--- A byte as it is printed is no blank.
+-- A byte as it is printed is not a blank.
 shown_byte_no_blank : (byte : ℕ) → HasNoEnd is_blank (shown_byte byte)
 shown_byte_no_blank byte = where_test (is_plain byte) refl
   where
@@ -180,7 +180,7 @@ shown_byte_no_blank byte = where_test (is_plain byte) refl
     where_test true plain = (lt-leb byte 32 (plain_above byte plain), tt)
     where_test false plain = (refl, (glyph_no_blank true (byte / 16), (glyph_no_blank true (byte % 16), tt)))
 
--- It is no slash if the byte is none.
+-- It is not a slash if the byte is not one.
 shown_byte_no_slash : (byte : ℕ) → byte ≢ 47 → HasNoEnd is_slash (shown_byte byte)
 shown_byte_no_slash byte other = where_test (is_plain byte)
   where
@@ -188,7 +188,7 @@ shown_byte_no_slash byte other = where_test (is_plain byte)
     where_test true = (ne_eqb byte 47 other, tt)
     where_test false = (refl, (glyph_no_slash true (byte / 16), (glyph_no_slash true (byte % 16), tt)))
 
--- A shown name is no blank.
+-- A shown name is not a blank.
 pub shown_no_blank : (name : List ℕ) → HasNoEnd is_blank (shown_text name)
 shown_no_blank name = where_way (ways name)
   where

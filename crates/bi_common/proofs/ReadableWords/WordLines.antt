@@ -53,7 +53,7 @@ line-after_word word (next ∷ words) rest =
     ∙ append_assoc word (32 ∷ line (next ∷ words)) rest
     ∙ ap (λ text. word ++ (32 ∷ text)) (line-after_word next words rest)
 
--- A word without a quote at its front is no text in quotes.
+-- A word without a quote at its front is not a text in quotes.
 not_quoted : (word x y : List ℕ) → HasNoQuote word → Ends is_blank x → word ++ x ≡ 34 ∷ y → ⊥
 not_quoted [] [] y no_quote end same = absurd cc
 not_quoted [] (byte ∷ x) y no_quote end same =

@@ -62,7 +62,7 @@ code_bare (entry ∷ later) code passes = where_code (eqb entry.code code) refl 
     where_code true is rest = subst IsBare (sym (word_here entry later code is)) (entry_of entry later passes).bare
     where_code false other rest = subst IsBare (sym (word_later entry later code other)) rest
 
--- A word that begins with a letter is no number.
+-- A word that begins with a letter is not a number.
 no_number : (word : List ℕ) → begins_with_letter word ≡ true → AreDigits word → ⊥
 no_number [] letter are = absurd cc
 no_number (byte ∷ later) letter are = let high = leb-true 58 byte letter in let low = are.0 in omega (arith, high, low)

@@ -25,7 +25,7 @@ abbrev pub BeginsOther : (word : List ℕ) → List Words → Type 0
 BeginsOther word [] = ⊤
 BeginsOther word (words ∷ later) = (others : Words) → words ≡ word ∷ others → ⊥
 
--- Lines whose first does not begin with a word are no lines whose first does.
+-- Lines whose first does not begin with a word are not lines whose first does.
 pub not_there : (word : List ℕ) (lines : List Words) (others : Words) (later : List Words) → BeginsOther word lines →
     lines ≡ (word ∷ others) ∷ later → ⊥
 not_there word [] others later end same = absurd cc

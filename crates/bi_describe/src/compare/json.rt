@@ -13,7 +13,7 @@ use bi_common::json::{JsonValue, put_comma, put_members, put_object};
 use std::alloc::{AllocError, Global};
 
 /// Returns whether two meanings are the same and the lines of these differences, as one text of
-/// JSON and a newline.
+/// JSON and a newline. Requires: the differences are ASCII.
 ///
 /// Fails only if memory runs out.
 pub(super) fn comparison_json(

@@ -34,6 +34,7 @@ pub(super) fn payloads_of<'a>(
 }
 
 /// Returns the payload of an image with its digest, which is one of the digests of its file.
+/// Requires: the payload of the image is at its place in the file of the digests.
 fn payload_of<'a>(
     image: &Image<'a>,
     digests: &mut RegionDigests,

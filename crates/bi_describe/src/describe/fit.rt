@@ -25,7 +25,7 @@ use bi_fdt::Blob;
 use bi_fit::Fit;
 use std::alloc::Global;
 
-/// Appends the description of a flattened image tree that was read, in a form.
+/// Appends the description of a flattened image tree, in a form. Requires: the tree was read.
 pub(super) fn describe_fit<S: Sink>(
     alloc: Global,
     fit: &Fit,
@@ -50,8 +50,8 @@ pub(super) fn describe_fit<S: Sink>(
     Ok(())
 }
 
-/// Appends a flattened image tree with these entries, in a form. Fails as the sink does. `names`
-/// has room for the names of all nodes that are open at once.
+/// Appends a flattened image tree with these entries, in a form. Fails as the sink does. Requires:
+/// `names` has room for the names of all nodes that are open at once.
 fn put_fit<'a, S: Sink>(
     blob: &Blob,
     entries: &[Entry<'a>],
@@ -70,8 +70,8 @@ fn put_fit<'a, S: Sink>(
     }
 }
 
-/// Appends the lines of a flattened image tree with these entries. Fails as the sink does. `names`
-/// has room for the names of all nodes that are open at once.
+/// Appends the lines of a flattened image tree with these entries. Fails as the sink does.
+/// Requires: `names` has room for the names of all nodes that are open at once.
 fn put_fit_lines<'a, S: Sink>(
     blob: &Blob,
     entries: &[Entry<'a>],

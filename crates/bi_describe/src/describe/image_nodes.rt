@@ -22,7 +22,7 @@ use bi_fit::NameOrder;
 use std::alloc::{AllocError, Global};
 
 /// Returns the entries of a flattened image tree: those of the properties of the root, and those of
-/// all nodes below it.
+/// all nodes below it. Requires: the tree was read, and the order is that of its blob.
 pub(super) fn entries_of<'a>(
     alloc: Global,
     bounded: BoundedFit<'_, 'a>,
@@ -42,7 +42,8 @@ pub(super) fn entries_of<'a>(
 }
 
 /// Appends the entries of the children of the root, and of all nodes below them. The images have
-/// these payloads.
+/// these payloads. Requires: the order is that of the blob of the root, no node below the root has
+/// two properties with the same name, and no two children of the root have the same name.
 fn add_root_children<'a>(
     entries: &mut Vec<Entry<'a>>,
     root: NodeRef<'a, '_>,
@@ -69,7 +70,8 @@ fn add_root_children<'a>(
 }
 
 /// Appends the entries of a node, whose children are the nodes of the images with these payloads,
-/// and of all nodes below it.
+/// and of all nodes below it. Requires: the order is that of the blob of the node, and none of
+/// these nodes has two properties with the same name.
 fn add_images<'a>(
     entries: &mut Vec<Entry<'a>>,
     node: NodeRef<'a, '_>,
@@ -90,7 +92,8 @@ fn add_images<'a>(
 }
 
 /// Appends the entries of the children of a node, which are the nodes of the images with these
-/// payloads, and of all nodes below them.
+/// payloads, and of all nodes below them. Requires: the order is that of the blob of the node, and
+/// no node below it has two properties with the same name.
 fn add_image_nodes<'a>(
     entries: &mut Vec<Entry<'a>>,
     node: NodeRef<'a, '_>,
@@ -114,7 +117,9 @@ fn add_image_nodes<'a>(
     Ok(())
 }
 
-/// Appends the entries of an image node with this payload, and of all nodes below it.
+/// Appends the entries of an image node with this payload, and of all nodes below it. Requires: the
+/// order is that of the blob of the node, and none of these nodes has two properties with the same
+/// name.
 fn add_image<'a>(
     entries: &mut Vec<Entry<'a>>,
     node: NodeRef<'a, '_>,

@@ -38,8 +38,8 @@ fn greater(one: usize, other: usize) -> usize
     if one < other { other } else { one }
 }
 
-/// Returns how many nodes are open after an entry, if so many are open before it: fewer than the
-/// greatest `usize`. An end without a node has no effect.
+/// Returns how many nodes are open after an entry, if so many are open before it. An end without a
+/// node has no effect. Requires: fewer nodes than the greatest `usize` are open before it.
 fn count_after(count: usize, entry: &Entry) -> usize
     requires { count + 1 < 2 ^ 64 }
     ensures { result ≡ count_after_of count (as_entry entry.now) }
@@ -51,8 +51,8 @@ fn count_after(count: usize, entry: &Entry) -> usize
     }
 }
 
-/// Appends the lines of a tree with these entries. Fails as the sink does. `names` has room for the
-/// names of all nodes that are open at once.
+/// Appends the lines of a tree with these entries. Fails as the sink does. Requires: `names` has
+/// room for the names of all nodes that are open at once.
 pub(super) fn put_tree<'a, S: Sink>(
     entries: &[Entry<'a>],
     names: &mut [&'a [u8]],
@@ -67,8 +67,8 @@ pub(super) fn put_tree<'a, S: Sink>(
     put_entries(entries, names, sink)
 }
 
-/// Appends the lines of these entries. Fails as the sink does. `names` has room for the names of
-/// all nodes that are open at once.
+/// Appends the lines of these entries. Fails as the sink does. Requires: `names` has room for the
+/// names of all nodes that are open at once.
 fn put_entries<'a, S: Sink>(
     entries: &[Entry<'a>],
     names: &mut [&'a [u8]],
@@ -88,7 +88,7 @@ fn put_entries<'a, S: Sink>(
 }
 
 /// Returns how many nodes are open after an entry, if `count` are open before it. Their names are
-/// the first of `names`, before the call and after it. `names` has room for all of them.
+/// the first of `names`, before the call and after it. Requires: `names` has room for all of them.
 fn open_after<'a>(entry: Entry<'a>, names: &mut [&'a [u8]], count: usize) -> usize
     requires fits { count ≤ length names.old }
     requires room { count_after_of count (as_entry entry) ≤ length names.old }

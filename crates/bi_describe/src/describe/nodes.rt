@@ -14,7 +14,8 @@ use bi_fdt::NodeRef;
 use bi_fit::NameOrder;
 use std::alloc::AllocError;
 
-/// Appends the entries of a node, and of all nodes below it.
+/// Appends the entries of a node, and of all nodes below it. Requires: the order is that of the
+/// blob of the node, and none of these nodes has two properties with the same name.
 #[cycle(nodes)]
 pub(super) fn add_node<'a>(
     entries: &mut Vec<Entry<'a>>,
@@ -32,7 +33,8 @@ pub(super) fn add_node<'a>(
     Ok(())
 }
 
-/// Appends the entries of the children of a node, and of all nodes below them.
+/// Appends the entries of the children of a node, and of all nodes below them. Requires: the order
+/// is that of the blob of the node, and no node below it has two properties with the same name.
 #[cycle(nodes)]
 pub(super) fn add_children<'a>(
     entries: &mut Vec<Entry<'a>>,
@@ -52,7 +54,8 @@ pub(super) fn add_children<'a>(
     Ok(())
 }
 
-/// Appends the entry with which a node begins, and those of its properties.
+/// Appends the entry with which a node begins, and those of its properties. Requires: the order is
+/// that of the blob of the node, and no two of its properties have the same name.
 pub(super) fn begin_node<'a>(
     entries: &mut Vec<Entry<'a>>,
     node: NodeRef<'a, '_>,

@@ -13,7 +13,8 @@ use bi_fdt::NodeRef;
 use bi_fit::{NameOrder, is_payload_name};
 use std::alloc::AllocError;
 
-/// Appends the entries of the properties of a node, in byte order of their names.
+/// Appends the entries of the properties of a node, in byte order of their names. Requires: the
+/// order is that of the blob of the node, and no two of its properties have the same name.
 pub(super) fn add_properties<'a>(
     entries: &mut Vec<Entry<'a>>,
     node: NodeRef<'a, '_>,
@@ -34,7 +35,8 @@ pub(super) fn add_properties<'a>(
 }
 
 /// Appends the entries of the properties of an image node but for the four that hold a payload or
-/// name its region, in byte order of their names.
+/// name its region, in byte order of their names. Requires: the order is that of the blob of the
+/// node, and no two of its properties have the same name.
 pub(super) fn add_image_properties<'a>(
     entries: &mut Vec<Entry<'a>>,
     node: NodeRef<'a, '_>,

@@ -48,7 +48,9 @@ pub(super) struct BuiltParts<'a> {
 }
 
 /// Returns the document of a tree to be built in a form, however long its text is. The document
-/// borrows names, payloads and digests, and copies none. Fails if memory runs out.
+/// borrows names, payloads and digests, and copies none. Fails if memory runs out. Requires: the
+/// tree can be built, and the parts have the digests, the names of hash nodes and the lists of its
+/// images and its plan. Unless the form is Embedded, the payloads end within the longest text.
 pub(super) fn build_doc<'a>(
     alloc: Global,
     parts: BuiltParts<'a>,
@@ -73,7 +75,10 @@ pub(super) fn build_doc<'a>(
     Ok(doc)
 }
 
-/// Adds the node of the images, with all nodes below it.
+/// Adds the node of the images, with all nodes below it. Requires: the tree can be built, and the
+/// parts have the digests, the names of hash nodes and the lists of its images and its plan; the
+/// names, also those of the document, are those of a built tree; and the nodes may come next in the
+/// document. Unless the form is Embedded, the payloads end within the longest text.
 fn add_built_images<'a>(
     alloc: Global,
     doc: &mut Doc<'a>,
@@ -101,7 +106,10 @@ fn add_built_images<'a>(
     Ok(())
 }
 
-/// Adds the image nodes.
+/// Adds the image nodes. Requires: the tree can be built, and the parts have the digests, the names
+/// of hash nodes and the lists of its images and its plan; the names, also those of the document,
+/// are those of a built tree; and the nodes may come next in the document. Unless the form is
+/// Embedded, the payloads end within the longest text.
 fn add_built_image_nodes<'a>(
     alloc: Global,
     doc: &mut Doc<'a>,
@@ -143,7 +151,10 @@ fn add_built_image_nodes<'a>(
     Ok(())
 }
 
-/// Adds the node `configurations`, with the configuration nodes.
+/// Adds the node `configurations`, with the configuration nodes. Requires: the tree can be built,
+/// and the parts have the digests, the names of hash nodes and the lists of its images and its
+/// plan; the names, also those of the document, are those of a built tree; and the nodes may come
+/// next in the document.
 fn add_configurations<'a>(
     alloc: Global,
     doc: &mut Doc<'a>,

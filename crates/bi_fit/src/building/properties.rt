@@ -25,7 +25,7 @@ use bi_hash::Algo;
 use bi_lay::Value;
 use std::alloc::{AllocError, Global};
 
-/// Returns the properties of the root.
+/// Returns the properties of the root. Requires: the names are those of a built tree.
 pub(super) fn root_properties<'a, 'b>(
     alloc: Global,
     names: &'b PropertyNames<'a>,
@@ -46,7 +46,8 @@ pub(super) fn root_properties<'a, 'b>(
     Ok(properties)
 }
 
-/// Returns the properties of an image node, without those that give its payload.
+/// Returns the properties of an image node, without those that give its payload. Requires: the
+/// names are those of a built tree.
 pub(super) fn image_properties<'a, 'b>(
     alloc: Global,
     names: &'b PropertyNames<'a>,
@@ -122,8 +123,8 @@ pub(super) fn configuration_properties<'a, 'b>(
     Ok(properties)
 }
 
-/// Returns the properties of a hash node with this algorithm and this digest. Requires: the names are
-/// those of a built tree.
+/// Returns the properties of a hash node with this algorithm and this digest. Requires: the names
+/// are those of a built tree.
 pub(super) fn hash_properties<'a, 'b>(
     alloc: Global,
     names: &'b PropertyNames<'a>,
@@ -144,8 +145,8 @@ pub(super) fn hash_properties<'a, 'b>(
     Ok(properties)
 }
 
-/// Adds a property, or sets the value of the property with the given name. The name is one of those
-/// of a tree to be built.
+/// Adds a property, or sets the value of the property with the given name. Requires: the names of
+/// the properties are those of a built tree, and the given name is one of them.
 fn insert<'a>(
     properties: &mut PropertyMap<'a, '_>,
     name: &[u8],
@@ -160,7 +161,8 @@ fn insert<'a>(
     properties.insert(rank, value)
 }
 
-/// Adds a property of one cell, if there is a number.
+/// Adds a property of one cell, if there is a number. Requires: the names of the properties are
+/// those of a built tree, and the given name is one of them.
 fn insert_cell<'a>(
     properties: &mut PropertyMap<'a, '_>,
     name: &[u8],
@@ -177,7 +179,8 @@ fn insert_cell<'a>(
     }
 }
 
-/// Adds the property of a key that lists names, if it lists at least one.
+/// Adds the property of a key that lists names, if it lists at least one. Requires: the names of
+/// the properties are those of a built tree.
 fn insert_list<'a>(
     properties: &mut PropertyMap<'a, '_>,
     key: Key,

@@ -12,7 +12,9 @@ use crate::comparing::role::Role;
 use bi_fdt::NodeRef;
 
 /// Returns whether two nodes with this role are the same, with all nodes below them: they have the
-/// same name, the same properties by name and the same children in the same order.
+/// same name, the same properties by name and the same children in the same order. Requires: the
+/// orders are those of the blobs of the two nodes, by one list of names, and none of these nodes
+/// has two properties with the same name.
 #[cycle(same)]
 pub(super) fn are_same_nodes(
     own: NodeRef<'_, '_>,
@@ -33,7 +35,8 @@ pub(super) fn are_same_nodes(
 }
 
 /// Returns whether two nodes have the same children in the same order, with all nodes below them.
-/// The children have this role.
+/// The children have this role. Requires: the orders are those of the blobs of the two nodes, by
+/// one list of names, and no node below them has two properties with the same name.
 #[cycle(same)]
 fn have_same_children(
     own: NodeRef<'_, '_>,

@@ -36,9 +36,10 @@ pub(super) fn have_same_payloads(
     Ok(have_same_bytes(file, other_file, &pairs))
 }
 
-/// Returns the pairs of the payloads of these images, which are in these files. Returns None if the
-/// files have different numbers of images, if two payloads differ in length, or if only one of two
-/// payloads is there.
+/// Returns the pairs of the payloads of these images of two files. Returns None if the files have
+/// different numbers of images, if two payloads differ in length, or if only one of two payloads is
+/// there. Requires: the payload of each image is in its file at its place, and the first file has
+/// fewer than 2^32 bytes.
 fn pair_payloads(
     alloc: Global,
     file: &[u8],
@@ -68,8 +69,9 @@ fn pair_payloads(
     Ok(Some(pairs))
 }
 
-/// Returns the pair of the payloads of two images, which are in these files. It is empty if both
-/// have none. Returns None if the payloads differ in length, or if only one of them is there.
+/// Returns the pair of the payloads of two images of two files. It is empty if both have none.
+/// Returns None if the payloads differ in length, or if only one of them is there. Requires: each
+/// payload is in its file at its place, and the first file has fewer than 2^32 bytes.
 fn pair_of_payloads(
     file: &[u8],
     other_file: &[u8],

@@ -10,7 +10,8 @@ use crate::comparing::role::Role;
 use bi_fdt::{NodeRef, OrderedProperties};
 
 /// Returns whether two nodes with this role have the same properties by name, without those that
-/// are not compared.
+/// are not compared. Requires: the orders are those of the blobs of the two nodes, by one list of
+/// names, and neither node has two properties with the same name.
 ///
 /// Takes time linear in the number of properties. Each value is compared at most once.
 pub(super) fn have_same_properties(

@@ -17,7 +17,8 @@ pub(super) struct RegionPair {
 
 /// Returns whether the two regions of each of these pairs have the same bytes. Pairs with the same
 /// distance that follow one another in the order of their offsets, as after a sort, are compared in
-/// time linear in the bytes of the file that they cover, even if they share bytes.
+/// time linear in the bytes of the file that they cover, even if they share bytes. Requires: the
+/// files together have fewer than 2^64 bytes, and both regions of each pair are within their files.
 pub(super) fn have_same_bytes(file: &[u8], other: &[u8], pairs: &[RegionPair]) -> bool
     requires small { length other.now + length file.now < 2 ^ 64 }
     requires within { AllByRecursion (AreInFiles file.now other.now) pairs.now }
@@ -37,9 +38,10 @@ pub(super) fn have_same_bytes(file: &[u8], other: &[u8], pairs: &[RegionPair]) -
     true
 }
 
-/// Compares the two regions of a pair, except for bytes that are in the pair `compared`. The
-/// regions of `compared` have the same bytes. Returns a pair of regions with the same bytes, or
-/// None if the regions of this pair differ.
+/// Compares the two regions of a pair, except for bytes that are in the pair `compared`. Returns a
+/// pair of regions with the same bytes, or None if the regions of this pair differ. Requires: the
+/// files together have fewer than 2^64 bytes, both regions of each pair are within their files, and
+/// the regions of `compared` have the same bytes.
 fn compare_pair(
     file: &[u8],
     other: &[u8],
@@ -78,7 +80,8 @@ fn begins_within(compared: RegionPair, pair: RegionPair) -> bool
     pair.distance == compared.distance && compared.begin <= pair.begin && pair.begin <= compared.end
 }
 
-/// Returns whether the two regions of a pair have the same bytes.
+/// Returns whether the two regions of a pair have the same bytes. Requires: the files together have
+/// fewer than 2^64 bytes, and both regions are within their files.
 fn is_same_pair(file: &[u8], other: &[u8], pair: RegionPair) -> bool
     requires small { length other.now + length file.now < 2 ^ 64 }
     requires within { AreInFiles file.now other.now pair }

@@ -21,7 +21,10 @@ use bi_lay::Doc;
 use std::alloc::{AllocError, Global};
 
 /// Adds the children of an image node, with all nodes below them. If the image is hashed, its hash
-/// nodes get the first of these digests. Returns the bytes after them.
+/// nodes get the first of these digests. Returns the bytes after them. Requires: the order is that
+/// of the blob of the node, by the names of the document; if the image is hashed, there is a digest
+/// for each of its hash nodes with a known algorithm; no node below it has two properties with the
+/// same name; and the children may come next in the document.
 pub(super) fn add_children_with_digests<'a>(
     alloc: Global,
     doc: &mut Doc<'a>,
@@ -53,7 +56,9 @@ pub(super) fn add_children_with_digests<'a>(
 
 /// Adds a child of an image node, with all nodes below it. If the image is hashed, and this is a
 /// hash node with a known algorithm, its value is the first of these digests. Returns the bytes
-/// after it.
+/// after it. Requires: the order is that of the blob of the node, by the names of the document;
+/// there is such a digest, if it is needed; none of these nodes has two properties with the same
+/// name; and the child may come next in the document.
 fn add_child_with_digest<'a>(
     alloc: Global,
     doc: &mut Doc<'a>,

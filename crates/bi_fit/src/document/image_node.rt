@@ -52,7 +52,10 @@ pub(crate) struct NodeChildren<'a, 'b> {
 
 /// Adds an image node, with all nodes below it, as a child of the innermost open node. Its payload
 /// follows those of the area, and the node has the properties that give the payload. Returns the
-/// digests after those of its hash nodes, or no digests if the children are given.
+/// digests after those of its hash nodes, or no digests if the children are given. Requires: the
+/// names of the document are those of the properties, the area ends within the longest text, the
+/// payload has fewer than 2^32 bytes unless the form is Embedded, and the node may come next in the
+/// document, with its children.
 ///
 /// Fails if memory runs out. What the document then has is not specified. The area has the payload.
 pub(crate) fn add_image_node<'a>(
@@ -86,7 +89,9 @@ pub(crate) fn add_image_node<'a>(
 }
 
 /// Adds the children of an image node, with all nodes below them. Returns the digests after those
-/// of the hash nodes. Fails if memory runs out.
+/// of the hash nodes. Fails if memory runs out. Requires: the children are by the names of the
+/// document; there are digests for their hash nodes, if they get new ones; no node of a file among
+/// them has two properties with the same name; and the children may come next in the document.
 fn add_image_children<'a>(
     alloc: Global,
     doc: &mut Doc<'a>,

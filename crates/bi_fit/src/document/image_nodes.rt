@@ -24,8 +24,11 @@ use bi_fdt::NodeRef;
 use bi_lay::Doc;
 use std::alloc::{AllocError, Global};
 
-/// Adds a node with all nodes below it, as a child of the innermost open node. Its children are
-/// the nodes of the images.
+/// Adds a node with all nodes below it, as a child of the innermost open node. Its children are the
+/// nodes of the images. Requires: the order is that of the blob of the node, by the names of the
+/// document; its children are the nodes of the images of the parts, with their digests; unless the
+/// form is Embedded, the payloads end within the longest text; none of these nodes has two
+/// properties with the same name; and the nodes may come next in the document.
 pub(super) fn add_images<'a>(
     alloc: Global,
     doc: &mut Doc<'a>,
@@ -47,7 +50,10 @@ pub(super) fn add_images<'a>(
 }
 
 /// Adds the children of a node, which are the nodes of the images, with all nodes below them, as
-/// children of the innermost open node.
+/// children of the innermost open node. Requires: the order is that of the blob of the node, by the
+/// names of the document; its children are the nodes of the images of the parts, with their
+/// digests; unless the form is Embedded, the payloads end within the longest text; no node below it
+/// has two properties with the same name; and the children may come next in the document.
 fn add_image_nodes<'a>(
     alloc: Global,
     doc: &mut Doc<'a>,

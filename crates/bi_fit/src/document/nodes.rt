@@ -31,6 +31,9 @@ pub(crate) struct Leaf<'a, 'b> {
 }
 
 /// Begins a node with its properties, as a child of the innermost open node or as the root.
+/// Requires: the order is that of the blob of the node, by the names of the document; no two
+/// properties of the node have the same name; and the node and its properties may come next in the
+/// document.
 pub(super) fn begin_node<'a>(
     alloc: Global,
     doc: &mut Doc<'a>,
@@ -69,8 +72,8 @@ pub(crate) fn begin_with<'a>(
     properties.add_to(doc)
 }
 
-/// Adds nodes without children, in their order, as children of the innermost open node. Requires: the
-/// properties are by the names of the document, and each node may be added.
+/// Adds nodes without children, in their order, as children of the innermost open node. Requires:
+/// the properties are by the names of the document, and each node may be added.
 pub(crate) fn add_leaves<'a>(doc: &mut Doc<'a>, leaves: &[Leaf<'a, '_>]) -> Result<(), AllocError>
     requires names { AllByRecursion (λ leaf. doc.old.names ≡ leaf.properties.names) leaves.now }
     requires may { MayAdd doc.old (events (leaf_nodes (map leaf_model leaves.now))) }
@@ -84,7 +87,8 @@ pub(crate) fn add_leaves<'a>(doc: &mut Doc<'a>, leaves: &[Leaf<'a, '_>]) -> Resu
 }
 
 /// Adds a node with the given name, the given properties and no children, as a child of the
-/// innermost open node.
+/// innermost open node. Requires: the names of the document are those of the properties, and the
+/// node may come next in the document.
 fn add_leaf<'a>(
     doc: &mut Doc<'a>,
     name: &'a [u8],
@@ -100,7 +104,9 @@ fn add_leaf<'a>(
     Ok(())
 }
 
-/// Adds a node, with all nodes below it, as a child of the innermost open node.
+/// Adds a node, with all nodes below it, as a child of the innermost open node. Requires: the order
+/// is that of the blob of the node, by the names of the document; none of these nodes has two
+/// properties with the same name; and the nodes may come next in the document.
 #[cycle(nodes)]
 pub(super) fn add_node<'a>(
     alloc: Global,
@@ -121,6 +127,8 @@ pub(super) fn add_node<'a>(
 }
 
 /// Adds the children of a node, with all nodes below them, as children of the innermost open node.
+/// Requires: the order is that of the blob of the node, by the names of the document; no node below
+/// it has two properties with the same name; and the children may come next in the document.
 #[cycle(nodes)]
 pub(super) fn add_children<'a>(
     alloc: Global,

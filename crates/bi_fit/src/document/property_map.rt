@@ -65,8 +65,9 @@ impl<'a, 'b> PropertyMap<'a, 'b> {
         }
     }
 
-    /// Returns the properties of a node of the blob that the order is of. Compares no names. Fails
-    /// if memory runs out.
+    /// Returns the properties of a node, by an order of names. Compares no names. Fails if memory
+    /// runs out. Requires: the order is that of the blob of the node, and no two of its properties
+    /// have the same name.
     pub(super) fn from_node(
         alloc: Global,
         node: NodeRef<'a, '_>,
@@ -93,7 +94,8 @@ impl<'a, 'b> PropertyMap<'a, 'b> {
     }
 
     /// Adds a property, or sets the value of the property with this name. The name is given by its
-    /// rank. Compares the rank with those before it.
+    /// rank. Compares the rank with those before it. Requires: the names of the map have a name
+    /// with this rank.
     ///
     /// Fails if memory runs out. Which properties the map then has is not specified.
     pub(crate) fn insert(&mut self, rank: usize, value: Value<'a>) -> Result<(), AllocError>
@@ -114,9 +116,9 @@ impl<'a, 'b> PropertyMap<'a, 'b> {
     /// Gives an image node this payload instead of any other, or none. Removes `data`,
     /// `data-offset`, `data-position` and `data-size`, and adds the properties of the payload. In
     /// the form Embedded, that is `data`, which has its bytes. In the other forms, these are
-    /// `data-offset`, which is `begin`, and `data-size`. `begin` is the offset of an external payload
-    /// in bytes from the end of the blob. Requires: unless the form is Embedded, the payload has
-    /// fewer than 2^32 bytes.
+    /// `data-offset`, which is `begin`, and `data-size`. `begin` is the offset of an external
+    /// payload in bytes from the end of the blob. Requires: unless the form is Embedded, the
+    /// payload has fewer than 2^32 bytes.
     ///
     /// Fails if memory runs out. Which properties the map then has is not specified.
     pub(super) fn set_payload(
@@ -161,7 +163,8 @@ impl<'a, 'b> PropertyMap<'a, 'b> {
     }
 
     /// Sets the value of a hash node to the first of these digests, if there is an algorithm.
-    /// Returns the bytes after that digest.
+    /// Returns the bytes after that digest. Requires: if there is an algorithm, the digests have at
+    /// least as many bytes as a digest with it.
     ///
     /// Fails if memory runs out. Which properties the map then has is not specified.
     pub(super) fn set_digest(
@@ -229,7 +232,7 @@ fn entries_of<'a>(
 }
 
 /// Adds a property to the innermost open node. The name is given by its rank. Fails if memory runs
-/// out.
+/// out. Requires: the node may have a property with this name next.
 fn add_entry<'a>(doc: &mut Doc<'a>, entry: (usize, Value<'a>)) -> Result<(), AllocError>
     requires { let name = name_numbered doc.old.names entry.0 in
         MayHaveNextProperty name (stage_of_events doc.old.events) }

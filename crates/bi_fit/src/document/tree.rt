@@ -22,7 +22,12 @@ use bi_lay::Doc;
 use std::alloc::{AllocError, Global};
 
 /// Adds the tree with this root, with the changes of the parts. If the digests change, the hash
-/// nodes get the digests of the parts.
+/// nodes get the digests of the parts. Requires: the order is that of the blob of the root, by the
+/// names of the document; the children of the node `images` are the nodes of the images of the
+/// parts, with their digests; `parts.images_position` is the position of that node among the
+/// children of the root; unless the form is Embedded, the payloads end within the longest text;
+/// none of these nodes has two properties with the same name; and the tree may come next in the
+/// document.
 pub(super) fn add_tree<'a>(
     alloc: Global,
     doc: &mut Doc<'a>,
@@ -46,7 +51,8 @@ pub(super) fn add_tree<'a>(
     Ok(())
 }
 
-/// Adds the children of the root, with all nodes below them.
+/// Adds the children of the root, with all nodes below them. Requires: what `add_tree` requires,
+/// for the nodes below the root.
 fn add_root_children<'a>(
     alloc: Global,
     doc: &mut Doc<'a>,
@@ -80,7 +86,11 @@ fn after_one(count: Option<usize>) -> Option<usize>
 }
 
 /// Adds a child of the root, with all nodes below it. The children of the node `images` are the
-/// nodes of the images.
+/// nodes of the images. Requires: the order is that of the blob of the node, by the names of the
+/// document; `is_images` is whether the node has the name `images`, and its children are then the
+/// nodes of the images of the parts, with their digests; unless the form is Embedded, the payloads
+/// end within the longest text; none of these nodes has two properties with the same name; and the
+/// node may come next in the document.
 fn add_root_child<'a>(
     alloc: Global,
     doc: &mut Doc<'a>,

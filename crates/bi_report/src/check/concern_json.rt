@@ -69,7 +69,8 @@ fn put_unhashed_object<S: Sink>(image: NodeRef, sink: &mut S) -> Result<(), Erro
     put_object(&members, sink)
 }
 
-/// Appends the object of a key of a configuration whose value is no list. Fails as the sink does.
+/// Appends the object of a key of a configuration whose value is not a list. Fails as the sink
+/// does.
 fn put_bad_key_object<S: Sink>(configuration: NodeRef, key: Key, sink: &mut S) -> Result<(), Error>
     ensures { Wrote S.appends S.fails sink.old
         (concern_object (BadKey (node_of configuration.entry).name key)) result sink.new }

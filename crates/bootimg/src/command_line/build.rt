@@ -128,10 +128,10 @@ fn parse_parts<'a>(alloc: Global, arguments: &[&'a str]) -> Result<Vec<PartSourc
 
 /// Returns what `build-fit` builds.
 ///
-/// Errors, the first that applies: BadValue, if the time is no number, there is no such form, the
-/// default names none of the configurations, or an algorithm is unknown or given twice; BadImage at
-/// the first argument that is no image; BadConfiguration at the first word that is no
-/// configuration, or one that cannot be built. Or OutOfMemory.
+/// Errors, the first that applies: BadValue, if the time is not a number, there is no such form,
+/// the default names none of the configurations, or an algorithm is unknown or given twice;
+/// BadImage at the first argument that is not an image; BadConfiguration at the first word that is
+/// not a configuration, or one that cannot be built. Or OutOfMemory.
 pub fn fit_plan<'a>(alloc: Global, options: &ArgMatches<'a>) -> Result<FitPlan<'a>, NoRequest>
     ensures plan { IfOk result (IsFitPlan options.now) }
     ensures lengths { IfOk result (λ plan. length plan.payloads.items
@@ -173,7 +173,7 @@ struct BuiltImages<'a> {
 }
 
 /// Parses images, and where their payloads come from. Fails with BadImage at the first argument
-/// that is no image, or with OutOfMemory.
+/// that is not an image, or with OutOfMemory.
 fn parse_images<'a>(alloc: Global, arguments: &[&'a str]) -> Result<BuiltImages<'a>, NoRequest>
     ensures images { IfOk result (λ built. AreImages (texts_of arguments.now) built.images.items
         built.texts.items built.payloads.items) }

@@ -76,9 +76,9 @@ fn names_under<'r>(lists: &'r [KeyList<'_>], key: Key) -> &'r [&'r [u8]]
     &[]
 }
 
-/// Parses configurations of these images. Fails with BadConfiguration at the first word that is no
-/// configuration, that lists a name that no image has, or whose name is not allowed or is that of a
-/// configuration before it, or with OutOfMemory.
+/// Parses configurations of these images. Fails with BadConfiguration at the first word that is not
+/// a configuration, that lists a name that no image has, or whose name is not allowed or is that of
+/// a configuration before it, or with OutOfMemory.
 pub fn parse_configurations<'a>(
     alloc: Global,
     words: &[&'a str],
@@ -136,8 +136,8 @@ fn parse_configuration<'a>(
     })
 }
 
-/// Parses lists, with a colon between each two. Fails with the given failure at a text that is no
-/// list, or whose key a list before it has, or with OutOfMemory.
+/// Parses lists, with a colon between each two. Fails with the given failure at a text that is not
+/// a list, or whose key a list before it has, or with OutOfMemory.
 fn parse_lists<'a>(
     alloc: Global,
     text: &'a str,
@@ -179,7 +179,7 @@ fn parse_list<'a>(alloc: Global, text: &'a str, bad: Failure) -> Result<KeyList<
     })
 }
 
-/// Splits a list after its key. Returns None if the text is no list.
+/// Splits a list after its key. Returns None if the text is not a list.
 fn split_list(text: &str) -> Option<(Key, &str)>
     ensures some { IfSome result (λ split.
         text.now ≡ key_name split.0 ++ (codes "=" ++ split.1.now)) }

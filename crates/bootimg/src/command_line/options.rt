@@ -73,7 +73,7 @@ pub fn format(options: &ArgMatches<'_>) -> Format
 }
 
 /// Returns the number that is the value of an option, and 0 if it has none. Fails with BadValue if
-/// the value is no number.
+/// the value is not a number.
 pub fn number(options: &ArgMatches<'_>, id: &str) -> Result<u32, Failure>
     ensures value { IfOk result (IsNumber (value_of options.now id.now (codes "0"))) }
     ensures bad { IfErr result (IsBadValue

@@ -9,7 +9,7 @@ use bi_commands::update::Changes;
 use clap::ArgMatches;
 
 /// Returns the changes that the options request. Fails with NoChange if there are none, else with
-/// BadValue if the time is no number.
+/// BadValue if the time is not a number.
 pub fn changes(options: &ArgMatches<'_>) -> Result<Changes, Failure>
     ensures changes { IfOk result (IsChanges options.now) }
     ensures failure { IfErr result (IsChangesFailure options.now) }
