@@ -1,8 +1,9 @@
 #!/bin/sh
 # Checks that each piece of wrong code can be made in the sources: each text of an edit is in its file once, and the sources have the
 # function that it names. Nothing is proved. The tables in tests/prover/README.md have the pieces of their crates, and no
-# others. Then changes a source and a table in a copy, and shows that this is found. At last the judge of wrong code is tried, on what
-# rattle prints of each kind of edit. The script needs python3, and installs Debian's if it is missing and the script runs as root.
+# others. Then changes a source and a table in a copy, and shows that this is found. Then the judge of wrong code is tried, on what
+# rattle prints of each kind of edit, and at last wrong_bodies.sh, on what a judge prints. The script needs python3, and installs
+# Debian's if it is missing and the script runs as root.
 set -u
 
 root=$(cd "$(dirname "$0")/../.." && pwd)
@@ -10,7 +11,7 @@ root=$(cd "$(dirname "$0")/../.." && pwd)
 
 need python3 python3
 work_in_new_directory
-copy_here 'crates/*/src' 'crates/*/must-fail' tests/prover/wrong_bodies tests/prover/README.md
+copy_here crates.txt 'crates/*/src' 'crates/*/must-fail' tests/checks tests/setup tests/kit tests/prover
 
 # can_be_made CRATE EDITS: each edit in this file or directory can be made in this crate of the copy.
 can_be_made() {
@@ -154,8 +155,57 @@ tail -n 2 src/sums.rt > "$TMPDIR/last"
 sed -n 's/^fn \(differs_[0-9]*\).*/test \1 ... ok/p' src/sums.rt
 END
 is_renamed() {
-    TMPDIR=$PWD python3 -B "$root/tests/prover/wrong_bodies.py" --differs named named.edits "$PWD/rattle" named
-    grep -F 'matches!(new(Sum::new_wrong_1(Limits::new(1))).new(), 2)' last
+    TMPDIR=$PWD python3 -B "$root/tests/prover/wrong_bodies.py" --differs named named.edits "$PWD/rattle" named &&
+        grep -F 'matches!(new(Sum::new_wrong_1(Limits::new(1))).new(), 2)' last
 }
 check "only the function of an edit is replaced by its copy" is_renamed
+
+# wrong_bodies.sh in the copy, where the judge prints the lines in the file `said` and ends with the status in the file `status`, and
+# where rt builds nothing.
+cat > copy/tests/prover/wrong_bodies.py << END
+import sys
+
+print(open("$work/said").read(), end="")
+sys.exit(int(open("$work/status").read()))
+END
+mkdir bin
+echo '#!/bin/sh' > bin/rt
+chmod +x bin/rt
+
+# counts_of SAID STATUS ARGUMENT..: runs the script with these arguments, where the judge prints this and ends with this status.
+counts_of() {
+    printf '%s\n' "$1" | sed '/^$/d' > said
+    echo "$2" > status
+    shift 2
+    PATH=$PWD/bin:$PATH copy/tests/prover/wrong_bodies.sh "$@" > found 2>&1
+}
+
+# is_passed SAID STATUS ARGUMENT..: the script then succeeds, and prints its counts alone.
+is_passed() {
+    counts_of "$@" && grep -qx '[1-9][0-9]* passed, 0 failed' found && [ "$(wc -l < found)" = 1 ] || { cat found; false; }
+}
+
+# is_failed LINE SAID STATUS ARGUMENT..: the script then fails, prints this line, and counts a failure.
+is_failed() {
+    line=$1
+    shift
+    counts_of "$@"
+    [ $? = 1 ] && grep -Fqx -e "$line" found && tail -n 1 found | grep -qx '[0-9]* passed, [1-9][0-9]* failed' || { cat found; false; }
+}
+
+all=$(sed -n 's|^## \(.*\)|refused: bi_hash/\1: as it has to be|p' copy/tests/prover/wrong_bodies/bi_hash.edits)
+same="FAILED: bi_hash/digest: the value with the edit is another one"
+ended="FAILED: bi_hash: ended with status 3"
+check "wrong code that is refused passes" is_passed "$all" 0 bi_hash
+first=$(echo "$all" | sed -n '1s|refused: \(.*\): .*|\1|p')
+check "a piece without a line fails" is_failed "FAILED: $first is refused" "$(echo "$all" | sed 1d)" 0 bi_hash
+check "a line on an input fails beside pieces that are refused" is_failed "$same" "$all
+$same" 1 bi_hash
+check "a judge that stops fails after pieces that are refused" is_failed "$ended" "$all" 3 bi_hash
+check "inputs on which all differ pass" is_passed "" 0 --differs bi_hash
+check "an input on which nothing differs fails" is_failed "$same" "$same" 1 --differs bi_hash
+check "a judge that stops fails without a line" is_failed "$ended" "" 3 --differs bi_hash
+check "what is found is printed" is_failed "$ended" "$all" 3 --judge bi_hash
+rm copy/tests/prover/wrong_bodies/bi_hash.edits
+check "a crate whose wrong code is not there fails" is_failed "$ended" "no such file" 3 bi_hash
 finish

@@ -65,18 +65,31 @@ work_in_new_directory
 # Tries the wrong bodies of the crate $2. What they give is in the file $2.log.
 try='
     here=$1/tests/prover
-    python3 "$here/wrong_bodies.py" $mode "$1/crates/$2" "$here/wrong_bodies/$2.edits" "$here/wrong_bodies.sh" "$2" > "$2.log" 2>&1'
+    python3 "$here/wrong_bodies.py" $mode "$1/crates/$2" "$here/wrong_bodies/$2.edits" "$here/wrong_bodies.sh" "$2" > "$2.log" 2>&1 ||
+        echo "FAILED: $2: ended with status $?" >> "$2.log"'
+
+# tries_each CRATE..: tries the wrong bodies of these crates.
+tries_each() {
+    printf '%s\n' "$@" | awk '!seen[$0]++' | xargs -n 1 -P "$(nproc)" sh -c "$try" sh "$root"
+}
+
+# has_no_failure LOG: this file is there, and has no line of a failure. If only the lines `differs:` are tried, it is empty.
+has_no_failure() {
+    [ -f "$1" ] && if [ "$mode" = --differs ]; then [ ! -s "$1" ]; else ! grep -q '^FAILED: ' "$1"; fi
+}
+
 # The crates that take longest are the first.
 [ $# != 0 ] || set -- bootimg bi_report bi_c bi_fit $(basename -s .edits "$here"/wrong_bodies/*)
-printf '%s\n' "$@" | awk '!seen[$0]++' | xargs -n 1 -P "$(nproc)" sh -c "$try" sh "$root"
-for log in *.log; do
-    [ -e "$log" ] || continue
-    crate=${log%.log}
-    [ "$mode" != --judge ] || cat "$log"
-    [ "$mode" != --differs ] || check "what differs in $crate does" test ! -s "$log"
+check "each crate is tried" tries_each "$@"
+for crate in $(printf '%s\n' "$@" | sort -u); do
+    log=$crate.log
+    check "what is tried in $crate has no failure" has_no_failure "$log"
     for name in $(sed -n 's/^## //p' "$here/wrong_bodies/$crate.edits"); do
         [ -z "$wanted" ] || check "$crate/$name is $wanted" grep -F "$wanted: $crate/$name: " "$log"
     done
-    grep -v "^${wanted:-.*}: " "$log"
+    case $mode in
+    --differs | --judge) cat "$log" ;;
+    *) grep -v "^$wanted: " "$log" ;;
+    esac
 done
 finish
