@@ -1,6 +1,6 @@
 #!/bin/sh
-# Tries ./test in a copy, with a stub instead of each script and of rt: which scripts its arguments start, in which order, what it
-# prints if one fails, and how it ends. A run takes less than a second.
+# Tries ./test in a copy, with a stub instead of each script and of rt: which scripts its arguments start, in which order, which of them
+# wait for `rt ci`, what it prints if one fails, and how it ends. A run takes less than a second, and one in which rt is slow takes two.
 set -u
 
 root=$(cd "$(dirname "$0")/../.." && pwd)
@@ -9,13 +9,16 @@ root=$(cd "$(dirname "$0")/../.." && pwd)
 work_in_new_directory
 started=$work/started
 broken=$work/broken
-export started broken
+slow=$work/slow
+export started broken slow
 
-# stub PATH NAME: makes a program that adds this name to the file `started`, and fails if the file `broken` has it.
+# stub PATH NAME: makes a program that adds this name to the file `started`, and fails if the file `broken` has it. It waits before if the
+# file `slow` has the name.
 stub() {
     mkdir -p "$(dirname "$1")"
     printf '#!/bin/sh\nname=%s\n' "$2" > "$1"
     cat >> "$1" << 'END'
+! grep -Fqx "$name" "$slow" || sleep 2
 echo "$name${1:+ $*}" >> "$started"
 ! grep -Fqx "$name" "$broken"
 END
@@ -29,6 +32,7 @@ for script in $scripts; do
 done
 stub bin/rt rt
 : > broken
+: > slow
 PATH=$work/bin:$PATH
 
 # run STATUS ARGUMENT..: ./test with these arguments, from another directory, ends with this status.
@@ -57,6 +61,24 @@ printf '%s\n' $scripts | sort > all
 { echo "rt ci" && grep -v '^tests/boots/' all; } | sort > everything
 check "the gate" starts everything
 check "the scripts of costs are the last" is_last
+
+# A script that needs what `rt ci` builds calls a function for that. Its name is not written here, since this script needs nothing.
+needing=$(cd "$root" && grep -l 'need[_]' $scripts)
+for script in $needing; do
+    printf '# %s_libraries\n' need >> "$script"
+done
+
+# wait_for_proofs: until `rt ci` ends, the gate starts only scripts of fast and of calls without such a call, and it starts some.
+wait_for_proofs() {
+    echo rt > slow
+    starts everything
+    status=$?
+    : > slow
+    grep -e '^tests/fast/' -e '^tests/calls/' all | grep -Fxv "$needing" > beside
+    sed '/^rt ci$/,$d' started > before
+    [ "$status" = 0 ] && [ -s before ] && ! grep -Fxv -f beside before
+}
+check "the scripts that need what rt ci builds wait for it" wait_for_proofs
 
 for group in fast tools calls prover costs boots; do
     grep "^tests/$group/" all > wanted
