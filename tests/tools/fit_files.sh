@@ -110,8 +110,7 @@ gives("the same with the alignment of the form", offset, external, "normalise", 
 gives("its listing", offset, b"kind fit\nboot-cpu 0\ntotal-size 157\nimage a size 3 data-offset at 160\n", "list")
 gives("its payload", offset, b"abc", "extract", "--image", "a")
 
-# The note has the greatest power of two up to 2^20 that divides the offset, where the offset in the external form, 156, is none of its
-# multiples.
+# The note has the greatest power of two up to 2^20 that divides the offset, if it does not divide the offset in the external form, 156.
 def placed_at(offset):
     """The file of one image whose payload is at this offset."""
     blob = external[:-3]
@@ -120,9 +119,10 @@ def placed_at(offset):
 
 for power in range(2, 23):
     alignment = min(2**power, 2**20)
-    for at in 2**power, 3 * 2**power:
-        if at < len(external):
-            continue
+    # The first two odd multiples after the external form.
+    odd = len(external) // 2**power + 1 | 1
+    for at in odd * 2**power, (odd + 2) * 2**power:
+        judge(f"{at} is after the tree", at >= len(external))
         notes = [not_aligned(alignment)] if power > 2 else []
         for command in ["normalise"], ["update", "--hashes"]:
             gives(f"a payload at {at}, {command[0]}", placed_at(at), external, *command, "--external", notes=notes)

@@ -38,6 +38,13 @@ same_each() {
     done
 }
 
+# with_time VALUE COMMAND..: runs the command with this value of SOURCE_DATE_EPOCH.
+with_time() (
+    export SOURCE_DATE_EPOCH="$1"
+    shift
+    "$@"
+)
+
 # names OPTION: prints the names that mkimage lists for an option.
 names() {
     "$real" "$1" list 2>&1 | awk '/supported are:$/ { on = 1; next } /^$/ { on = 0 } on { print $1 }'
@@ -133,6 +140,7 @@ same_tree_of() {
     source=$1 form=
     shift
     [ "${1-}" != -E ] || form=--external
+    rm -f wanted got
     "$real" -f "$source" "$@" wanted > log 2>&1 && "$stand_in" -f "$source" "$@" got > log 2> errors || { cat log; return 1; }
     [ ! -s errors ] || { cat errors; return 1; }
     "$root/bootimg" normalise $form < wanted 2> log | cmp - got
@@ -145,7 +153,16 @@ check "with -t" same_tree -t
 mkdir parts
 cp data parts/inner
 sed 's/("data")/("inner")/' tree.its > inner.its
-check "a payload that dtc does not find" sh -c '! "$1" -f inner.its got' sh "$stand_in"
+
+# dtc_fails FILE SOURCE: dtc names this file, which it cannot open, and the stand-in says that dtc refuses the source. It writes nothing
+# else, and its status is 1.
+dtc_fails() {
+    rm -f got
+    "$stand_in" -f "$2" got > output 2> errors
+    [ $? = 1 ] && [ ! -e got ] && [ ! -s output ] && sed '$d' errors | grep -Fq "\"$1\"" &&
+        [ "$(tail -n 1 errors)" = "mkimage: dtc refuses $2" ] || { cat output errors; false; }
+}
+check "a payload that dtc does not find" dtc_fails inner inner.its
 check "with options of dtc" same_tree_of inner.its -D "-I dts -O dtb -p 2000 -i parts"
 check "a flattened image tree" same_tree
 check "its digests are good" sh -c '"$1" verify < got | tail -n 1 | grep -Fq "summary good 9 bad 0"' sh "$root/bootimg"
@@ -180,7 +197,7 @@ check "with the payloads after the tree" same_auto -E $kernel -b first.dtb -b se
 check "they are after it" sh -c '"$1" list < got | grep -Fq "image fdt-2 size $(wc -c < second.dtb) data-offset at "' sh "$root/bootimg"
 check "with aligned payloads" same_auto -E -B 1000 $kernel -b first.dtb
 check "the first is aligned" sh -c '"$1" list < got | grep -Eq "^image kernel-1 size 5001 data-offset at (4096|8192)$"' sh "$root/bootimg"
-check "without a time" env SOURCE_DATE_EPOCH= "$stand_in" -q -f auto $kernel got
+check "without a time" with_time "" same_auto $kernel
 for type in standalone kernel ramdisk multi firmware script filesystem kernel_noload; do
     check "-f auto of type $type" same_auto -A ppc -O u-boot -T "$type" -C gzip -a 0x100 -d data -b first.dtb
 done
@@ -255,12 +272,12 @@ check "an empty part is refused" refuses "empty is empty, or cannot be read" -T 
 check "a bad address" refuses "-a takes a hexadecimal number, not '8000h'" -a 8000h -d data
 check "an address of more than 32 bits" refuses "-e takes a number of at most 32 bits" -e 0x100000000 -d data
 check "a name that is not UTF-8" refuses "is not UTF-8" -n "$(printf '\377')" -d data
-check "a time that is no number" env SOURCE_DATE_EPOCH=now sh -c '! "$1" -d data got' sh "$stand_in"
+check "a time that is not a number" with_time now refuses "SOURCE_DATE_EPOCH is not a number: now" -d data
 check "a value that is missing" sh -c '"$1" got -d 2>&1 | grep -Fqx "mkimage: -d needs a value"' sh "$stand_in"
 sed 's/sha384/blake/' tree.its > unknown.its
 check "an unknown hash" refuses "hash nodes of 'blake'" -f unknown.its
 sed 's/hash@1/cipher/' tree.its > cipher.its
 check "encryption" refuses "which this stand-in for mkimage cannot do" -f cipher.its
-check "a source that is missing" sh -c '! "$1" -f missing.its got' sh "$stand_in"
+check "a source that is missing" dtc_fails missing.its missing.its
 
 finish
