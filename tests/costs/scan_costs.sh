@@ -2,8 +2,9 @@
 # Scans large files. Every image of examples/ is put at odd offsets into noise: scan has to print what a search finds that tries each
 # offset with a magic by the independent reader of tests/conformance. Then it measures how long scan takes beside list of an image of
 # the same length: 64 MiB of noise with 10,000 magics that begin no image, a million small images, and headers inside one another, which
-# are refused since they claim more than the limit. It fails if one of them takes more than twice as long, beside list, as was measured:
-# 1.3, 8 and 1.1 times list. Each time is the least of five rounds. The script needs python3.
+# are refused since they claim more than the limit. It fails if they take more than 2.6, 18 or 3 times as long as list. That is twice what
+# was measured, or more: 1.3, 8 and 1.1 times. There are five rounds. How many times as long the noise takes is the median of the rounds,
+# and the others are compared by the least of their times. The script needs python3.
 set -u
 
 root=$(cd "$(dirname "$0")/../.." && pwd)
