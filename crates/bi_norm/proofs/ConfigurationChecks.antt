@@ -18,7 +18,7 @@ use Rattle.bi_fit.specs.Building.{ConfigurationSpecModel, configuration_names, I
 use Rattle.bi_fit.specs.NamedImages.{names_listed, configuration_spec_model, configuration_spec_models}
 use Rattle.bi_norm.specs.FitBuilding.{BuildCheck, ListsImages, HasNewConfigurationName, IndexedConfiguration, configuration_checks}
 use Rattle.bi_norm.specs.FitBuilding.{ListsOnly}
-use Rattle.bi_norm.specs.BuildChecks.{AllPass, IsFirstFailure, holds_name, lists_only}
+use Rattle.bi_norm.specs.BuildChecks.{AllPass, IsFirstFailure, holds_name}
 use Rattle.bi_norm.proofs.LeftChecks.{AreLeftChecks, all_checks_left, fails_first, left_after}
 
 -- If the configurations before one pass their checks, a fault of it is the first of all, and otherwise the configurations after it decide.
@@ -139,6 +139,13 @@ all_among_back : (set : BTreeSet (Bor (List ℕ))) (held : List (List ℕ)) → 
 all_among_back set held holds [] are = refl
 all_among_back set held holds (name ∷ later) are =
     both_true (holds.each name ∙ are.0) (all_among_back set held holds later are.1)
+
+-- Whether a set has each name that a configuration lists.
+abbrev lists_only : BTreeSet (Bor (List ℕ)) → ConfigurationSpec → Bool
+lists_only set configuration =
+    list_all (λ names. list_all (holds_name set) names.now)
+    (configuration.kernel ∷ configuration.fdt ∷ configuration.ramdisk ∷ configuration.firmware
+    ∷ configuration.loadables ∷ configuration.script ∷ [])
 
 module _ (set : BTreeSet (Bor (List ℕ))) (held : List (List ℕ)) (holds : HoldsNames set held) (configuration : ConfigurationSpec) where
   abbrev In : Bor (List (Bor (List ℕ))) → Bool

@@ -2,7 +2,6 @@ use Rattle.std.specs.Prelude.{ℕ, Bool, List, [], ◌∷◌, Option}
 use Rattle.std.specs.Borrow.{Bor}
 use Rattle.std.specs.BTreeSet.{BTreeSet, contains}
 use Rattle.std.specs.Cmp.Lexicographic.{slice_cmp}
-use Rattle.std.specs.List.{list_all}
 use Rattle.std.specs.Option.{option_map}
 use Rattle.std.specs.Ordering.{nat_cmp}
 use Rattle.bi_base.specs.Errors.{FailsWith}
@@ -12,7 +11,6 @@ use Rattle.bi_base.specs.Cells.{AreBytes}
 use Rattle.bi_base.specs.Checks.{IsFirstFault, HasNoFault}
 use Rattle.bi_base.specs.Limits.{Limits}
 use Rattle.bi_fit.specs.declared.form.Form.{Form}
-use Rattle.bi_fit.specs.declared.building.ConfigurationSpec.{ConfigurationSpec}
 use Rattle.bi_fit.specs.declared.building.Head.{Head}
 use Rattle.bi_norm.specs.declared.fit_building.ImageSpec.{ImageSpec}
 use Rattle.bi_norm.specs.declared.fit_building.ImageTexts.{ImageTexts}
@@ -58,13 +56,6 @@ given_image spec texts = record { spec = spec; texts = option_map image_texts_mo
 -- Whether a set has a name.
 abbrev pub holds_name : BTreeSet (Bor (List ℕ)) → Bor (List ℕ) → Bool
 holds_name set name = contains (λ x y. slice_cmp nat_cmp x.now y.now) set name
-
--- Whether a set has each name that a configuration lists.
-abbrev pub lists_only : BTreeSet (Bor (List ℕ)) → ConfigurationSpec → Bool
-lists_only set configuration =
-    list_all (λ names. list_all (holds_name set) names.now)
-    (configuration.kernel ∷ configuration.fdt ∷ configuration.ramdisk ∷ configuration.firmware
-    ∷ configuration.loadables ∷ configuration.script ∷ [])
 
 -- Texts are bytes.
 pub record TextsAreBytes (texts : ImageTextsModel) : Type 0 where

@@ -1,6 +1,7 @@
 //! The checks of configurations to be built.
 
-ghost use Rattle.std.specs.Prelude.{◌≡◌, ◌^◌, ◌<◌, ℕ, List, [], length, bytes_eq, OnOk, IfErr};
+ghost use Rattle.std.specs.Prelude.{◌≡◌, ◌↔◌, ◌^◌, ◌<◌, ℕ, List, [], length, bytes_eq};
+ghost use Rattle.std.specs.Prelude.{IfErr, IsTrue, OnOk};
 ghost use Rattle.std.specs.List.{AllByRecursion, list_all, list_any};
 ghost use Rattle.std.specs.Option.{option_map};
 ghost use Rattle.bi_base.specs.declared.fault.Cause.TheVariants.{BadField};
@@ -8,10 +9,9 @@ ghost use Rattle.bi_base.specs.Errors.{IsFaultOrNoMemory};
 ghost use Rattle.bi_blob.specs.NameSets.{HoldsNames};
 ghost use Rattle.bi_blob.specs.Tree.{AreDistinct};
 ghost use Rattle.bi_fit.specs.Building.{IsConfigurationSpec, configuration_names};
-ghost use Rattle.bi_fit.specs.NamedImages.{configuration_spec_models};
-ghost use Rattle.bi_norm.specs.FitBuilding.{configuration_checks, HasKnownDefault};
+ghost use Rattle.bi_fit.specs.NamedImages.{configuration_spec_model, configuration_spec_models};
+ghost use Rattle.bi_norm.specs.FitBuilding.{configuration_checks, HasKnownDefault, ListsOnly};
 ghost use Rattle.bi_norm.specs.BuildChecks.{AllPass, IsFirstFailure, holds_name};
-ghost use Rattle.bi_norm.specs.BuildChecks.{lists_only as lists_only_of};
 
 use bi_base::{Cause, Error, Fault, are_bytes, refuse};
 use bi_blob::is_child_name;
@@ -57,9 +57,10 @@ pub(super) fn check_configurations(
     Ok(())
 }
 
-/// Returns whether each name that a configuration lists is in a set.
+/// Returns whether each name that a configuration lists, under whatever key, is in a set.
 pub fn lists_only(configuration: &ConfigurationSpec<'_>, image_names: &BTreeSet<&[u8]>) -> bool
-    ensures { result ≡ lists_only_of image_names.now configuration.now }
+    ensures { (held : List (List ℕ)) → HoldsNames image_names.now held
+        → IsTrue result ↔ ListsOnly held (configuration_spec_model configuration.now) }
 {
     let lists = [
         configuration.kernel,
@@ -69,7 +70,14 @@ pub fn lists_only(configuration: &ConfigurationSpec<'_>, image_names: &BTreeSet<
         configuration.loadables,
         configuration.script,
     ];
-    lists.iter().all(|names| are_among(names, image_names))
+    are_all_among(&lists, image_names)
+}
+
+/// Returns whether all names of each list are in a set.
+fn are_all_among(lists: &[&[&[u8]]], set: &BTreeSet<&[u8]>) -> bool
+    ensures { result ≡ list_all (λ names. list_all (holds_name set.now) names.now) lists.now }
+{
+    lists.iter().all(|names| are_among(names, set))
 }
 
 /// Returns whether all names are in a set.

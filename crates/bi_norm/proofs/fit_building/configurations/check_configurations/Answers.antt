@@ -9,7 +9,7 @@ use Rattle.bi_fit.specs.NamedImages.{configuration_spec_model, configuration_spe
 use Rattle.bi_norm.specs.FitBuilding.{ListsOnly}
 use Rattle.bi_norm.proofs.ConfigurationChecks.{no_configuration_model, no_configuration_spec, configuration_names_more, configuration_fails}
 use Rattle.bi_norm.proofs.ConfigurationChecks.{configuration_name_fails, configuration_passed, configurations_passed, configurations_can}
-use Rattle.bi_norm.proofs.ConfigurationChecks.{lists_only_is, lists_only_back, model_at, within_models, past_models}
+use Rattle.bi_norm.proofs.ConfigurationChecks.{model_at, within_models, past_models}
 use Rattle.bi_norm.proofs.fit_building.configurations.check_configurations.Goals as goal
 use Rattle.bi_norm.proofs.fit_building.configurations.check_configurations.Goals.{then-not-is_child_name-via-then-not-is_child_name}
 use Rattle.bi_norm.proofs.fit_building.configurations.check_configurations.Goals.{then-not-is_child_name-via-else-not-is_child_name+then-not-lists_only}
@@ -24,7 +24,7 @@ returns-then-not-is_child_name-clause-failed c = λ held holds.
       | then-not-is_child_name-via-then-not-is_child_name w ↦ λ both.
           true≢false (sym (c.is_child_name.ensures.1 both.0) ∙ w.if-not-is_child_name.true)
       | then-not-is_child_name-via-else-not-is_child_name+then-not-lists_only w ↦ λ both.
-          true≢false (sym (w.lists_only.ensures ∙ lists_only_back c.args.image_names.now held holds spec both.1) ∙ w.if-not-lists_only.true)
+          true≢false (sym ((w.lists_only.ensures held holds).1 both.1) ∙ w.if-not-lists_only.true)
     ] in
     let first = configuration_fails held models index no_configuration_model
     (within_models configurations index c.loop-index-test.true) (c.loop-index.invariant.passed held holds)
@@ -43,7 +43,7 @@ returns-then-not-branch-clause-failed c = λ held holds.
     let can : IsConfigurationSpec held (configuration_spec_model spec) = record {
       is_name = c.is_child_name.ensures.0 c.if-not-is_child_name.false;
       name_bytes = c.are_bytes.ensures;
-      of_images = lists_only_is c.args.image_names.now held holds spec (sym c.lists_only.ensures ∙ c.if-not-lists_only.false);
+      of_images = (c.lists_only.ensures held holds).0 c.if-not-lists_only.false;
     } in
     let has = not-false _ (sym c.in_ok-insert.ensures.added ∙ c.if-not-branch.true) in
     let old = HoldsNames-held c.loop-index.names spec.name names c.loop-index.invariant.names has in
@@ -75,7 +75,7 @@ loop-index-preserved c =
           let can : IsConfigurationSpec held (configuration_spec_model spec) = record {
             is_name = c.is_child_name.ensures.0 c.if-not-is_child_name.false;
             name_bytes = c.are_bytes.ensures;
-            of_images = lists_only_is c.args.image_names.now held holds spec (sym c.lists_only.ensures ∙ c.if-not-lists_only.false);
+            of_images = (c.lists_only.ensures held holds).0 c.if-not-lists_only.false;
           } in
           configuration_passed held models index no_configuration_model within (c.loop-index.invariant.passed held holds)
           (subst (IsConfigurationSpec held) here can)

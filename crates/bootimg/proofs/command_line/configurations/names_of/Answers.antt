@@ -1,4 +1,4 @@
-use Rattle.std.proofs.Common.{ap, map, subst, sym, take, get_or, [], ◌∷◌, ◌∙◌, Bor, None}
+use Rattle.std.proofs.Common.{ap, subst, sym, take, get_or, [], ◌∷◌, ◌∙◌, None}
 use Rattle.std.proofs.lemmas.List.{map-append, take_more}
 use Rattle.bi_blob.specs.NameSets.{HoldsNames}
 use Rattle.bi_blob.proofs.NameSets.{HoldsNames-insert}

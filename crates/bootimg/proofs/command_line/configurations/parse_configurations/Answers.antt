@@ -5,7 +5,6 @@ use Rattle.bi_blob.specs.Tree.{IsChildName}
 use Rattle.bi_blob.proofs.NameSets.{HoldsNames-insert, HoldsNames-new, HoldsNames-held}
 use Rattle.bi_fit.specs.Building.{configuration_names, IsConfigurationSpec}
 use Rattle.bi_norm.specs.FitBuilding.{names_of_specs, ListsOnly}
-use Rattle.bi_norm.proofs.ConfigurationChecks.{lists_only_is, lists_only_back}
 use Rattle.bootimg.specs.CommandLine.{texts_of, IsBad, IsBadConfiguration}
 use Rattle.bootimg.specs.ConfigurationWords.{configuration_model, configuration_models, IsConfigurationWord}
 use Rattle.bootimg.specs.declared.failure.Failure.TheVariants.{BadConfiguration}
@@ -39,15 +38,14 @@ returns-then-not-is_child_name-clause-failure c =
     let index = c.loop-index.index in
     let word = (get_or words index d).now in
     let configuration = c.in_ok-configuration.configuration in
-    let set = c.in_ok-image_names.image_names in
     let holds = c.in_ok-image_names.ensures in
     let fails : ¬ (IsChildName configuration.name.now × ListsOnly names (configuration_model configuration))
     = elim c.then-not-is_child_name.branch [
       | then-not-is_child_name-via-then-not-is_child_name w ↦ λ both.
           true≢false (sym (c.is_child_name.ensures.1 both.0) ∙ w.if-not-is_child_name.true)
       | then-not-is_child_name-via-else-not-is_child_name+then-not-lists_only w ↦ λ both.
-          true≢false (sym (w.lists_only.ensures ∙ lists_only_back set names holds w.spec.result
-          (subst (ListsOnly names) (sym w.spec.ensures) both.1)) ∙ w.if-not-lists_only.true)
+          true≢false (sym ((w.lists_only.ensures names holds).1 (subst (ListsOnly names) (sym w.spec.ensures) both.1))
+          ∙ w.if-not-lists_only.true)
     ] in
     inl (first_bad_word names words index d c.loop-index.configurations.items c.loop-index-test.true c.loop-index.invariant.are
     (cannot_build_word names (words_to words index) word configuration c.in_ok-configuration.ensures.configuration fails))
@@ -73,14 +71,13 @@ loop-index-preserved c =
     let index = c.loop-index.index in
     let configuration = c.in_ok-configuration.configuration in
     let earlier = configuration_names (configuration_models c.loop-index.configurations.items) in
-    let set = c.in_ok-image_names.image_names in
     let lacks = not-true _ (sym c.in_ok-insert.ensures.added ∙ c.if-not-branch.false) in
     let new = HoldsNames-new c.loop-index.names configuration.name earlier c.loop-index.invariant.names lacks in
     let can : IsConfigurationSpec names (configuration_model configuration) = record {
       is_name = c.is_child_name.ensures.0 c.if-not-is_child_name.false;
       name_bytes = c.are_bytes.ensures;
       of_images = subst (ListsOnly names) c.spec.ensures
-          (lists_only_is set names c.in_ok-image_names.ensures c.spec.result (sym c.lists_only.ensures ∙ c.if-not-lists_only.false));
+          ((c.lists_only.ensures names c.in_ok-image_names.ensures).0 c.if-not-lists_only.false);
     } in
     record {
       are = good_word names words index d c.loop-index.configurations.items c.push.new.self.items configuration c.loop-index-test.true
