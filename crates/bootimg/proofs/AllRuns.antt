@@ -8,8 +8,10 @@ use Rattle.bootimg.specs.declared.failure.Failure.{Failure}
 use Rattle.bootimg.specs.declared.failure.Failure.TheVariants.{Call}
 use Rattle.bootimg.specs.declared.jobs.SourceFailure.{SourceFailure}
 use Rattle.bootimg.specs.declared.tasks.Done.{Done}
-use Rattle.bootimg.specs.Directories.{IsDirectoryNotSaved, IsDirectorySaved, IsWithoutSlashes}
-use Rattle.bootimg.specs.Files.{FileStep, KnownFiles}
+use Rattle.bi_files.specs.declared.saving.SaveError.{SaveError}
+use Rattle.bi_files.specs.Directories.{IsDirectoryNotSaved, IsDirectorySaved, IsWithoutSlashes}
+use Rattle.bi_files.specs.Files.{FileStep, KnownFiles}
+use Rattle.bootimg.specs.Failures.{failure_to_save}
 use Rattle.bootimg.specs.Runs.{Inputs, IsAllWork, IsImageRead, NotExtracted, PayloadsNotSaved, PayloadsSaved, source_failure}
 use Rattle.bootimg.specs.Tasks.{EndedWith}
 
@@ -35,17 +37,18 @@ all_saved files later request before after read file shown image name payloads s
     done ended ends
 
 pub all_not_saved : (files later : KnownFiles) (request : AllRequest) (before after : Inputs) (read : Option (List FileStep))
-    (file shown image name : List ℕ) (payloads saved : List PayloadFile) (outcome : Result Done SourceFailure) (failure : Failure)
+    (file shown image name : List ℕ) (payloads saved : List PayloadFile) (outcome : Result Done SourceFailure) (error : SaveError)
     → IsRead files request before after read file → later ≡ files → shown ≡ file → image ≡ input_from request.offset shown
     → AreAllPayloads request.limits image payloads → IsWithoutSlashes request.directory.now name → saved ≡ payloads
-    → IsDirectoryNotSaved later name saved failure read after.steps → outcome ≡ Err (source_failure (File request.directory) failure)
+    → IsDirectoryNotSaved later name saved error read after.steps
+    → outcome ≡ Err (source_failure (File request.directory) (failure_to_save error))
     → IsAllWork files request before after outcome
-all_not_saved files later request before after read file shown image name payloads saved outcome failure was same is at all word lent not
+all_not_saved files later request before after read file shown image name payloads saved outcome error was same is at all word lent not
     ends =
     PayloadsNotSaved file name payloads read was
-    (subst (λ b. AreAllPayloads request.limits b payloads) (at ∙ ap (input_from request.offset) is) all) word failure
-    (subst (λ f. IsDirectoryNotSaved f name payloads failure read after.steps) same
-    (subst (λ p. IsDirectoryNotSaved later name p failure read after.steps) lent not))
+    (subst (λ b. AreAllPayloads request.limits b payloads) (at ∙ ap (input_from request.offset) is) all) word error
+    (subst (λ f. IsDirectoryNotSaved f name payloads error read after.steps) same
+    (subst (λ p. IsDirectoryNotSaved later name p error read after.steps) lent not))
     ends
 
 pub not_extracted : (files : KnownFiles) (request : AllRequest) (before after : Inputs) (file shown image : List ℕ)

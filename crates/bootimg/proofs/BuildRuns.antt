@@ -14,7 +14,7 @@ use Rattle.bi_commands.specs.KnownChoices.{lent}
 use Rattle.bi_commands.specs.declared.parts.Part.{Part}
 use Rattle.bi_commands.specs.declared.parts.Part.TheVariants.{Bytes, Length}
 use Rattle.bootimg.specs.CommandLine.{is_input, reads_input, sources_of}
-use Rattle.bootimg.specs.Files.{FileStep, KnownFiles, WereReadInTurn}
+use Rattle.bi_files.specs.Files.{FileStep, KnownFiles, WereReadInTurn}
 use Rattle.bootimg.specs.ReadParts.{IsLent, IsReadingFailure, IsPartFailure, WasRead, WereRead}
 use Rattle.bootimg.specs.Runs.{build_promise, source_failure, Work, IsBuildWork, NoRoom, PartNotRead, IsBuiltWork, WasBuilt, WasNotBuilt}
 use Rattle.bootimg.specs.Runs.{ArePartsRead, IsFileRead, IsPart, IsPartNotRead, AreFirstRead}

@@ -11,16 +11,18 @@ use Rattle.bootimg.specs.declared.command_line.source.ComparePlan.{ComparePlan}
 use Rattle.bootimg.specs.declared.command_line.source.ImageSource.{ImageSource}
 use Rattle.bootimg.specs.declared.command_line.source.ImageSource.TheVariants.{Standard, File}
 use Rattle.bootimg.specs.declared.failure.Failure.{Failure}
-use Rattle.bootimg.specs.Files.{FileStep, NameHas, IsNoRegularFile, IsOpenFile, KnownFiles, NotOpened, Opened, ReaderClosed}
-use Rattle.bootimg.specs.Files.{IsNotSaved, IsSaved, TookSteps, WasNotOpened, WasOpened}
+use Rattle.bi_files.specs.declared.saving.SaveError.{SaveError}
+use Rattle.bi_files.specs.Files.{FileStep, NameHas, IsNoRegularFile, IsOpenFile, KnownFiles, NotOpened, Opened, ReaderClosed}
+use Rattle.bi_files.specs.Files.{IsNotSaved, IsSaved, TookSteps, WasNotOpened, WasOpened}
 use Rattle.bootimg.specs.declared.jobs.SourceFailure.{SourceFailure}
 use Rattle.bootimg.specs.declared.tasks.Done.{Done}
+use Rattle.bootimg.specs.Failures.{failure_to_save}
 use Rattle.bootimg.specs.Runs.{Inputs, Work, source_failure, IsNotRead, IsImageRead, InputRead, FileRead, IsImageNotRead, InputNotRead}
 use Rattle.bootimg.specs.Runs.{FileNotRead, IsFileRead, IsFileNotRead, OpenedNotRead}
 use Rattle.bootimg.specs.Runs.{IsComparedWork, IsCompareWork, BothRead, OtherNotRead, IsFailedWork, IsBuildWork}
 use Rattle.bootimg.specs.Runs.{IsExplainWork, IsImageWork, IsJobWork, IsHeldWork, IsHeldFailure, failure_in_memory, Run, work_of}
 use Rattle.bootimg.specs.Runs.{inputs_before, inputs_after, IsOutputRun, IsSavedWork, OutputSaved, OutputNotSaved, ToStandardOutput, ToFile}
-use Rattle.bootimg.proofs.NewFiles.{steps_in_turn}
+use Rattle.bi_files.proofs.NewFiles.{steps_in_turn}
 
 -- Reading standard input or a file that was opened reads the image, and each job that was done with it is the work of the job.
 
@@ -195,14 +197,15 @@ output_saved files later job limits name before after worked done output saved o
     ends
 
 pub output_not_saved : (files later : KnownFiles) (job : Job) (limits : Limits) (name : Bor (List ℕ)) (before after : Inputs)
-    (worked : Option (List FileStep)) (done : Done) (output saved : List ℕ) (outcome : Result Done SourceFailure) (failure : Failure)
+    (worked : Option (List FileStep)) (done : Done) (output saved : List ℕ) (outcome : Result Done SourceFailure) (error : SaveError)
     → IsHeldWork files job limits before (record { input = after.input; steps = worked }) (Ok done) (Some output) → later ≡ files
-    → saved ≡ output → IsNotSaved later name.now saved failure worked after.steps → outcome ≡ Err (source_failure (File name) failure)
+    → saved ≡ output → IsNotSaved later name.now saved error worked after.steps
+    → outcome ≡ Err (source_failure (File name) (failure_to_save error))
     → IsSavedWork files job limits name before after outcome
-output_not_saved files later job limits name before after worked done output saved outcome failure work same bytes is ends =
-    OutputNotSaved done output worked work failure
-    (subst (λ f. IsNotSaved f name.now output failure worked after.steps) same
-    (subst (λ b. IsNotSaved later name.now b failure worked after.steps) bytes is))
+output_not_saved files later job limits name before after worked done output saved outcome error work same bytes is ends =
+    OutputNotSaved done output worked work error
+    (subst (λ f. IsNotSaved f name.now output error worked after.steps) same
+    (subst (λ b. IsNotSaved later name.now b error worked after.steps) bytes is))
     ends
 
 -- The output goes to standard output, or to the file that is named.

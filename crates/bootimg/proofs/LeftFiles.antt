@@ -18,9 +18,9 @@ use Rattle.bootimg.specs.declared.failure.Failure.{Failure}
 use Rattle.bootimg.specs.declared.jobs.SourceFailure.{SourceFailure}
 use Rattle.bootimg.specs.declared.tasks.Done.{Done}
 use Rattle.bootimg.specs.CommandLine.{IsAllRequested, IsRequest, sources_of}
-use Rattle.bootimg.specs.Files.{FileStep, KnownFiles, Names, Opened, NotOpened, ReaderClosed, WasOpened, WasNotOpened}
+use Rattle.bi_files.specs.Files.{FileStep, KnownFiles, Names, Opened, NotOpened, ReaderClosed, WasOpened, WasNotOpened}
 use Rattle.clap.specs.declared.error.kind.ErrorKind.{ErrorKind}
-use Rattle.bootimg.specs.FilesAfter.{after_steps, AreSameNames, HasDirectory, HasFile, HaveContents}
+use Rattle.bi_files.specs.FilesAfter.{after_steps, AreSameNames, HasDirectory, HasFile, HaveContents}
 use Rattle.bootimg.specs.LeftFiles.{LeavesFiles, DirectoryIsThere, OutputIsThere, NoFileIsNamed, NothingIsRequested, HasFailed}
 use Rattle.bootimg.specs.Runs.{Inputs, Run, Work, IsFileRead, IsFileNotRead, CouldNotOpen, OpenedNotRead, IsImageRead, InputRead, FileRead}
 use Rattle.bootimg.specs.Runs.{IsImageNotRead, InputNotRead, FileNotRead, IsPart, ArePartsRead, IsImageWork, DoneOnInput, DoneOnFile}
@@ -30,9 +30,9 @@ use Rattle.bootimg.specs.Runs.{ToStandardOutput, ToFile, IsEnd, EndsWell, EndsWi
 use Rattle.bootimg.specs.Runs.{IsUsage, IsRun, RanJob, ExtractedAll, Rejected, WroteText, inputs_before, inputs_after}
 use Rattle.bootimg.specs.Runs.{IsAllWork, PayloadsSaved, PayloadsNotSaved, NotExtracted, NothingRead}
 use Rattle.bootimg.specs.Tasks.{status_of}
-use Rattle.bootimg.proofs.FilesAfter.{KeepsNames, keeps_same, keeps_in_turn, keeps_with, LeftAfterFailure, kept_is_left, not_saved_leaves}
-use Rattle.bootimg.proofs.FilesAfter.{saved_leaves}
-use Rattle.bootimg.proofs.DirectoriesAfter.{directory_not_saved_leaves, directory_saved_leaves}
+use Rattle.bi_files.proofs.FilesAfter.{KeepsNames, keeps_same, keeps_in_turn, keeps_with, LeftAfterFailure, kept_is_left, not_saved_leaves}
+use Rattle.bi_files.proofs.FilesAfter.{saved_leaves}
+use Rattle.bi_files.proofs.DirectoriesAfter.{directory_not_saved_leaves, directory_saved_leaves}
 
 -- What a run leaves of the files.
 

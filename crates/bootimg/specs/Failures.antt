@@ -8,6 +8,8 @@ use Rattle.bi_common.specs.Shown.{shown_text}
 use Rattle.bi_fit.specs.declared.configurations.ConfigError.TheVariants as list
 use Rattle.bi_commands.specs.declared.extract.ExtractError.{ExtractError}
 use Rattle.bi_commands.specs.declared.extract.ExtractError.TheVariants as extract
+use Rattle.bi_files.specs.declared.saving.SaveError.{SaveError}
+use Rattle.bi_files.specs.declared.saving.SaveError.TheVariants as save
 use Rattle.bootimg.specs.declared.command_line.source.ImageSource.{ImageSource}
 use Rattle.bootimg.specs.declared.command_line.source.ImageSource.TheVariants.{Standard, File}
 use Rattle.bootimg.specs.declared.failure.Failure.{Failure}
@@ -33,6 +35,11 @@ failure_of (extract.Config (list.Missing index)) = Missing index
 failure_of (extract.Config list.OutOfMemory) = Call OutOfMemory
 failure_of extract.NoIndex = NoIndex
 failure_of extract.NoPayload = NoPayload
+
+-- The failure of saving an output or payloads.
+abbrev pub failure_to_save : SaveError → Failure
+failure_to_save save.NotWritten = NotWritten
+failure_to_save save.OutOfMemory = Call OutOfMemory
 
 -- The text of an error.
 abbrev pub error_text : Error → List ℕ

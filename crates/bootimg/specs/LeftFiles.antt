@@ -7,10 +7,10 @@ use Rattle.bootimg.specs.declared.command_line.Request.{Request}
 use Rattle.bootimg.specs.declared.command_line.extract.AllRequest.{AllRequest}
 use Rattle.bootimg.specs.declared.tasks.Done.{Done}
 use Rattle.bootimg.specs.CommandLine.{IsAllRequested, IsRequest, IsTextFor}
-use Rattle.bootimg.specs.Directories.{IsWithoutSlashes}
-use Rattle.bootimg.specs.Files.{FileStep, Names}
-use Rattle.bootimg.specs.FilesAfter.{AreSameNames, HasDirectory, HasFile, LeavesNewDirectory}
-use Rattle.bootimg.specs.FilesAfter.{LeavesNewFile}
+use Rattle.bi_files.specs.Directories.{IsWithoutSlashes}
+use Rattle.bi_files.specs.Files.{FileStep, KnownFiles, Names}
+use Rattle.bi_files.specs.FilesAfter.{AreSameNames, HasDirectory, HasFile, LeavesNewDirectory}
+use Rattle.bi_files.specs.FilesAfter.{LeavesNewFile}
 use Rattle.bootimg.specs.Runs.{Inputs, IsHeldWork, IsImageRead}
 use Rattle.bootimg.specs.Tasks.{status_of}
 
@@ -49,3 +49,16 @@ pub data LeavesFiles (arguments : List (List ℕ)) (input : Option (List ℕ)) (
   HasFailed : status ≡ 2
       → AreSameNames old new ⊎ (LeavesNewFile old new steps ⊎ LeavesNewDirectory old new steps)
       → LeavesFiles arguments input old new steps status
+
+-- What has each name is known before a run and after it, and so are the steps, and the run leaves
+-- the files so.
+pub record LeavesKnownFiles (arguments : List (List ℕ)) (input : Option (List ℕ))
+    (old new : KnownFiles) (steps : Option (List FileStep)) (status : ℕ) : Type 0
+  where
+    pub before : Names
+    pub after : Names
+    pub all : List FileStep
+    pub were_known : old ≡ Some before
+    pub are_known : new ≡ Some after
+    pub are_steps : steps ≡ Some all
+    pub leaves : LeavesFiles arguments input before after all status

@@ -7,8 +7,6 @@ pub mod Program
 pub mod Table
 pub mod ComparedFiles
 pub mod Failures
-pub mod Files
-pub mod Directories
 pub mod Numbers
 pub mod Offsets
 pub mod ReadParts
@@ -17,10 +15,7 @@ pub mod Runs
 pub mod Selections
 pub mod Explanations
 pub mod ErrorLines
-pub mod FilesAfter
 pub mod LeftFiles
-pub mod MemoryFiles
 pub mod KnownArguments
 pub mod KnownRequests
 pub mod KnownRuns
-pub mod KnownSteps

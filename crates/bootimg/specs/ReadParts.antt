@@ -10,7 +10,7 @@ use Rattle.bootimg.specs.declared.command_line.part.PartSource.TheVariants as pa
 use Rattle.bootimg.specs.declared.command_line.source.ImageSource.TheVariants.{Standard, File}
 use Rattle.bootimg.specs.declared.failure.Failure.TheVariants.{Call}
 use Rattle.bootimg.specs.declared.jobs.SourceFailure.{SourceFailure}
-use Rattle.bootimg.specs.Files.{FileStep, KnownFiles, WereReadInTurn}
+use Rattle.bi_files.specs.Files.{FileStep, KnownFiles, WereReadInTurn}
 use Rattle.bootimg.specs.Runs.{source_failure, AreFirstRead, IsFileNotRead, IsFileRead}
 use Rattle.bootimg.specs.Runs.{IsPartNotRead}
 

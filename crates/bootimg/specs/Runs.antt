@@ -46,11 +46,12 @@ use Rattle.bootimg.specs.CommandLine.{HasJobLengths, IsTextFor, IsRejected, IsRe
 use Rattle.bootimg.specs.CommandLine.{IsAllRequested, reads_input, sources_of}
 use Rattle.bootimg.specs.ComparedFiles.{IsCompareOutput, IsCompareFailure}
 use Rattle.bootimg.specs.ComparedFiles.{failure_of_comparing, refused_source}
-use Rattle.bootimg.specs.Directories.{IsDirectorySaved, IsDirectoryNotSaved, IsWithoutSlashes}
+use Rattle.bi_files.specs.declared.saving.SaveError.{SaveError}
+use Rattle.bi_files.specs.Directories.{IsDirectorySaved, IsDirectoryNotSaved, IsWithoutSlashes}
 use Rattle.bootimg.specs.Explanations.{explain_text}
-use Rattle.bootimg.specs.Failures.{failure_text, name_text}
-use Rattle.bootimg.specs.Files.{FileStep, KnownFiles, WasOpened, WasNotOpened, IsSaved, IsNotSaved}
-use Rattle.bootimg.specs.Files.{WereReadInTurn}
+use Rattle.bootimg.specs.Failures.{failure_text, failure_to_save, name_text}
+use Rattle.bi_files.specs.Files.{FileStep, KnownFiles, WasOpened, WasNotOpened, IsSaved, IsNotSaved}
+use Rattle.bi_files.specs.Files.{WereReadInTurn}
 use Rattle.bootimg.specs.Tasks.{EndedWith, plan_promise, status_of}
 
 -- What a run of the program does: which bytes it writes to which stream, and its exit status
@@ -433,8 +434,8 @@ pub data IsSavedWork (files : KnownFiles) (job : Job) (limits : Limits) (name : 
     OutputNotSaved : (done : Done) (output : List ℕ) (worked : Option (List FileStep))
         → IsHeldWork files job limits before (record { input = after.input; steps = worked })
         (Ok done) (Some output)
-        → (failure : Failure) → IsNotSaved files name.now output failure worked after.steps
-        → outcome ≡ Err (source_failure (File name) failure)
+        → (error : SaveError) → IsNotSaved files name.now output error worked after.steps
+        → outcome ≡ Err (source_failure (File name) (failure_to_save error))
         → IsSavedWork files job limits name before after outcome
     NoOutput : (failed : SourceFailure) → IsHeldFailure files job limits before after failed
         → outcome ≡ Err failed → IsSavedWork files job limits name before after outcome
@@ -462,8 +463,8 @@ pub data IsAllWork (files : KnownFiles) (request : AllRequest) (before after : I
         file request.source
         → AreAllPayloads request.limits (input_from request.offset file) payloads
         → IsWithoutSlashes request.directory.now name
-        → (failure : Failure) → IsDirectoryNotSaved files name payloads failure read after.steps
-        → outcome ≡ Err (source_failure (File request.directory) failure)
+        → (error : SaveError) → IsDirectoryNotSaved files name payloads error read after.steps
+        → outcome ≡ Err (source_failure (File request.directory) (failure_to_save error))
         → IsAllWork files request before after outcome
     NotExtracted : (file : List ℕ)
         → IsImageRead files request.limits before after file request.source

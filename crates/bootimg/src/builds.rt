@@ -17,7 +17,6 @@ ghost use Rattle.bootimg.specs.declared.failure.Failure.TheVariants.{Call};
 
 use crate::command_line::{BuildPlan, ConfigurationWord, FitPlan, ImageSource, PartSource};
 use crate::failure::Failure;
-use crate::files::FileSystem;
 use crate::jobs::{SourceFailure, read_file};
 use crate::no_input::NoInput;
 use crate::tasks::Done;
@@ -25,6 +24,7 @@ use bi_base::{Error, Limits, TracedRead, TracedWrite, pipe};
 use bi_commands::build_fit::FitBuilder;
 use bi_commands::build_legacy::LegacyBuilder;
 use bi_commands::parts::Part;
+use bi_files::FileSystem;
 use bi_norm::{ConfigurationSpec, PlanSpec};
 use std::alloc::{AllocError, Global};
 

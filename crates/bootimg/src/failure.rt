@@ -6,11 +6,13 @@ ghost use Rattle.bi_base.specs.declared.fault.Error.TheVariants.{OutOfMemory, Re
 ghost use Rattle.bootimg.specs.declared.failure.Failure.TheVariants.{Call};
 ghost use Rattle.bootimg.specs.ErrorLines.{Extends, line_of};
 ghost use Rattle.bootimg.specs.Failures.{error_text, failure_of, failure_text as text_of};
+ghost use Rattle.bootimg.specs.Failures.{failure_to_save};
 ghost use Rattle.bootimg.specs.Failures.{is_about_image as is_about_image_of};
 
 use crate::error_line::ErrorLine;
 use bi_base::{Error, Fault, TracedWrite};
 use bi_commands::extract::ExtractError;
+use bi_files::SaveError;
 use bi_fit::ConfigError;
 use std::alloc::AllocError;
 
@@ -130,6 +132,17 @@ impl From<AllocError> for Failure {
 
     fn from(error: AllocError) -> Failure {
         Failure::Call(Error::from(error))
+    }
+}
+
+impl From<SaveError> for Failure {
+    ghost from_gives = { λ error failure. failure ≡ failure_to_save error };
+
+    fn from(error: SaveError) -> Failure {
+        match error {
+            SaveError::NotWritten => Failure::NotWritten,
+            SaveError::OutOfMemory => Failure::Call(Error::OutOfMemory),
+        }
     }
 }
 

@@ -18,13 +18,13 @@ use crate::builds::build_image;
 use crate::command_line::{ComparePlan, ImagePlan, ImageSource, Job};
 use crate::explanations::explanation;
 use crate::failure::Failure;
-use crate::files::FileSystem;
 use crate::tasks::Done;
 use bi_base::{
     Cause, Error, Limits, TracedRead, TracedWrite, pipe, read_all_traced, write_and_flush,
 };
 use bi_commands::compare::{CompareError, Comparison, compare, compare_json, have_same_meaning};
 use bi_commands::format::Format;
+use bi_files::FileSystem;
 use std::alloc::{AllocError, AllocFailed, Global};
 
 /// Why a job failed.

@@ -13,8 +13,8 @@ ghost use Rattle.bootimg.specs.KnownRequests.{PlansAreKnown};
 ghost use Rattle.bootimg.specs.KnownRuns.{StatusesAreKnown, FailureLinesAreKnown};
 ghost use Rattle.bootimg.specs.KnownRuns.{ExtractLinesAreKnown, CompareLinesAreKnown};
 ghost use Rattle.bootimg.specs.KnownRuns.{NotesAreKnown};
-ghost use Rattle.bootimg.specs.KnownSteps.{BesideNamesAreKnown, DirectorySavedInSteps};
-ghost use Rattle.bootimg.specs.KnownSteps.{SavedInSteps};
+ghost use Rattle.bi_files.specs.KnownSteps.{BesideNamesAreKnown, DirectorySavedInSteps};
+ghost use Rattle.bi_files.specs.KnownSteps.{SavedInSteps};
 
 /// Each option of each command has a known value if it is not given.
 pub fn defaults_are_known()
@@ -124,21 +124,4 @@ pub fn compare_lines_are_known()
 /// The notes on signature nodes, on an alignment and on fixed positions are known lines.
 pub fn notes_are_known()
     ensures { NotesAreKnown }
-{}
-
-/// A new file is in the directory of the file whose name it takes.
-pub fn beside_names_are_known()
-    ensures { BesideNamesAreKnown }
-{}
-
-/// An output that is saved was written to a new file, which was made, then flushed and closed, and
-/// then took the name.
-pub fn outputs_are_saved_in_steps()
-    ensures { SavedInSteps }
-{}
-
-/// A directory that is saved is a new one, which was made, then got its files one after another,
-/// and then took the name.
-pub fn directories_are_saved_in_steps()
-    ensures { DirectorySavedInSteps }
 {}

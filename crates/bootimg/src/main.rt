@@ -5,26 +5,20 @@
 mod builds;
 mod codes;
 mod command_line;
-mod directories;
 mod error_line;
 mod explanations;
 mod extractions;
 mod failure;
-mod files;
 mod jobs;
 mod known_runs;
-mod memory_files;
-mod new_file;
 mod no_input;
 mod numbers;
-mod opened_file;
 mod reports;
 mod requests;
 mod run;
-mod saving;
 mod tasks;
 
-use files::SystemFiles;
+use bi_files::SystemFiles;
 use run::run_with_files;
 use std::alloc::{AllocError, Global};
 use std::io::{self, Write};

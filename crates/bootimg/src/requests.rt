@@ -7,12 +7,11 @@ ghost use Rattle.bootimg.specs.Runs.{IsSavedWork};
 
 use crate::command_line::{ImageSource, Job};
 use crate::failure::Failure;
-use crate::files::FileSystem;
 use crate::jobs::{SourceFailure, do_job};
 use crate::reports::{put_notes, report_failure};
-use crate::saving::save;
 use crate::tasks::Done;
 use bi_base::{Error, Limits, TracedRead, TracedWrite, TracedWriter};
+use bi_files::{FileSystem, save};
 use std::alloc::Global;
 
 /// Writes the notes or the line of the failure to standard error, if there are any, and returns the
@@ -48,9 +47,9 @@ pub fn do_job_to_file<'a, S: TracedRead, F: FileSystem>(
     let (done, bytes) = do_job_in_memory(alloc, job, limits, files, input)?;
     match save(alloc, files, name, &bytes) {
         Ok(()) => Ok(done),
-        Err(failure) => Err(SourceFailure {
+        Err(error) => Err(SourceFailure {
             source: ImageSource::File(name),
-            failure,
+            failure: Failure::from(error),
         }),
     }
 }

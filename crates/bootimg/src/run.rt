@@ -1,17 +1,17 @@
 //! The program, over any files and any three streams.
 
-ghost use Rattle.std.specs.Prelude.{◌↔◌, IsTrue, List, None, Option};
+ghost use Rattle.std.specs.Prelude.{◌≡◌, ◌↔◌, IfNone, IfSome, IsTrue, List, None, Option};
 ghost use Rattle.bi_base.specs.Traces.{ReadTrace};
-ghost use Rattle.bootimg.specs.Files.{FileStep, SavesNothing, no_files};
+ghost use Rattle.bi_files.specs.Files.{FileStep, SavesNothing, no_files};
 ghost use Rattle.bootimg.specs.CommandLine.{texts_of};
-ghost use Rattle.bootimg.specs.Directories.{SavesNoDirectory};
+ghost use Rattle.bi_files.specs.Directories.{SavesNoDirectory};
+ghost use Rattle.bootimg.specs.LeftFiles.{LeavesKnownFiles};
 ghost use Rattle.bootimg.specs.Runs.{IsPlainRun, IsRun, IsTextRun, IsMistake};
 ghost use Rattle.clap.specs.declared.error.kind.ErrorKind.{ErrorKind};
 
 use crate::command_line::{ImageSource, NoRequest, Order, parse_arguments};
 use crate::extractions::extract_to_directory;
 use crate::failure::Failure;
-use crate::files::{FileSystem, NoFiles};
 use crate::jobs::do_job;
 use crate::reports::{FAILED, report_failure};
 use crate::requests::{conclude, do_job_to_file};
@@ -19,6 +19,7 @@ use crate::tasks::SUCCESS;
 use bi_base::{
     Error, TracedRead, TracedReader, TracedWrite, TracedWriter, write_all, write_and_flush,
 };
+use bi_files::{FileSystem, MemoryFiles, NoFiles};
 use std::alloc::{AllocError, Global};
 use std::io::{Read, Write};
 
@@ -76,6 +77,38 @@ pub fn run_with_files<'a, R: Read, W: Write, E: Write, F: FileSystem>(
     let mut output = TracedWriter::new(writer);
     let mut log = TracedWriter::new(errors);
     run_traced(alloc, arguments, files, &mut input, &mut output, &mut log)
+}
+
+/// Runs the program over files in memory, as `run_with_files` does, and returns the exit status, or
+/// None if memory ran out for the record of the steps.
+///
+/// A run leaves this: after success the file that the arguments name for the output has the output,
+/// and each other name has what it had; after `extract --all` the directory has exactly the files of
+/// the payloads. After a failure each name has what it had, whichever step failed; only a new file
+/// or directory that cannot be removed is left.
+pub fn run_in_memory<'a, 'b, R: Read, W: Write, E: Write>(
+    alloc: Global,
+    arguments: &'a [&'a str],
+    files: &mut MemoryFiles<'b>,
+    reader: &mut R,
+    writer: &mut W,
+    errors: &mut E,
+) -> Option<u8>
+    ensures left { IfSome result (λ status. LeavesKnownFiles (texts_of arguments.entry.now)
+        (R.remaining reader.old) (⟦<MemoryFiles<'b> as FileSystem>⟧.known files.old)
+        (⟦<MemoryFiles<'b> as FileSystem>⟧.known files.new)
+        (⟦<MemoryFiles<'b> as FileSystem>⟧.steps files.new) status) }
+    ensures lost { IfNone result (⟦<MemoryFiles<'b> as FileSystem>⟧.steps files.new ≡ None) }
+{
+    if files.has_lost_steps() {
+        return None;
+    }
+    let status = run_with_files(alloc, arguments, files, reader, writer, errors);
+    if files.has_lost_steps() {
+        None
+    } else {
+        Some(status)
+    }
 }
 
 /// Runs the program over streams whose calls are traced, as `run_with_files` does. So its contract

@@ -1,6 +1,7 @@
-use Rattle.std.proofs.Common.{refl}
+use Rattle.std.proofs.Common.{Err, ap, refl}
 use Rattle.std.proofs.lemmas.Result.{err_from_is_err_and}
-use Rattle.bootimg.specs.Runs.{NoOutput}
+use Rattle.bootimg.specs.declared.command_line.source.ImageSource.TheVariants.{File}
+use Rattle.bootimg.specs.Runs.{NoOutput, source_failure}
 use Rattle.bootimg.proofs.ImageRuns.{output_saved, output_not_saved}
 use Rattle.bootimg.proofs.requests.do_job_to_file.Goals as goal
 
@@ -17,4 +18,5 @@ returns-in-Ok g c =
 pub returns : goal.returns
 returns g c =
     output_not_saved _ _ c.args.job.now c.args.limits c.args.name _ _ _ c.in_ok-done.done c.in_ok-done.bytes.items c.deref.result.now _
-    c.in-Err.failure c.in_ok-done.ensures.done c.in_ok-done.ensures.same_files c.deref.ensures.value c.in-Err.ensures.failed refl
+    c.in-Err.error c.in_ok-done.ensures.done c.in_ok-done.ensures.same_files c.deref.ensures.value c.in-Err.ensures.failed
+    (ap (λ f. Err (source_failure (File c.args.name) f)) c.from.ensures)

@@ -1,5 +1,5 @@
-use Rattle.bootimg.proofs.NewDirectories.{no_directory_is_saved}
-use Rattle.bootimg.proofs.NewFiles.{nothing_is_saved}
+use Rattle.bi_files.proofs.NewDirectories.{no_directory_is_saved}
+use Rattle.bi_files.proofs.NewFiles.{nothing_is_saved}
 use Rattle.bootimg.proofs.run.run.Goals as goal
 
 pub returns-clause-saves_nothing : goal.returns-clause-saves_nothing

@@ -1,0 +1,5 @@
+pub mod Files
+pub mod FilesAfter
+pub mod Directories
+pub mod MemoryFiles
+pub mod KnownSteps

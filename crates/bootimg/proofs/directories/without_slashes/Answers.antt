@@ -1,5 +1,0 @@
-use Rattle.bootimg.proofs.BesideNames.{slashes_trimmed}
-use Rattle.bootimg.proofs.directories.without_slashes.Goals as goal
-
-pub returns : goal.returns
-returns c = slashes_trimmed c.args.name.now c.trim_end_matches.result.now c.trim_end_matches.ensures.matches
