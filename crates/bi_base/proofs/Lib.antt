@@ -17,3 +17,4 @@ pub mod EqualBytes
 pub mod ListMembers
 pub mod FileSlices
 pub mod Refusals
+pub mod PipeFacts

@@ -3,10 +3,12 @@ pub mod Alignments
 pub mod Aligns
 pub mod Causes
 pub mod KnownCauses
+pub mod KnownPipes
 pub mod Errors
 pub mod Checks
 pub mod Limits
 pub mod Traces
+pub mod CallTraces
 pub mod Reading
 pub mod Writing
 pub mod Transfers

@@ -1,6 +1,6 @@
 //! The outcomes of the calls of a reader or a writer.
 
-ghost use Rattle.std.specs.Prelude.{◌≡◌, ◌↔◌, IsTrue, IsFalse};
+ghost use Rattle.std.specs.Prelude.{◌↔◌, IsTrue};
 ghost use Rattle.bi_base.specs.Traces.{RecordsFailure, CountsInterruptions, MustStop};
 
 use std::io::{self, ErrorKind};
@@ -11,34 +11,23 @@ pub const MOST_INTERRUPTIONS: u32 = 1024;
 
 /// The outcome of the calls so far: whether the last one failed with an error other than an
 /// interruption, and how many in a row were interrupted, up to the last one.
-#[derive(Clone, Copy)]
-pub struct CallOutcome {
+#[derive(Clone, Copy, Default)]
+pub(crate) struct CallOutcome {
     /// Whether the last call failed with an error other than an interruption.
-    pub failed: bool,
+    failed: bool,
     /// How many calls in a row were interrupted, up to the last one. The count stops at 2^32 - 1.
-    pub interruptions: u32,
+    interruptions: u32,
 }
 
 impl CallOutcome {
-    /// Returns the outcome before any call.
-    pub fn new() -> CallOutcome
-        ensures not_failed { IsFalse result.failed }
-        ensures not_interrupted { result.interruptions ≡ 0 }
-    {
-        CallOutcome {
-            failed: false,
-            interruptions: 0,
-        }
-    }
-
     /// Returns the outcome after one more call with this result.
-    pub fn after<T>(self, call: &io::Result<T>) -> CallOutcome
+    pub(crate) fn after<T>(self, call: &io::Result<T>) -> CallOutcome
         ensures failed { RecordsFailure result.failed call.now }
         ensures interruptions { CountsInterruptions self.interruptions result.interruptions
             call.now }
     {
         match call {
-            Ok(_) => CallOutcome::new(),
+            Ok(_) => CallOutcome::default(),
             Err(error) if error.kind() == ErrorKind::Interrupted => CallOutcome {
                 failed: false,
                 interruptions: self.interruptions.saturating_add(1),
@@ -51,7 +40,7 @@ impl CallOutcome {
     }
 
     /// Returns whether the last call is a reason to stop.
-    pub fn must_stop(self) -> bool
+    pub(crate) fn must_stop(self) -> bool
         ensures { IsTrue result ↔ MustStop self.failed self.interruptions }
     {
         self.failed || self.interruptions >= MOST_INTERRUPTIONS

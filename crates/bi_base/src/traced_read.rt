@@ -2,6 +2,7 @@
 
 ghost use Rattle.std.specs.Prelude.{◌≡◌, IsFalse};
 ghost use Rattle.std.specs.Io.{ReadsAtMost};
+ghost use Rattle.bi_base.specs.CallTraces.{read_trace};
 ghost use Rattle.bi_base.specs.Traces.{ReadTrace, IsReadCall, ReadsWell};
 
 use crate::outcomes::CallOutcome;
@@ -20,13 +21,37 @@ pub trait TracedRead {
         ensures call { IsReadCall (trace self.old) (trace self.new) result buffer.new };
 }
 
+/// What is recorded of the calls on a reader. The default is what is recorded before the first.
+#[derive(Clone, Copy, Default)]
+pub struct ReadCalls {
+    taken: u64,
+    outcome: CallOutcome,
+    stopped: bool,
+}
+
+impl ReadCalls {
+    /// Reads once from the reader, as `TracedRead::read_once` does.
+    pub fn read<R: Read>(&mut self, reader: &mut R, buffer: &mut [u8]) -> io::Result<usize>
+        ensures bound { ReadsAtMost result buffer.new }
+        ensures call { IsReadCall
+            (read_trace 0 (R.remaining reader.old) self.old)
+            (read_trace 0 (R.remaining reader.new) self.new) result buffer.new }
+    {
+        let call = reader.read(buffer);
+        if let Ok(count) = &call {
+            self.taken = self.taken.saturating_add(*count as u64);
+        }
+        self.outcome = self.outcome.after(&call);
+        self.stopped = self.stopped || self.outcome.must_stop();
+        call
+    }
+}
+
 /// A `TracedRead` of any reader, which it borrows.
 #[derive(Drop)]
 pub struct TracedReader<'a, R> {
     reader: &'a mut R,
-    taken: u64,
-    outcome: CallOutcome,
-    stopped: bool,
+    calls: ReadCalls,
 }
 
 impl<'a, R: Read> TracedReader<'a, R> {
@@ -42,30 +67,16 @@ impl<'a, R: Read> TracedReader<'a, R> {
     {
         TracedReader {
             reader,
-            taken: 0,
-            outcome: CallOutcome::new(),
-            stopped: false,
+            calls: ReadCalls::default(),
         }
     }
 }
 
 impl<'a, R: Read> TracedRead for TracedReader<'a, R> {
-    ghost trace = { λ traced. record {
-      reader = traced.reader.ghost_name;
-      remaining = R.remaining traced.reader.now;
-      taken = traced.taken;
-      failed = traced.outcome.failed;
-      interruptions = traced.outcome.interruptions;
-      stopped = traced.stopped;
-    } };
+    ghost trace = { λ traced. read_trace traced.reader.ghost_name
+        (R.remaining traced.reader.now) traced.calls };
 
     fn read_once(&mut self, buffer: &mut [u8]) -> io::Result<usize> {
-        let call = self.reader.read(buffer);
-        if let Ok(count) = &call {
-            self.taken = self.taken.saturating_add(*count as u64);
-        }
-        self.outcome = self.outcome.after(&call);
-        self.stopped = self.stopped || self.outcome.must_stop();
-        call
+        self.calls.read(self.reader, buffer)
     }
 }

@@ -2,6 +2,7 @@
 
 ghost use Rattle.std.specs.Prelude.{◌≡◌, IsFalse};
 ghost use Rattle.std.specs.Io.{WritesAtMost};
+ghost use Rattle.bi_base.specs.CallTraces.{write_trace};
 ghost use Rattle.bi_base.specs.Traces.{WriteTrace, IsWriteCall, IsFlushCall, WritesWell};
 
 use crate::outcomes::CallOutcome;
@@ -24,14 +25,51 @@ pub trait TracedWrite {
         ensures call { IsFlushCall (trace self.old) (trace self.new) result };
 }
 
-/// A `TracedWrite` of any writer, which it borrows.
-#[derive(Drop)]
-pub struct TracedWriter<'a, W> {
-    writer: &'a mut W,
+/// What is recorded of the calls on a writer. The default is what is recorded before the first.
+#[derive(Clone, Copy, Default)]
+pub struct WriteCalls {
     outcome: CallOutcome,
     stalled: bool,
     flushing: bool,
     stopped: bool,
+}
+
+impl WriteCalls {
+    /// Writes once to the writer, as `TracedWrite::write_once` does.
+    pub fn write<W: Write>(&mut self, writer: &mut W, bytes: &[u8]) -> io::Result<usize>
+        ensures bound { WritesAtMost result bytes.now }
+        ensures call { IsWriteCall
+            (write_trace 0 (W.contents writer.old) self.old)
+            (write_trace 0 (W.contents writer.new) self.new) result bytes.now }
+    {
+        let call = writer.write(bytes);
+        self.outcome = self.outcome.after(&call);
+        self.stalled = !bytes.is_empty() && matches!(call, Ok(0));
+        self.flushing = false;
+        self.stopped = self.stopped || self.stalled || self.outcome.must_stop();
+        call
+    }
+
+    /// Flushes the writer once, as `TracedWrite::flush_once` does.
+    pub fn flush<W: Write>(&mut self, writer: &mut W) -> io::Result<()>
+        ensures call { IsFlushCall
+            (write_trace 0 (W.contents writer.old) self.old)
+            (write_trace 0 (W.contents writer.new) self.new) result }
+    {
+        let call = writer.flush();
+        self.outcome = self.outcome.after(&call);
+        self.stalled = false;
+        self.flushing = true;
+        self.stopped = self.stopped || self.outcome.must_stop();
+        call
+    }
+}
+
+/// A `TracedWrite` of any writer, which it borrows.
+#[derive(Drop)]
+pub struct TracedWriter<'a, W> {
+    writer: &'a mut W,
+    calls: WriteCalls,
 }
 
 impl<'a, W: Write> TracedWriter<'a, W> {
@@ -50,40 +88,20 @@ impl<'a, W: Write> TracedWriter<'a, W> {
     {
         TracedWriter {
             writer,
-            outcome: CallOutcome::new(),
-            stalled: false,
-            flushing: false,
-            stopped: false,
+            calls: WriteCalls::default(),
         }
     }
 }
 
 impl<'a, W: Write> TracedWrite for TracedWriter<'a, W> {
-    ghost trace = { λ traced. record {
-      writer = traced.writer.ghost_name;
-      contents = W.contents traced.writer.now;
-      failed = traced.outcome.failed;
-      stalled = traced.stalled;
-      flushing = traced.flushing;
-      interruptions = traced.outcome.interruptions;
-      stopped = traced.stopped;
-    } };
+    ghost trace = { λ traced. write_trace traced.writer.ghost_name
+        (W.contents traced.writer.now) traced.calls };
 
     fn write_once(&mut self, bytes: &[u8]) -> io::Result<usize> {
-        let call = self.writer.write(bytes);
-        self.outcome = self.outcome.after(&call);
-        self.stalled = !bytes.is_empty() && matches!(call, Ok(0));
-        self.flushing = false;
-        self.stopped = self.stopped || self.stalled || self.outcome.must_stop();
-        call
+        self.calls.write(self.writer, bytes)
     }
 
     fn flush_once(&mut self) -> io::Result<()> {
-        let call = self.writer.flush();
-        self.outcome = self.outcome.after(&call);
-        self.stalled = false;
-        self.flushing = true;
-        self.stopped = self.stopped || self.outcome.must_stop();
-        call
+        self.calls.flush(self.writer)
     }
 }
