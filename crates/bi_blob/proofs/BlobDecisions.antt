@@ -1,4 +1,4 @@
-use Rattle.std.proofs.Common.{◌≡◌, ℕ, ◌+◌, ◌-◌, ◌^◌, Bool, true, false, List, [], ◌∷◌, ◌++◌, length, take, drop, map, sym, ap, ◌∙◌}
+use Rattle.std.proofs.Common.{◌≡◌, ℕ, ◌+◌, ◌-◌, ◌^◌, Bool, true, false, List, [], ◌∷◌, ◌++◌, length, take, drop, map, sym, ◌∙◌, rules}
 use Rattle.std.specs.Prelude.{◌==◌, ◌&&◌, nat_le, nat_lt, bytes_eq}
 use Rattle.std.specs.List.{AllByRecursion, list_all}
 use Rattle.std.proofs.lemmas.Bool.{and_parts, false≢true}
@@ -7,7 +7,7 @@ use Rattle.bi_base.proofs.EqualBytes.{same_bytes}
 use Rattle.bi_base.specs.Cells.{slice, AreBytes}
 use Rattle.bi_base.proofs.ByteLists.{AreBytes-none, AreBytes-cons}
 use Rattle.bi_blob.specs.Tokens.{Token, BeginNode, EndNode, Prop, Nop, End, token_bytes, width, IsEncoding, AreEncodings, IsNameAt}
-use Rattle.bi_blob.specs.Tree.{Nodes, none, node, Root, Property, FileNode, names, AreDistinct, AreProperties, AreNodes, IsPropertyName}
+use Rattle.bi_blob.specs.Tree.{Nodes, none, node, Root, Property, FileNode, names, AreDistinct, AreProperties, AreNodes}
 use Rattle.bi_blob.specs.Tree.{tree_without_places, depth_of}
 use Rattle.bi_blob.specs.Events.{FileEvent, FileNodeStart, FileNodeProperty, FileNodeEnd, EncodeEvents, file_events_of}
 use Rattle.bi_blob.specs.Blob.{Reservation, IsReservation, reservation_block, TreeBlocks, tree_blocks, boot_cpuid_phys, off_mem_rsvmap}
@@ -36,8 +36,7 @@ begins_with bytes front = bytes_eq (take (length front) bytes) front
 
 begins_with_sound : (bytes front : List ℕ) → begins_with bytes front ≡ true → bytes ≡ front ++ drop (length front) bytes
 unfolding begins_with
-begins_with_sound bytes front e =
-    sym (take-append-drop (length front) bytes) ∙ ap (λ l. l ++ drop (length front) bytes) (same_bytes (take (length front) bytes) front e)
+begins_with_sound bytes front e = search (rules, take-append-drop, same_bytes)
 
 -- Whether bytes are a token with its padding.
 unfoldable pub is_encoding : Token → List ℕ → Bool
@@ -102,10 +101,7 @@ encode_events_sound strings at [] [] e = tt
 encode_events_sound strings at (Nop ∷ tokens) later e = encode_events_sound strings (at + width Nop) tokens later e
 encode_events_sound strings at (BeginNode token_name ∷ tokens) (FileNodeStart place name ∷ later) e =
     let all = and_parts _ _ e in
-    let parts = and_parts (bytes_eq token_name name) (at == place) all.0 in (
-      record { same_name = same_bytes token_name name parts.0; same_place = (eq_decides at place).0 parts.1 },
-      encode_events_sound strings (at + width (BeginNode token_name)) tokens later all.1,
-    )
+    search (rules, and_parts, same_bytes, eq_decides, encode_events_sound strings (at + width (BeginNode token_name)) tokens later all.1)
 encode_events_sound strings at (Prop offset value ∷ tokens) (FileNodeProperty property ∷ later) e =
     let all = and_parts _ _ e in
     let named = and_parts _ _ all.0 in
@@ -141,13 +137,7 @@ are_properties properties =
 
 are_properties_sound : (properties : List Property) → are_properties properties ≡ true → AreProperties properties
 unfolding are_properties
-are_properties_sound properties e =
-    let parts = and_parts _ _ e in
-    record {
-      named = (all_decide (λ (p : Property). IsPropertyName p.0) (λ (p : Property). is_property_name p.0)
-          (λ p. is_property_name_decides p.0) properties).0 parts.0;
-      distinct = are_distinct_sound (map (λ (property : Property). property.0) properties) parts.1;
-    }
+are_properties_sound properties e = search (rules, and_parts, all_decide, is_property_name, is_property_name_decides, are_distinct_sound)
 
 -- Whether a tree may have nodes.
 unfoldable pub are_nodes : Nodes (List Property) → Bool
@@ -185,15 +175,7 @@ unfolding are_reservations
 are_reservations_sound [] e = tt
 are_reservations_sound (reservation ∷ later) e =
     let all = and_parts _ _ e in
-    let first = and_parts _ _ all.0 in
-    let parts = and_parts _ _ first.1 in (
-      record {
-        address_fits = (lt_decides reservation.address (2 ^ 64)).0 first.0;
-        size_fits = (lt_decides reservation.size (2 ^ 64)).0 parts.0;
-        some = (lt_decides 0 (reservation.address + reservation.size)).0 parts.1;
-      },
-      are_reservations_sound later all.1,
-    )
+    search (rules, and_parts, lt_decides, are_reservations_sound later all.1)
 
 -- The bytes from the memory reservation block on.
 abbrev from_reservations : List ℕ → List ℕ

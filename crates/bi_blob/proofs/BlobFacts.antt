@@ -1,9 +1,8 @@
-use Rattle.std.proofs.Common.{List, [], ◌∷◌, refl}
+use Rattle.std.proofs.Common.{List, [], ◌∷◌, refl, rules}
 use Rattle.std.specs.Prelude.{codes}
 use Rattle.bi_base.specs.Cells.{cell, cell8, u32_at}
 use Rattle.bi_blob.specs.Tokens.{Token, BeginNode, EndNode, Prop, Nop}
-use Rattle.bi_blob.specs.Blob.{tree_blocks}
-use Rattle.bi_blob.specs.KnownBlobs.{file_with_nops, tokens_to_images, FilesAreBlobs, TokensAreNewestFirst}
+use Rattle.bi_blob.specs.KnownBlobs.{FilesAreBlobs, TokensAreNewestFirst}
 use Rattle.bi_blob.proofs.CheckDecisions.{lacks_byte, is_new, is_property_name, is_child_name}
 use Rattle.bi_blob.proofs.HeaderDecisions.{test}
 use Rattle.bi_blob.proofs.TokenDecisions.{may_be_named, are_none, token_test, is_token, is_token_at, is_before_end, are_passed}
@@ -42,8 +41,4 @@ files_are_blobs = record {
 pub tokens_are_newest_first : TokensAreNewestFirst
 unfolding u32_at cell lacks_byte is_new is_property_name is_child_name may_be_named are_none token_test is_token
     is_token_at is_before_end are_passed
-tokens_are_newest_first = record {
-  passed = are_passed_sound (tree_blocks file_with_nops) 64 tokens_to_images refl;
-  place = refl;
-  stage = refl;
-}
+tokens_are_newest_first = search (rules, are_passed_sound)

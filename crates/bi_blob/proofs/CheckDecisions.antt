@@ -1,5 +1,5 @@
 use Rattle.std.proofs.Common.{◌≡◌, ◌≢◌, ℕ, Bool, true, false, cond, not, List, [], ◌∷◌, Option, Some, None, inl, inr, refl, sym, ap, ◌≤◌}
-use Rattle.std.proofs.Common.{◌<◌}
+use Rattle.std.proofs.Common.{◌<◌, rules}
 use Rattle.std.specs.Prelude.{◌==◌, ◌&&◌, nat_le, nat_lt, bytes_eq}
 use Rattle.std.specs.Bool.{Decides}
 use Rattle.std.specs.List.{AllByRecursion, list_all}
@@ -27,10 +27,7 @@ both_true a b first second = rw (first, second) refl
 
 -- A test of two things.
 pub both_decide : {P Q : Type 0} (a b : Bool) → Decides a P → Decides b Q → Decides (a && b) (P × Q)
-both_decide a b first second = (
-  (λ e. let parts = and_parts a b e in (first.0 parts.0, second.0 parts.1)),
-  (λ both. both_true a b (first.1 both.0) (second.1 both.1)),
-)
+both_decide a b first second = search (rules, and_parts, both_true)
 
 -- A test of each element.
 pub all_decide : {X : Type 0} (P : X → Type 0) (test : X → Bool) → ((x : X) → Decides (test x) (P x)) → (xs : List X) →
@@ -44,8 +41,7 @@ lacks_byte byte name = list_all (λ b. not (b == byte)) name
 
 pub lacks_byte_decides : (byte : ℕ) (name : List ℕ) → Decides (lacks_byte byte name) (AllByRecursion (λ b. b ≢ byte) name)
 unfolding lacks_byte
-lacks_byte_decides byte name =
-    all_decide (λ b. b ≢ byte) (λ b. not (b == byte)) (λ b. Decides-not (b == byte) (eq_decides b byte)) name
+lacks_byte_decides byte name = search (rules, all_decide, Decides-not, eq_decides)
 
 -- A name is new among others.
 unfoldable pub is_new : List ℕ → List (List ℕ) → Bool
@@ -53,9 +49,7 @@ is_new name others = list_all (λ other. not (bytes_eq other name)) others
 
 pub is_new_decides : (name : List ℕ) (others : List (List ℕ)) → Decides (is_new name others) (IsNew name others)
 unfolding is_new
-is_new_decides name others =
-    all_decide (λ other. other ≢ name) (λ other. not (bytes_eq other name))
-    (λ other. Decides-not (bytes_eq other name) (bytes_eq-Decides other name)) others
+is_new_decides name others = search (rules, all_decide, Decides-not, bytes_eq-Decides)
 
 -- A name may be that of a property.
 unfoldable pub is_property_name : List ℕ → Bool
@@ -63,12 +57,7 @@ is_property_name name = not (bytes_eq name []) && lacks_byte 0 name
 
 pub is_property_name_decides : (name : List ℕ) → Decides (is_property_name name) (IsPropertyName name)
 unfolding is_property_name
-is_property_name_decides name =
-    let parts = both_decide (not (bytes_eq name [])) (lacks_byte 0 name)
-    (Decides-not (bytes_eq name []) (bytes_eq-Decides name [])) (lacks_byte_decides 0 name) in (
-      (λ e. record { some = (parts.0 e).0; no_zero = (parts.0 e).1 }),
-      (λ is. parts.1 (is.some, is.no_zero)),
-    )
+is_property_name_decides name = search (rules, both_decide, Decides-not, bytes_eq-Decides, lacks_byte_decides)
 
 -- A name may be that of a child.
 unfoldable pub is_child_name : List ℕ → Bool
@@ -76,11 +65,7 @@ is_child_name name = is_property_name name && lacks_byte 47 name
 
 pub is_child_name_decides : (name : List ℕ) → Decides (is_child_name name) (IsChildName name)
 unfolding is_child_name
-is_child_name_decides name =
-    let parts = both_decide (is_property_name name) (lacks_byte 47 name) (is_property_name_decides name) (lacks_byte_decides 47 name) in (
-      (λ e. record { some = (parts.0 e).0.some; no_zero = (parts.0 e).0.no_zero; no_slash = (parts.0 e).1 }),
-      (λ is. parts.1 (record { some = is.some; no_zero = is.no_zero }, is.no_slash)),
-    )
+is_child_name_decides name = search (rules, both_decide, is_property_name_decides, lacks_byte_decides)
 
 -- The first check that a test finds to fail.
 unfoldable pub first_failing : {C : Type 0} → (C → Bool) → List C → Option C

@@ -1,4 +1,4 @@
-use Rattle.std.proofs.Common.{◌≡◌, ℕ, Bool, true, List, Some}
+use Rattle.std.proofs.Common.{◌≡◌, ℕ, Bool, true, List, Some, rules}
 use Rattle.std.specs.Prelude.{◌==◌, ◌&&◌, nat_le, length, ◌%◌}
 use Rattle.std.specs.Bool.{Decides}
 use Rattle.std.specs.List.{list_all}
@@ -42,17 +42,9 @@ header_decides bounds file HasVersion = le_decides least_version (version file)
 header_decides bounds file HasCompatibleVersion = le_decides (last_comp_version file) reader_version
 header_decides bounds file TotalHoldsHeader = le_decides (header_length file) (totalsize file)
 header_decides bounds file FileHoldsTotal = le_decides (totalsize file) (length file)
-header_decides bounds file PlacesReservations =
-    let later = both_decide _ _ (eq_decides (off_mem_rsvmap file % 8) 0) (le_decides (off_mem_rsvmap file) (totalsize file)) in
-    let all = both_decide _ _ (le_decides (header_length file) (off_mem_rsvmap file)) later in
-    ((λ e. ((all.0 e).0, (all.0 e).1.0, (all.0 e).1.1)), (λ h. all.1 (h.0, (h.1, h.2))))
-header_decides bounds file PlacesStructure =
-    let first = both_decide _ _ (le_decides (header_length file) (off_dt_struct file)) (eq_decides (off_dt_struct file % 4) 0) in
-    let last = both_decide _ _ (le_decides (off_dt_struct file) (structure_end file)) (le_decides (structure_end file) (totalsize file)) in
-    let all = both_decide _ _ first last in
-    ((λ e. ((all.0 e).0.0, (all.0 e).0.1, (all.0 e).1.0, (all.0 e).1.1)), (λ h. all.1 ((h.0, h.1), (h.2, h.3))))
-header_decides bounds file PlacesStrings =
-    both_decide _ _ (le_decides (header_length file) (off_dt_strings file)) (le_decides (strings_end file) (totalsize file))
+header_decides bounds file PlacesReservations = search (rules, both_decide, eq_decides, le_decides)
+header_decides bounds file PlacesStructure = search (rules, both_decide, le_decides, eq_decides)
+header_decides bounds file PlacesStrings = search (rules, both_decide, le_decides)
 
 -- A header whose checks are tested to pass has no fault.
 pub fine_by_test : (bounds : Limits) (file : List ℕ) → list_all (test bounds file) header_checks ≡ true → HasNoHeaderFault bounds file

@@ -1,8 +1,6 @@
-use Rattle.std.proofs.Common.{◌≡◌, ℕ, zero, suc, ◌+◌, ◌*◌, ◌<◌, refl, lit≤, lit<, arith}
+use Rattle.std.proofs.Common.{◌≡◌, ℕ, zero, suc, ◌+◌, ◌*◌, ◌<◌, refl, lit≤, lit<, arith, rules}
 use Rattle.bi_base.specs.Cells.{cell, u32_at, u64_at}
-use Rattle.bi_blob.specs.BlobFaults.{IsEndPair, InReservations, IsWithinLimit, HasMagicCell, HasMagic, HasHeader, HasVersion}
-use Rattle.bi_blob.specs.BlobFaults.{HasCompatibleVersion, TotalHoldsHeader, FileHoldsTotal, PlacesReservations, PlacesStructure}
-use Rattle.bi_blob.specs.BlobFaults.{PlacesStrings}
+use Rattle.bi_blob.specs.BlobFaults.{IsEndPair, InReservations}
 use Rattle.bi_blob.specs.KnownTexts.{smallest_text}
 use Rattle.bi_base.specs.Limits.{widest}
 use Rattle.bi_blob.specs.KnownBlobs.{with_cell}
@@ -16,41 +14,12 @@ use Rattle.bi_blob.proofs.HeaderDecisions.{test, fine_by_test, in_header}
 -- In each header, the check that fails.
 pub headers_have_faults : HeadersHaveFaults
 unfolding u32_at cell test first_failing
-headers_have_faults = record {
-  past_limit = in_header _ _ IsWithinLimit refl;
-  no_bytes = in_header _ _ HasMagicCell refl;
-  three_bytes = in_header _ _ HasMagicCell refl;
-  other_magic = in_header _ _ HasMagic refl;
-  short_header = in_header _ _ HasHeader refl;
-  version_15 = in_header _ _ HasVersion refl;
-  compatible_18 = in_header _ _ HasCompatibleVersion refl;
-  total_39 = in_header _ _ TotalHoldsHeader refl;
-  total_past_end = in_header _ _ FileHoldsTotal refl;
-  reservations_in_header = in_header _ _ PlacesReservations refl;
-  reservations_unaligned = in_header _ _ PlacesReservations refl;
-  reservations_past_end = in_header _ _ PlacesReservations refl;
-  structure_in_header = in_header _ _ PlacesStructure refl;
-  structure_unaligned = in_header _ _ PlacesStructure refl;
-  structure_past_end = in_header _ _ PlacesStructure refl;
-  strings_in_header = in_header _ _ PlacesStrings refl;
-  strings_past_end = in_header _ _ PlacesStrings refl;
-  reservations_past_total = in_header _ _ PlacesReservations refl;
-  structure_past_total = in_header _ _ PlacesStructure refl;
-  strings_past_total = in_header _ _ PlacesStrings refl;
-}
+headers_have_faults = search (rules, in_header)
 
 -- Of two checks that fail, the first.
 pub header_checks_have_order : HeaderChecksHaveOrder
 unfolding u32_at cell test first_failing
-header_checks_have_order = record {
-  limit_before_magic = in_header _ _ IsWithinLimit refl;
-  length_before_version = in_header _ _ HasHeader refl;
-  version_before_compatible = in_header _ _ HasVersion refl;
-  version_before_total = in_header _ _ HasVersion refl;
-  compatible_before_total = in_header _ _ HasCompatibleVersion refl;
-  reservations_before_structure = in_header _ _ PlacesReservations refl;
-  structure_before_strings = in_header _ _ PlacesStructure refl;
-}
+header_checks_have_order = search (rules, in_header)
 
 -- In each memory reservation block, the pairs up to the one that extends past its end.
 pub reservations_have_faults : ReservationsHaveFaults

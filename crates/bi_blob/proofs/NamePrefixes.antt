@@ -1,4 +1,4 @@
-use Rattle.std.proofs.Common.{◌≡◌, ℕ, ◌+◌, ◌*◌, ◌^◌, ◌<◌, ◌≤◌, List, [], ◌∷◌, ◌++◌, length, take, drop, replicate, suc, zero}
+use Rattle.std.proofs.Common.{◌≡◌, ℕ, ◌+◌, ◌*◌, ◌^◌, ◌<◌, ◌≤◌, List, [], ◌∷◌, ◌++◌, length, take, drop, replicate, suc, zero, rules}
 use Rattle.std.proofs.Common.{refl, sym, ap, ◌∙◌, arith}
 use Rattle.std.specs.Cmp.{ranked}
 use Rattle.std.specs.Cmp.Lexicographic.{slice_cmp}
@@ -87,10 +87,7 @@ prefix_is_leading (a ∷ b ∷ c ∷ d ∷ e ∷ f ∷ g ∷ h ∷ later) = omeg
 
 -- The order of names by prefix, and of those with one prefix by their bytes, is byte order.
 pub prefixes_keep_order : PrefixesKeepByteOrder
-prefixes_keep_order one other one_bytes other_bytes =
-    let a = prefix_of_name one in
-    let b = prefix_of_name other in
-    by (nat_cmp a b) (ranked a b (nat_cmp a b) refl)
+prefixes_keep_order one other one_bytes other_bytes = let a = prefix_of_name one in search (rules, by)
   where
     by : (o : Ordering) →
         MatchOrdering o (prefix_of_name one < prefix_of_name other) (prefix_of_name one ≡ prefix_of_name other)

@@ -1,4 +1,4 @@
-use Rattle.std.proofs.Common.{◌≡◌, ◌≢◌, ℕ, Bool, true, false, cond, List, [], ◌∷◌, ◌++◌, length, refl, sym, ap, ◌∙◌, inl, inr}
+use Rattle.std.proofs.Common.{◌≡◌, ◌≢◌, ℕ, true, false, List, [], ◌∷◌, ◌++◌, length, refl, sym, ap, ◌∙◌, inl, inr, rules}
 use Rattle.std.specs.Prelude.{◌||◌, bytes_eq}
 use Rattle.std.specs.List.{list_any}
 use Rattle.std.specs.declared.cmp.Ordering.{Ordering}
@@ -26,28 +26,12 @@ HoldsNames-none set empty = record { each = λ name. ap (list_any (λ k. is_eq (
 -- A set that a name joins has it too.
 pub HoldsNames-insert : (old new : BTreeSet (Bor (List ℕ))) (name : Bor (List ℕ)) (held : List (List ℕ)) → HoldsNames old held →
     Updates name_cmp old new name true → HoldsNames new (held ++ name.now ∷ [])
-HoldsNames-insert old new name held holds updates = record {
-  each = λ q.
-      updates.0 q
-      ∙ ap (λ b. cond b true (contains name_cmp old q)) (is_eq-slice_cmp name.now q.now)
-      ∙ ap (cond (bytes_eq name.now q.now) true) (holds.each q)
-      ∙ joined (bytes_eq name.now q.now) (list_any (λ other. bytes_eq other q.now) held)
-      ∙ sym (list_any-append (λ other. bytes_eq other q.now) held (name.now ∷ []));
-} where
-  joined : (a b : Bool) → cond a true b ≡ (b || (a || false))
-  joined true true = refl
-  joined true false = refl
-  joined false true = refl
-  joined false false = refl
+HoldsNames-insert old new name held holds updates = search (rules, is_eq-slice_cmp, list_any-append)
 
 -- A name that is not among others is new.
 pub new_by_test : (name : List ℕ) (held : List (List ℕ)) → list_any (λ other. bytes_eq other name) held ≡ false → IsNew name held
 new_by_test name [] e = tt
-new_by_test name (other ∷ held) e = by_first (bytes_eq other name) refl e (new_by_test name held) where
-  by_first : (b : Bool) → bytes_eq other name ≡ b → (b || list_any (λ o. bytes_eq o name) held) ≡ false
-      → (list_any (λ o. bytes_eq o name) held ≡ false → IsNew name held) → (other ≢ name) × IsNew name held
-  by_first true is fails later = absurd (false≢true (sym fails))
-  by_first false is fails later = (λ same. false≢true (sym is ∙ (bytes_decides other name).1 same), later fails)
+new_by_test name (other ∷ held) e = search (rules, false≢true, new_by_test name held)
 
 -- A name that is among others is not new.
 pub held_by_test : (name : List ℕ) (held : List (List ℕ)) → list_any (λ other. bytes_eq other name) held ≡ true → IsNew name held → ⊥

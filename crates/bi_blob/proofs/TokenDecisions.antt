@@ -1,4 +1,4 @@
-use Rattle.std.proofs.Common.{◌≡◌, ◌≢◌, ℕ, ◌+◌, ◌*◌, ◌^◌, Bool, true, false, List, [], ◌∷◌, length, Some, refl, arith}
+use Rattle.std.proofs.Common.{◌≡◌, ◌≢◌, ℕ, ◌+◌, ◌*◌, ◌^◌, Bool, true, false, List, [], ◌∷◌, length, Some, refl, arith, rules}
 use Rattle.std.specs.Prelude.{◌==◌, ◌&&◌, nat_le, nat_lt, bytes_eq}
 use Rattle.std.specs.Bool.{Decides}
 use Rattle.std.specs.List.{list_all}
@@ -69,12 +69,9 @@ token_decides blocks depth_limit place stage MayNameNode = may_be_named_decides 
 token_decides blocks depth_limit place stage IsNewNode = is_new_decides (name_from blocks.file (place + 4)) (child_names stage)
 token_decides blocks depth_limit place stage IsBeforeChildren = are_none_decides (child_names stage)
 token_decides blocks depth_limit place stage HasValue = le_decides (place + 12 + u32_at blocks.file (place + 4)) blocks.end
-token_decides blocks depth_limit place stage HasPropertyName =
-    lt_decides (u32_at blocks.file (place + 8) + length (name_from blocks.strings (u32_at blocks.file (place + 8)))) (length blocks.strings)
-token_decides blocks depth_limit place stage MayNameProperty = is_property_name_decides
-    (name_from blocks.strings (u32_at blocks.file (place + 8)))
-token_decides blocks depth_limit place stage IsNewProperty =
-    is_new_decides (name_from blocks.strings (u32_at blocks.file (place + 8))) (property_names stage)
+token_decides blocks depth_limit place stage HasPropertyName = search (rules, lt_decides)
+token_decides blocks depth_limit place stage MayNameProperty = search (rules, is_property_name_decides)
+token_decides blocks depth_limit place stage IsNewProperty = search (rules, is_new_decides)
 
 -- Whether the numbers of a token are cells, and a zero byte ends its name.
 unfoldable pub is_token : Token → Bool
@@ -87,9 +84,7 @@ is_token End = true
 pub is_token_decides : (token : Token) → Decides (is_token token) (IsToken token)
 unfolding is_token
 is_token_decides (BeginNode name) = lacks_byte_decides 0 name
-is_token_decides (Prop name_offset value) =
-    both_decide (nat_lt name_offset (2 ^ 32)) (nat_lt (length value) (2 ^ 32)) (lt_decides name_offset (2 ^ 32))
-    (lt_decides (length value) (2 ^ 32))
+is_token_decides (Prop name_offset value) = search (rules, both_decide, lt_decides)
 is_token_decides EndNode = ((λ e. tt), (λ is. refl))
 is_token_decides Nop = ((λ e. tt), (λ is. refl))
 is_token_decides End = ((λ e. tt), (λ is. refl))
@@ -100,12 +95,7 @@ is_token_at file at token = is_token token && bytes_eq (slice file at (length (t
 
 is_token_at_sound : (file : List ℕ) (at : ℕ) (token : Token) → is_token_at file at token ≡ true → IsTokenAt file at token
 unfolding is_token_at
-is_token_at_sound file at token e =
-    let parts = and_parts (is_token token) (bytes_eq (slice file at (length (token_bytes token))) (token_bytes token)) e in
-    record {
-      is_token = (is_token_decides token).0 parts.0;
-      is_at = (bytes_eq-Decides (slice file at (length (token_bytes token))) (token_bytes token)).0 parts.1;
-    }
+is_token_at_sound file at token e = search (rules, and_parts, is_token_decides, bytes_eq-Decides)
 
 -- Whether a token is not FDT_END.
 unfoldable pub is_before_end : Token → Bool

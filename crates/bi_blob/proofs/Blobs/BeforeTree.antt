@@ -1,8 +1,8 @@
-use Rattle.std.proofs.Common.{◌⊎◌, List, ℕ, inl, inr}
+use Rattle.std.proofs.Common.{◌⊎◌, List, ℕ, inl, inr, rules}
 use Rattle.bi_base.specs.declared.fault.Fault.{Fault}
 use Rattle.bi_base.specs.Limits.{Limits}
 use Rattle.bi_blob.specs.Blob.{off_mem_rsvmap, totalsize, tree_blocks}
-use Rattle.bi_blob.specs.BlobFaults.{HeaderPasses, header_checks, header_fault, HasNoHeaderFault, IsHeaderFault, HasNoFaultBeforeTree}
+use Rattle.bi_blob.specs.BlobFaults.{HasNoHeaderFault, IsHeaderFault, HasNoFaultBeforeTree}
 use Rattle.bi_blob.specs.BlobFaults.{IsFaultBeforeTree, IsStructureFault, IsBlobFault, InHeader, InReservations, InStructure}
 use Rattle.bi_blob.specs.BlobLaws.{FaultBeforeTreeComesFirst}
 use Rattle.bi_base.proofs.FirstFault.{not_both, fault_or_none}
@@ -14,8 +14,7 @@ use Rattle.bi_blob.proofs.Blobs.ReservationFaults.{HasSomeOrFault, reservations_
 
 -- A file has no fault before the tree, or has one.
 before_tree : (bounds : Limits) (file : List ℕ) → HasNoFaultBeforeTree bounds file ⊎ ((fault : Fault) × IsFaultBeforeTree bounds file fault)
-before_tree bounds file =
-    by_header (fault_or_none (HeaderPasses bounds file) (header_fault bounds) (header_decided bounds file) header_checks)
+before_tree bounds file = by_header (search (rules, fault_or_none, header_decided))
   where
     by_reservations : HasNoHeaderFault bounds file → HasSomeOrFault file (off_mem_rsvmap file) (totalsize file) →
         HasNoFaultBeforeTree bounds file ⊎ ((fault : Fault) × IsFaultBeforeTree bounds file fault)
@@ -32,10 +31,8 @@ before_tree bounds file =
 -- Not both.
 not_both_before : (bounds : Limits) (file : List ℕ) (fault : Fault) → HasNoFaultBeforeTree bounds file →
     IsFaultBeforeTree bounds file fault → ⊥
-not_both_before bounds file fault fine (inl first) =
-    not_both (HeaderPasses bounds file) (header_fault bounds) header_checks fault fine.header first
-not_both_before bounds file fault fine (inr faulty) =
-    no_reservations_with_fault file (off_mem_rsvmap file) (totalsize file) fine.count fault fine.reservations faulty.1
+not_both_before bounds file fault fine (inl first) = search (rules, not_both)
+not_both_before bounds file fault fine (inr faulty) = search (rules, no_reservations_with_fault)
 
 -- A fault before the tree is the fault of the file.
 pub first_fault : (bounds : Limits) (file : List ℕ) (fault : Fault) → IsFaultBeforeTree bounds file fault → IsBlobFault bounds file fault
@@ -46,15 +43,9 @@ first_fault bounds file fault (inr faulty) = InReservations faulty.0 faulty.1
 structure_fault : (bounds : Limits) (file : List ℕ) (fault : Fault) → HasNoFaultBeforeTree bounds file → IsBlobFault bounds file fault →
     IsStructureFault (tree_blocks file) bounds.depth fault
 structure_fault bounds file fault fine (InHeader first) = absurd (not_both_before bounds file fault fine (inl first))
-structure_fault bounds file fault fine (InReservations header faulty) = absurd
-    (not_both_before bounds file fault fine (inr (header, faulty)))
+structure_fault bounds file fault fine (InReservations header faulty) = search (rules, not_both_before)
 structure_fault bounds file fault fine (InStructure header count has faulty) = faulty
 
 -- The faults before the tree come first.
 pub fault_before_tree_comes_first : FaultBeforeTreeComesFirst
-fault_before_tree_comes_first bounds file = record {
-  decided = before_tree bounds file;
-  apart = λ fault fine faulty. not_both_before bounds file fault fine faulty;
-  first = λ fault faulty. first_fault bounds file fault faulty;
-  later = λ fault fine faulty. structure_fault bounds file fault fine faulty;
-}
+fault_before_tree_comes_first bounds file = search (rules, before_tree, not_both_before, first_fault, structure_fault)

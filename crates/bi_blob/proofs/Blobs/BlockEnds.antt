@@ -1,4 +1,5 @@
-use Rattle.std.proofs.Common.{◌≡◌, ℕ, ◌+◌, ◌-◌, ◌≤◌, List, [], ◌∷◌, ◌++◌, length, drop, map, min, max, refl, sym, ap, subst, ◌∙◌, arith}
+use Rattle.std.proofs.Common.{rules}
+use Rattle.std.proofs.Common.{◌≡◌, ℕ, ◌+◌, ◌-◌, ◌≤◌, List, [], ◌∷◌, ◌++◌, length, map, refl, sym, ap, subst, ◌∙◌, arith}
 use Rattle.std.proofs.lemmas.List.{length-append, length-take, map-append}
 use Rattle.bi_base.specs.Cells.{slice}
 use Rattle.bi_blob.specs.Tokens.{Token, BeginNode, EndNode, Prop, Nop, End, width, name_from}
@@ -45,9 +46,7 @@ tree_events_without_places root = events_without_places (node [] root.own root.c
 -- The places make a tree no deeper.
 pub depth-with_each : {A B : Type 0} (change : A → B) (nodes : Nodes A) → depth nodes ≡ depth (with_each change nodes)
 depth-with_each change none = refl
-depth-with_each change (node name own children later) =
-    ap (λ n. max (n + 1) (depth later)) (depth-with_each change children)
-    ∙ ap (λ n. max (depth (with_each change children) + 1) n) (depth-with_each change later)
+depth-with_each change (node name own children later) = search (rules, depth-with_each change children, depth-with_each change later)
 
 pub depth-properties_of : (root : Root FileNode) → depth_of root ≡ depth_of (tree_without_places root)
 depth-properties_of root = depth-with_each properties_of (node [] root.own root.children none)
@@ -145,9 +144,7 @@ module _ (blocks : TreeBlocks) (depth_limit : ℕ) where
       AreEncodings-length blocks.begin (holds.tokens ++ End ∷ []) holds.structure holds.is_encoded in
       let long : length (slice blocks.file blocks.begin size) ≡ length holds.structure + length holds.trailing =
       ap length holds.is_at ∙ length-append holds.structure holds.trailing in
-      let short : length (slice blocks.file blocks.begin size) ≡ min size (length (drop blocks.begin blocks.file)) =
-      length-take size (drop blocks.begin blocks.file) in
-      omega arith
+      search (rules, length-take)
 
   -- A block that holds a tree within the depth limit ends.
   pub tree_ends : (root : Root FileNode) → HoldsTree blocks root → blocks.begin ≤ blocks.end → depth_of root ≤ depth_limit →

@@ -1,4 +1,5 @@
-use Rattle.std.proofs.Common.{◌≡◌, ℕ, ◌+◌, ◌-◌, ◌<◌, ◌≤◌, ◌^◌, List, ◌++◌, length, take, drop, get_or, min, refl, sym, ap, ◌∙◌, arith}
+use Rattle.std.proofs.Common.{rules}
+use Rattle.std.proofs.Common.{◌≡◌, ℕ, ◌+◌, ◌-◌, ◌<◌, ◌≤◌, ◌^◌, List, ◌++◌, length, take, drop, get_or, refl, sym, ap, ◌∙◌}
 use Rattle.std.specs.Int.{from_be_bytes, w32, w64}
 use Rattle.std.proofs.lemmas.List.{length-drop, length-take, take_at, drop_at, drop-drop, take-append-drop, append_assoc}
 use Rattle.std.proofs.lemmas.Nat.{be_bytes_8, from_be_bytes-to_be_bytes_4, from_be_bytes-to_be_bytes_8}
@@ -24,12 +25,7 @@ BytesAt-drop file at bytes e =
 
 -- Bytes at an offset are within the file.
 pub BytesAt-within : (file : List ℕ) (at : ℕ) (bytes : List ℕ) → 0 < length bytes → BytesAt file at bytes → at + length bytes ≤ length file
-BytesAt-within file at bytes some e =
-    let long : length (slice file at (length bytes)) ≡ length bytes = ap length e in
-    let short : length (slice file at (length bytes))
-    ≡ min (length bytes) (length (drop at file)) = length-take (length bytes) (drop at file) in
-    let left : length (drop at file) ≡ length file - at = length-drop at file in
-    omega arith
+BytesAt-within file at bytes some e = search (rules, length-take, length-drop)
 
 -- The first of two lists at an offset is there.
 pub BytesAt-left : (file : List ℕ) (at : ℕ) (a b : List ℕ) → BytesAt file at (a ++ b) → BytesAt file at a
@@ -48,7 +44,7 @@ BytesAt-right file at a b e =
 pub BytesAt-join : (file : List ℕ) (at : ℕ) (a b : List ℕ) → BytesAt file at a → BytesAt file (at + length a) b → BytesAt file at (a ++ b)
 BytesAt-join file at a b one other =
     BytesAt-from file at (a ++ b) (drop (at + length a + length b) file)
-    (BytesAt-drop file at a one ∙ ap (λ l. a ++ l) (BytesAt-drop file (at + length a) b other) ∙ sym (append_assoc a b _))
+    (search (rules, BytesAt-drop, append_assoc))
 
 -- A cell at an offset is read there.
 pub u32_at-BytesAt : (file : List ℕ) (at n : ℕ) → n < 2 ^ 32 → BytesAt file at (cell n) → u32_at file at ≡ n
@@ -68,8 +64,7 @@ length-cell8 n = refl
 -- Two numbers of 64 bits with the same two cells are one number.
 pub cell8_agree : (m n : ℕ) → m < 2 ^ 64 → n < 2 ^ 64 → cell8 m ≡ cell8 n → m ≡ n
 unfolding cell8
-cell8_agree m n m_fits n_fits e =
-    sym (from_be_bytes-to_be_bytes_8 m m_fits) ∙ ap (from_be_bytes w64) e ∙ from_be_bytes-to_be_bytes_8 n n_fits
+cell8_agree m n m_fits n_fits e = search (rules, from_be_bytes-to_be_bytes_8)
 
 -- Two cells at an offset are read there.
 pub u64_at-BytesAt : (file : List ℕ) (at n : ℕ) → n < 2 ^ 64 → BytesAt file at (cell8 n) → u64_at file at ≡ n
@@ -85,16 +80,7 @@ BytesAt-cell8 file at bytes within =
 
 -- The number of eight bytes is below 2^64.
 from_be_bytes_8-fits : (bytes : List ℕ) → ((i : ℕ) → get_or bytes i 0 < 256) → from_be_bytes w64 bytes < 2 ^ 64
-from_be_bytes_8-fits bytes each =
-    let a : get_or bytes 0 0 < 256 = each 0 in
-    let b : get_or bytes 1 0 < 256 = each 1 in
-    let c : get_or bytes 2 0 < 256 = each 2 in
-    let d : get_or bytes 3 0 < 256 = each 3 in
-    let e : get_or bytes 4 0 < 256 = each 4 in
-    let f : get_or bytes 5 0 < 256 = each 5 in
-    let g : get_or bytes 6 0 < 256 = each 6 in
-    let h : get_or bytes 7 0 < 256 = each 7 in
-    omega arith
+from_be_bytes_8-fits bytes each = search rules
 
 -- A number that is read from two cells of bytes is below 2^64.
 pub u64_at-fits : (file : List ℕ) (at : ℕ) → AreBytes file → u64_at file at < 2 ^ 64

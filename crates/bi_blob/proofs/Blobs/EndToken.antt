@@ -1,7 +1,7 @@
-use Rattle.std.proofs.Common.{◌≡◌, ℕ, ◌+◌, ◌-◌, ◌≤◌, List, [], ◌∷◌, ◌++◌, length, take, drop, reverse, sym, ap, subst, ◌∙◌, arith}
+use Rattle.std.proofs.Common.{◌≡◌, ℕ, ◌+◌, ◌-◌, ◌≤◌, List, [], ◌∷◌, ◌++◌, length, take, drop, reverse, sym, ap, subst, ◌∙◌, arith, rules}
 use Rattle.std.proofs.Math.Seq.{take-add}
 use Rattle.bi_base.specs.Cells.{slice}
-use Rattle.bi_blob.specs.Tokens.{Token, End, width, IsTokenAt, end_number}
+use Rattle.bi_blob.specs.Tokens.{Token, End, IsTokenAt, end_number}
 use Rattle.bi_blob.specs.Tree.{Root, FileNode, depth_of}
 use Rattle.bi_blob.specs.Stages.{AfterRoot}
 use Rattle.bi_blob.specs.Blob.{TreeBlocks, HoldsTree}
@@ -26,7 +26,7 @@ last_token blocks depth_limit place root position next =
     let tokens : List Token = reverse position.tokens in
     let before : place_after_all blocks.begin tokens ≡ place = place_after_all-reverse blocks position.tokens ∙ position.is_place in
     let whole : place_after_all blocks.begin (tokens ++ End ∷ []) ≡ place + 4 =
-    place_after_all-append blocks.begin tokens (End ∷ []) ∙ ap (λ p. p + width End) before ∙ ap (λ w. place + w) width-End in
+    search (rules, place_after_all-append, width-End) in
     let past : blocks.begin ≤ place_after_all blocks.begin (tokens ++ End ∷ []) = place_after_all-past blocks.begin (tokens ++ End ∷ []) in
     let end_there : IsTokenAt blocks.file (place_after blocks position.tokens) End =
     subst (λ p. IsTokenAt blocks.file p End) (sym position.is_place)

@@ -1,4 +1,4 @@
-use Rattle.std.proofs.Common.{◌≡◌, ◌≢◌, ℕ, ◌+◌, List, [], ◌∷◌, ◌++◌, refl, sym, ap, ◌∙◌}
+use Rattle.std.proofs.Common.{◌≡◌, ◌≢◌, ℕ, ◌+◌, List, [], ◌∷◌, ◌++◌, refl, ap, rules}
 use Rattle.std.specs.List.{AllByRecursion}
 use Rattle.bi_blob.specs.Tokens.{Token, BeginNode, EndNode, Prop, Nop, End, width}
 use Rattle.bi_blob.specs.Tree.{FileProperty}
@@ -13,9 +13,7 @@ one_property : (strings : List ℕ) (at o : ℕ) (v : List ℕ) (p q : FilePrope
     EncodesProperty strings at o v q → p ≡ q
 one_property strings at o v p q one other =
     let same_name : p.name ≡ q.name = one_name strings o p.name q.name one.name other.name in
-    let same_value : p.value ≡ q.value = sym one.value ∙ other.value in
-    let same_place : p.place ≡ q.place = sym one.place ∙ other.place in
-    λ i. record { name = same_name i; value = same_value i; place = same_place i }
+    search rules
 
 -- Tokens encode at most one list of events.
 pub one_event_list : (strings : List ℕ) (at : ℕ) (tokens : List Token) (a b : List FileEvent) → EncodeEvents strings at tokens a →
@@ -23,14 +21,9 @@ pub one_event_list : (strings : List ℕ) (at : ℕ) (tokens : List Token) (a b 
 one_event_list strings at [] [] [] one other = refl
 one_event_list strings at (Nop ∷ tokens) a b one other = one_event_list strings (at + width Nop) tokens a b one other
 one_event_list strings at (BeginNode n ∷ tokens) (FileNodeStart p k ∷ a) (FileNodeStart q m ∷ b) one other =
-    let same_name : k ≡ m = sym one.0.same_name ∙ other.0.same_name in
-    let same_place : p ≡ q = sym one.0.same_place ∙ other.0.same_place in
-    let rest : a ≡ b = one_event_list strings (at + width (BeginNode n)) tokens a b one.1 other.1 in
-    λ i. FileNodeStart (same_place i) (same_name i) ∷ rest i
+    search (rules, one_event_list strings (at + width (BeginNode n)) tokens a b one.1 other.1)
 one_event_list strings at (Prop o v ∷ tokens) (FileNodeProperty p ∷ a) (FileNodeProperty q ∷ b) one other =
-    let same : p ≡ q = one_property strings at o v p q one.0 other.0 in
-    let rest : a ≡ b = one_event_list strings (at + width (Prop o v)) tokens a b one.1 other.1 in
-    λ i. FileNodeProperty (same i) ∷ rest i
+    search (rules, one_property, one_event_list strings (at + width (Prop o v)) tokens a b one.1 other.1)
 one_event_list strings at (EndNode ∷ tokens) (FileNodeEnd ∷ a) (FileNodeEnd ∷ b) one other =
     ap (λ l. FileNodeEnd ∷ l) (one_event_list strings (at + width EndNode) tokens a b one other)
 one_event_list strings at tokens a b one other = absurd (assumption (one, other))
@@ -39,10 +32,8 @@ one_event_list strings at tokens a b one other = absurd (assumption (one, other)
 pub EncodeEvents-no_end : (strings : List ℕ) (at : ℕ) (tokens : List Token) (token_events : List FileEvent) →
     EncodeEvents strings at tokens token_events → AllByRecursion (λ t. t ≢ End) tokens
 EncodeEvents-no_end strings at [] [] encodes = tt
-EncodeEvents-no_end strings at (Nop ∷ tokens) token_events encodes = (
-  (λ (e : Nop ≡ End). absurd cc),
-  EncodeEvents-no_end strings (at + width Nop) tokens token_events encodes,
-)
+EncodeEvents-no_end strings at (Nop ∷ tokens) token_events encodes =
+    search (rules, EncodeEvents-no_end strings (at + width Nop) tokens token_events encodes)
 EncodeEvents-no_end strings at (BeginNode n ∷ tokens) (FileNodeStart p k ∷ token_events) encodes =
     ((λ (e : BeginNode n ≡ End). absurd cc), EncodeEvents-no_end strings (at + width (BeginNode n)) tokens token_events encodes.1)
 EncodeEvents-no_end strings at (Prop o v ∷ tokens) (FileNodeProperty p ∷ token_events) encodes =

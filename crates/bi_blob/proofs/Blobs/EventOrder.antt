@@ -1,4 +1,4 @@
-use Rattle.std.proofs.Common.{◌≡◌, ◌≢◌, ℕ, suc, ◌+◌, ◌<◌, ◌≤◌, List, [], ◌∷◌, ◌++◌, length, map, fold, refl, sym, subst, arith}
+use Rattle.std.proofs.Common.{◌≡◌, ℕ, suc, ◌+◌, ◌<◌, ◌≤◌, List, [], ◌∷◌, ◌++◌, length, map, fold, refl, sym, subst, arith, rules}
 use Rattle.std.specs.Prelude.{IsTrue}
 use Rattle.std.specs.List.{AllByRecursion}
 use Rattle.std.proofs.lemmas.List.{append_assoc, append-nil}
@@ -67,10 +67,7 @@ open_with properties children = record { properties = properties; children = chi
 new_to_more : (name : List ℕ) (others later : List (List ℕ)) → AllByRecursion (λ n. IsNew n others) later → IsNew name later →
     AllByRecursion (λ n. IsNew n (others ++ name ∷ [])) later
 new_to_more name others [] are_new is_new = tt
-new_to_more name others (n ∷ later) are_new is_new = (
-  All-push (λ other. other ≢ n) others name are_new.0 (λ e. is_new.0 (sym e)),
-  new_to_more name others later are_new.1 is_new.1,
-)
+new_to_more name others (n ∷ later) are_new is_new = search (rules, All-push, new_to_more name others later are_new.1 is_new.1)
 
 -- All names are new to none.
 new_to_none : (later : List (List ℕ)) → AllByRecursion (λ n. IsNew n []) later
@@ -103,14 +100,12 @@ module _ (depth_limit : ℕ) where
       AreNodes AreProperties nodes → AllByRecursion (λ n. IsNew n cs) (names nodes) → depth nodes + suc (length outer) ≤ depth_limit →
       FollowToEnd (MayFollow depth_limit) (Inside (open_with ns (cs ++ names nodes)) outer) later →
       FollowToEnd (MayFollow depth_limit) (Inside (open_with ns cs) outer) (events nodes ++ later)
-  nodes_follow none ns cs outer later are are_new shallow follow =
-      subst (λ l. FollowToEnd (MayFollow depth_limit) (Inside (open_with ns l) outer) later) (append-nil cs) follow
+  nodes_follow none ns cs outer later are are_new shallow follow = search (rules, append-nil)
   nodes_follow (node name ps children siblings) ns cs outer later are are_new shallow follow =
       let round : List OpenNode = open_with ns (cs ++ name ∷ []) ∷ outer in
       let trailing : List Event = NodeEnd ∷ (events siblings ++ later) in
       let after_all : FollowToEnd (MayFollow depth_limit) (Inside (open_with ns ((cs ++ name ∷ []) ++ names siblings)) outer) later =
-      subst (λ l. FollowToEnd (MayFollow depth_limit) (Inside (open_with ns l) outer) later)
-      (sym (append_assoc cs (name ∷ []) (names siblings))) follow in
+      search (rules, append_assoc) in
       let closed : FollowToEnd (MayFollow depth_limit) (Inside (open_with (property_names_of ps) (names children)) round) trailing = (
         tt,
         nodes_follow siblings ns (cs ++ name ∷ []) outer later are.2
@@ -136,8 +131,4 @@ module _ (depth_limit : ℕ) where
       let inner : FollowToEnd (MayFollow depth_limit) (Inside (open_with (property_names_of root.own) []) [])
       (events root.children ++ NodeEnd ∷ []) =
       nodes_follow root.children (property_names_of root.own) [] [] (NodeEnd ∷ []) is.children
-      (new_to_none (names root.children)) (omega arith) closed in (
-        (omega arith, refl),
-        properties_follow root.own [] [] (events root.children ++ NodeEnd ∷ []) is.is_own.named is.is_own.distinct
-            (new_to_none (property_names_of root.own)) inner,
-      )
+      (new_to_none (names root.children)) (omega arith) closed in search (rules, properties_follow, new_to_none)

@@ -1,10 +1,10 @@
-use Rattle.std.proofs.Common.{◌≡◌, ℕ, suc, ◌<◌, ◌≤◌, List, [], ◌∷◌, ◌++◌, length, map, refl, sym, ap, ap₂, subst, ◌∙◌, arith}
+use Rattle.std.proofs.Common.{◌≡◌, ℕ, suc, ◌<◌, List, [], ◌∷◌, ◌++◌, length, map, refl, sym, ap, ap₂, subst, ◌∙◌, rules}
 use Rattle.std.proofs.lemmas.List.{append_assoc, append-nil, map-append}
 use Rattle.bi_blob.specs.Tree.{Nodes, none, node, Root, Property, FileProperty, FileNode, with_each, with_each_node, properties_of}
 use Rattle.bi_blob.specs.Tree.{property_of, tree_without_places, as_nodes}
 use Rattle.bi_blob.specs.Events.{Event, NodeStart, NodeProperty, NodeEnd, events, events_of, FileEvent, FileNodeStart, FileNodeProperty}
 use Rattle.bi_blob.specs.Events.{FileNodeEnd, file_events, file_events_of}
-use Rattle.bi_blob.specs.Stages.{BeforeRoot, Inside, AfterRoot, next_stage}
+use Rattle.bi_blob.specs.Stages.{BeforeRoot, AfterRoot, next_stage}
 use Rattle.bi_blob.specs.Following.{MayFollow, AreClosedEvents}
 use Rattle.bi_blob.specs.BlobLaws.{HasOneTree, ClosedEventsHaveOneTree}
 use Rattle.bi_blob.proofs.Blobs.OneTree.{trees_agree}
@@ -58,22 +58,13 @@ property_events-at_0 (property ∷ later) = ap (λ l. FileNodeProperty (property
 -- Nodes at place 0 are the nodes.
 nodes-at_0 : (nodes : Nodes (List Property)) → with_each properties_of (with_each node_at_0 nodes) ≡ nodes
 nodes-at_0 none = refl
-nodes-at_0 (node name properties children later) =
-    ap (λ own. node name own (with_each properties_of (with_each node_at_0 children))
-    (with_each properties_of (with_each node_at_0 later))) (properties-at_0 properties)
-    ∙ ap₂ (λ below after. node name properties below after) (nodes-at_0 children) (nodes-at_0 later)
+nodes-at_0 (node name properties children later) = search (rules, properties-at_0, nodes-at_0 children, nodes-at_0 later)
 
 -- The events of nodes at place 0 are those of the nodes, at place 0.
 file_events-at_0 : (nodes : Nodes (List Property)) → file_events (with_each node_at_0 nodes) ≡ map event_at_0 (events nodes)
 file_events-at_0 none = refl
 file_events-at_0 (node name properties children later) =
-    ap (λ l. FileNodeStart 0 name ∷ l)
-    (ap (λ l. l ++ (file_events (with_each node_at_0 children) ++ (FileNodeEnd ∷ file_events (with_each node_at_0 later))))
-    (property_events-at_0 properties)
-    ∙ ap (λ l. map event_at_0 (map NodeProperty properties) ++ l)
-    (ap₂ (λ below after. below ++ (FileNodeEnd ∷ after)) (file_events-at_0 children) (file_events-at_0 later)
-    ∙ sym (map-append event_at_0 (events children) (NodeEnd ∷ events later)))
-    ∙ sym (map-append event_at_0 (map NodeProperty properties) (events children ++ (NodeEnd ∷ events later))))
+    search (rules, property_events-at_0, map-append, file_events-at_0 children, file_events-at_0 later)
 
 -- Two trees with the same events are the same.
 pub same_events : (root other : Root (List Property)) → events_of root ≡ events_of other → root ≡ other
@@ -99,7 +90,7 @@ module _ (depth_limit : ℕ) where
       HasGrown depth_limit so_far event
   grow NoTree (NodeStart name) is may = record {
     after = OpenTree (new_node name 0) [];
-    is_tree_so_far = (record { properties = record { named = tt; distinct = tt }; children = tt; shallow = omega (arith, may.0) }, may.1);
+    is_tree_so_far = search rules;
     is_stage = refl;
     adds_event = refl;
   }
@@ -108,11 +99,7 @@ module _ (depth_limit : ℕ) where
       let open_here : length (outer_nodes_of parent.name outer) ≡ length outer = length-outer_nodes_of parent.name outer in
       record {
         after = OpenTree (new_node name 0) (parent ∷ outer);
-        is_tree_so_far = (
-          record { properties = record { named = tt; distinct = tt }; children = tt; shallow = omega arith },
-          record { is_name = may.1; is_new = may.2 },
-          is,
-        );
+        is_tree_so_far = search rules;
         is_stage = refl;
         adds_event = refl;
       }
@@ -120,11 +107,8 @@ module _ (depth_limit : ℕ) where
   grow NoTree (NodeProperty property) is may = absurd may
   grow (OpenTree innermost outer) (NodeProperty property) is may = record {
     after = OpenTree (with_one_property innermost (property_at_0 property)) outer;
-    is_tree_so_far = AreOpenNodes-property depth_limit innermost outer (property_at_0 property) is
-        (AreProperties-push innermost.properties (property_at_0 property)
-        (innermost_properties depth_limit innermost outer is) may.1 may.2);
-    is_stage = ap (λ open_node. Inside open_node (outer_nodes_of innermost.name outer))
-        (sym (open_node_of-property innermost (property_at_0 property)));
+    is_tree_so_far = search (rules, AreOpenNodes-property, AreProperties-push, innermost_properties);
+    is_stage = search (rules, open_node_of-property);
     adds_event = events_of_open_nodes-property innermost outer (property_at_0 property) may.0;
   }
   grow (WholeTree root) (NodeProperty property) is may = absurd may
@@ -133,17 +117,14 @@ module _ (depth_limit : ℕ) where
       let shallow = is.0.shallow in
       record {
         after = WholeTree (ended_root outermost);
-        is_tree_so_far = record {
-          is_tree = record { is_own = is.0.properties; children = is.0.children };
-          shallow = omega (arith, shallow);
-        };
+        is_tree_so_far = search rules;
         is_stage = refl;
         adds_event = events_of_open_nodes-root outermost is.1;
       }
   grow (OpenTree child (parent ∷ outer)) NodeEnd is may = record {
     after = OpenTree (with_one_child parent child) outer;
     is_tree_so_far = AreOpenNodes-child depth_limit child parent outer is;
-    is_stage = ap (λ open_node. Inside open_node (outer_nodes_of parent.name outer)) (sym (open_node_of-child parent child));
+    is_stage = search (rules, open_node_of-child);
     adds_event = events_of_open_nodes-child parent child outer;
   }
   grow (WholeTree root) NodeEnd is may = absurd may
@@ -179,23 +160,14 @@ module _ (depth_limit : ℕ) where
       let done = grow_to_end NoTree events tt (to_end (MayFollow depth_limit) BeforeRoot events closed.follow closed.closed) in
       let same : events_of (tree_without_places done.0) ≡ events =
       sym (tree_events_without_places done.0) ∙ ap (map event_without_place) done.1 ∙ events_without_places-at_0 events in
-      record {
-        root = tree_without_places done.0;
-        same = same;
-        only = λ other also. same_events other (tree_without_places done.0) (also ∙ sym same);
-        is_tree = done.2.is_tree;
-        shallow = subst (λ n. n ≤ depth_limit) (depth-properties_of done.0) done.2.shallow;
-      }
+      search (rules, same_events, depth-properties_of)
 
   -- The events of one tree may follow one another, and end its root.
   tree_closes : (events : List Event) → HasOneTree depth_limit events → AreClosedEvents (MayFollow depth_limit) events
   tree_closes events tree =
       let follow : FollowToEnd (MayFollow depth_limit) BeforeRoot events =
-      subst (FollowToEnd (MayFollow depth_limit) BeforeRoot) tree.same (tree_follows depth_limit tree.root tree.is_tree tree.shallow) in
-      record {
-        follow = follow_to_end (MayFollow depth_limit) BeforeRoot events follow;
-        closed = closed_at_end (MayFollow depth_limit) BeforeRoot events follow;
-      }
+      search (rules, tree_follows) in
+      search (rules, follow_to_end, closed_at_end)
 
 -- Closed events are those of one tree, and only those are closed.
 pub closed_events_have_one_tree : ClosedEventsHaveOneTree

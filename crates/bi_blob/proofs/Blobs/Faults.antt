@@ -1,4 +1,4 @@
-use Rattle.std.proofs.Common.{◌⊎◌, ℕ, List, length, refl, inl, inr}
+use Rattle.std.proofs.Common.{◌⊎◌, ℕ, List, length, inl, inr, rules}
 use Rattle.bi_base.specs.declared.fault.Fault.{Fault}
 use Rattle.bi_base.specs.Cells.{AreBytes}
 use Rattle.bi_base.specs.Limits.{Limits}
@@ -21,14 +21,11 @@ use Rattle.bi_blob.proofs.Blobs.BlockEnds.{tree_ends}
 
 -- A blob's header has no fault, nor do its reservations, nor does its structure block.
 pub blob_has_no_fault : BlobHasNoFault
-blob_has_no_fault bounds file fault within (InHeader first) =
-    not_both (HeaderPasses bounds file) (header_fault bounds) header_checks fault
-    (Header-HasNoHeaderFault bounds file within.within.short within.blob.header) first
+blob_has_no_fault bounds file fault within (InHeader first) = search (rules, not_both, Header-HasNoHeaderFault)
 blob_has_no_fault bounds file fault within (InReservations fine faulty) =
     let header : Header file = within.blob.header in
     no_reservations_with_fault file (off_mem_rsvmap file) (totalsize file) (length within.reservations) fault
-    (BeginsWithReservations-HasReservations file (off_mem_rsvmap file)
-    (totalsize file) within.reservations header.reservations_within header.file_holds_total within.blob.reserved)
+    (search (rules, BeginsWithReservations-HasReservations))
     faulty
 blob_has_no_fault bounds file fault within (InStructure fine count has faulty) =
     let ends : (tokens : List Token) × IsEnded (tree_blocks file) bounds.depth tokens =
@@ -40,18 +37,15 @@ no_fault_or_fault : (bounds : Limits) (file : List ℕ) (fault : Fault) → HasN
 no_fault_or_fault bounds file fault fine first = not_both (HeaderPasses bounds file) (header_fault bounds) header_checks fault fine first
 
 pub one_blob_fault : OneBlobFault
-one_blob_fault bounds file f g (InHeader one) (InHeader other) = one_fault (HeaderPasses bounds file)
-    (header_fault bounds) header_checks f g one other
+one_blob_fault bounds file f g (InHeader one) (InHeader other) = search (rules, one_fault)
 one_blob_fault bounds file f g (InHeader one) (InReservations fine other) = absurd (no_fault_or_fault bounds file f fine one)
 one_blob_fault bounds file f g (InHeader one) (InStructure fine count has other) = absurd (no_fault_or_fault bounds file f fine one)
 one_blob_fault bounds file f g (InReservations fine one) (InHeader other) = absurd (no_fault_or_fault bounds file g fine other)
 one_blob_fault bounds file f g (InReservations fine one) (InReservations too other) =
     one_reservations_fault file (off_mem_rsvmap file) (totalsize file) f g one other
-one_blob_fault bounds file f g (InReservations fine one) (InStructure too count has other) =
-    absurd (no_reservations_with_fault file (off_mem_rsvmap file) (totalsize file) count f has one)
+one_blob_fault bounds file f g (InReservations fine one) (InStructure too count has other) = search (rules, no_reservations_with_fault)
 one_blob_fault bounds file f g (InStructure fine count has one) (InHeader other) = absurd (no_fault_or_fault bounds file g fine other)
-one_blob_fault bounds file f g (InStructure fine count has one) (InReservations too other) =
-    absurd (no_reservations_with_fault file (off_mem_rsvmap file) (totalsize file) count g has other)
+one_blob_fault bounds file f g (InStructure fine count has one) (InReservations too other) = search (rules, no_reservations_with_fault)
 one_blob_fault bounds file f g (InStructure fine count has one) (InStructure too other_count has_too other) =
     one_structure_fault (tree_blocks file) bounds.depth f g one other
 
@@ -64,14 +58,7 @@ blob_of_parts bounds file count bytes fine has tree =
       cpu = boot_cpuid_phys file;
       reservations = reservations_at file (off_mem_rsvmap file) count;
       root = tree.root;
-      blob = record {
-        bytes = bytes;
-        header = header;
-        is_cpu = refl;
-        reserved = HasReservations-BeginsWithReservations file (off_mem_rsvmap file)
-            (totalsize file) count bytes header.file_holds_total has;
-        holds = tree.holds;
-      };
+      blob = search (rules, HasReservations-BeginsWithReservations);
       within = record { short = fine.0; shallow = tree.shallow };
     }
 

@@ -1,5 +1,5 @@
-use Rattle.std.proofs.Common.{◌≡◌, ℕ, zero, suc, Bool, true, false, cond, List, [], ◌∷◌, map, Option, Some, bytes_eq, refl, sym, ap, subst}
-use Rattle.std.proofs.Common.{◌∙◌, arith}
+use Rattle.std.proofs.Common.{◌≡◌, ℕ, zero, suc, Bool, true, false, List, [], ◌∷◌, map, Option, Some, bytes_eq, refl, sym, ap, subst}
+use Rattle.std.proofs.Common.{◌∙◌, arith, rules}
 use Rattle.std.specs.List.{slice_get}
 use Rattle.std.specs.Map.{lookup}
 use Rattle.std.proofs.lemmas.Slice.Eq.{bytes_eq-Decides}
@@ -18,20 +18,14 @@ module _ {X : Type 0} (name_of : X → List ℕ) where
   not_new : (name : List ℕ) (things : List X) (index : ℕ) (thing : X) → slice_get things index ≡ Some thing → name_of thing ≡ name →
       IsNew name (map name_of things) → ⊥
   not_new name [] index thing there is_name is_new = absurd cc
-  not_new name (first ∷ later) zero thing there is_name is_new =
-      let same : first ≡ thing = cc in
-      is_new.0 (ap name_of same ∙ is_name)
+  not_new name (first ∷ later) zero thing there is_name is_new = search rules
   not_new name (first ∷ later) (suc index) thing there is_name is_new = not_new name later index thing there is_name is_new.1
 
   -- What is at an index is found by its name.
   found_at : (things : List X) (index : ℕ) (thing : X) → AreDistinct (map name_of things) → slice_get things index ≡ Some thing →
       lookup (λ other. bytes_eq other (name_of thing)) (by_name things) ≡ Some thing
   found_at [] index thing distinct there = absurd cc
-  found_at (first ∷ later) zero thing distinct there =
-      let same : first ≡ thing = cc in
-      ap (λ b. cond b (Some first) (lookup (λ other. bytes_eq other (name_of thing)) (by_name later)))
-      ((bytes_eq-Decides (name_of first) (name_of thing)).1 (ap name_of same))
-      ∙ ap (λ t. Some t) same
+  found_at (first ∷ later) zero thing distinct there = search (rules, bytes_eq-Decides)
   found_at (first ∷ later) (suc index) thing distinct there =
       where_first (bytes_eq (name_of first) (name_of thing)) refl (found_at later index thing distinct.1 there)
     where
@@ -81,16 +75,13 @@ siblings_from-first (node name own children later) = refl
 -- From a node on, there are the node and those from the next one on.
 pub siblings_from-next : {Own : Type 0} (next after : Option (Sibling Own)) (first : Sibling Own) → next ≡ Some first →
     after ≡ node_at first.later 0 → siblings_from next ≡ first ∷ siblings_from after
-siblings_from-next next after first is after_is = ap siblings_from is
-    ∙ ap (λ l. first ∷ l) (sym (ap siblings_from after_is ∙ siblings_from-first first.later))
+siblings_from-next next after first is after_is = search (rules, siblings_from-first)
 
 -- After a node comes the first of its later siblings.
 next_node : {Own : Type 0} (nodes : Nodes Own) (index : ℕ) (sibling : Sibling Own) → node_at nodes index ≡ Some sibling →
     node_at sibling.later 0 ≡ node_at nodes (suc index)
 next_node none index sibling there = absurd cc
-next_node {Own = Own} (node name own children later) zero sibling there =
-    let same : ◌≡◌ {A = Sibling Own} (record { name = name; own = own; children = children; later = later }) sibling = cc in
-    ap (λ (s : Sibling Own). node_at s.later 0) (sym same)
+next_node {Own = Own} (node name own children later) zero sibling there = search rules
 next_node (node name own children later) (suc index) sibling there = next_node later index sibling there
 
 -- Nodes with distinct names are found.
@@ -99,7 +90,7 @@ nodes_are_found nodes distinct = record {
   at_index = λ index sibling there.
       found_at (λ (s : Sibling FileNode). s.name) (siblings nodes) index sibling
       (subst AreDistinct (sym (names-siblings nodes)) distinct) there;
-  by_name = λ name sibling found. at_found (λ (s : Sibling FileNode). s.name) (siblings nodes) name sibling found;
+  by_name = search (rules, at_found);
   next = λ index sibling there. next_node nodes index sibling there ∙ ap (node_at nodes) (omega arith);
 }
 
@@ -107,5 +98,5 @@ nodes_are_found nodes distinct = record {
 pub properties_are_found : PropertiesAreFound
 properties_are_found properties distinct = record {
   at_index = λ index property there. found_at (λ (p : FileProperty). p.name) properties index property distinct there;
-  by_name = λ name property found. at_found (λ (p : FileProperty). p.name) properties name property found;
+  by_name = search (rules, at_found);
 }

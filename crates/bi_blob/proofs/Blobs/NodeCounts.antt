@@ -1,4 +1,5 @@
-use Rattle.std.proofs.Common.{◌≡◌, ℕ, ◌+◌, ◌-◌, ◌<◌, ◌≤◌, List, [], ◌∷◌, ◌++◌, length, map, flat_map, ap, ◌∙◌, arith, length-append}
+use Rattle.std.proofs.Common.{rules}
+use Rattle.std.proofs.Common.{◌≡◌, ℕ, ◌+◌, ◌-◌, ◌<◌, ◌≤◌, List, [], ◌∷◌, ◌++◌, length, flat_map, ap, ◌∙◌, arith, length-append}
 use Rattle.std.proofs.lemmas.List.{length-take, length-drop}
 use Rattle.bi_base.specs.Cells.{slice}
 use Rattle.bi_blob.specs.Tokens.{Token, BeginNode, EndNode, Prop, Nop, End, width}
@@ -14,40 +15,20 @@ use Rattle.bi_blob.proofs.Blobs.TokenEncoding.{place_after_all, place_after_all-
 -- There are at most as many nodes as events.
 events_at_least : (nodes : Nodes FileNode) → node_count nodes ≤ length (file_events nodes)
 events_at_least none = omega arith
-events_at_least (node name own children later) =
-    let below : node_count children ≤ length (file_events children) = events_at_least children in
-    let after : node_count later ≤ length (file_events later) = events_at_least later in
-    let all : length (map FileNodeProperty own.properties ++ (file_events children ++ (FileNodeEnd ∷ file_events later)))
-    ≡ length (map FileNodeProperty own.properties) + length (file_events children ++ (FileNodeEnd ∷ file_events later)) =
-    length-append (map FileNodeProperty own.properties) (file_events children ++ (FileNodeEnd ∷ file_events later)) in
-    let parts : length (file_events children ++ (FileNodeEnd ∷ file_events later))
-    ≡ length (file_events children) + length (FileNodeEnd ∷ file_events later) =
-    length-append (file_events children) (FileNodeEnd ∷ file_events later) in
-    omega arith
+events_at_least (node name own children later) = search (rules, length-append, events_at_least children, events_at_least later)
 
 -- Tokens that encode events have at least as many bytes.
 tokens_at_least : (strings : List ℕ) (at : ℕ) (tokens : List Token) (token_events : List FileEvent) →
     EncodeEvents strings at tokens token_events → at + length token_events ≤ place_after_all at tokens
 tokens_at_least strings at [] [] encodes = omega arith
 tokens_at_least strings at (Nop ∷ tokens) token_events encodes =
-    let rest : at + width Nop + length token_events ≤ place_after_all (at + width Nop) tokens = tokens_at_least strings
-    (at + width Nop) tokens token_events encodes in
-    omega arith
+    search (rules, place_after_all, tokens_at_least strings (at + width Nop) tokens token_events encodes)
 tokens_at_least strings at (BeginNode n ∷ tokens) (FileNodeStart p k ∷ later) encodes =
-    let rest : at + width (BeginNode n) + length later ≤ place_after_all (at + width (BeginNode n)) tokens = tokens_at_least strings
-    (at + width (BeginNode n)) tokens later encodes.1 in
-    let wide : 4 ≤ width (BeginNode n) = (width-at_least (BeginNode n)).0 in
-    omega arith
+    search (rules, place_after_all, width-at_least, tokens_at_least strings (at + width (BeginNode n)) tokens later encodes.1)
 tokens_at_least strings at (Prop o v ∷ tokens) (FileNodeProperty p ∷ later) encodes =
-    let rest : at + width (Prop o v) + length later ≤ place_after_all (at + width (Prop o v)) tokens = tokens_at_least strings
-    (at + width (Prop o v)) tokens later encodes.1 in
-    let wide : 4 ≤ width (Prop o v) = (width-at_least (Prop o v)).0 in
-    omega arith
+    search (rules, place_after_all, width-at_least, tokens_at_least strings (at + width (Prop o v)) tokens later encodes.1)
 tokens_at_least strings at (EndNode ∷ tokens) (FileNodeEnd ∷ later) encodes =
-    let rest : at + width EndNode + length later ≤ place_after_all (at + width EndNode) tokens = tokens_at_least strings
-    (at + width EndNode) tokens later encodes in
-    let wide : 4 ≤ width EndNode = (width-at_least EndNode).0 in
-    omega arith
+    search (rules, place_after_all, width-at_least, tokens_at_least strings (at + width EndNode) tokens later encodes)
 tokens_at_least strings at tokens token_events encodes = absurd encodes
 
 -- A structure block that holds a tree has more bytes than the tree has nodes, and the file has all of them.
@@ -75,11 +56,4 @@ pub siblings_and_children : {Own : Type 0} (nodes : Nodes Own) →
     length (siblings nodes) + length (flat_map (λ sibling. siblings sibling.children) (siblings nodes)) ≤ node_count nodes
 siblings_and_children none = omega arith
 siblings_and_children (node name own children later) =
-    let below : length (siblings children) + length
-    (flat_map (λ sibling. siblings sibling.children) (siblings children)) ≤ node_count children = siblings_and_children children in
-    let after : length (siblings later) + length
-    (flat_map (λ sibling. siblings sibling.children) (siblings later)) ≤ node_count later = siblings_and_children later in
-    let all : length (siblings children ++ flat_map (λ sibling. siblings sibling.children) (siblings later))
-    ≡ length (siblings children) + length (flat_map (λ sibling. siblings sibling.children) (siblings later)) =
-    length-append (siblings children) (flat_map (λ sibling. siblings sibling.children) (siblings later)) in
-    omega arith
+    search (rules, length-append, siblings_and_children children, siblings_and_children later)

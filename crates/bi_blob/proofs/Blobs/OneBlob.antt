@@ -1,8 +1,8 @@
-use Rattle.std.proofs.Common.{◌≡◌, ℕ, ◌-◌, List, [], ◌∷◌, ◌++◌, drop, sym, ap, subst, ◌∙◌}
+use Rattle.std.proofs.Common.{◌≡◌, ℕ, ◌-◌, [], ◌∷◌, ◌++◌, drop, sym, ◌∙◌, rules}
 use Rattle.std.proofs.lemmas.List.{append_assoc, take-append-drop}
 use Rattle.bi_blob.specs.Tree.{Root, FileNode}
-use Rattle.bi_blob.specs.Tokens.{Token, End}
-use Rattle.bi_blob.specs.Events.{EncodeEvents, file_events_of}
+use Rattle.bi_blob.specs.Tokens.{End}
+use Rattle.bi_blob.specs.Events.{file_events_of}
 use Rattle.bi_blob.specs.Blob.{TreeBlocks, HoldsTree, tree_blocks}
 use Rattle.bi_blob.specs.BlobLaws.{OneBlob}
 use Rattle.bi_blob.proofs.Blobs.TokenEncoding.{AllStand, AreEncodings-stand, one_token_list}
@@ -19,9 +19,7 @@ HoldsTree-stand blocks root holds =
     let size : ℕ = blocks.end - blocks.begin in
     AreEncodings-stand blocks.file blocks.begin (holds.tokens ++ End ∷ []) holds.structure
     (holds.trailing ++ drop size (drop blocks.begin blocks.file)) holds.is_encoded
-    (sym (take-append-drop size (drop blocks.begin blocks.file))
-    ∙ ap (λ l. l ++ drop size (drop blocks.begin blocks.file)) holds.is_at
-    ∙ append_assoc holds.structure holds.trailing (drop size (drop blocks.begin blocks.file)))
+    (search (rules, take-append-drop, append_assoc))
 
 -- A block holds one tree at most.
 pub one_tree : (blocks : TreeBlocks) (a b : Root FileNode) → HoldsTree blocks a → HoldsTree blocks b → a ≡ b
@@ -31,16 +29,12 @@ one_tree blocks a b one other =
     (EncodeEvents-no_end blocks.strings blocks.begin one.tokens (file_events_of a) one.encodes)
     (EncodeEvents-no_end blocks.strings blocks.begin other.tokens (file_events_of b) other.encodes)
     (HoldsTree-stand blocks a one) (HoldsTree-stand blocks b other) in
-    trees_agree a b
-    (one_event_list blocks.strings blocks.begin other.tokens (file_events_of a) (file_events_of b)
-    (subst (λ (ts : List Token). EncodeEvents blocks.strings blocks.begin ts (file_events_of a)) same one.encodes) other.encodes)
+    search (rules, trees_agree, one_event_list)
 
 -- A file is a blob in one way at most.
 pub one_blob : OneBlob
 one_blob file cpu other_cpu reservations other_reservations root other_root one other = record {
   same_cpu = sym one.is_cpu ∙ other.is_cpu;
-  same_reservations = reservations_agree reservations other_reservations one.reserved.trailing other.reserved.trailing
-      one.reserved.are_reservations other.reserved.are_reservations
-      (sym one.reserved.is_at ∙ other.reserved.is_at);
+  same_reservations = search (rules, reservations_agree);
   same_root = one_tree (tree_blocks file) root other_root one.holds other.holds;
 }

@@ -1,4 +1,4 @@
-use Rattle.std.proofs.Common.{◌≡◌, ℕ, ◌<◌, List, [], ◌∷◌, length, refl, sym, subst, inl, inr, arith}
+use Rattle.std.proofs.Common.{◌≡◌, ℕ, ◌<◌, List, [], ◌∷◌, length, refl, sym, subst, inl, inr, arith, rules}
 use Rattle.std.proofs.lemmas.Bool.{cases_order}
 use Rattle.bi_base.specs.declared.fault.Fault.{Fault}
 use Rattle.bi_base.specs.Cells.{u32_at}
@@ -33,11 +33,7 @@ module _ (blocks : TreeBlocks) (depth_limit : ℕ) where
   one_beginning [] [] one other e = refl
   one_beginning [] (u ∷ us) one other e = absurd (omega arith)
   one_beginning (t ∷ ts) [] one other e = absurd (omega arith)
-  one_beginning (t ∷ ts) (u ∷ us) one other e =
-      let before : ts ≡ us = one_beginning ts us one.1 other.1 (omega arith) in
-      let same : t ≡ u = one_token blocks.file (place_after blocks us) t u
-      (subst (λ vs. IsTokenAt blocks.file (place_after blocks vs) t) before one.0.is_at) other.0.is_at in
-      λ i. same i ∷ before i
+  one_beginning (t ∷ ts) (u ∷ us) one other e = search (rules, one_token, one_beginning ts us one.1 other.1 (omega arith))
 
   -- Where a longer list of tokens passes, the token after a shorter one passes.
   pub passed_after : (ts us : List Token) → ArePassed blocks depth_limit ts → ArePassed blocks depth_limit us → length ts < length us →
@@ -55,9 +51,7 @@ module _ (blocks : TreeBlocks) (depth_limit : ℕ) where
   -- There is no fault before the end of tokens that pass.
   pub no_fault_before : (ts us : List Token) (fault : Fault) → ArePassed blocks depth_limit ts → ArePassed blocks depth_limit us →
       length ts < length us → TokenFault ts fault → ⊥
-  no_fault_before ts us fault one other less first =
-      let next : (u : Token) × IsPassed blocks depth_limit ts u = passed_after ts us one other less in
-      not_both _ _ (token_checks (u32_at blocks.file (place_after blocks ts))) fault next.1.passes first
+  no_fault_before ts us fault one other less first = search (rules, passed_after, not_both)
 
   -- A structure block has one fault at most.
   pub one_structure_fault : (f g : Fault) → IsStructureFault blocks depth_limit f → IsStructureFault blocks depth_limit g → f ≡ g

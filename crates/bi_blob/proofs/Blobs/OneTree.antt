@@ -1,4 +1,4 @@
-use Rattle.std.proofs.Common.{◌≡◌, List, [], ◌∷◌, ◌++◌, map, refl, sym, ap, subst, ◌∙◌}
+use Rattle.std.proofs.Common.{◌≡◌, List, [], ◌∷◌, ◌++◌, map, refl, sym, ap, subst, ◌∙◌, rules}
 use Rattle.std.proofs.lemmas.List.{append_assoc}
 use Rattle.bi_blob.specs.Tree.{Nodes, none, node, Root, FileProperty, FileNode, as_nodes}
 use Rattle.bi_blob.specs.Events.{FileEvent, FileNodeStart, FileNodeProperty, FileNodeEnd, file_events, file_events_of}
@@ -28,8 +28,7 @@ properties_agree (p ∷ ps) [] x y end_x end_y e = absurd (subst IsEndOfProperti
 properties_agree (p ∷ ps) (q ∷ qs) x y end_x end_y e =
     let same : p ≡ q = cc in
     let rest : map FileNodeProperty ps ++ x ≡ map FileNodeProperty qs ++ y = cc in
-    let agree : (ps ≡ qs) × (x ≡ y) = properties_agree ps qs x y end_x end_y rest in
-    ((λ i. same i ∷ agree.0 i), agree.1)
+    search (rules, properties_agree ps qs x y end_x end_y rest)
 
 -- The properties of a node have ended where its children or its end follow.
 ended_properties : (children : Nodes FileNode) (x : List FileEvent) → IsEndOfProperties (file_events children ++ (FileNodeEnd ∷ x))
@@ -72,6 +71,4 @@ unfolding IsEndOfNodes
 trees_agree a b e =
     let same : node [] a.own a.children none ≡ node [] b.own b.children none =
     (nodes_agree (as_nodes a) (as_nodes b) [] [] tt tt (ap (λ l. l ++ []) e)).0 in
-    let own : a.own ≡ b.own = cc in
-    let children : a.children ≡ b.children = cc in
-    λ i. record { own = own i; children = children i }
+    search rules

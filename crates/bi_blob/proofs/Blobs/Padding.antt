@@ -1,5 +1,5 @@
-use Rattle.std.proofs.Common.{◌≡◌, ℕ, ◌+◌, ◌-◌, ◌<◌, ◌≤◌, List, [], ◌∷◌, ◌++◌, length, take, drop, reverse, refl, sym, ap, subst, ◌∙◌}
-use Rattle.std.proofs.Common.{arith}
+use Rattle.std.proofs.Common.{◌≡◌, ℕ, ◌+◌, ◌-◌, ◌<◌, ◌≤◌, List, [], ◌∷◌, ◌++◌, length, drop, reverse, refl, sym, ap, subst, ◌∙◌}
+use Rattle.std.proofs.Common.{arith, rules}
 use Rattle.std.proofs.lemmas.List.{length-append, append_assoc, take-append-drop, take-append-le, drop-append-le, length-drop}
 use Rattle.bi_base.specs.Cells.{slice, u32_at}
 use Rattle.bi_base.specs.Checks.{HasNoFault}
@@ -7,7 +7,7 @@ use Rattle.bi_blob.specs.Tokens.{Token, BeginNode, EndNode, Prop, Nop, End, toke
 use Rattle.bi_blob.specs.Tokens.{name_from}
 use Rattle.bi_blob.specs.Stages.{Stage}
 use Rattle.bi_blob.specs.Blob.{TreeBlocks, IsReadable}
-use Rattle.bi_blob.specs.BlobFaults.{TokenPasses, token_checks, stage_after, place_after, ArePassed}
+use Rattle.bi_blob.specs.BlobFaults.{TokenPasses, token_checks, place_after, ArePassed}
 use Rattle.bi_blob.specs.BlobLaws.{AllTokensPass, PassedWhereEncoded}
 use Rattle.bi_blob.proofs.Blobs.BytesBeforeZero.{one_name, HasName-IsNameAt}
 use Rattle.bi_blob.proofs.Blobs.Tokens.{number, length-token_bytes, IsTokenAt-number, IsTokenAt-within, BeginNode-name, Prop-parts}
@@ -19,16 +19,11 @@ use Rattle.bi_blob.proofs.Blobs.PassedTokens.{reverse-cons, place_after_all-reve
 
 -- A slice of a file is the same with further bytes after the file.
 slice-trailing : (file trailing : List ℕ) (at n : ℕ) → at + n ≤ length file → slice (file ++ trailing) at n ≡ slice file at n
-slice-trailing file trailing at n within =
-    ap (take n) (drop-append-le at file trailing (omega arith))
-    ∙ take-append-le n (drop at file) trailing (rw (length-drop at file) (omega arith))
+slice-trailing file trailing at n within = search (rules, drop-append-le, take-append-le, length-drop)
 
 -- A token in a file is in the longer file.
 IsTokenAt-trailing : (file trailing : List ℕ) (at : ℕ) (token : Token) → IsTokenAt file at token → IsTokenAt (file ++ trailing) at token
-IsTokenAt-trailing file trailing at token is_at = record {
-  is_token = is_at.is_token;
-  is_at = slice-trailing file trailing at (length (token_bytes token)) (IsTokenAt-within file at token is_at) ∙ is_at.is_at;
-}
+IsTokenAt-trailing file trailing at token is_at = search (rules, slice-trailing, IsTokenAt-within)
 
 AllStand-trailing : (file trailing : List ℕ) (at : ℕ) (tokens : List Token) → AllStand file at tokens →
     AllStand (file ++ trailing) at tokens
@@ -54,16 +49,13 @@ IsNameAt-trailing : (file trailing : List ℕ) (at : ℕ) (name : List ℕ) → 
 IsNameAt-trailing file trailing at name within named = record {
   no_zero = named.no_zero;
   trailing = named.trailing ++ trailing;
-  is_at = drop-append-le at file trailing within ∙ ap (λ l. l ++ trailing) named.is_at ∙ append_assoc name (0 ∷ named.trailing) trailing;
+  is_at = search (rules, drop-append-le, append_assoc);
 }
 
 -- A token in the longer file whose bytes the file has is in the file.
 IsTokenAt-shorter : (file trailing : List ℕ) (at : ℕ) (token : Token) → at + length (token_bytes token) ≤ length file →
     IsTokenAt (file ++ trailing) at token → IsTokenAt file at token
-IsTokenAt-shorter file trailing at token within is_at = record {
-  is_token = is_at.is_token;
-  is_at = sym (slice-trailing file trailing at (length (token_bytes token)) within) ∙ is_at.is_at;
-}
+IsTokenAt-shorter file trailing at token within is_at = search (rules, slice-trailing)
 
 module _ (blocks : TreeBlocks) (depth_limit place : ℕ) (stage : Stage) (trailing : List ℕ) (readable : IsReadable blocks) where
   -- The bytes of a token that passes are within the file.
@@ -109,10 +101,7 @@ module _ (blocks : TreeBlocks) (depth_limit place : ℕ) (stage : Stage) (traili
 AllStand-last : (file : List ℕ) (at : ℕ) (tokens : List Token) (t : Token) → AllStand file at (tokens ++ t ∷ []) →
     AllStand file at tokens × IsTokenAt file (place_after_all at tokens) t
 AllStand-last file at [] t stand = (tt, stand.0)
-AllStand-last file at (u ∷ tokens) t stand =
-    let rest : AllStand file (at + width u) tokens
-    × IsTokenAt file (place_after_all (at + width u) tokens) t = AllStand-last file (at + width u) tokens t stand.1 in
-    ((stand.0, rest.0), rest.1)
+AllStand-last file at (u ∷ tokens) t stand = search (rules, place_after_all, AllStand-last file (at + width u) tokens t stand.1)
 
 -- Tokens in the longer file that pass their checks are passed.
 AllTokensPass-ArePassed : (blocks : TreeBlocks) (depth_limit : ℕ) (tokens : List Token) (trailing : List ℕ) → IsReadable blocks →
@@ -124,26 +113,16 @@ AllTokensPass-ArePassed blocks depth_limit (token ∷ before) trailing readable 
     let parts : AllStand (blocks.file ++ trailing) blocks.begin (reverse before)
     × IsTokenAt (blocks.file ++ trailing) (place_after_all blocks.begin (reverse before)) token =
     AllStand-last (blocks.file ++ trailing) blocks.begin (reverse before) token
-    (subst (AllStand (blocks.file ++ trailing) blocks.begin) (reverse-cons token before) stand) in
+    (search (rules, reverse-cons)) in
     let there : IsTokenAt (blocks.file ++ trailing) place token =
-    subst (λ p. IsTokenAt (blocks.file ++ trailing) p token) (place_after_all-reverse blocks before) parts.1 in (
-      record {
-        no_end = pass.0;
-        is_at = IsTokenAt-shorter blocks.file trailing place token
-            (passes_within blocks depth_limit place (stage_after blocks.strings before) trailing readable token there pass.1) there;
-        passes = pass.1;
-      },
-      AllTokensPass-ArePassed blocks depth_limit before trailing readable pass.2 parts.0,
-    )
+    search (rules, place_after_all-reverse) in
+    search (rules, IsTokenAt-shorter, passes_within, AllTokensPass-ArePassed blocks depth_limit before trailing readable pass.2 parts.0)
 
 -- Tokens that pass are encoded in the longer file: the last of them ends at most three bytes after the file.
 ArePassed-is_encoded : (blocks : TreeBlocks) (depth_limit : ℕ) (tokens : List Token) (trailing : List ℕ) → length trailing ≡ 3 →
     ArePassed blocks depth_limit tokens →
     AreEncodings (reverse tokens) (slice (blocks.file ++ trailing) blocks.begin (place_after blocks tokens - blocks.begin))
-ArePassed-is_encoded blocks depth_limit [] trailing three passed =
-    ap (λ n. take n (drop blocks.begin (blocks.file ++ trailing))) (none blocks.begin) where
-      none : (n : ℕ) → n - n ≡ 0
-      none n = omega arith
+ArePassed-is_encoded blocks depth_limit [] trailing three passed = search rules
 ArePassed-is_encoded blocks depth_limit (token ∷ before) trailing three passed =
     let long : length (blocks.file ++ trailing) ≡ length blocks.file + length trailing = length-append blocks.file trailing in
     let within : place_after blocks before + length (token_bytes token) ≤ length blocks.file =
@@ -158,10 +137,7 @@ ArePassed-is_encoded blocks depth_limit (token ∷ before) trailing three passed
 
 pub passed_where_encoded : PassedWhereEncoded
 passed_where_encoded blocks depth_limit tokens trailing readable three = (
-  (λ passed. (
-    ArePassed-AllTokensPass blocks depth_limit tokens passed,
-    ArePassed-is_encoded blocks depth_limit tokens trailing three passed,
-  )),
+  search (rules, ArePassed-AllTokensPass, ArePassed-is_encoded),
   (λ both.
       let size : ℕ = place_after blocks tokens - blocks.begin in
       AllTokensPass-ArePassed blocks depth_limit tokens trailing readable both.0

@@ -1,5 +1,5 @@
 use Rattle.std.proofs.Common.{◌≡◌, ◌≢◌, ℕ, ◌+◌, ◌-◌, ◌≤◌, List, [], ◌∷◌, ◌++◌, length, take, drop, reverse, refl, sym, ap, subst, ◌∙◌}
-use Rattle.std.proofs.Common.{arith}
+use Rattle.std.proofs.Common.{arith, rules}
 use Rattle.std.specs.Prelude.{fold}
 use Rattle.std.proofs.lemmas.List.{reverse-append}
 use Rattle.std.proofs.Math.Seq.{take-add}
@@ -9,7 +9,7 @@ use Rattle.bi_blob.specs.Tokens.{Token, End, token_bytes, width, IsEncoding, Are
 use Rattle.bi_blob.specs.Events.{FileEvent, EncodeEvents}
 use Rattle.bi_blob.specs.Stages.{next_stage}
 use Rattle.bi_blob.specs.Blob.{TreeBlocks}
-use Rattle.bi_blob.specs.BlobFaults.{TokenPasses, token_checks, token_events, stage_after, place_after, ArePassed}
+use Rattle.bi_blob.specs.BlobFaults.{TokenPasses, token_checks, token_events, place_after, ArePassed}
 use Rattle.bi_base.proofs.CellLaws.{length-cell, length-slice, slice-first, slice-rest}
 use Rattle.bi_blob.specs.OpenNodes.{TreeSoFar, stage_of, events_so_far, IsTreeSoFar, IsOpenAt}
 use Rattle.bi_blob.proofs.Blobs.Tokens.{width-at_least}
@@ -31,9 +31,7 @@ pub place_after_all-reverse : (blocks : TreeBlocks) (tokens : List Token) →
     place_after_all blocks.begin (reverse tokens) ≡ place_after blocks tokens
 place_after_all-reverse blocks [] = refl
 place_after_all-reverse blocks (t ∷ before) =
-    ap (place_after_all blocks.begin) (reverse-cons t before)
-    ∙ place_after_all-append blocks.begin (reverse before) (t ∷ [])
-    ∙ ap (λ p. p + width t) (place_after_all-reverse blocks before)
+    search (rules, place_after_all, reverse-cons, place_after_all-append, place_after_all-reverse blocks before)
 
 -- Tokens one after the other, and one more after them.
 AllStand-push : (file : List ℕ) (at : ℕ) (tokens : List Token) (t : Token) → AllStand file at tokens →
@@ -46,22 +44,17 @@ pub ArePassed-stand : (blocks : TreeBlocks) (depth_limit : ℕ) (tokens : List T
     AllStand blocks.file blocks.begin (reverse tokens)
 ArePassed-stand blocks depth_limit [] passed = tt
 ArePassed-stand blocks depth_limit (t ∷ before) passed =
-    subst (AllStand blocks.file blocks.begin) (sym (reverse-cons t before))
-    (AllStand-push blocks.file blocks.begin (reverse before) t (ArePassed-stand blocks depth_limit before passed.1)
-    (subst (λ p. IsTokenAt blocks.file p t) (sym (place_after_all-reverse blocks before)) passed.0.is_at))
+    search (rules, reverse-cons, AllStand-push, place_after_all-reverse, ArePassed-stand blocks depth_limit before passed.1)
 
 -- The same with a token after them.
 pub ArePassed-stand-push : (blocks : TreeBlocks) (depth_limit : ℕ) (tokens : List Token) (t : Token) → ArePassed blocks depth_limit tokens →
     IsTokenAt blocks.file (place_after blocks tokens) t → AllStand blocks.file blocks.begin (reverse tokens ++ t ∷ [])
-ArePassed-stand-push blocks depth_limit tokens t passed last =
-    AllStand-push blocks.file blocks.begin (reverse tokens) t (ArePassed-stand blocks depth_limit tokens passed)
-    (subst (λ p. IsTokenAt blocks.file p t) (sym (place_after_all-reverse blocks tokens)) last)
+ArePassed-stand-push blocks depth_limit tokens t passed last = search (rules, AllStand-push, ArePassed-stand, place_after_all-reverse)
 
 -- What is after tokens is not before them.
 pub place_after_all-past : (at : ℕ) (tokens : List Token) → at ≤ place_after_all at tokens
 place_after_all-past at [] = omega arith
-place_after_all-past at (t ∷ later) = let rest : at + width t ≤ place_after_all (at + width t) later = place_after_all-past
-    (at + width t) later in omega arith
+place_after_all-past at (t ∷ later) = search (rules, place_after_all, place_after_all-past (at + width t) later)
 
 -- The bytes at the offset of a token are its encoding, where the file has them all.
 IsTokenAt-encoded : (file : List ℕ) (at : ℕ) (t : Token) → IsTokenAt file at t → at + width t ≤ length file →
@@ -82,9 +75,7 @@ IsTokenAt-encoded file at t is_at within =
 -- The bytes at the offset of tokens are their encodings, where the file has them all.
 pub AllStand-encoded : (file : List ℕ) (at : ℕ) (tokens : List Token) → AllStand file at tokens → place_after_all at tokens ≤ length file →
     AreEncodings tokens (slice file at (place_after_all at tokens - at))
-AllStand-encoded file at [] stand within = ap (λ n. slice file at n) (none at) where
-  none : (n : ℕ) → n - n ≡ 0
-  none n = omega arith
+AllStand-encoded file at [] stand within = search rules
 AllStand-encoded file at (t ∷ later) stand within =
     let w : ℕ = width t in
     let end : ℕ = place_after_all (at + w) later in
@@ -108,24 +99,9 @@ pub after_token : (blocks : TreeBlocks) (depth_limit place : ℕ) (old new : Tre
 after_token blocks depth_limit place old new t more position no_end is_at passes encodes_events grown staged is_tree_so_far = record {
   readable = position.readable;
   tokens = t ∷ position.tokens;
-  passed = (
-    record {
-      no_end = no_end;
-      is_at = subst (λ p. IsTokenAt blocks.file p t) (sym position.is_place) is_at;
-      passes = subst (λ p. HasNoFault (TokenPasses blocks depth_limit p (stage_after blocks.strings position.tokens))
-          (token_checks (u32_at blocks.file p)))
-          (sym position.is_place)
-          (subst (λ stage. HasNoFault (TokenPasses blocks depth_limit place stage) (token_checks (u32_at blocks.file place)))
-          (sym position.is_stage) passes);
-    },
-    position.passed,
-  );
+  passed = search rules;
   is_place = ap (λ p. p + width t) position.is_place;
-  is_stage = ap (λ stage. fold next_stage stage (token_events blocks.strings t)) position.is_stage ∙ staged;
-  encodes = subst (λ ts. EncodeEvents blocks.strings blocks.begin ts (events_so_far new)) (sym (reverse-cons t position.tokens))
-      (subst (EncodeEvents blocks.strings blocks.begin (reverse position.tokens ++ t ∷ [])) (sym grown)
-      (EncodeEvents-append blocks.strings blocks.begin (reverse position.tokens) (t ∷ []) (events_so_far old) more position.encodes
-      (subst (λ p. EncodeEvents blocks.strings p (t ∷ []) more)
-      (sym (place_after_all-reverse blocks position.tokens ∙ position.is_place)) encodes_events)));
+  is_stage = search rules;
+  encodes = search (rules, reverse-cons, EncodeEvents-append, place_after_all-reverse);
   is_tree_so_far = is_tree_so_far;
 }

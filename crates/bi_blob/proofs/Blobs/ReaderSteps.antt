@@ -1,10 +1,10 @@
-use Rattle.std.proofs.Common.{◌≡◌, ℕ, suc, ◌+◌, ◌-◌, ◌<◌, ◌≤◌, List, [], ◌∷◌, ◌++◌, length, map, refl, sym, ap, subst, arith}
+use Rattle.std.proofs.Common.{◌≡◌, ℕ, suc, ◌+◌, ◌-◌, ◌<◌, ◌≤◌, List, [], ◌∷◌, ◌++◌, length, map, refl, sym, ap, subst, arith, rules}
 use Rattle.std.proofs.lemmas.List.{append-nil}
 use Rattle.bi_base.specs.Cells.{slice, u32_at}
 use Rattle.bi_base.specs.Checks.{HasNoFault}
 use Rattle.bi_blob.specs.Tokens.{Token, BeginNode, EndNode, Prop, Nop, End, width, IsTokenAt, IsNameAt, name_from, begin_node_number}
 use Rattle.bi_blob.specs.Tokens.{end_node_number, prop_number, nop_number}
-use Rattle.bi_blob.specs.Tree.{FileProperty, names, with_each, depth, properties_of, AreNodes, AreProperties, IsNew}
+use Rattle.bi_blob.specs.Tree.{FileProperty, names, depth, AreProperties}
 use Rattle.bi_blob.specs.Events.{FileNodeStart, FileNodeProperty, FileNodeEnd}
 use Rattle.bi_blob.specs.Stages.{Stage, BeforeRoot, Inside}
 use Rattle.bi_blob.specs.Blob.{TreeBlocks, IsReadable}
@@ -30,16 +30,12 @@ pub record IsNext (blocks : TreeBlocks) (depth_limit place : ℕ) (stage : Stage
 
 passes_there : (blocks : TreeBlocks) (depth_limit place number : ℕ) (stage : Stage) → IsNext blocks depth_limit place stage number →
     HasNoFault (TokenPasses blocks depth_limit place stage) (token_checks (u32_at blocks.file place))
-passes_there blocks depth_limit place number stage next =
-    subst (λ n. HasNoFault (TokenPasses blocks depth_limit place stage) (token_checks n)) (sym next.is_number) next.passes
+passes_there blocks depth_limit place number stage next = search rules
 
 -- The token's number is within the file.
 pub number_within : (blocks : TreeBlocks) (depth_limit place number : ℕ) (stage : Stage) → IsReadable blocks →
     IsNext blocks depth_limit place stage number → place + 4 ≤ length blocks.file
-number_within blocks depth_limit place number stage readable next =
-    let word : place + 4 ≤ blocks.end = next.passes.0 in
-    let within : blocks.end ≤ length blocks.file = readable.within in
-    omega arith
+number_within blocks depth_limit place number stage readable next = search rules
 
 pub length-outer_nodes_of : (name : List ℕ) (outer : List OpenFileNode) → length (outer_nodes_of name outer) ≡ length outer
 length-outer_nodes_of name [] = refl
@@ -51,8 +47,7 @@ pub next_nop : (blocks : TreeBlocks) (depth_limit place : ℕ) (so_far : TreeSoF
 next_nop blocks depth_limit place so_far position next =
     after_token blocks depth_limit place so_far so_far Nop [] position
     (λ (e : Nop ≡ End). absurd cc)
-    (Nop-is_at blocks.file place position.readable.bytes
-    (number_within blocks depth_limit place nop_number (stage_of so_far) position.readable next) next.is_number)
+    (search (rules, Nop-is_at, number_within))
     (passes_there blocks depth_limit place nop_number (stage_of so_far) next)
     tt
     (sym (append-nil (events_so_far so_far)))
@@ -62,10 +57,7 @@ next_nop blocks depth_limit place so_far position next =
 -- FDT_BEGIN_NODE that passes its checks is there with its name.
 start_is_there : (blocks : TreeBlocks) (depth_limit place : ℕ) (stage : Stage) → IsReadable blocks →
     IsNext blocks depth_limit place stage begin_node_number → IsTokenAt blocks.file place (BeginNode (name_from blocks.file (place + 4)))
-start_is_there blocks depth_limit place stage readable next =
-    BeginNode-is_at blocks.file place (name_from blocks.file (place + 4)) readable.bytes
-    (number_within blocks depth_limit place begin_node_number stage readable next) next.is_number
-    (HasName-IsNameAt blocks.file (place + 4) blocks.end readable.within next.passes.1.1.1.0)
+start_is_there blocks depth_limit place stage readable next = search (rules, BeginNode-is_at, number_within, HasName-IsNameAt)
 
 -- FDT_BEGIN_NODE before the root begins the root.
 pub next_root : (blocks : TreeBlocks) (depth_limit place : ℕ) → IsOpenAt blocks depth_limit place NoTree →
@@ -116,11 +108,7 @@ pub AreOpenNodes-property : (depth_limit : ℕ) (o : OpenFileNode) (outer : List
     AreOpenNodes depth_limit (with_one_property o p) outer
 AreOpenNodes-property depth_limit o [] p are good =
     (record { properties = good; children = are.0.children; shallow = are.0.shallow }, are.1)
-AreOpenNodes-property depth_limit o (parent ∷ outer) p are good = (
-  record { properties = good; children = are.0.children; shallow = are.0.shallow },
-  record { is_name = are.1.is_name; is_new = are.1.is_new },
-  are.2,
-)
+AreOpenNodes-property depth_limit o (parent ∷ outer) p are good = search rules
 
 -- The properties of the innermost open node.
 pub innermost_properties : (depth_limit : ℕ) (o : OpenFileNode) (outer : List OpenFileNode) → AreOpenNodes depth_limit o outer →
@@ -173,17 +161,8 @@ IsOpenNode-child depth_limit above parent child is is_child may =
     let deep : depth parent.children + above + 1 ≤ depth_limit = is.shallow in
     let child_deep : depth child.children + (above + 1) + 1 ≤ depth_limit = is_child.shallow in
     let both : depth (with_last parent.children child.name (own_of child) child.children) ≤ depth_limit - (above + 1) =
-    depth-with_last parent.children child.name (own_of child) child.children (depth_limit - (above + 1)) (omega arith) (omega arith) in
-    record {
-      properties = is.properties;
-      children = subst (AreNodes AreProperties)
-          (sym (with_each-with_last properties_of parent.children child.name (own_of child) child.children))
-          (AreNodes-with_last AreProperties (with_each properties_of parent.children) child.name (properties_of (own_of child))
-          (with_each properties_of child.children)
-          is.children may.is_name (subst (λ ns. IsNew child.name ns) (sym (names-with_each properties_of parent.children)) may.is_new)
-          is_child.properties is_child.children);
-      shallow = omega arith;
-    }
+    search (rules, depth-with_last) in
+    search (rules, with_each-with_last, AreNodes-with_last, names-with_each)
 
 pub AreOpenNodes-child : (depth_limit : ℕ) (child parent : OpenFileNode) (outer : List OpenFileNode) →
     AreOpenNodes depth_limit child (parent ∷ outer) → AreOpenNodes depth_limit (with_one_child parent child) outer
@@ -206,12 +185,11 @@ next_end_of_child blocks depth_limit place child parent outer position next =
     after_token blocks depth_limit place (OpenTree child (parent ∷ outer))
     (OpenTree (with_one_child parent child) outer) EndNode (FileNodeEnd ∷ []) position
     (λ (e : EndNode ≡ End). absurd cc)
-    (EndNode-is_at blocks.file place position.readable.bytes
-    (number_within blocks depth_limit place end_node_number stage position.readable next) next.is_number)
+    (search (rules, EndNode-is_at, number_within))
     (passes_there blocks depth_limit place end_node_number stage next)
     tt
     (events_of_open_nodes-child parent child outer)
-    (ap (λ open_node. Inside open_node (outer_nodes_of parent.name outer)) (sym (open_node_of-child parent child)))
+    (search (rules, open_node_of-child))
     (AreOpenNodes-child depth_limit child parent outer position.is_tree_so_far)
 
 -- FDT_END_NODE in the root ends the tree.

@@ -1,5 +1,5 @@
 use Rattle.std.proofs.Common.{◌≡◌, ◌⊎◌, ℕ, zero, suc, ◌+◌, ◌-◌, ◌*◌, ◌<◌, ◌≤◌, ◌^◌, List, [], ◌∷◌, ◌++◌, length, take, drop, refl, sym, ap}
-use Rattle.std.proofs.Common.{subst, ◌∙◌, inl, inr, arith, lit<}
+use Rattle.std.proofs.Common.{subst, ◌∙◌, inl, inr, arith, lit<, rules}
 use Rattle.std.specs.List.{AllByRecursion, flat_map}
 use Rattle.std.proofs.lemmas.Bool.{cases_lt}
 use Rattle.std.proofs.lemmas.List.{length-append, append_assoc, take-append-drop}
@@ -28,25 +28,17 @@ reservation_block-first pair later = append_assoc (pair_bytes pair) (flat_map pa
 pub length-reservation_block : (reservations : List Reservation) → length (reservation_block reservations) ≡ 16 * length reservations + 16
 length-reservation_block [] = length-pair_bytes end_pair
 length-reservation_block (pair ∷ later) =
-    let rest : length (reservation_block later) ≡ 16 * length later + 16 = length-reservation_block later in
-    let first : length (pair_bytes pair) ≡ 16 = length-pair_bytes pair in
-    let whole : length (reservation_block (pair ∷ later)) ≡ length (pair_bytes pair) + length (reservation_block later) =
-    ap length (reservation_block-first pair later) ∙ length-append (pair_bytes pair) (reservation_block later) in
-    omega arith
+    search (rules, length-pair_bytes, reservation_block-first, length-append, length-reservation_block later)
 
 -- The pair that is read at an offset is there.
 pair_is_there : (file : List ℕ) (at : ℕ) → AreBytes file → at + 16 ≤ length file → BytesAt file at (pair_bytes (pair_at file at))
-pair_is_there file at bytes within =
-    BytesAt-join file at (cell8 (u64_at file at)) (cell8 (u64_at file (at + 8)))
-    (BytesAt-cell8 file at bytes (omega arith))
-    (subst (λ n. BytesAt file (at + n) (cell8 (u64_at file (at + 8)))) (sym (length-cell8 (u64_at file at)))
-    (BytesAt-cell8 file (at + 8) bytes (omega arith)))
+pair_is_there file at bytes within = search (rules, BytesAt-join, BytesAt-cell8, length-cell8)
 
 -- A pair at an offset is read there.
 pub pair_read : (file : List ℕ) (at : ℕ) (pair : Reservation) → pair.address < 2 ^ 64 → pair.size < 2 ^ 64 →
     BytesAt file at (pair_bytes pair) → (u64_at file at ≡ pair.address) × (u64_at file (at + 8) ≡ pair.size)
 pair_read file at pair address_fits size_fits is_at = (
-  u64_at-BytesAt file at pair.address address_fits (BytesAt-left file at (cell8 pair.address) (cell8 pair.size) is_at),
+  search (rules, u64_at-BytesAt, BytesAt-left),
   u64_at-BytesAt file (at + 8) pair.size size_fits
       (subst (λ n. BytesAt file (at + n) (cell8 pair.size)) (length-cell8 pair.address)
       (BytesAt-right file at (cell8 pair.address) (cell8 pair.size) is_at)),
@@ -54,35 +46,20 @@ pair_read file at pair address_fits size_fits is_at = (
 
 -- A pair that is not the end pair is a reservation.
 pair_is : (file : List ℕ) (at : ℕ) → AreBytes file → ¬ (IsEndPair file at) → IsReservation (pair_at file at)
-pair_is file at bytes other = record {
-  address_fits = u64_at-fits file at bytes;
-  size_fits = u64_at-fits file (at + 8) bytes;
-  some = elim (cases_lt 0 (u64_at file at + u64_at file (at + 8))) [
-    | inl some ↦ some
-    | inr none ↦ absurd (other (record { address = omega arith; size = omega arith }))
-  ];
-}
+pair_is file at bytes other = search (rules, u64_at-fits, cases_lt)
 
 -- The pairs after the first one, counted from the first one.
 one_later : (P : ℕ → Type 0) (at index : ℕ) → P (at + 16 + 16 * index) → P (at + 16 * (index + 1))
-one_later P at index holds = subst P (same at index) holds where
-  same : (a i : ℕ) → a + 16 + 16 * i ≡ a + 16 * (i + 1)
-  same a i = omega arith
+one_later P at index holds = search rules
 
 one_earlier : (P : ℕ → Type 0) (at index : ℕ) → P (at + 16 * (index + 1)) → P (at + 16 + 16 * index)
-one_earlier P at index holds = subst P (same at index) holds where
-  same : (a i : ℕ) → a + 16 * (i + 1) ≡ a + 16 + 16 * i
-  same a i = omega arith
+one_earlier P at index holds = search rules
 
 at_first : (P : ℕ → Type 0) (at : ℕ) → P at → P (at + 16 * 0)
-at_first P at holds = subst P (same at) holds where
-  same : (a : ℕ) → a ≡ a + 16 * 0
-  same a = omega arith
+at_first P at holds = search rules
 
 from_first : (P : ℕ → Type 0) (at : ℕ) → P (at + 16 * 0) → P at
-from_first P at holds = subst P (same at) holds where
-  same : (a : ℕ) → a + 16 * 0 ≡ a
-  same a = omega arith
+from_first P at holds = search rules
 
 -- No pair before an index ends the block, where neither the first nor those after it do.
 none_before : (file : List ℕ) (at count : ℕ) → ¬ (IsEndPair file at) →
@@ -118,7 +95,7 @@ IsReservationsFault-cons file at total fault first later =
       before = none_before file at later.index first later.before;
       fits = omega arith;
       past = omega arith;
-      is = one_later (λ n. fault ≡ record { cause = Truncated; offset = n }) at later.index later.is;
+      is = search (rules, one_later);
     }
 
 -- What a memory reservation block has.
@@ -128,22 +105,12 @@ pub record HasSome (file : List ℕ) (at total : ℕ) : Type 0 where
 
 -- The end pair is first.
 ends_here : (file : List ℕ) (at total : ℕ) → at + 16 ≤ total → IsEndPair file at → HasReservations file at total 0
-ends_here file at total room end = record {
-  before = λ index below. absurd (omega arith);
-  end = at_first (IsEndPair file) at end;
-  within = omega arith;
-}
+ends_here file at total room end = search (rules, at_first)
 
 -- The first pair extends past the blob.
 past_here : (file : List ℕ) (at total : ℕ) → at ≤ total → total < at + 16 →
     IsReservationsFault file at total (record { cause = Truncated; offset = at })
-past_here file at total fits past = record {
-  index = 0;
-  before = λ index below. absurd (omega arith);
-  fits = omega arith;
-  past = omega arith;
-  is = at_first (λ n. ◌≡◌ {A = Fault} (record { cause = Truncated; offset = at }) (record { cause = Truncated; offset = n })) at refl;
-}
+past_here file at total fits past = search (rules, at_first)
 
 -- What there is from an offset on: reservations and an end pair, or a fault.
 abbrev pub HasSomeOrFault : List ℕ → ℕ → ℕ → Type 0
@@ -176,21 +143,12 @@ reservations_or_fault file at total fits = found_from total file at total fits (
 -- There is one fault at most.
 pub one_reservations_fault : (file : List ℕ) (at total : ℕ) (f g : Fault) → IsReservationsFault file at total f →
     IsReservationsFault file at total g → f ≡ g
-one_reservations_fault file at total f g one other =
-    let a : at + 16 * one.index ≤ total = one.fits in
-    let b : total < at + 16 * one.index + 16 = one.past in
-    let c : at + 16 * other.index ≤ total = other.fits in
-    let d : total < at + 16 * other.index + 16 = other.past in
-    let same : one.index ≡ other.index = omega arith in
-    one.is ∙ ap (λ n. record { cause = Truncated; offset = at + 16 * n }) same ∙ sym other.is
+one_reservations_fault file at total f g one other = search rules
 
 -- There are no reservations with an end pair if there is a fault.
 pub no_reservations_with_fault : (file : List ℕ) (at total count : ℕ) (fault : Fault) → HasReservations file at total count →
     IsReservationsFault file at total fault → ⊥
-no_reservations_with_fault file at total count fault has faulty =
-    let within : at + 16 * count + 16 ≤ total = has.within in
-    let past : total < at + 16 * faulty.index + 16 = faulty.past in
-    faulty.before count (omega arith) has.end
+no_reservations_with_fault file at total count fault has faulty = search rules
 
 -- The reservations after the first one of a block.
 HasReservations-later : (file : List ℕ) (at total count : ℕ) → HasReservations file at total (suc count) →
@@ -202,7 +160,7 @@ HasReservations-later file at total count has =
       before = λ index below.
           let below_there : index + 1 < suc count = omega arith in
           λ is. has.before (index + 1) below_there (one_later (IsEndPair file) at index is);
-      end = one_earlier (IsEndPair file) at count (subst (λ n. IsEndPair file (at + 16 * n)) one_more has.end);
+      end = search (rules, one_earlier);
       within = omega arith;
     }
 
@@ -219,9 +177,7 @@ are_reservations_at file at total (suc count) bytes has =
 -- The end pair is where both of its numbers are zero.
 end_pair_is_there : (file : List ℕ) (at : ℕ) → AreBytes file → at + 16 ≤ length file → IsEndPair file at →
     BytesAt file at (pair_bytes end_pair)
-end_pair_is_there file at bytes within is =
-    subst (λ (pair : Reservation). BytesAt file at (pair_bytes pair)) (λ i. record { address = is.address i; size = is.size i })
-    (pair_is_there file at bytes within)
+end_pair_is_there file at bytes within is = search (rules, pair_is_there)
 
 -- Their block is at the offset.
 reservations_are_there : (file : List ℕ) (at total count : ℕ) → AreBytes file → total ≤ length file → HasReservations file at total count →
@@ -273,10 +229,9 @@ block_has file at total [] are is_at fits =
     let read : (u64_at file at ≡ 0) × (u64_at file (at + 8) ≡ 0) = pair_read file at end_pair (lit< tt) (lit< tt) is_at in
     ends_here file at total (omega arith) (record { address = read.0; size = read.1 })
 block_has file at total (pair ∷ later) are is_at fits =
-    let split : BytesAt file at (pair_bytes pair ++ reservation_block later) = subst (BytesAt file at)
-    (reservation_block-first pair later) is_at in
+    let split : BytesAt file at (pair_bytes pair ++ reservation_block later) = search (rules, reservation_block-first) in
     let read : (u64_at file at ≡ pair.address) × (u64_at file (at + 8) ≡ pair.size) =
-    pair_read file at pair are.0.address_fits are.0.size_fits (BytesAt-left file at (pair_bytes pair) (reservation_block later) split) in
+    search (rules, pair_read, BytesAt-left) in
     let some : 0 < pair.address + pair.size = are.0.some in
     let rest : HasReservations file (at + 16) total (length later) =
     block_has file (at + 16) total later are.1

@@ -1,8 +1,7 @@
-use Rattle.std.proofs.Common.{◌≡◌, ◌⊎◌, ℕ, ◌+◌, ◌≤◌, Bool, true, false, List, inl, inr, refl}
+use Rattle.std.proofs.Common.{◌⊎◌, ℕ, ◌≤◌, Bool, List, rules}
 use Rattle.std.specs.Bool.{Decides}
-use Rattle.std.specs.Prelude.{◌==◌, ◌&&◌, nat_le}
+use Rattle.std.specs.Prelude.{nat_le}
 use Rattle.std.proofs.lemmas.Bool.Decides.{not_from_Decides}
-use Rattle.bi_base.specs.Cells.{u64_at}
 use Rattle.bi_base.specs.Limits.{Limits}
 use Rattle.bi_blob.specs.Stages.{Stage}
 use Rattle.bi_blob.specs.Blob.{TreeBlocks}
@@ -19,11 +18,7 @@ IsDecided P = P ⊎ ¬ P
 
 -- A fact that a test decides holds or fails.
 decided_by : {P : Type 0} (b : Bool) → Decides b P → IsDecided P
-decided_by {P = P} b decides = where_test b refl
-  where
-    where_test : (found : Bool) → b ≡ found → IsDecided P
-    where_test true is = inl (decides.0 is)
-    where_test false is = inr (not_from_Decides b decides is)
+decided_by {P = P} b decides = search (rules, not_from_Decides)
 
 pub le_decided : (m n : ℕ) → IsDecided (m ≤ n)
 le_decided m n = decided_by (nat_le m n) (le_decides m n)
@@ -40,10 +35,4 @@ header_decided bounds file check = decided_by (test bounds file check) (header_d
 
 -- An end pair is at an offset, or not.
 pub IsEndPair_decided : (file : List ℕ) (at : ℕ) → IsDecided (IsEndPair file at)
-IsEndPair_decided file at =
-    by_parts (decided_by (u64_at file at == 0 && u64_at file (at + 8) == 0)
-    (both_decide (u64_at file at == 0) (u64_at file (at + 8) == 0) (eq_decides (u64_at file at) 0)
-    (eq_decides (u64_at file (at + 8)) 0))) where
-      by_parts : IsDecided ((u64_at file at ≡ 0) × (u64_at file (at + 8) ≡ 0)) → IsDecided (IsEndPair file at)
-      by_parts (inl parts) = inl (record { address = parts.0; size = parts.1 })
-      by_parts (inr fails) = inr (λ is. fails (is.address, is.size))
+IsEndPair_decided file at = search (rules, decided_by, both_decide, eq_decides)

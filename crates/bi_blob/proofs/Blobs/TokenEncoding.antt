@@ -1,7 +1,8 @@
-use Rattle.std.proofs.Common.{◌≡◌, ◌≢◌, ℕ, ◌+◌, ◌-◌, ◌≤◌, List, [], ◌∷◌, ◌++◌, length, take, drop, min, refl, sym, ap, subst, ◌∙◌, arith}
+use Rattle.std.proofs.Common.{rules}
+use Rattle.std.proofs.Common.{◌≡◌, ◌≢◌, ℕ, ◌+◌, ◌-◌, ◌≤◌, List, [], ◌∷◌, ◌++◌, length, take, drop, refl, sym, ap, subst, ◌∙◌, arith}
 use Rattle.std.specs.List.{AllByRecursion}
 use Rattle.std.proofs.lemmas.List.{length-take, length-drop, append_assoc, take-append-drop, drop-append-le, drop-drop}
-use Rattle.bi_blob.specs.Tokens.{Token, End, token_bytes, width, IsEncoding, AreEncodings, IsTokenAt}
+use Rattle.bi_blob.specs.Tokens.{Token, End, width, IsEncoding, AreEncodings, IsTokenAt}
 use Rattle.bi_blob.proofs.Blobs.Cells.{BytesAt-from}
 use Rattle.bi_blob.proofs.Blobs.Tokens.{one_token}
 
@@ -24,18 +25,11 @@ AllStand file at (token ∷ later) = IsTokenAt file at token × AllStand file (a
 -- A token is at the offset that its encoding follows.
 IsEncoding-is_at : (file : List ℕ) (at : ℕ) (token : Token) (bytes rest : List ℕ) → IsEncoding token bytes → drop at file ≡ bytes ++ rest →
     IsTokenAt file at token
-IsEncoding-is_at file at token bytes rest is_padded_encoding e = record {
-  is_token = is_padded_encoding.is_token;
-  is_at = BytesAt-from file at (token_bytes token) (is_padded_encoding.padding ++ rest)
-      (e ∙ ap (λ l. l ++ rest) is_padded_encoding.is_encoded ∙ append_assoc (token_bytes token) is_padded_encoding.padding rest);
-}
+IsEncoding-is_at file at token bytes rest is_padded_encoding e = search (rules, BytesAt-from, append_assoc)
 
 -- The encodings of tokens are at least as long as the first token.
 AreEncodings-first : (token : Token) (bytes : List ℕ) → IsEncoding token (take (width token) bytes) → width token ≤ length bytes
-AreEncodings-first token bytes is_padded_encoding =
-    let long : length (take (width token) bytes) ≡ width token = is_padded_encoding.whole in
-    let short : length (take (width token) bytes) ≡ min (width token) (length bytes) = length-take (width token) bytes in
-    omega arith
+AreEncodings-first token bytes is_padded_encoding = search (rules, length-take)
 
 -- Tokens are at the offset that their encodings follow.
 pub AreEncodings-stand : (file : List ℕ) (at : ℕ) (tokens : List Token) (bytes rest : List ℕ) → AreEncodings tokens bytes →
@@ -55,12 +49,7 @@ pub AreEncodings-length : (at : ℕ) (tokens : List Token) (bytes : List ℕ) �
     at + length bytes ≡ place_after_all at tokens
 AreEncodings-length at [] bytes is_encoded = let none : length bytes ≡ 0 = ap length is_encoded in omega arith
 AreEncodings-length at (token ∷ later) bytes is_encoded =
-    let rest : at + width token + length (drop (width token) bytes) ≡ place_after_all (at + width token) later =
-    AreEncodings-length (at + width token) later (drop (width token) bytes) is_encoded.1 in
-    let left : length (drop (width token) bytes) ≡ length bytes - width token = length-drop (width token) bytes in
-    let first : width token ≤ length bytes = AreEncodings-first token bytes is_encoded.0 in
-    let same : at + length bytes ≡ at + width token + length (drop (width token) bytes) = omega arith in
-    same ∙ rest
+    search (rules, length-drop, AreEncodings-first, AreEncodings-length (at + width token) later (drop (width token) bytes) is_encoded.1)
 
 -- At most one list of tokens that has one FDT_END, at its end, is at an offset.
 pub one_token_list : (file : List ℕ) (at : ℕ) (ts us : List Token) → AllByRecursion (λ t. t ≢ End) ts → AllByRecursion (λ t. t ≢ End) us →

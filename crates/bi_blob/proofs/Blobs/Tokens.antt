@@ -1,3 +1,4 @@
+use Rattle.std.proofs.Common.{rules}
 use Rattle.std.proofs.Common.{◌≡◌, ℕ, ◌+◌, ◌<◌, ◌≤◌, ◌^◌, List, [], ◌∷◌, ◌++◌, length, drop, refl, sym, ap, subst, ◌∙◌, arith, lit<}
 use Rattle.std.proofs.lemmas.List.{length-append, append-nil, append_assoc}
 use Rattle.bi_base.specs.Cells.{cell, slice, u32_at, AreBytes}
@@ -50,15 +51,11 @@ IsTokenAt-bytes file at token is_at = subst (BytesAt file at) (token_bytes-numbe
 
 -- Its number is read there.
 pub IsTokenAt-number : (file : List ℕ) (at : ℕ) (token : Token) → IsTokenAt file at token → u32_at file at ≡ number token
-IsTokenAt-number file at token is_at =
-    u32_at-BytesAt file at (number token) (number_fits token)
-    (BytesAt-left file at (cell (number token)) (operands token) (IsTokenAt-bytes file at token is_at))
+IsTokenAt-number file at token is_at = search (rules, u32_at-BytesAt, number_fits, BytesAt-left, IsTokenAt-bytes)
 
 -- It is within the file, but for its padding.
 pub IsTokenAt-within : (file : List ℕ) (at : ℕ) (token : Token) → IsTokenAt file at token → at + length (token_bytes token) ≤ length file
-IsTokenAt-within file at token is_at =
-    let long : length (token_bytes token) ≡ 4 + length (operands token) = length-token_bytes token in
-    BytesAt-within file at (token_bytes token) (omega arith) is_at.is_at
+IsTokenAt-within file at token is_at = search (rules, length-token_bytes, BytesAt-within)
 
 -- A token at an offset has these bytes after its number.
 pub IsTokenAt-operands : (file : List ℕ) (at : ℕ) (token : Token) → IsTokenAt file at token → BytesAt file (at + 4) (operands token)
@@ -99,24 +96,17 @@ Prop-parts file at name_offset value is_at =
 
 -- At most one property is at an offset.
 one_prop : (file : List ℕ) (at o p : ℕ) (v w : List ℕ) → IsPropAt file at o v → IsPropAt file at p w → Prop o v ≡ Prop p w
-one_prop file at o p v w one other =
-    let same_offset : o ≡ p = sym one.is_offset ∙ other.is_offset in
-    let same_length : length v ≡ length w = sym one.is_length ∙ other.is_length in
-    let same_value : v ≡ w = sym one.is_value ∙ ap (slice file (at + 12)) same_length ∙ other.is_value in
-    λ i. Prop (same_offset i) (same_value i)
+one_prop file at o p v w one other = search rules
 
 -- At most one token is at an offset.
 pub one_token : (file : List ℕ) (at : ℕ) (t u : Token) → IsTokenAt file at t → IsTokenAt file at u → t ≡ u
-one_token file at (BeginNode m) (BeginNode n) one other =
-    ap BeginNode (one_name file (at + 4) m n (BeginNode-name file at m one) (BeginNode-name file at n other))
+one_token file at (BeginNode m) (BeginNode n) one other = search (rules, one_name, BeginNode-name)
 one_token file at (Prop o v) (Prop p w) one other =
     one_prop file at o p v w (Prop-parts file at o v one) (Prop-parts file at p w other)
 one_token file at EndNode EndNode one other = refl
 one_token file at Nop Nop one other = refl
 one_token file at End End one other = refl
-one_token file at t u one other =
-    let same : number t ≡ number u = sym (IsTokenAt-number file at t one) ∙ IsTokenAt-number file at u other in
-    absurd (omega arith)
+one_token file at t u one other = let same : number t ≡ number u = search (rules, IsTokenAt-number) in absurd (omega arith)
 
 -- A token that is only its number is where its number is read.
 token_is_there : (file : List ℕ) (at n : ℕ) → AreBytes file → at + 4 ≤ length file → u32_at file at ≡ n → BytesAt file at (cell n)
@@ -146,31 +136,8 @@ BeginNode-is_at file at name bytes within e named = record {
 -- FDT_PROP is where its number is read and the file has the value.
 pub Prop-is_at : (file : List ℕ) (at : ℕ) → AreBytes file → at + 12 + u32_at file (at + 4) ≤ length file → u32_at file at ≡ prop_number →
     IsTokenAt file at (Prop (u32_at file (at + 8)) (slice file (at + 12) (u32_at file (at + 4))))
-Prop-is_at file at bytes within e =
-    let n : ℕ = u32_at file (at + 4) in
-    let value : List ℕ = slice file (at + 12) n in
-    let long : length value ≡ n = length-slice file (at + 12) n within in
-    record {
-      is_token = (u32_at-fits file (at + 8) bytes, subst (λ m. m < 2 ^ 32) (sym long) (u32_at-fits file (at + 4) bytes));
-      is_at = BytesAt-join file at (cell prop_number) (cell (length value) ++ (cell (u32_at file (at + 8)) ++ value))
-          (token_is_there file at prop_number bytes (omega arith) e)
-          (subst (λ m. BytesAt file (at + m) (cell (length value) ++ (cell (u32_at file (at + 8)) ++ value)))
-          (sym (length-cell prop_number))
-          (BytesAt-join file (at + 4) (cell (length value)) (cell (u32_at file (at + 8)) ++ value)
-          (token_is_there file (at + 4) (length value) bytes (omega arith) (sym long))
-          (subst (λ p. BytesAt file p (cell (u32_at file (at + 8)) ++ value)) (second_place (length value))
-          (BytesAt-join file (at + 8) (cell (u32_at file (at + 8))) value
-          (BytesAt-cell file (at + 8) bytes (omega arith))
-          (subst (λ p. BytesAt file p value) (third_place (u32_at file (at + 8))) (ap (slice file (at + 12)) long))))));
-    } where
-      second_place : (m : ℕ) → at + 8 ≡ at + 4 + length (cell m)
-      second_place m = omega (arith, length-cell m)
-
-      third_place : (m : ℕ) → at + 12 ≡ at + 8 + length (cell m)
-      third_place m = omega (arith, length-cell m)
+Prop-is_at file at bytes within e = search (rules, length-slice, u32_at-fits, BytesAt-join, token_is_there, length-cell, BytesAt-cell)
 
 -- A token takes at least four bytes, and no fewer than it is long.
 pub width-at_least : (token : Token) → (4 ≤ width token) × (length (token_bytes token) ≤ width token)
-width-at_least token =
-    let long : length (token_bytes token) ≡ 4 + length (operands token) = length-token_bytes token in
-    (omega arith, omega arith)
+width-at_least token = search (rules, length-token_bytes)

@@ -1,4 +1,4 @@
-use Rattle.std.proofs.Common.{◌≡◌, ◌⊎◌, ℕ, zero, suc, ◌+◌, ◌≤◌, true, List, [], ◌∷◌, refl, sym, subst, inl, inr, arith}
+use Rattle.std.proofs.Common.{◌≡◌, ◌⊎◌, ℕ, zero, suc, ◌+◌, ◌≤◌, true, List, [], ◌∷◌, inl, inr, arith, rules}
 use Rattle.std.specs.Prelude.{◌==◌}
 use Rattle.std.proofs.lemmas.Bool.{eqb-true, or_cases}
 use Rattle.bi_base.specs.declared.fault.Fault.{Fault}
@@ -9,7 +9,7 @@ use Rattle.bi_blob.specs.Tokens.{nop_number, end_number}
 use Rattle.bi_blob.specs.Tree.{Root, FileNode, depth_of}
 use Rattle.bi_blob.specs.Stages.{Stage, BeforeRoot, AfterRoot}
 use Rattle.bi_blob.specs.Blob.{TreeBlocks, HoldsTree, IsReadable}
-use Rattle.bi_blob.specs.BlobFaults.{HasTokenNumber, TokenPasses, token_checks, token_fault, stage_after, IsStructureFault}
+use Rattle.bi_blob.specs.BlobFaults.{HasTokenNumber, TokenPasses, token_checks, token_fault, IsStructureFault}
 use Rattle.bi_base.proofs.FirstFault.{fault_or_none}
 use Rattle.bi_blob.specs.OpenNodes.{OpenFileNode, TreeSoFar, NoTree, OpenTree, WholeTree, new_node, with_one_property, with_one_child}
 use Rattle.bi_blob.specs.OpenNodes.{stage_of, IsOpenAt}
@@ -37,48 +37,25 @@ pub record Continues (blocks : TreeBlocks) (depth_limit place : ℕ) : Type 0 wh
 
 -- The state of a reader at the beginning of the block.
 pub at_begin : (blocks : TreeBlocks) (depth_limit : ℕ) → IsReadable blocks → IsOpenAt blocks depth_limit blocks.begin NoTree
-at_begin blocks depth_limit readable = record {
-  readable = readable;
-  tokens = [];
-  passed = tt;
-  is_place = refl;
-  is_stage = refl;
-  encodes = tt;
-  is_tree_so_far = tt;
-}
+at_begin blocks depth_limit readable = search rules
 
 -- The first check of the next token that fails gives the fault of the block.
 pub fault_there : (blocks : TreeBlocks) (depth_limit place : ℕ) (so_far : TreeSoFar) (fault : Fault) →
     IsOpenAt blocks depth_limit place so_far →
     IsFirstFault (TokenPasses blocks depth_limit place (stage_of so_far)) (token_fault place) (token_checks (u32_at blocks.file place))
     fault → IsStructureFault blocks depth_limit fault
-fault_there blocks depth_limit place so_far fault position first = record {
-  before = position.tokens;
-  passed = position.passed;
-  first =
-      subst (λ p. IsFirstFault (TokenPasses blocks depth_limit p (stage_after blocks.strings position.tokens)) (token_fault p)
-      (token_checks (u32_at blocks.file p)) fault) (sym position.is_place)
-      (subst (λ stage. IsFirstFault (TokenPasses blocks depth_limit place stage) (token_fault place)
-      (token_checks (u32_at blocks.file place)) fault) (sym position.is_stage) first);
-}
+fault_there blocks depth_limit place so_far fault position first = search rules
 
 module _ (blocks : TreeBlocks) (depth_limit place : ℕ) where
   -- A token that passes its checks is next, where its number is read.
   next_is : (stage : Stage) (number : ℕ) →
       HasNoFault (TokenPasses blocks depth_limit place stage) (token_checks (u32_at blocks.file place)) →
       (u32_at blocks.file place == number) ≡ true → IsNext blocks depth_limit place stage number
-  next_is stage number passes same =
-      let e : u32_at blocks.file place ≡ number = eqb-true (u32_at blocks.file place) number same in
-      record { is_number = e; passes = subst (λ n. HasNoFault (TokenPasses blocks depth_limit place stage) (token_checks n)) e passes }
+  next_is stage number passes same = search (rules, eqb-true)
 
   continues : (so_far : TreeSoFar) (token : Token) → IsOpenAt blocks depth_limit (place + width token) so_far →
       Continues blocks depth_limit place
-  continues so_far token position = record {
-    next = place + width token;
-    so_far = so_far;
-    further = (let wide : 4 ≤ width token = (width-at_least token).0 in omega arith);
-    position = position;
-  }
+  continues so_far token position = search (rules, width-at_least)
 
   -- FDT_END_NODE in a node.
   past_end : (o : OpenFileNode) (outer : List OpenFileNode) → IsOpenAt blocks depth_limit place (OpenTree o outer) →
@@ -130,8 +107,7 @@ tree_or_fault_from : (steps : ℕ) (blocks : TreeBlocks) (depth_limit place : �
 tree_or_fault_from zero blocks depth_limit place so_far left position =
     inr (
       token_fault place HasTokenNumber,
-      fault_there blocks depth_limit place so_far (token_fault place HasTokenNumber) position
-          (inl ((λ (word : place + 4 ≤ blocks.end). omega arith), refl)),
+      search (rules, fault_there),
     )
 tree_or_fault_from (suc steps) blocks depth_limit place so_far left position =
     by_checks (fault_or_none (TokenPasses blocks depth_limit place (stage_of so_far)) (token_fault place)

@@ -1,4 +1,4 @@
-use Rattle.std.proofs.Common.{◌≡◌, ℕ, ◌+◌, ◌<◌, ◌≤◌, List, [], ◌∷◌, ◌++◌, length, refl, sym, ap, subst, ◌∙◌, arith}
+use Rattle.std.proofs.Common.{◌≡◌, ℕ, ◌+◌, ◌<◌, ◌≤◌, List, [], ◌∷◌, ◌++◌, length, refl, sym, ap, subst, ◌∙◌, arith, rules}
 use Rattle.std.specs.Prelude.{IsTrue}
 use Rattle.std.proofs.lemmas.List.{length-append}
 use Rattle.bi_base.specs.Cells.{u32_at}
@@ -33,17 +33,13 @@ module _ (blocks : TreeBlocks) (depth_limit place : ℕ) (stage : Stage) where
   -- The number of a token is in the block, and may come there.
   number_passes : (token : Token) → IsTokenAt blocks.file place token → place + width token ≤ blocks.end →
       IsTrue (is_expected stage (number token)) → (place + 4 ≤ blocks.end) × IsTrue (is_expected stage (u32_at blocks.file place))
-  number_passes token is_at within may =
-      let wide : 4 ≤ width token = (width-at_least token).0 in
-      (omega arith, subst (λ n. IsTrue (is_expected stage n)) (sym (IsTokenAt-number blocks.file place token is_at)) may)
+  number_passes token is_at within may = search (rules, width-at_least, IsTokenAt-number)
 
   -- A token that passes the checks of its number passes those of the number that is read.
   by_number : (token : Token) → IsTokenAt blocks.file place token →
       HasNoFault (TokenPasses blocks depth_limit place stage) (token_checks (number token)) →
       HasNoFault (TokenPasses blocks depth_limit place stage) (token_checks (u32_at blocks.file place))
-  by_number token is_at passes =
-      subst (λ n. HasNoFault (TokenPasses blocks depth_limit place stage) (token_checks n))
-      (sym (IsTokenAt-number blocks.file place token is_at)) passes
+  by_number token is_at passes = search (rules, IsTokenAt-number)
 
   pub nop_passes : IsTokenAt blocks.file place Nop → place + width Nop ≤ blocks.end →
       HasNoFault (TokenPasses blocks depth_limit place stage) (token_checks (u32_at blocks.file place))

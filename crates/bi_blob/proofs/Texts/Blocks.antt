@@ -1,10 +1,9 @@
 use Rattle.std.proofs.Common.{◌≡◌, ℕ, ◌+◌, ◌-◌, ◌*◌, ◌%◌, ◌≤◌, List, [], ◌∷◌, ◌++◌, length, take, flat_map, refl, sym, ap, ◌∙◌, arith}
-use Rattle.std.proofs.Common.{append_assoc, length-append}
+use Rattle.std.proofs.Common.{append_assoc, length-append, rules}
 use Rattle.std.proofs.lemmas.List.{take_at, drop_at}
 use Rattle.std.proofs.Math.Seq.{take-append-add}
 use Rattle.bi_base.specs.Cells.{slice}
-use Rattle.bi_blob.specs.Blob.{Header, Reservation, pair_bytes, end_pair, reservation_block, header_length, structure_end, off_dt_struct}
-use Rattle.bi_blob.specs.Blob.{size_dt_struct}
+use Rattle.bi_blob.specs.Blob.{Header, Reservation, pair_bytes, reservation_block}
 use Rattle.bi_blob.specs.Layout.{blob_header, padding_to, length_before_padding, text_length, text_of_blocks}
 use Rattle.bi_blob.proofs.Blobs.Cells.{length-cell8}
 use Rattle.bi_blob.proofs.Blobs.Headers.{header_length-17, structure_end-17}
@@ -48,51 +47,18 @@ pub text_parts : (align cpu : ℕ) (reserved structure strings rest : List ℕ) 
     ++ (reserved ++ (structure ++ (strings
     ++ (padding_to align (length_before_padding (length reserved) (length structure) (length strings)) ++ rest))))
 unfolding text_of_blocks
-text_parts align cpu reserved structure strings rest =
-    after_five
-    (blob_header cpu (text_length align (length reserved) (length structure) (length strings)) (length reserved) (length structure)
-    (length strings))
-    reserved structure strings
-    (padding_to align (length_before_padding (length reserved) (length structure) (length strings))) rest
+text_parts align cpu reserved structure strings rest = search (rules, after_five)
 
 -- The memory reservation block is a whole number of pairs.
 pub length-reservations : (reservations : List Reservation) → length (flat_map pair_bytes reservations) ≡ 16 * length reservations
 length-reservations [] = refl
-length-reservations (reservation ∷ later) =
-    length-append (pair_bytes reservation) (flat_map pair_bytes later)
-    ∙ (omega (arith, length-pair reservation, length-reservations later))
-  where
-    length-pair : (reservation : Reservation) → length (pair_bytes reservation) ≡ 16
-    length-pair reservation = simp (length-append, length-cell8)
+length-reservations (reservation ∷ later) = search (rules, length-append, length-cell8, length-reservations later)
 
 -- So it ends at a multiple of eight.
 pub reserved-aligned : (reservations : List Reservation) → length (reservation_block reservations) % 8 ≡ 0
-reserved-aligned reservations =
-    omega (arith, length-append (flat_map pair_bytes reservations) (pair_bytes end_pair), length-reservations reservations, length-pair)
-  where
-    length-pair : length (pair_bytes end_pair) ≡ 16
-    length-pair = simp (length-append, length-cell8)
+reserved-aligned reservations = search (rules, length-append, length-reservations, length-cell8)
 
 -- What has the cells of a text, and is as long at least, has the header of a blob.
 pub text_header : (file : List ℕ) (cpu total reserved structure strings : ℕ) → HasCells file cpu total reserved structure strings →
     reserved % 8 ≡ 0 → length_before_padding reserved structure strings ≤ total → total ≤ length file → Header file
-text_header file cpu total reserved structure strings cells aligned within long =
-    let header : header_length file ≡ 40 = header_length-17 file cells.is_version in
-    let structure_ends : structure_end file ≡ off_dt_struct file + size_dt_struct file = structure_end-17 file cells.is_version in
-    record {
-      whole = omega arith;
-      is_magic = cells.is_magic;
-      is_read = omega (arith, cells.is_version);
-      is_understood = omega (arith, cells.is_compatible);
-      total_holds_header = omega (arith, cells.is_total);
-      file_holds_total = omega (arith, cells.is_total);
-      reservations_after_header = omega (arith, cells.is_off_reserved);
-      reservations_aligned = omega (arith, cells.is_off_reserved);
-      reservations_within = omega (arith, cells.is_off_reserved, cells.is_total);
-      structure_after_header = omega (arith, cells.is_off_struct);
-      structure_aligned = omega (arith, cells.is_off_struct);
-      structure_ordered = omega (arith, cells.is_off_struct);
-      structure_within = omega (arith, cells.is_off_struct, cells.is_size_struct, cells.is_total);
-      strings_after_header = omega (arith, cells.is_off_strings);
-      strings_within = omega (arith, cells.is_off_strings, cells.is_size_strings, cells.is_total);
-    }
+text_header file cpu total reserved structure strings cells aligned within long = search (rules, header_length-17, structure_end-17)

@@ -1,10 +1,9 @@
 use Rattle.std.specs.Prelude.{⊤}
-use Rattle.std.proofs.Common.{◌≡◌, ℕ, ◌+◌, List, [], ◌∷◌, ◌++◌, length, map, drop, refl, sym, ap, ap₂, subst, ◌∙◌}
+use Rattle.std.proofs.Common.{◌≡◌, ℕ, ◌+◌, List, [], ◌∷◌, ◌++◌, map, drop, refl, sym, ap, ap₂, subst, ◌∙◌, rules}
 use Rattle.std.specs.List.{AllByRecursion}
 use Rattle.std.proofs.lemmas.List.{map-append}
 use Rattle.bi_base.specs.Cells.{cell, AreBytes}
 use Rattle.bi_blob.specs.Tokens.{Token, BeginNode, EndNode, Prop, Nop, End, token_bytes, width, AreEncodings, IsNameAt, begin_node_number}
-use Rattle.bi_blob.specs.Tokens.{prop_number}
 use Rattle.bi_blob.specs.Tree.{Nodes, none, node, Root, FileProperty, FileNode, as_nodes, with_each, properties_of, tree_without_places}
 use Rattle.bi_blob.specs.Tree.{property_of}
 use Rattle.bi_blob.specs.Events.{NodeStart, NodeProperty, NodeEnd, events, events_of, FileEvent, FileNodeStart, FileNodeProperty}
@@ -26,10 +25,7 @@ TokenHasBytes token = ⊤
 pub token_has_bytes : (token : Token) → AreBytes (token_bytes token) → TokenHasBytes token
 token_has_bytes (BeginNode name) bytes = AreBytes-left name (0 ∷ []) (AreBytes-right (cell begin_node_number) (name ++ 0 ∷ []) bytes)
 token_has_bytes EndNode bytes = tt
-token_has_bytes (Prop name_offset value) bytes =
-    AreBytes-right (cell name_offset) value
-    (AreBytes-right (cell (length value)) (cell name_offset ++ value)
-    (AreBytes-right (cell prop_number) (cell (length value) ++ (cell name_offset ++ value)) bytes))
+token_has_bytes (Prop name_offset value) bytes = search (rules, AreBytes-right)
 token_has_bytes Nop bytes = tt
 token_has_bytes End bytes = tt
 
@@ -54,26 +50,21 @@ pub event_bytes : (strings : List ℕ) (at : ℕ) (tokens : List Token) (token_e
 event_bytes strings at [] [] are bytes encodes = tt
 event_bytes strings at (Nop ∷ tokens) token_events are bytes encodes = event_bytes strings
     (at + width Nop) tokens token_events are bytes.1 encodes
-event_bytes strings at (BeginNode token_name ∷ tokens) (FileNodeStart place name ∷ token_events) are bytes encodes = (
-  subst AreBytes encodes.0.same_name bytes.0,
-  event_bytes strings (at + width (BeginNode token_name)) tokens token_events are bytes.1 encodes.1,
-)
+event_bytes strings at (BeginNode token_name ∷ tokens) (FileNodeStart place name ∷ token_events) are bytes encodes =
+    search (rules, event_bytes strings (at + width (BeginNode token_name)) tokens token_events are bytes.1 encodes.1)
 event_bytes strings at (Prop name_offset value ∷ tokens) (FileNodeProperty property ∷ token_events) are bytes encodes = (
   (name_bytes strings name_offset property.name are encodes.0.name, subst AreBytes encodes.0.value bytes.0),
   event_bytes strings (at + width (Prop name_offset value)) tokens token_events are bytes.1 encodes.1,
 )
-event_bytes strings at (EndNode ∷ tokens) (FileNodeEnd ∷ token_events) are bytes encodes = (
-  tt,
-  event_bytes strings (at + width EndNode) tokens token_events are bytes.1 encodes,
-)
+event_bytes strings at (EndNode ∷ tokens) (FileNodeEnd ∷ token_events) are bytes encodes =
+    search (rules, event_bytes strings (at + width EndNode) tokens token_events are bytes.1 encodes)
 event_bytes strings at tokens token_events are bytes encodes = absurd encodes
 
 -- The events of properties without places.
 properties_of-marks_of_properties : (properties : List FileProperty) →
     map NodeProperty (map property_of properties) ≡ map event_without_place (map FileNodeProperty properties)
 properties_of-marks_of_properties [] = refl
-properties_of-marks_of_properties (property ∷ later) = ap (λ l. NodeProperty (property_of property) ∷ l)
-    (properties_of-marks_of_properties later)
+properties_of-marks_of_properties (property ∷ later) = search (rules, properties_of-marks_of_properties later)
 
 -- The events of nodes without places are their events without places.
 pub properties_of-events : (nodes : Nodes FileNode) → events (with_each properties_of nodes) ≡ map event_without_place (file_events nodes)

@@ -1,13 +1,11 @@
-use Rattle.std.proofs.Common.{◌≡◌, ℕ, ◌+◌, ◌%◌, List, [], ◌∷◌, ◌++◌, length, map, flat_map, refl, ap, ◌∙◌, arith, length-append}
+use Rattle.std.proofs.Common.{◌≡◌, ℕ, ◌+◌, ◌%◌, List, [], ◌∷◌, length, map, flat_map, refl, ap, ◌∙◌, arith, length-append, rules}
 use Rattle.std.specs.List.{sum_by}
 use Rattle.std.proofs.lemmas.List.{length_push}
 use Rattle.std.proofs.lemmas.List.Concat.{flat_map-append}
 use Rattle.std.proofs.lemmas.List.Sums.{sum_by-cons}
-use Rattle.bi_base.specs.Cells.{up4}
-use Rattle.bi_blob.specs.Tokens.{End}
 use Rattle.bi_blob.specs.Events.{Event}
 use Rattle.bi_blob.specs.Blob.{reservation_block}
-use Rattle.bi_blob.specs.Layout.{used_names, distinct_names, encoding, token_of, tokens_of, event_width, structure_block, strings_block}
+use Rattle.bi_blob.specs.Layout.{used_names, distinct_names, encoding, token_of, event_width, structure_block, strings_block}
 use Rattle.bi_blob.specs.Layout.{strings_of, text_length, text_of_events}
 use Rattle.bi_blob.specs.TextLaws.{TextOfEventsHasItsLength, HasEventWidths}
 use Rattle.bi_base.proofs.CellLaws.{length-cell}
@@ -21,11 +19,7 @@ use Rattle.bi_blob.proofs.Blobs.TreeTokens.{length-Prop}
 
 -- How many bytes the token of each event takes.
 pub has_event_widths : HasEventWidths
-has_event_widths = record {
-  node_start = λ name. ap up4 (length-append _ (name ++ 0 ∷ []) ∙ omega (arith, length-cell 1, length_push name 0));
-  property = λ property. ap up4 (length-Prop 0 property.1 ∙ omega arith);
-  node_end = ap up4 (length-cell 2);
-}
+has_event_widths = search (rules, length-append, length-cell, length_push, length-Prop)
 
 -- The tokens of events take the widths of the events, whatever the names are.
 length-tokens : (names : List (List ℕ)) (events : List Event) →
@@ -43,20 +37,12 @@ length-tokens names (event ∷ later) =
 
 -- The structure block has the tokens of the events, and FDT_END.
 pub length-structure_block : (events : List Event) → length (structure_block events) ≡ sum_by event_width events + 4
-length-structure_block events =
-    ap length (flat_map-append encoding (tokens_of events) (End ∷ []))
-    ∙ length-append (flat_map encoding (tokens_of events)) (flat_map encoding (End ∷ []))
-    ∙ omega (arith, length-tokens (distinct_names (used_names events)) events, length-end)
-  where
-    length-end : length (flat_map encoding (End ∷ [])) ≡ 4
-    length-end = length-append (encoding End) [] ∙ omega (arith, length-encoding End, length-cell 9)
+length-structure_block events = search (rules, flat_map-append, length-append, length-tokens, length-encoding, length-cell)
 
 -- Names one after the other have their lengths, and a zero byte each.
 length-strings_of : (names : List (List ℕ)) → length (strings_of names) ≡ sum_by (λ name. length name + 1) names
 length-strings_of [] = refl
-length-strings_of (name ∷ later) =
-    length-append (name ++ 0 ∷ []) (strings_of later)
-    ∙ omega (arith, length_push name 0, length-strings_of later, sum_by-cons (λ name. length name + 1) name later)
+length-strings_of (name ∷ later) = search (rules, length-append, length_push, sum_by-cons, length-strings_of later)
 
 -- The length of each text is that of the layout.
 pub text_of_events_has_length : TextOfEventsHasItsLength

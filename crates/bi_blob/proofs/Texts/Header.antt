@@ -1,4 +1,4 @@
-use Rattle.std.proofs.Common.{◌≡◌, ℕ, ◌+◌, ◌^◌, ◌<◌, ◌≤◌, List, ◌++◌, refl, arith}
+use Rattle.std.proofs.Common.{◌≡◌, ℕ, ◌+◌, ◌^◌, ◌<◌, ◌≤◌, List, ◌++◌, rules}
 use Rattle.std.proofs.lemmas.Nat.{from_be_bytes-to_be_bytes_4}
 use Rattle.bi_base.specs.Cells.{cell, u32_at}
 use Rattle.bi_blob.specs.Blob.{magic, totalsize, off_dt_struct, off_dt_strings, off_mem_rsvmap, version, last_comp_version, boot_cpuid_phys}
@@ -25,15 +25,4 @@ pub has_cells : (cpu total reserved structure strings : ℕ) (trailing : List �
     length_before_padding reserved structure strings ≤ total → total < 2 ^ 32 →
     HasCells (blob_header cpu total reserved structure strings ++ trailing) cpu total reserved structure strings
 unfolding cell u32_at
-has_cells cpu total reserved structure strings trailing cpu_fits within fits = record {
-  is_magic = refl;
-  is_total = from_be_bytes-to_be_bytes_4 total fits;
-  is_off_struct = from_be_bytes-to_be_bytes_4 (40 + reserved) (omega arith);
-  is_off_strings = from_be_bytes-to_be_bytes_4 (40 + reserved + structure) (omega arith);
-  is_off_reserved = refl;
-  is_version = refl;
-  is_compatible = refl;
-  is_cpu = from_be_bytes-to_be_bytes_4 cpu cpu_fits;
-  is_size_strings = from_be_bytes-to_be_bytes_4 strings (omega arith);
-  is_size_struct = from_be_bytes-to_be_bytes_4 structure (omega arith);
-}
+has_cells cpu total reserved structure strings trailing cpu_fits within fits = search (rules, from_be_bytes-to_be_bytes_4)

@@ -1,5 +1,5 @@
-use Rattle.std.proofs.Common.{◌≡◌, ◌≢◌, ◌⊎◌, ℕ, ◌+◌, Bool, true, false, not, List, [], ◌∷◌, ◌++◌, length, drop, Contains, filter, bytes_eq}
-use Rattle.std.proofs.Common.{inl, inr, refl, ap, ◌∙◌, sym, append_assoc, drop-drop}
+use Rattle.std.proofs.Common.{◌≡◌, ◌⊎◌, ℕ, ◌+◌, Bool, true, false, not, List, [], ◌∷◌, ◌++◌, length, drop, Contains, filter, bytes_eq}
+use Rattle.std.proofs.Common.{inl, inr, refl, ap, ◌∙◌, sym, append_assoc, drop-drop, rules}
 use Rattle.std.proofs.lemmas.List.{drop_at, length_push}
 use Rattle.bi_base.proofs.EqualBytes.{same_bytes, other_bytes}
 use Rattle.bi_base.proofs.ListMembers.{Contains-none, Contains-cases, Contains-first, Contains-others, Contains-filter}
@@ -66,36 +66,21 @@ distinct_names-only (first ∷ others) name has =
 -- Distinct names stay so where some are left out.
 distinct-filter : (test : List ℕ → Bool) (names : List (List ℕ)) → AreDistinct names → AreDistinct (filter test names)
 distinct-filter test [] distinct = distinct
-distinct-filter test (first ∷ others) distinct = where_first (test first) refl (distinct-filter test others distinct.1)
-  where
-    where_first : (b : Bool) → test first ≡ b → AreDistinct (filter test others) → AreDistinct (filter test (first ∷ others))
-    where_first true is rest = rw is (each-filter (λ other. other ≢ first) test others distinct.0, rest)
-    where_first false is rest = rw is rest
+distinct-filter test (first ∷ others) distinct = search (rules, each-filter, distinct-filter test others distinct.1)
 
 -- A name is new among those that the test finds different from it.
 new-filter : (name : List ℕ) (others : List (List ℕ)) → IsNew name (filter (λ other. not (bytes_eq name other)) others)
 new-filter name [] = tt
-new-filter name (other ∷ later) = where_first (bytes_eq name other) refl (new-filter name later)
-  where
-    where_first : (b : Bool) → bytes_eq name other ≡ b → IsNew name (filter (λ other. not (bytes_eq name other)) later) →
-        IsNew name (filter (λ other. not (bytes_eq name other)) (other ∷ later))
-    where_first true is rest = rw is rest
-    where_first false is rest = rw is ((λ same. other_bytes name other is (sym same)), rest)
+new-filter name (other ∷ later) = search (rules, other_bytes, new-filter name later)
 
 -- The first ones are distinct.
 pub distinct_names-distinct : (names : List (List ℕ)) → AreDistinct (distinct_names names)
 distinct_names-distinct [] = tt
-distinct_names-distinct (first ∷ others) = (
-  new-filter first (distinct_names others),
-  distinct-filter (λ other. not (bytes_eq first other)) (distinct_names others) (distinct_names-distinct others),
-)
+distinct_names-distinct (first ∷ others) = search (rules, new-filter, distinct-filter, distinct_names-distinct others)
 
 -- Marks have the names that they use in their strings block, each once.
 pub has_names_once : EachNameIsThereOnce
-has_names_once events = record {
-  same = λ name. (distinct_names-only (used_names events) name, distinct_names-all (used_names events) name);
-  distinct = distinct_names-distinct (used_names events);
-}
+has_names_once events = search (rules, distinct_names-only, distinct_names-all, distinct_names-distinct)
 
 -- A name that events use is at its offset.
 pub name_is_found : EachNameIsFound

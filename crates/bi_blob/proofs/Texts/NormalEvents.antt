@@ -1,5 +1,5 @@
 use Rattle.std.proofs.Common.{◌≡◌, ◌≢◌, ℕ, Bool, true, false, T, List, [], ◌∷◌, ◌++◌, length, map, Option, Some, None, Ordering, Less}
-use Rattle.std.proofs.Common.{Equal, Greater, is_lt, refl, sym, ap, subst, ◌∙◌, arith, nat_cmp}
+use Rattle.std.proofs.Common.{Equal, Greater, is_lt, refl, sym, ap, subst, ◌∙◌, arith, nat_cmp, rules}
 use Rattle.std.specs.Prelude.{◌&&◌, IfSome, ⊤}
 use Rattle.std.specs.List.{AllByRecursion, slice_get}
 use Rattle.std.specs.Cmp.Lexicographic.{slice_cmp}
@@ -42,12 +42,7 @@ IsRising ns = (name : List ℕ) → IfSome (last_name ns) (λ last. IsBefore las
 -- Rising names stay so with one more that is after their last.
 IsRising-push : (ns : List (List ℕ)) (name : List ℕ) → IsRising ns → IfSome (last_name ns) (λ last. IsBefore last name) →
     IsRising (ns ++ name ∷ [])
-IsRising-push ns name rising next other after =
-    let last : IsBefore name other = subst (λ o. IfSome o (λ last. IsBefore last other)) (last_name-push ns name) after in
-    All-push (λ n. IsBefore n other) ns name
-    (each-weaker (λ n. IsBefore n name) (λ n. IsBefore n other)
-    (λ n before. nat_list_cmp_total.trans n name other before last) ns (rising name next))
-    last
+IsRising-push ns name rising next other after = search (rules, last_name-push, All-push, each-weaker, nat_list_cmp_total)
 
 -- A name that is after others is new among them.
 new_after : (name : List ℕ) (ns : List (List ℕ)) → AllByRecursion (λ n. IsBefore n name) ns → IsNew name ns
@@ -101,19 +96,15 @@ rise_more AfterRoot NodeEnd rise may = tt
 follow_in_blob : (stage : Stage) (later : List Event) → AllRise stage → AllFollow MayFollowInText stage later →
     AllFollow (MayFollow most_open_nodes) stage later
 follow_in_blob stage [] rise follow = tt
-follow_in_blob stage (event ∷ later) rise follow = (
-  (in_text stage event rise follow.0).0,
-  follow_in_blob (next_stage stage event) later (rise_more stage event rise follow.0) follow.1,
-)
+follow_in_blob stage (event ∷ later) rise follow =
+    search (rules, in_text, rise_more, follow_in_blob (next_stage stage event) later (rise_more stage event rise follow.0) follow.1)
 
 -- They follow in order.
 follow_in_order : (stage : Stage) (later : List Event) → AllRise stage → AllFollow MayFollowInText stage later →
     AllFollow IsInOrder stage later
 follow_in_order stage [] rise follow = tt
-follow_in_order stage (event ∷ later) rise follow = (
-  (in_text stage event rise follow.0).1,
-  follow_in_order (next_stage stage event) later (rise_more stage event rise follow.0) follow.1,
-)
+follow_in_order stage (event ∷ later) rise follow =
+    search (rules, in_text, rise_more, follow_in_order (next_stage stage event) later (rise_more stage event rise follow.0) follow.1)
 
 -- What may follow in a blob, and in order, may follow in a normal text.
 in_blob : (stage : Stage) (event : Event) → MayFollow most_open_nodes stage event → IsInOrder stage event → MayFollowInText stage event
@@ -150,27 +141,18 @@ below_more : (name other : List ℕ) (properties : List Property) → IsBefore n
 below_more name other [] before below = tt
 below_more name other (property ∷ later) before below =
     let both = both_pass (is_lt (slice_cmp nat_cmp other property.0)) (below_all (slice_cmp nat_cmp) other later) below in
-    both_hold (is_lt (slice_cmp nat_cmp name property.0)) (below_all (slice_cmp nat_cmp) name later)
-    (subst (λ o. T (is_lt o)) (sym (nat_list_cmp_total.trans name other property.0 before
-    (is_Less (slice_cmp nat_cmp other property.0) both.0))) tt)
-    (below_more name other later before both.1)
+    search (rules, both_hold, is_lt, nat_list_cmp_total, is_Less, below_more name other later before both.1)
 
 -- Properties in a chain are in byte order, after the name before the chain.
 chain_sorted_after : (name : List ℕ) (properties : List Property) → AreChained (Some name) properties →
     T (below_all (slice_cmp nat_cmp) name properties) × T (is_sorted (slice_cmp nat_cmp) properties)
 chain_sorted_after name [] chained = (tt, tt)
 chain_sorted_after name (property ∷ later) chained =
-    let rest = chain_sorted_after property.0 later chained.1 in (
-      both_hold (is_lt (slice_cmp nat_cmp name property.0)) (below_all (slice_cmp nat_cmp) name later)
-          (subst (λ o. T (is_lt o)) (sym chained.0) tt) (below_more name property.0 later chained.0 rest.0),
-      both_hold (below_all (slice_cmp nat_cmp) property.0 later) (is_sorted (slice_cmp nat_cmp) later) rest.0 rest.1,
-    )
+    search (rules, both_hold, is_lt, below_more, chain_sorted_after property.0 later chained.1)
 
 chain_sorted : (properties : List Property) → AreChained None properties → T (is_sorted (slice_cmp nat_cmp) properties)
 chain_sorted [] chained = tt
-chain_sorted (property ∷ later) chained =
-    let rest = chain_sorted_after property.0 later chained.1 in
-    both_hold (below_all (slice_cmp nat_cmp) property.0 later) (is_sorted (slice_cmp nat_cmp) later) rest.0 rest.1
+chain_sorted (property ∷ later) chained = search (rules, chain_sorted_after, both_hold)
 
 -- Properties in byte order are a chain.
 sorted_chain_after : (name : List ℕ) (properties : List Property) → T (below_all (slice_cmp nat_cmp) name properties) →
@@ -183,9 +165,7 @@ sorted_chain_after name (property ∷ later) below sorted =
 
 sorted_chain : (properties : List Property) → T (is_sorted (slice_cmp nat_cmp) properties) → AreChained None properties
 sorted_chain [] sorted = tt
-sorted_chain (property ∷ later) sorted =
-    let both = both_pass (below_all (slice_cmp nat_cmp) property.0 later) (is_sorted (slice_cmp nat_cmp) later) sorted in
-    (tt, sorted_chain_after property.0 later both.0 both.1)
+sorted_chain (property ∷ later) sorted = search (rules, both_pass, sorted_chain_after)
 
 -- The properties of each of these nodes are in byte order.
 abbrev pub AreSorted : Nodes (List Property) → Type 0
@@ -195,13 +175,9 @@ AreSorted nodes = EachOwn (λ properties. T (is_sorted (slice_cmp nat_cmp) prope
 properties_chained : (ps : List Property) (ns : List (List ℕ)) (outer : List OpenNode) (later : List Event) →
     AllFollow IsInOrder (Inside (open_with ns []) outer) (map NodeProperty ps ++ later) →
     AreChained (last_name ns) ps × AllFollow IsInOrder (Inside (open_with (ns ++ property_names_of ps) []) outer) later
-properties_chained [] ns outer later follow =
-    (tt, subst (λ l. AllFollow IsInOrder (Inside (open_with l []) outer) later) (sym (append-nil ns)) follow)
+properties_chained [] ns outer later follow = search (rules, open_with, append-nil)
 properties_chained (p ∷ ps) ns outer later follow =
-    let rest = properties_chained ps (ns ++ p.0 ∷ []) outer later follow.1 in (
-      (follow.0, subst (λ last. AreChained last ps) (last_name-push ns p.0) rest.0),
-      subst (λ l. AllFollow IsInOrder (Inside (open_with l []) outer) later) (append_assoc ns (p.0 ∷ []) (property_names_of ps)) rest.1,
-    )
+    search (rules, last_name-push, open_with, append_assoc, property_names_of, properties_chained ps (ns ++ p.0 ∷ []) outer later follow.1)
 
 -- A chain of properties follows in order.
 chained_properties : (ps : List Property) (ns : List (List ℕ)) (outer : List OpenNode) (later : List Event) → AreChained (last_name ns) ps →
@@ -221,14 +197,12 @@ chained_properties (p ∷ ps) ns outer later chained follow = (
 nodes_sorted : (nodes : Nodes (List Property)) (ns cs : List (List ℕ)) (outer : List OpenNode) (later : List Event) →
     AllFollow IsInOrder (Inside (open_with ns cs) outer) (events nodes ++ later) →
     AreSorted nodes × AllFollow IsInOrder (Inside (open_with ns (cs ++ names nodes)) outer) later
-nodes_sorted none ns cs outer later follow =
-    (tt, subst (λ l. AllFollow IsInOrder (Inside (open_with ns l) outer) later) (sym (append-nil cs)) follow)
+nodes_sorted none ns cs outer later follow = search (rules, open_with, append-nil)
 nodes_sorted (node name ps children siblings) ns cs outer later follow =
     let round : List OpenNode = open_with ns (cs ++ name ∷ []) ∷ outer in
     let trailing : List Event = NodeEnd ∷ (events siblings ++ later) in
     let inside : AllFollow IsInOrder (Inside (open_with [] []) round) (map NodeProperty ps ++ (events children ++ trailing)) =
-    subst (AllFollow IsInOrder (Inside (open_with [] []) round))
-    (append-regroup (map NodeProperty ps) (events children) (NodeEnd ∷ events siblings) later) follow.1 in
+    search (rules, open_with, append-regroup) in
     let own : AreChained None ps × AllFollow IsInOrder (Inside (open_with (property_names_of ps) []) round) (events children ++ trailing) =
     properties_chained ps [] round (events children ++ trailing) inside in
     let below : AreSorted children × AllFollow IsInOrder (Inside (open_with (property_names_of ps) (names children)) round) trailing =
@@ -262,38 +236,28 @@ sorted_nodes (node name ps children siblings) ns cs outer later sorted follow =
 
 -- A tree whose events follow in order is normal.
 tree_sorted : (root : Root (List Property)) → AllFollow IsInOrder BeforeRoot (events_of root) → IsNormal root
-tree_sorted root follow =
-    let own = properties_chained root.own [] [] (events root.children ++ NodeEnd ∷ []) follow.1 in
-    let below = nodes_sorted root.children (property_names_of root.own) [] [] (NodeEnd ∷ []) own.1 in
-    (chain_sorted root.own own.0, below.0, tt)
+tree_sorted root follow = search (rules, properties_chained, nodes_sorted, property_names_of, chain_sorted)
 
 -- The events of a normal tree follow in order.
 sorted_tree : (root : Root (List Property)) → IsNormal root → AllFollow IsInOrder BeforeRoot (events_of root)
-sorted_tree root normal =
-    let below : AllFollow IsInOrder (Inside (open_with (property_names_of root.own) []) []) (events root.children ++ NodeEnd ∷ []) =
-    sorted_nodes root.children (property_names_of root.own) [] [] (NodeEnd ∷ []) normal.1 (tt, tt) in
-    (tt, chained_properties root.own [] [] (events root.children ++ NodeEnd ∷ []) (sorted_chain root.own normal.0) below)
+sorted_tree root normal = search (rules, open_with, property_names_of, sorted_nodes, chained_properties, sorted_chain)
 
 -- Closed events of a normal text are those of one normal tree.
 one_normal_tree : (events : List Event) → AreClosedEvents MayFollowInText events → HasOneNormalTree events
 one_normal_tree events closed =
     let tree : HasOneTree most_open_nodes events = (closed_events_have_one_tree most_open_nodes events).0
-    (record { follow = follow_in_blob BeforeRoot events tt closed.follow; closed = closed.closed }) in
+    (search (rules, follow_in_blob)) in
     record {
       tree = tree;
       is_normal = tree_sorted tree.root
-          (subst (AllFollow IsInOrder BeforeRoot) (sym tree.same) (follow_in_order BeforeRoot events tt closed.follow));
+          (search (rules, follow_in_order));
     }
 
 -- The events of a normal tree may follow one another, and end its root.
 normal_tree_closes : (events : List Event) → HasOneNormalTree events → AreClosedEvents MayFollowInText events
 normal_tree_closes events normal =
     let closed : AreClosedEvents (MayFollow most_open_nodes) events = (closed_events_have_one_tree most_open_nodes events).1 normal.tree in
-    record {
-      follow = follow_in_text BeforeRoot events closed.follow
-          (subst (AllFollow IsInOrder BeforeRoot) normal.tree.same (sorted_tree normal.tree.root normal.is_normal));
-      closed = closed.closed;
-    }
+    search (rules, follow_in_text, sorted_tree)
 
 -- Closed events of a normal text are those of one normal tree, and only those are closed.
 pub normal_events_have_one_tree : NormalEventsHaveOneTree

@@ -1,4 +1,4 @@
-use Rattle.std.proofs.Common.{◌≡◌, ◌≤◌, T, List, length, refl, sym, ap, ap₂, subst, ◌∙◌, nat_cmp}
+use Rattle.std.proofs.Common.{◌≡◌, ◌≤◌, T, List, length, refl, sym, ap, subst, ◌∙◌, nat_cmp, rules}
 use Rattle.std.specs.Cmp.Lexicographic.{slice_cmp}
 use Rattle.std.specs.FinMap.{entries, from_entries, is_sorted, entries_sorted, get-entries, get-from_entries, same_map}
 use Rattle.std.specs.FinMap.Entries.{same_entries}
@@ -35,31 +35,24 @@ normal-nodes (node name properties children later) = (entries_sorted properties,
 -- They have the same properties.
 pub same-nodes : (nodes : Nodes PropertyMap) → with_each (from_entries {R = slice_cmp nat_cmp}) (with_each entries nodes) ≡ nodes
 same-nodes none = refl
-same-nodes (node name properties children later) =
-    ap (λ own. node name own (with_each (from_entries {R = slice_cmp nat_cmp}) (with_each entries children))
-    (with_each (from_entries {R = slice_cmp nat_cmp}) (with_each entries later))) (made_again properties)
-    ∙ ap₂ (λ inner outer. node name properties inner outer) (same-nodes children) (same-nodes later)
+same-nodes (node name properties children later) = search (rules, made_again, same-nodes children, same-nodes later)
 
 -- Nodes that are normal are in the order of their names.
 pub ordered-nodes : (nodes : Nodes (List Property)) → EachOwn (λ properties. T (is_sorted (slice_cmp nat_cmp) properties)) nodes →
     with_each entries (with_each (from_entries {R = slice_cmp nat_cmp}) nodes) ≡ nodes
 ordered-nodes none normal = refl
 ordered-nodes (node name properties children later) normal =
-    ap (λ own. node name own (with_each entries (with_each (from_entries {R = slice_cmp nat_cmp}) children))
-    (with_each entries (with_each (from_entries {R = slice_cmp nat_cmp}) later))) (ordered_again properties normal.0)
-    ∙ ap₂ (λ inner outer. node name properties inner outer) (ordered-nodes children normal.1) (ordered-nodes later normal.2)
+    search (rules, ordered_again, ordered-nodes children normal.1, ordered-nodes later normal.2)
 
 -- A normal tree is the one in byte order of its properties by name.
 pub ordered-tree : (root : Root (List Property)) → IsNormal root → in_byte_order (tree_without_order root) ≡ root
-ordered-tree root normal =
-    ap₂ (λ own children. record { own = own; children = children })
-    (ordered_again root.own normal.0) (ordered-nodes root.children normal.1)
+ordered-tree root normal = search (rules, ordered_again, ordered-nodes)
 
 -- A tree has one normal order.
 pub has_one_order : EachTreeHasOneOrder
 has_one_order root = record {
   is_normal = (entries_sorted root.own, normal-nodes root.children, tt);
-  is_same = ap₂ (λ own children. record { own = own; children = children }) (made_again root.own) (same-nodes root.children);
+  is_same = search (rules, made_again, same-nodes);
   only = λ other normal same. sym (ordered-tree other normal) ∙ ap in_byte_order same;
 }
 
@@ -71,7 +64,7 @@ normal_text_tells_content cpu other_cpu reservations other_reservations root oth
           let one = text_has_one_content 4 cpu other_cpu reservations other_reservations root other_root IsAlignment-four is other_is
           (subst (λ text. length text ≤ longest_text) normal.is_text short)
           (sym normal.is_text ∙ same ∙ other_normal.is_text) in
-          record { same_cpu = one.same_cpu; same_reservations = one.same_reservations; same_root = ap tree_without_order one.same_root }),
+          search rules),
       (λ same.
           normal.is_text
           ∙ ap (λ cpu. text_of_tree 4 cpu reservations root) same.same_cpu

@@ -1,10 +1,10 @@
 use Rattle.std.proofs.Common.{◌≡◌, ◌⊎◌, ℕ, ◌+◌, Bool, true, false, cond, List, [], ◌∷◌, ◌++◌, length, Contains, bytes_eq, inl, inr, refl}
-use Rattle.std.proofs.Common.{ap, subst, ◌∙◌, sym, arith, append_assoc, append-nil, length-append, true≢false}
+use Rattle.std.proofs.Common.{ap, subst, ◌∙◌, sym, arith, append_assoc, append-nil, length-append, true≢false, rules}
 use Rattle.std.proofs.lemmas.Slice.Eq.{bytes_eq-Decides}
 use Rattle.std.proofs.lemmas.List.{length_push}
 use Rattle.std.proofs.lemmas.List.Concat.{flat_map-append}
 use Rattle.bi_base.proofs.ListMembers.{Contains-none, Contains-cases, Contains-first, Contains-others}
-use Rattle.bi_blob.specs.Layout.{event_names, used_names, distinct_names, strings_of, offset_in, is_among}
+use Rattle.bi_blob.specs.Layout.{distinct_names, strings_of, offset_in}
 use Rattle.bi_blob.specs.TextLaws.{OffsetsStay, NewOffsetIsAtEnd}
 use Rattle.bi_blob.proofs.Texts.NamesOnce.{distinct_names-all, distinct_names-only}
 use Rattle.bi_blob.proofs.Texts.FirstUse.{distinct_names-push, distinct_names-new, used_names-push}
@@ -53,13 +53,7 @@ offset_in-last (first ∷ others) name lacks =
 -- One more name changes no offset of a name that was there.
 offset-push : (names : List (List ℕ)) (other name : List ℕ) → Contains names name →
     offset_in (distinct_names (names ++ other ∷ [])) name ≡ offset_in (distinct_names names) name
-offset-push names other name has =
-    ap (λ names. offset_in names name) (distinct_names-push names other) ∙ where_known (is_among other names)
-  where
-    where_known : (b : Bool) → offset_in (cond b (distinct_names names) (distinct_names names ++ other ∷ [])) name ≡
-        offset_in (distinct_names names) name
-    where_known true = refl
-    where_known false = offset_in-front (distinct_names names) (other ∷ []) name (distinct_names-all names name has)
+offset-push names other name has = search (rules, distinct_names-push, offset_in-front, distinct_names-all)
 
 -- Nor do further names.
 offset-append : (names later : List (List ℕ)) (name : List ℕ) → Contains names name →
@@ -72,13 +66,8 @@ offset-append names (other ∷ later) name has =
 
 -- The offset of a name that events use stays with further events.
 pub offsets_stay : OffsetsStay
-offsets_stay events later name has =
-    ap (λ names. offset_in (distinct_names names) name) (flat_map-append event_names events later)
-    ∙ offset-append (used_names events) (used_names later) name has
+offsets_stay events later name has = search (rules, flat_map-append, offset-append)
 
 -- The offset of a name that is used for the first time is the length of the strings block before it.
 pub new_offset_is_at_end : NewOffsetIsAtEnd
-new_offset_is_at_end events property lacks =
-    ap (λ names. offset_in (distinct_names names) property.0) (used_names-push events property)
-    ∙ ap (λ names. offset_in names property.0) (distinct_names-new (used_names events) property.0 lacks)
-    ∙ offset_in-last (distinct_names (used_names events)) property.0 (λ has. lacks (distinct_names-only (used_names events) property.0 has))
+new_offset_is_at_end events property lacks = search (rules, used_names-push, distinct_names-new, offset_in-last, distinct_names-only)

@@ -1,4 +1,4 @@
-use Rattle.std.proofs.Common.{◌≡◌, ℕ, ◌+◌, max, List, [], ◌∷◌, ◌++◌, map, refl, sym, ap, ap₂, ◌∙◌, arith}
+use Rattle.std.proofs.Common.{◌≡◌, ℕ, ◌+◌, max, List, [], ◌∷◌, ◌++◌, map, refl, sym, ap, ap₂, ◌∙◌, arith, rules}
 use Rattle.std.proofs.lemmas.List.Sums.{sum_by-cons, sum_by-append}
 use Rattle.bi_blob.specs.Tree.{Nodes, none, node, Root, Property, as_nodes, with_each, properties_of, tree_without_places, property_of}
 use Rattle.bi_blob.specs.Tree.{depth, depth_of}
@@ -39,16 +39,13 @@ pub placed_from-append : (at : ℕ) (front later : List Event) →
     placed_from at (front ++ later) ≡ placed_from at front ++ placed_from (place_after_events at front) later
 placed_from-append at [] later = ap (λ place. placed_from place later) (omega arith)
 placed_from-append at (event ∷ front) later =
-    ap (λ l. event_with_place at event ∷ l)
-    (placed_from-append (at + event_width event) front later
-    ∙ ap (λ place. placed_from (at + event_width event) front ++ placed_from place later) (sym (place_after_events-cons at event front)))
+    search (rules, place_after_events-cons, placed_from-append (at + event_width event) front later)
 
 -- The properties of a node have the places of their events.
 pub placed-properties : (at : ℕ) (properties : List Property) →
     map FileNodeProperty (properties_with_places at properties) ≡ placed_from at (map NodeProperty properties)
 placed-properties at [] = refl
-placed-properties at (property ∷ later) =
-    ap (λ l. event_with_place at (NodeProperty property) ∷ l) (placed-properties (at + event_width (NodeProperty property)) later)
+placed-properties at (property ∷ later) = search (rules, placed-properties (at + event_width (NodeProperty property)) later)
 
 -- The offset of the nodes after a first one.
 pub place_after_events-node : (at : ℕ) (name : List ℕ) (properties : List Property) (children : Nodes (List Property)) →
@@ -56,14 +53,7 @@ pub place_after_events-node : (at : ℕ) (name : List ℕ) (properties : List Pr
     ≡ place_after_events (place_after_events (at + event_width (NodeStart name)) (map NodeProperty properties)) (events children)
     + event_width NodeEnd
 place_after_events-node at name properties children =
-    place_after_events-cons at (NodeStart name) (map NodeProperty properties ++ (events children ++ (NodeEnd ∷ [])))
-    ∙ place_after_events-append (at + event_width (NodeStart name)) (map NodeProperty properties) (events children ++ (NodeEnd ∷ []))
-    ∙ place_after_events-append (place_after_events (at + event_width (NodeStart name)) (map NodeProperty properties))
-    (events children) (NodeEnd ∷ [])
-    ∙ place_after_events-cons (place_after_events
-    (place_after_events (at + event_width (NodeStart name)) (map NodeProperty properties)) (events children)) NodeEnd []
-    ∙ place_after_events-none (place_after_events (place_after_events (at + event_width (NodeStart name)) (map NodeProperty properties))
-    (events children) + event_width NodeEnd)
+    search (rules, place_after_events-cons, place_after_events-append, place_after_events-none)
 
 -- The events of nodes with places are their events with places.
 pub placed-nodes : (at : ℕ) (nodes : Nodes (List Property)) → file_events (with_places at nodes) ≡ placed_from at (events nodes)
@@ -93,8 +83,7 @@ placed-tree reservations root = placed-nodes (structure_place reservations) (as_
 -- Properties with their places are the same properties.
 pub properties_of-properties : (at : ℕ) (properties : List Property) → map property_of (properties_with_places at properties) ≡ properties
 properties_of-properties at [] = refl
-properties_of-properties at (property ∷ later) = ap (λ l. property ∷ l)
-    (properties_of-properties (at + event_width (NodeProperty property)) later)
+properties_of-properties at (property ∷ later) = search (rules, properties_of-properties (at + event_width (NodeProperty property)) later)
 
 -- Nodes with their places are the same nodes.
 pub properties_of-nodes : (at : ℕ) (nodes : Nodes (List Property)) → with_each properties_of (with_places at nodes) ≡ nodes
@@ -113,11 +102,7 @@ properties_of-nodes at (node name properties children later) =
 -- A tree with its places is the same tree.
 pub properties_of-tree : (reservations : List Reservation) (root : Root (List Property)) →
     tree_without_places (tree_with_places reservations root) ≡ root
-properties_of-tree reservations root =
-    ap₂ (λ own children. record { own = own; children = children })
-    (properties_of-properties (structure_place reservations + event_width (NodeStart [])) root.own)
-    (properties_of-nodes (place_after_events (structure_place reservations + event_width (NodeStart []))
-    (map NodeProperty root.own)) root.children)
+properties_of-tree reservations root = search (rules, properties_of-properties, properties_of-nodes)
 
 -- Nodes with their places are as deep.
 pub depth-nodes : (at : ℕ) (nodes : Nodes (List Property)) → depth (with_places at nodes) ≡ depth nodes

@@ -1,5 +1,5 @@
 use Rattle.std.proofs.Common.{◌≡◌, ◌≢◌, ℕ, Bool, true, false, T, List, [], ◌∷◌, map, Some, None, Ordering, Less, Equal, Greater, is_lt}
-use Rattle.std.proofs.Common.{refl, sym, subst, ◌∙◌, nat_cmp}
+use Rattle.std.proofs.Common.{refl, sym, subst, ◌∙◌, nat_cmp, rules}
 use Rattle.std.specs.Prelude.{◌&&◌}
 use Rattle.std.specs.List.{AllByRecursion}
 use Rattle.std.specs.Cmp.Lexicographic.{slice_cmp}
@@ -22,8 +22,7 @@ both_pass false b passes = absurd passes
 
 -- A name that is below another is another.
 pub below_other : (name other : List ℕ) → T (is_lt (slice_cmp nat_cmp name other)) → other ≢ name
-below_other name other below same =
-    subst (λ o. T (is_lt o)) (tied_itself nat_list_cmp_total name) (subst (λ other. T (is_lt (slice_cmp nat_cmp name other))) same below)
+below_other name other below same = search (rules, is_lt, tied_itself, nat_list_cmp_total)
 
 -- A name that is below all names of properties is new among them.
 below_new : (name : List ℕ) (properties : List Property) → T (below_all (slice_cmp nat_cmp) name properties) →

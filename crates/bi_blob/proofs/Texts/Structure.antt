@@ -1,4 +1,4 @@
-use Rattle.std.proofs.Common.{ℕ, ◌^◌, ◌<◌, ◌≤◌, List, [], ◌∷◌, ◌++◌, length, flat_map, sym, subst, arith, length-append}
+use Rattle.std.proofs.Common.{ℕ, ◌^◌, ◌<◌, ◌≤◌, List, [], ◌∷◌, ◌++◌, length, flat_map, sym, subst, arith, length-append, rules}
 use Rattle.std.proofs.lemmas.List.Concat.{flat_map-append}
 use Rattle.bi_base.proofs.AlignmentLaws.{alignment-positive, up_to-le}
 use Rattle.bi_base.proofs.ListMembers.{each-append}
@@ -20,20 +20,13 @@ use Rattle.bi_blob.proofs.Texts.TextLength.{length-text_of_tree}
 
 -- The tokens of events are no longer than the structure block.
 pub tokens-le : (events : List Event) → length (flat_map encoding (tokens_of events)) ≤ length (structure_block events)
-tokens-le events =
-    subst (λ l. length (flat_map encoding (tokens_of events)) ≤ length l) (sym (flat_map-append encoding (tokens_of events) (End ∷ [])))
-    (omega (arith, length-append (flat_map encoding (tokens_of events)) (flat_map encoding (End ∷ []))))
+tokens-le events = search (rules, flat_map-append, length-append)
 
 -- The blocks of a text are no longer than the text.
 pub blocks-le : (align cpu : ℕ) (reservations : List Reservation) (root : Root (List Property)) → 0 < align →
     length_before_padding (length (reservation_block reservations)) (length (structure_block (events_of root)))
     (length (strings_block (events_of root))) ≤ length (text_of_tree align cpu reservations root)
-blocks-le align cpu reservations root positive =
-    subst (λ n. before ≤ n) (sym (length-text_of_tree align cpu reservations root positive)) (up_to-le align before positive)
-  where
-    before : ℕ
-    before = length_before_padding (length (reservation_block reservations)) (length (structure_block (events_of root)))
-        (length (strings_block (events_of root)))
+blocks-le align cpu reservations root positive = search (rules, length-text_of_tree, up_to-le)
 
 -- The blocks of a text that is not too long encode its tree.
 pub says_tree : TextEncodesItsTree
@@ -45,10 +38,7 @@ says_tree align cpu reservations root aligned is short = record {
       (tt, tt));
   encodes = subst (EncodeEvents (strings_block (events_of root)) (structure_place reservations) (tokens_of (events_of root)))
       (sym (placed-tree reservations root))
-      (encodes_events (strings_block (events_of root)) (distinct_names (used_names (events_of root)))
-      (structure_place reservations) (events_of root)
-      (named_in (distinct_names (used_names (events_of root))) (events_of root) (distinct_names-all (used_names (events_of root)))
-      (names_end-tree root is.is_tree)));
+      (search (rules, encodes_events, named_in, distinct_names-all, names_end-tree));
 }
   where
     blocks_fit : length_before_padding (length (reservation_block reservations)) (length (structure_block (events_of root)))

@@ -1,12 +1,12 @@
-use Rattle.std.proofs.Common.{◌≡◌, ℕ, ◌-◌, ◌%◌, ◌^◌, ◌<◌, ◌≤◌, List, [], ◌++◌, length, take, sym, ap, subst, ◌∙◌, arith, append-nil}
-use Rattle.std.proofs.Common.{length-append}
+use Rattle.std.proofs.Common.{◌≡◌, ℕ, ◌-◌, ◌^◌, ◌<◌, ◌≤◌, List, [], ◌++◌, length, take, sym, subst, ◌∙◌, arith, append-nil}
+use Rattle.std.proofs.Common.{length-append, rules}
 use Rattle.bi_base.specs.Alignments.{IsAlignment}
 use Rattle.bi_base.specs.Cells.{slice, AreBytes}
 use Rattle.bi_blob.specs.Tree.{Root, Property, IsTree, AreProperties}
-use Rattle.bi_blob.specs.Events.{events_of, file_events_of, EncodeEvents}
+use Rattle.bi_blob.specs.Events.{events_of}
 use Rattle.bi_blob.specs.Blob.{Reservation, tree_blocks, HoldsTree, IsBlob, reservation_block, totalsize, off_dt_struct, off_dt_strings}
 use Rattle.bi_blob.specs.Blob.{off_mem_rsvmap, size_dt_strings, structure_end}
-use Rattle.bi_blob.specs.Layout.{blob_header, padding_to, length_before_padding, text_length, text_of_blocks, text_of_events, text_of_tree}
+use Rattle.bi_blob.specs.Layout.{blob_header, length_before_padding, text_length, text_of_blocks, text_of_events, text_of_tree}
 use Rattle.bi_blob.specs.Layout.{tokens_of, structure_block, strings_block, tree_with_places, IsContent, longest_text}
 use Rattle.bi_blob.specs.TextLaws.{EncodesTree, TextIsBlob, EachTextHasItsLength}
 use Rattle.bi_blob.proofs.Blobs.OneBlob.{one_blob}
@@ -38,16 +38,9 @@ pub blocks_of_text : (cpu total : ℕ) (reserved structure strings rest : List �
 blocks_of_text cpu total reserved structure strings rest cpu_fits within fits = record {
   cells = cells;
   trailing = take (totalsize file - off_mem_rsvmap file - length reserved) (structure ++ (strings ++ rest));
-  is_reserved = slice_from_second front reserved (structure ++ (strings ++ rest)) (off_mem_rsvmap file)
-      (totalsize file - off_mem_rsvmap file)
-      (long ∙ sym cells.is_off_reserved)
-      (omega (arith, cells.is_total, cells.is_off_reserved));
-  is_structure = third_slice front reserved structure (strings ++ rest) (off_dt_struct file) (structure_end file - off_dt_struct file)
-      (omega (arith, long, cells.is_off_struct))
-      (omega (arith, cells.is_size_struct, structure_end-17 file cells.is_version));
-  is_strings = fourth_slice front reserved structure strings rest (off_dt_strings file) (size_dt_strings file)
-      (omega (arith, long, cells.is_off_strings))
-      (sym cells.is_size_strings);
+  is_reserved = search (rules, slice_from_second, front, file, long, cells);
+  is_structure = search (rules, third_slice, front, file, long, cells, structure_end-17);
+  is_strings = search (rules, fourth_slice, front, file, long, cells);
 }
   where
     front : List ℕ
@@ -69,15 +62,7 @@ pub text_has_parts : (align cpu : ℕ) (reserved structure strings rest : List �
     text_length align (length reserved) (length structure) (length strings) < 2 ^ 32 →
     HasParts (text_of_blocks align cpu reserved structure strings ++ rest) cpu
     (text_length align (length reserved) (length structure) (length strings)) reserved structure strings
-text_has_parts align cpu reserved structure strings rest positive cpu_fits fits =
-    subst (λ file. HasParts file cpu total reserved structure strings) (sym (text_parts align cpu reserved structure strings rest))
-    (blocks_of_text cpu total reserved structure strings (padding_to align before ++ rest) cpu_fits (up_to-le align before positive) fits)
-  where
-    before : ℕ
-    before = length_before_padding (length reserved) (length structure) (length strings)
-
-    total : ℕ
-    total = text_length align (length reserved) (length structure) (length strings)
+text_has_parts align cpu reserved structure strings rest positive cpu_fits fits = search (rules, text_parts, blocks_of_text, up_to-le)
 
 -- The text of a tree has the blocks of the tree.
 pub tree_text_has_parts : (align cpu : ℕ) (reservations : List Reservation) (root : Root (List Property)) (rest : List ℕ) →
@@ -116,10 +101,7 @@ holds_tree file cpu total reservations root parts token_events is = record {
   trailing = [];
   is_at = parts.is_structure ∙ sym (append-nil (structure_block (events_of root)));
   is_encoded = token_events.is_encoded;
-  encodes = subst (λ strings. EncodeEvents strings (off_dt_struct file) (tokens_of (events_of root))
-      (file_events_of (tree_with_places reservations root))) (sym parts.is_strings)
-      (subst (λ at. EncodeEvents (strings_block (events_of root)) at (tokens_of (events_of root))
-      (file_events_of (tree_with_places reservations root))) (sym parts.cells.is_off_struct) token_events.encodes);
+  encodes = search rules;
   is_tree = subst (IsTree AreProperties) (sym (properties_of-tree reservations root)) is;
 }
 
@@ -135,9 +117,8 @@ text_blob align cpu reservations root rest aligned is short bytes = record {
       (blocks-le align cpu reservations root (omega (arith, alignment-positive align aligned)))
       (omega (arith, length-append text rest));
   is_cpu = parts.cells.is_cpu;
-  reserved = record { are_reservations = is.are_reservations; trailing = parts.trailing; is_at = parts.is_reserved };
-  holds = holds_tree (text ++ rest) cpu (length text) reservations root parts
-      (says_tree align cpu reservations root aligned is short) is.is_tree;
+  reserved = search (rules, parts);
+  holds = search (rules, holds_tree, text, parts, says_tree);
 }
   where
     text : List ℕ
@@ -153,20 +134,10 @@ text_is_blob align cpu reservations root rest aligned is short bytes = record {
   blob = text_blob align cpu reservations root rest aligned is short bytes;
   same_tree = properties_of-tree reservations root;
   same_depth = depth-tree reservations root;
-  only = λ other_cpu other_reservations other_root other.
-      one_blob (text_of_tree align cpu reservations root ++ rest) cpu other_cpu reservations other_reservations
-      (tree_with_places reservations root) other_root (text_blob align cpu reservations root rest aligned is short bytes) other;
+  only = search (rules, one_blob, text_blob);
   is_total = (tree_text_has_parts align cpu reservations root rest aligned is.cpu_fits short).cells.is_total;
 }
 
 -- The length of each text is that of the layout.
 pub has_text_length : EachTextHasItsLength
-has_text_length align cpu reservations root aligned = record {
-  is_length = is_length;
-  is_whole = ap (λ n. n % align) is_length ∙ up_to-whole align _;
-}
-  where
-    is_length : length (text_of_tree align cpu reservations root)
-        ≡ text_length align (length (reservation_block reservations)) (length (structure_block (events_of root)))
-        (length (strings_block (events_of root)))
-    is_length = length-text_of_tree align cpu reservations root (omega (arith, alignment-positive align aligned))
+has_text_length align cpu reservations root aligned = search (rules, up_to-whole, length-text_of_tree, alignment-positive)

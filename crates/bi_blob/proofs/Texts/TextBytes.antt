@@ -1,12 +1,12 @@
-use Rattle.std.proofs.Common.{ℕ, ◌+◌, not, List, [], ◌∷◌, ◌++◌, length, map, flat_map, bytes_eq}
+use Rattle.std.proofs.Common.{ℕ, List, [], ◌∷◌, length, map, flat_map, rules}
 use Rattle.std.specs.List.{AllByRecursion}
-use Rattle.bi_base.specs.Cells.{cell, AreBytes}
-use Rattle.bi_blob.specs.Tokens.{Token, End, token_bytes, begin_node_number, end_node_number, prop_number, end_number}
+use Rattle.bi_base.specs.Cells.{AreBytes}
+use Rattle.bi_blob.specs.Tokens.{Token, token_bytes, end_node_number}
 use Rattle.bi_blob.specs.Tree.{Root, Property}
-use Rattle.bi_blob.specs.Events.{Event, NodeStart, NodeProperty, NodeEnd, events_of}
-use Rattle.bi_blob.specs.Blob.{Reservation, pair_bytes, end_pair, reservation_block, blob_magic}
-use Rattle.bi_blob.specs.Layout.{used_names, distinct_names, strings_of, offset_in, padding_to, encoding, token_of, structure_block}
-use Rattle.bi_blob.specs.Layout.{strings_block, text_length, blob_header, text_of_blocks, text_of_events, text_of_tree}
+use Rattle.bi_blob.specs.Events.{Event, NodeStart, NodeProperty, NodeEnd}
+use Rattle.bi_blob.specs.Blob.{Reservation, pair_bytes, end_pair, reservation_block}
+use Rattle.bi_blob.specs.Layout.{used_names, distinct_names, strings_of, padding_to, encoding, token_of, structure_block}
+use Rattle.bi_blob.specs.Layout.{strings_block, blob_header, text_of_blocks, text_of_events, text_of_tree}
 use Rattle.bi_blob.specs.Layout.{AreEventBytes, IsContent}
 use Rattle.bi_base.proofs.ByteLists.{AreBytes-none, AreBytes-append, AreBytes-zeros, AreBytes-cell, AreBytes-cell8, AreBytes-flat_map}
 use Rattle.bi_base.proofs.ListMembers.{each-append, each-filter}
@@ -15,13 +15,7 @@ use Rattle.bi_base.proofs.ListMembers.{each-append, each-filter}
 
 -- The header is.
 pub AreBytes-header : (cpu total reserved structure strings : ℕ) → AreBytes (blob_header cpu total reserved structure strings)
-AreBytes-header cpu total reserved structure strings =
-    then blob_magic (then total
-    (then (40 + reserved) (then (40 + reserved + structure) (then 40
-    (then 17 (then 16 (then cpu (then strings (AreBytes-cell structure)))))))))
-  where
-    then : {trailing : List ℕ} (n : ℕ) → AreBytes trailing → AreBytes (cell n ++ trailing)
-    then {trailing = trailing} n bytes = AreBytes-append (cell n) trailing (AreBytes-cell n) bytes
+AreBytes-header cpu total reserved structure strings = search (rules, AreBytes-cell, AreBytes-append)
 
 -- A pair of the memory reservation block is.
 pub AreBytes-reservation : (reservation : Reservation) → AreBytes (pair_bytes reservation)
@@ -38,12 +32,8 @@ AreBytes-reserved reservations = AreBytes-append (flat_map pair_bytes reservatio
 
 -- The bytes of an event's token without its padding.
 pub AreBytes-token_bytes : (names : List (List ℕ)) (event : Event) → AreEventBytes event → AreBytes (token_bytes (token_of names event))
-AreBytes-token_bytes names (NodeStart name) bytes =
-    AreBytes-append _ _ (AreBytes-cell begin_node_number) (AreBytes-append name (0 ∷ []) bytes (AreBytes-zeros 1))
-AreBytes-token_bytes names (NodeProperty property) bytes =
-    AreBytes-append _ _ (AreBytes-cell prop_number)
-    (AreBytes-append _ _ (AreBytes-cell (length property.1))
-    (AreBytes-append _ _ (AreBytes-cell (offset_in names property.0)) bytes.1))
+AreBytes-token_bytes names (NodeStart name) bytes = search (rules, AreBytes-append, AreBytes-cell, AreBytes-zeros)
+AreBytes-token_bytes names (NodeProperty property) bytes = search (rules, AreBytes-append, AreBytes-cell)
 AreBytes-token_bytes names NodeEnd bytes = AreBytes-cell end_node_number
 
 -- A token with zeros as its padding is, where it is without its padding.
@@ -52,11 +42,7 @@ AreBytes-encoding token bytes = AreBytes-append (token_bytes token) (padding_to 
 
 -- The structure block is.
 pub AreBytes-structure : (events : List Event) → AllByRecursion AreEventBytes events → AreBytes (structure_block events)
-AreBytes-structure events bytes =
-    AreBytes-flat_map encoding _
-    (each-append (λ token. AreBytes (encoding token)) (map (token_of (distinct_names (used_names events))) events) (End ∷ [])
-    (each (distinct_names (used_names events)) events bytes)
-    (AreBytes-encoding End (AreBytes-cell end_number), tt))
+AreBytes-structure events bytes = AreBytes-flat_map encoding _ (search (rules, each-append, each, AreBytes-encoding, AreBytes-cell))
   where
     each : (names : List (List ℕ)) (events : List Event) → AllByRecursion AreEventBytes events →
         AllByRecursion (λ token. AreBytes (encoding token)) (map (token_of names) events)
@@ -74,33 +60,27 @@ AreBytes-used_names (NodeEnd ∷ later) bytes = AreBytes-used_names later bytes.
 -- What holds of each name holds of each of the first ones.
 pub each-distinct_names : (P : List ℕ → Type 0) (names : List (List ℕ)) → AllByRecursion P names → AllByRecursion P (distinct_names names)
 each-distinct_names P [] each = each
-each-distinct_names P (first ∷ others) each =
-    (each.0, each-filter P (λ other. not (bytes_eq first other)) (distinct_names others) (each-distinct_names P others each.1))
+each-distinct_names P (first ∷ others) each = search (rules, each-filter, each-distinct_names P others each.1)
 
 -- Names that are bytes, with a zero byte after each.
 pub AreBytes-strings_of : (names : List (List ℕ)) → AllByRecursion AreBytes names → AreBytes (strings_of names)
 AreBytes-strings_of [] bytes = AreBytes-none
-AreBytes-strings_of (name ∷ later) bytes =
-    AreBytes-append _ _ (AreBytes-append name (0 ∷ []) bytes.0 (AreBytes-zeros 1)) (AreBytes-strings_of later bytes.1)
+AreBytes-strings_of (name ∷ later) bytes = search (rules, AreBytes-append, AreBytes-zeros, AreBytes-strings_of later bytes.1)
 
 -- The strings block is.
 pub AreBytes-strings : (events : List Event) → AllByRecursion AreEventBytes events → AreBytes (strings_block events)
-AreBytes-strings events bytes = AreBytes-strings_of (distinct_names (used_names events))
-    (each-distinct_names AreBytes (used_names events) (AreBytes-used_names events bytes))
+AreBytes-strings events bytes = search (rules, AreBytes-strings_of, each-distinct_names, AreBytes-used_names)
 
 -- A text of three blocks is, where they are.
 pub AreBytes-text_of_blocks : (align cpu : ℕ) (reserved structure strings : List ℕ) → AreBytes reserved → AreBytes structure →
     AreBytes strings → AreBytes (text_of_blocks align cpu reserved structure strings)
 unfolding text_of_blocks
 AreBytes-text_of_blocks align cpu reserved structure strings first second third =
-    AreBytes-append _ _ (AreBytes-header cpu (text_length align (length reserved) (length structure) (length strings)) (length reserved)
-    (length structure) (length strings))
-    (AreBytes-append _ _ first (AreBytes-append _ _ second (AreBytes-append _ _ third (AreBytes-zeros _))))
+    search (rules, AreBytes-append, AreBytes-header, AreBytes-zeros)
 
 -- The text of content is.
 pub AreBytes-text : (align cpu : ℕ) (reservations : List Reservation) (root : Root (List Property)) → IsContent cpu reservations root →
     AreBytes (text_of_tree align cpu reservations root)
 unfolding text_of_events
 AreBytes-text align cpu reservations root is =
-    AreBytes-text_of_blocks align cpu (reservation_block reservations) (structure_block (events_of root)) (strings_block (events_of root))
-    (AreBytes-reserved reservations) (AreBytes-structure (events_of root) is.bytes) (AreBytes-strings (events_of root) is.bytes)
+    search (rules, AreBytes-text_of_blocks, AreBytes-reserved, AreBytes-structure, AreBytes-strings)

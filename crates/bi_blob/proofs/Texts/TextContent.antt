@@ -1,4 +1,4 @@
-use Rattle.std.proofs.Common.{◌-◌, ◌^◌, ◌<◌, ◌≤◌, [], ◌∷◌, ◌++◌, length, sym, ap, subst, ◌∙◌}
+use Rattle.std.proofs.Common.{◌-◌, ◌^◌, ◌<◌, ◌≤◌, [], ◌∷◌, ◌++◌, length, sym, ap, subst, ◌∙◌, rules}
 use Rattle.std.specs.List.{AllByRecursion}
 use Rattle.bi_base.specs.Cells.{slice, AreBytes}
 use Rattle.bi_blob.specs.Tokens.{End}
@@ -24,7 +24,7 @@ holds_bytes blocks root holds bytes =
     each-front TokenHasBytes holds.tokens (End ∷ [])
     (tokens_bytes (holds.tokens ++ End ∷ []) holds.structure
     (AreBytes-left holds.structure holds.trailing
-    (subst AreBytes holds.is_at (AreBytes-slice blocks.file blocks.begin (blocks.end - blocks.begin) bytes)))
+    (search (rules, AreBytes-slice)))
     holds.is_encoded)
 
 -- What a file has as a blob is content.

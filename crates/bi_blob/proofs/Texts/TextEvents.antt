@@ -1,11 +1,11 @@
 use Rattle.std.specs.Prelude.{⊤}
-use Rattle.std.proofs.Common.{◌≡◌, ℕ, ◌+◌, ◌^◌, ◌<◌, ◌≤◌, Bool, true, false, List, [], ◌∷◌, ◌++◌, length, map, flat_map, Contains, bytes_eq}
-use Rattle.std.proofs.Common.{refl, sym, ap, subst, arith, length-append}
+use Rattle.std.proofs.Common.{ℕ, ◌+◌, ◌^◌, ◌<◌, ◌≤◌, List, [], ◌∷◌, length, map, flat_map, Contains}
+use Rattle.std.proofs.Common.{refl, sym, ap, subst, arith, length-append, rules}
 use Rattle.std.specs.List.{AllByRecursion}
 use Rattle.bi_base.proofs.ListMembers.{Contains-first, Contains-others}
-use Rattle.bi_blob.specs.Tokens.{Prop, token_bytes, IsToken, IsNameAt}
+use Rattle.bi_blob.specs.Tokens.{Prop, IsToken, IsNameAt}
 use Rattle.bi_blob.specs.Events.{Event, NodeStart, NodeProperty, NodeEnd, EncodeEvents}
-use Rattle.bi_blob.specs.Layout.{used_names, strings_of, offset_in, padding_to, encoding, token_of, event_width}
+use Rattle.bi_blob.specs.Layout.{used_names, strings_of, offset_in, encoding, token_of, event_width}
 use Rattle.bi_blob.proofs.Texts.NamesOnce.{found_at_offset}
 use Rattle.bi_blob.proofs.Texts.EventNames.{NameEndsAtZero}
 use Rattle.bi_blob.proofs.Texts.TextTokens.{width-token}
@@ -39,10 +39,8 @@ named_in names (NodeEnd ∷ later) among good = (tt, named_in names later among 
 pub encodes_events : (strings : List ℕ) (names : List (List ℕ)) (at : ℕ) (events : List Event) →
     AllByRecursion (IsNamedIn strings names) events → EncodeEvents strings at (map (token_of names) events) (placed_from at events)
 encodes_events strings names at [] named = tt
-encodes_events strings names at (NodeStart name ∷ later) named = (
-  record { same_name = refl; same_place = refl },
-  encodes_events strings names (at + event_width (NodeStart name)) later named.1,
-)
+encodes_events strings names at (NodeStart name ∷ later) named =
+    search (rules, encodes_events strings names (at + event_width (NodeStart name)) later named.1)
 encodes_events strings names at (NodeProperty property ∷ later) named = (
   record { name = named.0; value = refl; place = refl },
   subst (λ place. EncodeEvents strings place (map (token_of names) later) (placed_from (at + event_width (NodeProperty property)) later))
@@ -54,21 +52,11 @@ encodes_events strings names at (NodeEnd ∷ later) named = encodes_events strin
 -- An offset is within the strings.
 pub offset_in-le : (names : List (List ℕ)) (name : List ℕ) → offset_in names name ≤ length (strings_of names)
 offset_in-le [] name = omega arith
-offset_in-le (first ∷ others) name = where_first (bytes_eq first name) refl (offset_in-le others name)
-  where
-    where_first : (b : Bool) → bytes_eq first name ≡ b → offset_in others name ≤ length (strings_of others) →
-        offset_in (first ∷ others) name ≤ length (strings_of (first ∷ others))
-    where_first true is within = rw is (omega arith)
-    where_first false is within = rw is (omega (arith, length-append (first ++ 0 ∷ []) (strings_of others), length-append first (0 ∷ [])))
+offset_in-le (first ∷ others) name = search (rules, length-append, offset_in-le others name)
 
 -- A value is no longer than its token.
 pub value-le : (name_offset : ℕ) (value : List ℕ) → length value ≤ length (encoding (Prop name_offset value))
-value-le name_offset value =
-    omega (
-      arith,
-      length-append (token_bytes (Prop name_offset value)) (padding_to 4 (length (token_bytes (Prop name_offset value)))),
-      length-Prop name_offset value,
-    )
+value-le name_offset value = search (rules, length-append, length-Prop)
 
 -- The tokens of events are tokens, where the blocks are short enough.
 pub are_tokens : (names : List (List ℕ)) (events : List Event) → AllByRecursion NameEndsAtZero events → length (strings_of names) < 2 ^ 32 →

@@ -1,4 +1,4 @@
-use Rattle.std.proofs.Common.{ℕ, ◌≤◌, List, ◌++◌, length, sym, subst}
+use Rattle.std.proofs.Common.{ℕ, ◌≤◌, List, ◌++◌, length, sym, subst, rules}
 use Rattle.bi_base.specs.Limits.{Limits}
 use Rattle.bi_blob.specs.Tree.{Root, Property}
 use Rattle.bi_blob.specs.Blob.{Reservation, IsWithin}
@@ -14,24 +14,14 @@ use Rattle.bi_blob.proofs.Texts.TextBlob.{text_is_blob}
 pub is_accepted : (bounds : Limits) (file : List ℕ) (align cpu : ℕ) (reservations : List Reservation) (root : Root (List Property)) →
     IsBlobOf file align cpu reservations root → IsWithin bounds file (tree_with_places reservations root) →
     IsAccepted bounds file align cpu reservations root
-is_accepted bounds file align cpu reservations root is within = record {
-  is_blob = is;
-  is_within = within;
-  no_fault = λ fault. blob_has_no_fault bounds file fault (record {
-    cpu = cpu;
-    reservations = reservations;
-    root = tree_with_places reservations root;
-    blob = is.blob;
-    within = within;
-  });
-}
+is_accepted bounds file align cpu reservations root is within = search (rules, blob_has_no_fault)
 
 -- A text is.
 pub text_is_accepted : TextIsAccepted
 text_is_accepted bounds align cpu reservations root rest aligned is short bytes fits shallow =
     let blob = text_is_blob align cpu reservations root rest aligned is short bytes in
     is_accepted bounds (text_of_tree align cpu reservations root ++ rest) align cpu reservations root blob
-    (record { short = fits; shallow = subst (λ n. n ≤ bounds.depth) (sym blob.same_depth) shallow })
+    (search rules)
 
 -- A normal text is.
 pub normal_text_is_accepted : NormalTextIsAccepted

@@ -1,9 +1,9 @@
-use Rattle.std.proofs.Common.{◌≡◌, ℕ, ◌+◌, ◌<◌, List, [], ◌∷◌, length, flat_map, refl, sym, ap, subst, ◌∙◌, arith, length-append}
+use Rattle.std.proofs.Common.{◌≡◌, ℕ, ◌+◌, ◌<◌, List, [], ◌∷◌, length, flat_map, refl, sym, ap, ◌∙◌, arith, length-append, rules}
 use Rattle.std.specs.List.{AllByRecursion}
 use Rattle.std.proofs.lemmas.List.{take_at, drop_at, length-replicate}
 use Rattle.bi_base.specs.Cells.{up_to, up4}
 use Rattle.bi_base.proofs.AlignmentLaws.{up_to-le}
-use Rattle.bi_blob.specs.Tokens.{Token, token_bytes, width, IsToken, IsEncoding, AreEncodings}
+use Rattle.bi_blob.specs.Tokens.{Token, width, IsToken, IsEncoding, AreEncodings}
 use Rattle.bi_blob.specs.Events.{Event, NodeStart, NodeProperty, NodeEnd}
 use Rattle.bi_blob.specs.Layout.{padding_to, encoding, token_of, event_width, offset_in}
 use Rattle.bi_blob.proofs.Blobs.TreeTokens.{length-Prop}
@@ -16,27 +16,16 @@ length-padding_to align n positive = simp (length-replicate) (omega (arith, up_t
 
 -- A token takes its width.
 pub length-encoding : (token : Token) → length (encoding token) ≡ width token
-length-encoding token = length-append (token_bytes token) (padding_to 4 (length (token_bytes token)))
-    ∙ length-padding_to 4 (length (token_bytes token)) (omega arith)
+length-encoding token = search (rules, length-append, length-padding_to)
 
 -- A token with zeros as its padding is an encoding.
 pub is_padded_encoding : (token : Token) → IsToken token → IsEncoding token (encoding token)
-is_padded_encoding token is = record {
-  is_token = is;
-  padding = padding_to 4 (length (token_bytes token));
-  is_encoded = refl;
-  whole = length-encoding token;
-}
+is_padded_encoding token is = search (rules, length-encoding)
 
 -- Tokens with zeros as their padding are encodings.
 pub is_encoded : (tokens : List Token) → AllByRecursion IsToken tokens → AreEncodings tokens (flat_map encoding tokens)
 is_encoded [] each = refl
-is_encoded (token ∷ later) each = (
-  subst (IsEncoding token) (sym (take_at (encoding token) (flat_map encoding later) (width token) (length-encoding token)))
-      (is_padded_encoding token each.0),
-  subst (AreEncodings later) (sym
-      (drop_at (encoding token) (flat_map encoding later) (width token) (length-encoding token))) (is_encoded later each.1),
-)
+is_encoded (token ∷ later) each = search (rules, take_at, length-encoding, is_padded_encoding, drop_at, is_encoded later each.1)
 
 -- The token of an event has the event's width, wherever its name is.
 pub width-token : (names : List (List ℕ)) (event : Event) → width (token_of names event) ≡ event_width event

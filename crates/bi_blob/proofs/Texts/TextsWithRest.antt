@@ -1,4 +1,4 @@
-use Rattle.std.proofs.Common.{◌≡◌, ℕ, ◌^◌, ◌<◌, ◌≤◌, List, ◌++◌, length, sym, ap, ap₂, subst, ◌∙◌}
+use Rattle.std.proofs.Common.{◌≡◌, ℕ, ◌^◌, ◌<◌, ◌≤◌, List, ◌++◌, length, sym, ap, ◌∙◌, rules}
 use Rattle.bi_blob.specs.Tree.{Root, Property}
 use Rattle.bi_blob.specs.Blob.{Reservation, totalsize}
 use Rattle.bi_blob.specs.Layout.{text_of_tree, longest_text}
@@ -38,23 +38,11 @@ texts_agree align cpu other_cpu reservations other_reservations root other_root 
 pub text_with_rest_has_one_content : TextWithRestHasOneContent
 text_with_rest_has_one_content align cpu other_cpu reservations other_reservations root other_root rest other_rest aligned is
     other_is short other_short same =
-    let both = texts_agree align cpu other_cpu reservations other_reservations root other_root rest other_rest aligned is.cpu_fits
-    other_is.cpu_fits short other_short same in
-    (text_has_one_content align cpu other_cpu reservations other_reservations root other_root aligned is other_is short both.0, both.1)
+    search (rules, texts_agree, text_has_one_content)
 
 -- Normal texts, with their rests, are the same if and only if their contents and rests are.
 pub normal_text_with_rest_tells_content : NormalTextWithRestTellsContent
 normal_text_with_rest_tells_content cpu other_cpu reservations other_reservations root other_root text other_text rest other_rest is
     other_is normal other_normal short other_short =
     let tells = normal_text_tells_content cpu other_cpu reservations other_reservations root other_root text other_text is other_is
-    normal other_normal short in (
-      (λ same.
-          let both = texts_agree 4 cpu other_cpu reservations other_reservations root other_root rest other_rest IsAlignment-four
-          is.cpu_fits
-          other_is.cpu_fits
-          (subst (λ text. length text ≤ longest_text) normal.is_text short)
-          (subst (λ text. length text ≤ longest_text) other_normal.is_text other_short)
-          (ap (λ text. text ++ rest) (sym normal.is_text) ∙ same ∙ ap (λ text. text ++ other_rest) other_normal.is_text) in
-          (tells.0 (normal.is_text ∙ both.0 ∙ sym other_normal.is_text), both.1)),
-      (λ same. ap₂ (λ text rest. text ++ rest) (tells.1 same.0) same.1),
-    )
+    normal other_normal short in search (rules, texts_agree, IsAlignment-four)

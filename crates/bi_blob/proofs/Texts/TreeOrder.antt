@@ -1,9 +1,9 @@
-use Rattle.std.proofs.Common.{◌≡◌, List, ◌∷◌, ◌++◌, map, refl, sym, ap, subst, ◌∙◌, nat_cmp}
+use Rattle.std.proofs.Common.{◌≡◌, List, ◌∷◌, ◌++◌, map, refl, sym, ap, subst, nat_cmp, rules}
 use Rattle.std.specs.List.{AllByRecursion}
 use Rattle.std.specs.Cmp.Lexicographic.{slice_cmp}
 use Rattle.std.specs.FinMap.{entries, from_entries}
 use Rattle.bi_base.proofs.ListMembers.{each-append, each-front, each-back, each-map, each-map_back}
-use Rattle.bi_blob.specs.Tree.{Nodes, none, node, Property, as_nodes, names, with_each, depth, IsNew, AreProperties, AreNodes}
+use Rattle.bi_blob.specs.Tree.{Nodes, none, node, Property, names, with_each, depth, IsNew, AreProperties, AreNodes}
 use Rattle.bi_blob.specs.Events.{NodeProperty, NodeEnd, events}
 use Rattle.bi_blob.specs.Layout.{AreEventBytes}
 use Rattle.bi_blob.specs.TextLaws.{ContentMayBeOrdered}
@@ -56,21 +56,9 @@ AreEventBytes-in_byte_order (node name properties children later) bytes =
 
 -- They are as deep.
 pub depth-in_byte_order : (nodes : Nodes (List Property)) → depth (nodes_in_order nodes) ≡ depth nodes
-depth-in_byte_order nodes =
-    sym (depth-with_each (from_entries {R = slice_cmp nat_cmp}) nodes
-    ∙ depth-with_each entries (with_each (from_entries {R = slice_cmp nat_cmp}) nodes))
+depth-in_byte_order nodes = search (rules, depth-with_each)
 
 -- Content may be laid out in normal order.
 pub may_be_ordered : ContentMayBeOrdered
-may_be_ordered cpu reservations root is = record {
-  is_content = record {
-    cpu_fits = is.cpu_fits;
-    are_reservations = is.are_reservations;
-    is_tree = record {
-      is_own = AreProperties-in_byte_order root.own is.is_tree.is_own;
-      children = AreNodes-in_byte_order root.children is.is_tree.children;
-    };
-    bytes = AreEventBytes-in_byte_order (as_nodes root) is.bytes;
-  };
-  same_depth = depth-in_byte_order (as_nodes root);
-}
+may_be_ordered cpu reservations root is =
+    search (rules, AreProperties-in_byte_order, AreNodes-in_byte_order, AreEventBytes-in_byte_order, depth-in_byte_order)
