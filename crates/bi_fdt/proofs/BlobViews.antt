@@ -1,6 +1,5 @@
 use Rattle.std.proofs.Common.{◌≡◌, ℕ, zero, suc, ◌+◌, ◌*◌, ◌<◌, ◌≤◌, List, length, map, Some, None, slice_get, refl, sym, ap, subst, ◌∙◌}
-use Rattle.std.proofs.Common.{inl, inr, arith}
-use Rattle.std.specs.Prelude.{if◌then◌else◌}
+use Rattle.std.proofs.Common.{arith, rules}
 use Rattle.std.proofs.lemmas.Bool.{cases_Bool}
 use Rattle.bi_base.specs.declared.fault.Error.{Error}
 use Rattle.bi_base.specs.declared.fault.Error.TheVariants as error
@@ -9,7 +8,7 @@ use Rattle.bi_base.specs.Cells.{AreBytes, u64_at}
 use Rattle.bi_base.specs.Limits.{Limits}
 use Rattle.bi_base.specs.Errors.{IsFaultOrNoMemory}
 use Rattle.bi_blob.specs.Tree.{Root, FileNode}
-use Rattle.bi_blob.specs.Blob.{Reservation, boot_cpuid_phys, header_length, lacks_structure_size, totalsize, off_mem_rsvmap, strings_end}
+use Rattle.bi_blob.specs.Blob.{Reservation, boot_cpuid_phys, header_length, totalsize, off_mem_rsvmap, strings_end}
 use Rattle.bi_blob.specs.Blob.{tree_blocks}
 use Rattle.bi_blob.specs.Blob.{Header, IsBlob, IsBlobWithin, reservations_at}
 use Rattle.bi_blob.specs.BlobFaults.{HasNoHeaderFault, HasReservations, IsStructureFault, IsBlobFault, InStructure}
@@ -30,11 +29,7 @@ use Rattle.bi_fdt.proofs.TableTrees.{root_in-table}
 
 -- The fault of a file is its only one.
 pub only_fault : (limits : Limits) (file : List ℕ) (fault : Fault) → IsBlobFault limits file fault → IsOnlyBlobFault limits file fault
-only_fault limits file fault is = record {
-  is_fault = is;
-  only = λ other is_other. one_blob_fault limits file other fault is_other is;
-  means_nothing = λ within. blob_has_no_fault limits file fault within is;
-}
+only_fault limits file fault is = search (rules, one_blob_fault, blob_has_no_fault)
 
 -- What follows from an error in the structure block for the file.
 pub refused_in_tree : (limits : Limits) (file : List ℕ) (count : ℕ) (error : Error) → HasNoHeaderFault limits file →
@@ -48,10 +43,7 @@ refused_in_tree limits file count error.WriteFailed fine has refusal = refusal
 
 -- A header has at least 36 bytes.
 pub header_length-least : (file : List ℕ) → 36 ≤ header_length file
-header_length-least file = elim (cases_Bool (lacks_structure_size file)) [
-  | inl lacks ↦ subst (λ b. 36 ≤ (if b then 36 else 40)) (sym lacks) (omega arith)
-  | inr has ↦ subst (λ b. 36 ≤ (if b then 36 else 40)) (sym has) (omega arith)
-]
+header_length-least file = search (rules, cases_Bool)
 
 -- The root of a table is that of the tree that the table is of.
 pub table_root : (file : List ℕ) (entries : List Entry) (root : Root FileNode) → IsTable file entries root →
@@ -60,25 +52,13 @@ table_root file entries root table = ap root_in table.items ∙ root_in-table ro
 
 -- The strings block is within the file.
 pub strings_within : (file : List ℕ) → Header file → strings_end file ≤ length file
-strings_within file header =
-    let total : strings_end file ≤ totalsize file = header.strings_within in
-    let within : totalsize file ≤ length file = header.file_holds_total in
-    omega arith
+strings_within file header = search rules
 
 pub is_held : (limits : Limits) (file : List ℕ) (count : ℕ) (entries : List Entry) (used : List (List ℕ)) → HasNoHeaderFault limits file →
     HasReservations file (off_mem_rsvmap file) (totalsize file) count → HasTable (tree_blocks file) limits.depth entries used →
     IsBlobHeld file count entries
 is_held limits file count entries used fine has table =
-    let header : Header file = HasNoHeaderFault-Header limits file fine in
-    let least : 36 ≤ header_length file = header_length-least file in
-    let whole : header_length file ≤ length file = header.whole in
-    record {
-      header = omega arith;
-      total = header.file_holds_total;
-      strings = strings_within file header;
-      reservations = has;
-      is_table = subst (IsTable file entries) (sym (table_root file entries table.root table.is_table)) table.is_table;
-    }
+    search (rules, HasNoHeaderFault-Header, header_length-least, strings_within, table_root)
 
 pub is_blob : (limits : Limits) (file : List ℕ) (count : ℕ) (entries : List Entry) (used : List (List ℕ)) → AreBytes file →
     HasNoHeaderFault limits file →
@@ -99,8 +79,7 @@ pub is_blob_within : (limits : Limits) (file : List ℕ) (count : ℕ) (entries 
     HasNoHeaderFault limits file →
     HasReservations file (off_mem_rsvmap file) (totalsize file) count → HasTable (tree_blocks file) limits.depth entries used →
     IsBlobWithin limits file
-is_blob_within limits file count entries used bytes fine has table =
-    blob_of_parts limits file count bytes fine has (record { root = table.root; holds = table.holds; shallow = table.shallow })
+is_blob_within limits file count entries used bytes fine has table = search (rules, blob_of_parts)
 
 -- The blob of these was read from the file.
 pub is_read_blob : (limits : Limits) (file : List ℕ) (count : ℕ) (entries : List Entry) (used : List (List ℕ)) → AreBytes file →
@@ -113,17 +92,7 @@ pub is_read_blob : (limits : Limits) (file : List ℕ) (count : ℕ) (entries : 
       reservations = reservations_at file (off_mem_rsvmap file) count;
       table = map (item_in file) entries;
     })
-is_read_blob limits file count entries used bytes fine has table =
-    let blob = is_blob limits file count entries used bytes fine has table in
-    let within = is_blob_within limits file count entries used bytes fine has table in
-    record {
-      is_file = refl;
-      size = refl;
-      means = blob;
-      within = within;
-      only = λ cpu reservations root is. one_blob file _ cpu _ reservations _ root blob is;
-      no_fault = λ fault is. blob_has_no_fault limits file fault within is;
-    }
+is_read_blob limits file count entries used bytes fine has table = search (rules, is_blob, is_blob_within, one_blob, blob_has_no_fault)
 
 -- The numbers of a reservation.
 abbrev pub numbers : Reservation → ℕ × ℕ
@@ -133,9 +102,7 @@ pub reservation_at : (file : List ℕ) (at count index : ℕ) → index < count 
     slice_get (map numbers (reservations_at file at count)) index ≡ Some (u64_at file (at + 16 * index), u64_at file (at + 16 * index + 8))
 reservation_at file at zero index within = absurd (omega arith)
 reservation_at file at (suc count) zero within = ap (λ n. Some (u64_at file n, u64_at file (n + 8))) (omega arith)
-reservation_at file at (suc count) (suc index) within =
-    reservation_at file (at + 16) count index (omega arith)
-    ∙ ap (λ n. Some (u64_at file n, u64_at file (n + 8))) (omega arith)
+reservation_at file at (suc count) (suc index) within = search (rules, reservation_at file (at + 16) count index (omega arith))
 
 pub no_reservation_at : (file : List ℕ) (at count index : ℕ) → count ≤ index →
     slice_get (map numbers (reservations_at file at count)) index ≡ None

@@ -1,4 +1,4 @@
-use Rattle.std.proofs.Common.{◌≡◌, ℕ, zero, suc, ◌<◌, T, cond, List, [], ◌∷◌, map, get_or, Less, is_lt}
+use Rattle.std.proofs.Common.{◌≡◌, ℕ, zero, suc, ◌<◌, T, cond, List, [], ◌∷◌, map, get_or, Less, is_lt, rules}
 use Rattle.std.proofs.Common.{Option, Some, None, slice_get, IsPermutation, refl, sym, ap, subst, ◌∙◌, nat_cmp, arith}
 use Rattle.std.specs.Cmp.{eq_by_cmp_equiv}
 use Rattle.std.specs.Cmp.Lexicographic.{slice_cmp}
@@ -42,9 +42,7 @@ rank_before : (names : List (List ℕ)) → IsStrictlySortedBy (slice_cmp nat_cm
     slice_get names rank ≡ Some name → slice_get names other ≡ Some other_name → rank < other → slice_cmp nat_cmp name other_name ≡ Less
 rank_before [] ordered rank other name other_name there other_there below = absurd cc
 rank_before (first ∷ names) ordered rank zero name other_name there other_there below = absurd (omega arith)
-rank_before (first ∷ names) ordered zero (suc other) name other_name there other_there below =
-    let same : first ≡ name = cc in
-    subst (λ n. slice_cmp nat_cmp n other_name ≡ Less) same (first_before first names ordered other other_name other_there)
+rank_before (first ∷ names) ordered zero (suc other) name other_name there other_there below = search (rules, first_before)
 rank_before (first ∷ names) ordered (suc rank) (suc other) name other_name there other_there below =
     rank_before names (sorted_tail (slice_cmp nat_cmp) first names ordered) rank other name other_name there other_there (omega arith)
 
@@ -61,10 +59,7 @@ below_properties : (names : List (List ℕ)) → IsStrictlySortedBy (slice_cmp n
     AllByRecursion (λ other. nat_cmp rank other ≡ Less) (keys_of keyed) → T (below_all (slice_cmp nat_cmp) name (named keyed))
 below_properties names ascend rank name there [] numbered below = tt
 below_properties names ascend rank name there (one ∷ keyed) numbered below =
-    both_hold (is_lt (slice_cmp nat_cmp name one.1.name)) (below_all (slice_cmp nat_cmp) name (named keyed))
-    (subst (λ o. T (is_lt o)) (sym (rank_before names ascend rank one.0 name one.1.name there numbered.0 (ranked rank one.0 Less
-    (sym below.0)))) tt)
-    (below_properties names ascend rank name there keyed numbered.1 below.1)
+    search (rules, both_hold, is_lt, rank_before, ranked, below_properties names ascend rank name there keyed numbered.1 below.1)
 
 -- Properties in ascending order of ranks are in byte order of their names.
 ascending_properties : (names : List (List ℕ)) → IsStrictlySortedBy (slice_cmp nat_cmp) names → (keyed : List KeyedProperty) →
@@ -129,9 +124,7 @@ named_twice (one ∷ keyed) = ap (λ l. property_of one.1 ∷ l) (named_twice ke
 -- They are those of a node in another order.
 named_moved : (properties : List FileProperty) (keyed : List KeyedProperty) → IsPermutation properties (map (λ one. one.1) keyed) →
     IsPermutation (map property_of properties) (named keyed)
-named_moved properties keyed moved =
-    subst (IsPermutation (map property_of properties)) (named_twice keyed)
-    (IsPermutation-map property_of properties (map (λ one. one.1) keyed) moved)
+named_moved properties keyed moved = search (rules, named_twice, IsPermutation-map)
 
 -- What a node has by a name is found by it in any order.
 pub found_by_name : (properties : List FileProperty) (keyed : List KeyedProperty) → IsPermutation properties (map (λ one. one.1) keyed) →
@@ -148,7 +141,4 @@ found_by_name properties keyed moved distinct name =
 pub by_rank_by_name : (names : List (List ℕ)) (properties : List FileProperty) (keyed : List KeyedProperty) →
     IsStrictlySortedBy (slice_cmp nat_cmp) names → AreDistinct (map (λ property. property.0) (map property_of properties)) →
     AreByNumber names properties keyed → named keyed ≡ sorted_properties (map property_of properties)
-by_rank_by_name names properties keyed ascend distinct are =
-    sorted_by_name (map property_of properties) (named keyed) distinct
-    (named_moved properties keyed are.permutation)
-    (ascending_properties names ascend keyed are.numbered are.ascending)
+by_rank_by_name names properties keyed ascend distinct are = search (rules, sorted_by_name, named_moved, ascending_properties)

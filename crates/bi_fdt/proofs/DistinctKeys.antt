@@ -1,6 +1,6 @@
-use Rattle.std.proofs.Common.{◌≡◌, ℕ, zero, suc, ◌+◌, ◌<◌, true, false, List, [], ◌∷◌, length, get_or, Ordering, Less, Equal, Greater}
-use Rattle.std.proofs.Common.{is_lt}
-use Rattle.std.proofs.Common.{refl, sym, ap, subst, ◌∙◌, add-one, arith, bytes_eq, Bool, true≢false}
+use Rattle.std.proofs.Common.{◌≡◌, ℕ, zero, suc, ◌+◌, ◌<◌, false, List, [], ◌∷◌, length, get_or, Ordering, Less, Equal, Greater}
+use Rattle.std.proofs.Common.{is_lt, rules}
+use Rattle.std.proofs.Common.{refl, sym, ap, subst, ◌∙◌, add-one, arith, Bool, true≢false}
 use Rattle.std.specs.Cmp.{IsTotalOrder}
 use Rattle.std.specs.Cmp.Lexicographic.{slice_cmp}
 use Rattle.std.specs.List.{AllByRecursion, IsDistinct}
@@ -53,11 +53,7 @@ one_name_each = eq_by_cmp (slice_cmp nat_cmp)
 names_differ : (name : List ℕ) (others : List (List ℕ)) → IsNew name others →
     AllByRecursion (λ other. one_name_each name other ≡ false) others
 names_differ name [] new = tt
-names_differ name (other ∷ others) new = (by_test (bytes_eq name other) refl, names_differ name others new.1)
-  where
-    by_test : (b : Bool) → bytes_eq name other ≡ b → one_name_each name other ≡ false
-    by_test true equal = absurd (new.0 (sym ((bytes_eq-Decides name other).0 equal)))
-    by_test false differ = is_eq-slice_cmp name other ∙ differ
+names_differ name (other ∷ others) new = search (rules, bytes_eq-Decides, is_eq-slice_cmp, names_differ name others new.1)
 
 -- so distinct names differ.
 pub names_stay_distinct : (names : List (List ℕ)) → AreDistinct names → IsDistinct one_name_each names

@@ -1,4 +1,4 @@
-use Rattle.std.proofs.Common.{◌≡◌, ℕ, zero, suc, false, List, [], ◌∷◌, map, Some, refl, sym, ap, ◌∙◌}
+use Rattle.std.proofs.Common.{◌≡◌, ℕ, zero, suc, false, List, [], ◌∷◌, map, Some, refl, sym, ap, ◌∙◌, rules}
 use Rattle.std.specs.Prelude.{nat_eq}
 use Rattle.std.specs.List.{slice_get, AllByRecursion, AllZip, IsDistinct}
 use Rattle.std.proofs.lemmas.Bool.{ne_eqb}
@@ -35,10 +35,8 @@ numbers_differ : (names : List (List ℕ)) (name : List ℕ) (number : ℕ) → 
 numbers_differ names name number is [] [] new are = tt
 numbers_differ names name number is [] (other ∷ numbers) new are = absurd are
 numbers_differ names name number is (property ∷ later) [] new are = absurd are
-numbers_differ names name number is (property ∷ later) (other ∷ numbers) new are = (
-  ne_eqb number other (λ equal. new.0 (same_Some property.name name (sym are.0 ∙ ap (slice_get names) (sym equal) ∙ is))),
-  numbers_differ names name number is later numbers new.1 are.1,
-)
+numbers_differ names name number is (property ∷ later) (other ∷ numbers) new are =
+    search (rules, ne_eqb, same_Some, numbers_differ names name number is later numbers new.1 are.1)
 
 -- Properties of distinct names have distinct numbers.
 pub distinct_numbers : (names : List (List ℕ)) (properties : List FileProperty) (numbers : List ℕ) →

@@ -1,5 +1,5 @@
 use Rattle.std.proofs.Common.{◌≡◌, ℕ, zero, suc, ◌+◌, ◌-◌, ◌<◌, ◌≤◌, Some, slice_get, List, [], ◌∷◌, ◌++◌, length, map, drop, reverse, refl}
-use Rattle.std.proofs.Common.{sym}
+use Rattle.std.proofs.Common.{sym, rules}
 use Rattle.std.proofs.Common.{ap, subst, ◌∙◌, arith}
 use Rattle.std.proofs.Math.ListN.{set}
 use Rattle.std.proofs.Math.Seq.{drop-append_seam}
@@ -39,12 +39,7 @@ pub open_entry : (opened : OpenNode) (later : List OpenNode) (children : List (L
     drop opened.entry (items_of 0 (events_of_open_nodes o outer)) ≡ open_items (length outer) o
 open_entry opened [] children o [] are = ap (λ n. drop n (items_of 0 (events_of_open_node o))) are.0 ∙ items_of-open 0 o
 open_entry opened (p ∷ later) children o [] are = absurd are
-open_entry opened later children o (parent ∷ outer) are =
-    let before : List TableItem = items_of 0 (events_of_open_nodes parent outer) in
-    ap (λ n. drop n (items_of 0 (events_of_open_nodes o (parent ∷ outer)))) are.0
-    ∙ ap (drop (length before)) (items_of-open_nodes o parent outer)
-    ∙ drop-append_seam before (open_items (length outer + 1) o)
-    ∙ ap (λ d. open_items d o) (omega arith)
+open_entry opened later children o (parent ∷ outer) are = search (rules, items_of-open_nodes, drop-append_seam, open_items)
 
 -- A node's entry where the items have a node.
 pub record IsNodeEntry (file : List ℕ) (entries : List Entry) (index : ℕ) (item : TableItem) (items : List TableItem) : Type 0 where
@@ -80,10 +75,7 @@ open_rest o outer = map PropertyItem o.properties ++ node_items (length outer + 
 pub innermost_entry : (file : List ℕ) (growing : Growing) (o : OpenFileNode) (outer : List OpenFileNode) →
     IsGrowing file growing o outer →
     IsNodeEntry file growing.entries.items growing.innermost.entry (NodeItem (length outer) o.place o.name) (open_rest o outer)
-innermost_entry file growing o outer is =
-    node_entry file growing.entries.items growing.innermost.entry (length outer) o.place o.name (open_rest o outer)
-    (ap (drop growing.innermost.entry) is.items
-    ∙ open_entry growing.innermost (reverse growing.outer.items) (names o.children) o outer is.opened)
+innermost_entry file growing o outer is = search (rules, node_entry, open_entry)
 
 -- It is within the table.
 pub innermost_within : (file : List ℕ) (growing : Growing) (o : OpenFileNode) (outer : List OpenFileNode) →
@@ -99,29 +91,17 @@ innermost_within file growing o outer is =
 -- No more nodes are open than there are items, and so entries.
 open_nodes_few : (o : OpenFileNode) (outer : List OpenFileNode) → length outer + 1 ≤ length (items_of 0 (events_of_open_nodes o outer))
 open_nodes_few o [] = omega arith
-open_nodes_few o (parent ∷ outer) =
-    let before : List TableItem = items_of 0 (events_of_open_nodes parent outer) in
-    let rest : length outer + 1 ≤ length before = open_nodes_few parent outer in
-    let long : length (items_of 0 (events_of_open_nodes o (parent ∷ outer))) ≡ length before + length (open_items (length outer + 1) o) =
-    ap length (items_of-open_nodes o parent outer) ∙ length-append before (open_items (length outer + 1) o) in
-    omega arith
+open_nodes_few o (parent ∷ outer) = search (rules, open_items, items_of-open_nodes, length-append, open_nodes_few parent outer)
 
 pub open_nodes_within : (file : List ℕ) (growing : Growing) (o : OpenFileNode) (outer : List OpenFileNode) →
     IsGrowing file growing o outer → length outer + 1 ≤ length growing.entries.items
-open_nodes_within file growing o outer is =
-    let most : length outer + 1 ≤ length (items_of 0 (events_of_open_nodes o outer)) = open_nodes_few o outer in
-    let long : length growing.entries.items
-    ≡ length (items_of 0 (events_of_open_nodes o outer)) = sym (simp length-map) ∙ ap length is.items in
-    omega arith
+open_nodes_within file growing o outer is = search (rules, open_nodes_few, length-map)
 
 -- As many outer nodes are kept as there are.
 pub outer_count : (file : List ℕ) (growing : Growing) (innermost : OpenFileNode) (outer : List OpenFileNode) →
     IsGrowing file growing innermost outer →
     length growing.outer.items ≡ length outer
-outer_count file growing innermost outer is =
-    let long : suc (length (reverse growing.outer.items)) ≡ length outer + 1 =
-    AreOpen-length (growing.innermost ∷ reverse growing.outer.items) (names innermost.children) innermost.name outer is.opened in
-    omega (arith, long, length-reverse growing.outer.items)
+outer_count file growing innermost outer is = search (rules, AreOpen-length, length-reverse)
 
 -- What is at an index where a list goes on after it.
 pub get_at : {X : Type 0} (xs later : List X) (index : ℕ) (x : X) → drop index xs ≡ x ∷ later → slice_get xs index ≡ Some x
@@ -242,9 +222,7 @@ pub growing_ended : (file : List ℕ) (growing grown : Growing) (o : OpenFileNod
     (entry.Node (record n { after = length growing.entries.items })))
     → growing.outer.items ≡ grown.outer.items ++ parent ∷ [] → grown.innermost ≡ parent → grown.names ≡ growing.names
     → EndsInside file grown o outer
-growing_ended file growing grown o [] parent is entries outers same named =
-    absurd (subst (λ l. AreOpen (growing.innermost ∷ l) (names o.children) o.name [])
-    (ap reverse outers ∙ reverse-append grown.outer.items (parent ∷ [])) is.opened)
+growing_ended file growing grown o [] parent is entries outers same named = search (rules, reverse-append)
 growing_ended file growing grown o (up ∷ outer) parent is entries outers same named =
     let found : IsNodeEntry file growing.entries.items growing.innermost.entry (NodeItem (length (up ∷ outer)) o.place o.name)
     (open_rest o (up ∷ outer)) = innermost_entry file growing o (up ∷ outer) is in
@@ -299,10 +277,7 @@ pub growing_finished : (file : List ℕ) (growing finished : Growing) (o : OpenF
     (entry.Node (record n { after = length growing.entries.items })))
     → growing.outer.items ≡ [] → finished.names ≡ growing.names
     → (outer ≡ []) × IsFinished file finished o
-growing_finished file growing finished o (up ∷ outer) is written none named =
-    let opened : AreOpen (growing.innermost ∷ []) (names o.children) o.name (up ∷ outer) =
-    subst (λ l. AreOpen (growing.innermost ∷ reverse l) (names o.children) o.name (up ∷ outer)) none is.opened in
-    absurd opened.2
+growing_finished file growing finished o (up ∷ outer) is written none named = search rules
 growing_finished file growing finished o [] is written none named =
     let found : IsNodeEntry file growing.entries.items growing.innermost.entry (NodeItem 0 o.place o.name)
     (open_rest o []) = innermost_entry file growing o [] is in

@@ -1,4 +1,4 @@
-use Rattle.std.proofs.Common.{◌≡◌, ℕ, ◌+◌, ◌-◌, ◌<◌, ◌≤◌, List, [], ◌∷◌, ◌++◌, length, map, refl, sym, ap, ◌∙◌, arith}
+use Rattle.std.proofs.Common.{◌≡◌, ℕ, ◌+◌, ◌-◌, ◌<◌, ◌≤◌, List, [], ◌∷◌, ◌++◌, length, map, refl, sym, ap, ◌∙◌, arith, rules}
 use Rattle.std.specs.Prelude.{if◌then◌else◌}
 use Rattle.std.proofs.lemmas.Bool.{lt-ltb, le-ltb}
 use Rattle.std.proofs.lemmas.List.{append_assoc, append-nil, length-append, length-map}
@@ -57,32 +57,13 @@ pub items_of-nodes : (depth : ℕ) (nodes : Nodes FileNode) (es : List FileEvent
     items_of depth (file_events nodes ++ es) ≡ node_items depth nodes ++ items_of depth es
 items_of-nodes depth none es = refl
 items_of-nodes depth (node name own children later) es =
-    let closed : (depth + 1) - 1 ≡ depth = omega arith in
-    let rest : List FileEvent = FileNodeEnd ∷ (file_events later ++ es) in
-    ap (λ l. NodeItem depth own.place name ∷ l)
-    (ap (items_of (depth + 1)) (append_assoc (map FileNodeProperty own.properties)
-    (file_events children ++ (FileNodeEnd ∷ file_events later)) es
-    ∙ ap (λ l. map FileNodeProperty own.properties ++ l) (append_assoc (file_events children) (FileNodeEnd ∷ file_events later) es))
-    ∙ items_of-properties (depth + 1) own.properties (file_events children ++ rest)
-    ∙ ap (λ l. map PropertyItem own.properties ++ l)
-    (items_of-nodes (depth + 1) children rest
-    ∙ ap (λ l. node_items (depth + 1) children ++ l) (ap (λ d. items_of d (file_events later ++ es)) closed ∙ items_of-nodes depth later es)
-    ∙ sym (append_assoc (node_items (depth + 1) children) (node_items depth later) (items_of depth es)))
-    ∙ sym (append_assoc (map PropertyItem own.properties) (node_items (depth + 1) children ++ node_items depth later) (items_of depth es)))
+    search (rules, append_assoc, items_of-properties, items_of-nodes (depth + 1) children, items_of-nodes depth later es)
 
 pub depth_after-nodes : (depth : ℕ) (nodes : Nodes FileNode) (es : List FileEvent) →
     depth_after depth (file_events nodes ++ es) ≡ depth_after depth es
 depth_after-nodes depth none es = refl
 depth_after-nodes depth (node name own children later) es =
-    let closed : (depth + 1) - 1 ≡ depth = omega arith in
-    let rest : List FileEvent = FileNodeEnd ∷ (file_events later ++ es) in
-    ap (depth_after (depth + 1)) (append_assoc (map FileNodeProperty own.properties)
-    (file_events children ++ (FileNodeEnd ∷ file_events later)) es
-    ∙ ap (λ l. map FileNodeProperty own.properties ++ l) (append_assoc (file_events children) (FileNodeEnd ∷ file_events later) es))
-    ∙ depth_after-properties (depth + 1) own.properties (file_events children ++ rest)
-    ∙ depth_after-nodes (depth + 1) children rest
-    ∙ ap (λ d. depth_after d (file_events later ++ es)) closed
-    ∙ depth_after-nodes depth later es
+    search (rules, append_assoc, depth_after-properties, depth_after-nodes (depth + 1) children, depth_after-nodes depth later es)
 
 -- The items of an open node.
 abbrev pub open_items : ℕ → OpenFileNode → List TableItem
@@ -106,26 +87,18 @@ depth_after-open depth o =
 pub depth_after-open_nodes : (o : OpenFileNode) (outer : List OpenFileNode) →
     depth_after 0 (events_of_open_nodes o outer) ≡ length outer + 1
 depth_after-open_nodes o [] = depth_after-open 0 o
-depth_after-open_nodes o (parent ∷ outer) =
-    depth_after-append 0 (events_of_open_nodes parent outer) (events_of_open_node o)
-    ∙ depth_after-open (depth_after 0 (events_of_open_nodes parent outer)) o
-    ∙ ap (λ d. d + 1) (depth_after-open_nodes parent outer)
-    ∙ omega arith
+depth_after-open_nodes o (parent ∷ outer) = search (rules, depth_after-append, depth_after-open, depth_after-open_nodes parent outer)
 
 -- The items of open nodes are those of the outer ones, and then those of the innermost.
 pub items_of-open_nodes : (o parent : OpenFileNode) (outer : List OpenFileNode) →
     items_of 0 (events_of_open_nodes o (parent ∷ outer)) ≡ items_of 0 (events_of_open_nodes parent outer) ++ open_items (length outer + 1) o
-items_of-open_nodes o parent outer =
-    items_of-append 0 (events_of_open_nodes parent outer) (events_of_open_node o)
-    ∙ ap (λ l. items_of 0 (events_of_open_nodes parent outer) ++ l)
-    (ap (λ d. items_of d (events_of_open_node o)) (depth_after-open_nodes parent outer) ∙ items_of-open (length outer + 1) o)
+items_of-open_nodes o parent outer = search (rules, items_of-append, depth_after-open_nodes, items_of-open)
 
 -- Nodes deeper than a depth and all properties are inside it.
 pub inside-properties : (depth : ℕ) (properties : List FileProperty) (items : List TableItem) →
     count_inside depth (map PropertyItem properties ++ items) ≡ length properties + count_inside depth items
 inside-properties depth [] items = omega arith
-inside-properties depth (p ∷ ps) items = let e : count_inside depth (map PropertyItem ps ++ items)
-    ≡ length ps + count_inside depth items = inside-properties depth ps items in omega arith
+inside-properties depth (p ∷ ps) items = search (rules, inside-properties depth ps items)
 
 pub inside-deeper : (depth own place : ℕ) (name : List ℕ) (items : List TableItem) → depth < own →
     count_inside depth (NodeItem own place name ∷ items) ≡ count_inside depth items + 1
@@ -174,6 +147,4 @@ inside-open depth o =
 -- An open node without children has only its properties after its beginning.
 pub childless_items : (depth : ℕ) (o : OpenFileNode) → names o.children ≡ [] →
     map PropertyItem o.properties ++ node_items (depth + 1) o.children ≡ map PropertyItem o.properties
-childless_items depth o childless =
-    ap (λ nodes. map PropertyItem o.properties ++ node_items (depth + 1) nodes) (no_children o.children childless)
-    ∙ append-nil (map PropertyItem o.properties)
+childless_items depth o childless = search (rules, no_children, append-nil)

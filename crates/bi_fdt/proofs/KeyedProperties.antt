@@ -1,4 +1,4 @@
-use Rattle.std.proofs.Common.{◌≡◌, ℕ, zero, suc, ◌+◌, ◌<◌, ◌≤◌, List, [], ◌∷◌, length, map, take, drop, get_or, Some, slice_get}
+use Rattle.std.proofs.Common.{◌≡◌, ℕ, zero, suc, ◌+◌, ◌<◌, ◌≤◌, List, [], ◌∷◌, length, map, take, drop, get_or, Some, slice_get, rules}
 use Rattle.std.proofs.Common.{IsPermutation, refl, sym, ap, subst, ◌∙◌, add-one, arith}
 use Rattle.std.specs.Prelude.{nat_eq}
 use Rattle.std.specs.Cmp.{nat_eq_equiv}
@@ -10,7 +10,6 @@ use Rattle.std.proofs.lemmas.List.Elements.{All-from_recursion, recursion_from_A
 use Rattle.std.proofs.lemmas.List.Sorted.{All-permutation, IsPermutation-map}
 use Rattle.std.proofs.lemmas.Map.Keys.{sorted_from_strictly_increasing, IsDistinct-IsPermutation, IsStrictlyIncreasing-from_distinct}
 use Rattle.std.proofs.Math.Seq.{drop-cons}
-use Rattle.std.specs.Option.{option_map}
 use Rattle.std.proofs.lemmas.Option.{get_or_from_slice_get, slice_get-get_or, slice_get-map, slice_get_past}
 use Rattle.bi_fdt.specs.declared.table.Entry.{Entry}
 use Rattle.std.proofs.lemmas.Slice.Zip.{AllZip-long}
@@ -44,8 +43,7 @@ drop-indices : (count index : ℕ) (keys : List ℕ) → drop count (with_indice
     (drop count keys)
 drop-indices zero index keys = ap (λ n. with_indices_from n keys) (omega arith)
 drop-indices (suc count) index [] = refl
-drop-indices (suc count) index (key ∷ keys) =
-    drop-indices count (index + 1) keys ∙ ap (λ n. with_indices_from n (drop count keys)) (omega arith)
+drop-indices (suc count) index (key ∷ keys) = search (rules, drop-indices count (index + 1) keys)
 
 take-indices : (count index : ℕ) (keys : List ℕ) → take count (with_indices_from index keys) ≡ with_indices_from index (take count keys)
 take-indices zero index keys = refl
@@ -88,8 +86,7 @@ property_at table pair = property_in_item (get_or table pair.1 (NodeItem 0 0 [])
 
 is_property_at : (table : List TableItem) (pair : ℕ × ℕ) (property : FileProperty) → IsPairOf table pair property →
     property_at table pair ≡ property
-is_property_at table pair property is =
-    ap property_in_item (get_or_from_slice_get table pair.1 (PropertyItem property) (NodeItem 0 0 []) is)
+is_property_at table pair property is = search (rules, get_or_from_slice_get)
 
 -- There is one.
 abbrev HasProperty : List TableItem → ℕ × ℕ → Type 0
@@ -99,10 +96,7 @@ HasProperty table pair = (property : FileProperty) × IsPairOf table pair proper
 keyed_all : (table : List TableItem) (pairs : Pairs) → AllByRecursion (HasProperty table) pairs →
     keyed_properties table pairs ≡ map (λ pair. (pair.0, property_at table pair)) pairs
 keyed_all table [] all = refl
-keyed_all table (pair ∷ pairs) all =
-    ap (λ found. with_keyed_property pair.0 found (keyed_properties table pairs)) all.0.1
-    ∙ ap (λ property. (pair.0, property) ∷ keyed_properties table pairs) (sym (is_property_at table pair all.0.0 all.0.1))
-    ∙ ap (λ l. (pair.0, property_at table pair) ∷ l) (keyed_all table pairs all.1)
+keyed_all table (pair ∷ pairs) all = search (rules, is_property_at, keyed_all table pairs all.1)
 
 -- Pairs of properties have the properties at their indices.
 matching_have : (table : List TableItem) (pairs : Pairs) (properties : List FileProperty) → AllZip (IsPairOf table) pairs properties →
@@ -118,8 +112,7 @@ matching_are table [] [] match = refl
 matching_are table [] (property ∷ properties) match = elim match [ ]
 matching_are table (pair ∷ pairs) [] match = elim match [ ]
 matching_are table (pair ∷ pairs) (property ∷ properties) match =
-    ap (λ first. first ∷ map (property_at table) pairs) (is_property_at table pair property match.0)
-    ∙ ap (λ l. property ∷ l) (matching_are table pairs properties match.1)
+    search (rules, is_property_at, matching_are table pairs properties match.1)
 
 -- The key of a pair is the number of the name of its property.
 abbrev IsKeyed : List (List ℕ) → List TableItem → ℕ × ℕ → Type 0
@@ -239,18 +232,12 @@ keyed_here : (table : List TableItem) (pairs : Pairs) (place : ℕ) (d : ℕ × 
     keyed_properties table (drop place pairs)
     ≡ with_keyed_property (get_or pairs place d).0 (slice_get table (get_or pairs place d).1)
     (keyed_properties table (drop (place + 1) pairs))
-keyed_here table pairs place d within =
-    ap (keyed_properties table) (drop-cons pairs place d within)
-    ∙ ap (λ n. with_keyed_property (get_or pairs place d).0 (slice_get table (get_or pairs place d).1)
-    (keyed_properties table (drop n pairs)))
-    (sym (add-one place))
+keyed_here table pairs place d within = search (rules, drop-cons, add-one)
 
 -- The item of an entry.
 item_there : (file : List ℕ) (entries : List Entry) (index : ℕ) (e d : Entry) → index < length entries → get_or entries index d ≡ e →
     slice_get (map (item_in file) entries) index ≡ Some (item_in file e)
-item_there file entries index e d within is =
-    slice_get-map (item_in file) entries index
-    ∙ ap (option_map (item_in file)) (slice_get-get_or entries index d within ∙ ap (λ e. Some e) is)
+item_there file entries index e d within is = search (rules, slice_get-map, slice_get-get_or)
 
 module _ (file : List ℕ) (entries : List Entry) (pairs : Pairs) (place : ℕ) (pair d : ℕ × ℕ) (within : place < length pairs)
     (is : get_or pairs place d ≡ pair) where

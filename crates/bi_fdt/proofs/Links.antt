@@ -1,5 +1,5 @@
 use Rattle.std.proofs.Common.{◌≡◌, ℕ, zero, suc, ◌+◌, ◌<◌, ◌≤◌, List, [], ◌∷◌, ◌++◌, length, map, drop, get_or, refl, sym, ap, subst, ◌∙◌}
-use Rattle.std.proofs.Common.{inl, inr, arith}
+use Rattle.std.proofs.Common.{inl, inr, arith, rules}
 use Rattle.std.proofs.Math.ListN.{set}
 use Rattle.std.proofs.Math.Seq.{map-set_same}
 use Rattle.std.proofs.lemmas.Bool.{cases_lt}
@@ -20,14 +20,7 @@ use Rattle.bi_fdt.proofs.Items.{inside-deeper, inside-stops}
 pub inside-most : (depth : ℕ) (items : List TableItem) → count_inside depth items ≤ length items
 inside-most depth [] = omega arith
 inside-most depth (PropertyItem p ∷ items) = let rest : count_inside depth items ≤ length items = inside-most depth items in omega arith
-inside-most depth (NodeItem own place name ∷ items) =
-    let rest : count_inside depth items ≤ length items = inside-most depth items in
-    elim (cases_lt depth own) [
-      | inl deeper ↦ (let e : count_inside depth (NodeItem own place name ∷ items)
-          ≡ count_inside depth items + 1 = inside-deeper depth own place name items deeper in omega arith)
-      | inr stops ↦ (let e : count_inside depth (NodeItem own place name ∷ items)
-          ≡ 0 = inside-stops depth own place name items stops in omega arith)
-    ]
+inside-most depth (NodeItem own place name ∷ items) = search (rules, cases_lt, inside-deeper, inside-stops, inside-most depth items)
 
 -- Where some items are not inside, one more item at the end changes nothing.
 pub inside-push : (depth : ℕ) (items : List TableItem) (item : TableItem) → count_inside depth items < length items →
@@ -47,9 +40,7 @@ inside-push depth (NodeItem own place name ∷ items) item some = elim (cases_lt
 pub inside-all : (depth : ℕ) (items more : List TableItem) → count_inside depth items ≡ length items →
     count_inside depth (items ++ more) ≡ length items + count_inside depth more
 inside-all depth [] more all = omega arith
-inside-all depth (PropertyItem p ∷ items) more all =
-    let e : count_inside depth (items ++ more)
-    ≡ length items + count_inside depth more = inside-all depth items more (omega arith) in omega arith
+inside-all depth (PropertyItem p ∷ items) more all = search (rules, inside-all depth items more (omega arith))
 inside-all depth (NodeItem own place name ∷ items) more all = elim (cases_lt depth own) [
   | inl deeper ↦ (let one : count_inside depth (NodeItem own place name ∷ items)
       ≡ count_inside depth items + 1 = inside-deeper depth own place name items deeper in
@@ -68,19 +59,11 @@ inside-some depth own place name index [] later at stops = absurd (by_index inde
   by_index : (i : ℕ) → drop i [] ≡ NodeItem own place name ∷ later → ⊥
   by_index zero e = cc
   by_index (suc i) e = cc
-inside-some depth own place name zero (item ∷ items) later at stops =
-    subst (λ l. count_inside depth l < length l) (sym at)
-    (let e : count_inside depth (NodeItem own place name ∷ later) ≡ 0 = inside-stops depth own place name later stops in omega arith)
+inside-some depth own place name zero (item ∷ items) later at stops = search (rules, inside-stops)
 inside-some depth own place name (suc index) (PropertyItem p ∷ items) later at stops =
     let rest : count_inside depth items < length items = inside-some depth own place name index items later at stops in omega arith
 inside-some depth own place name (suc index) (NodeItem other other_place other_name ∷ items) later at stops =
-    let rest : count_inside depth items < length items = inside-some depth own place name index items later at stops in
-    elim (cases_lt depth other) [
-      | inl deeper ↦ (let e : count_inside depth (NodeItem other other_place other_name ∷ items)
-          ≡ count_inside depth items + 1 = inside-deeper depth other other_place other_name items deeper in omega arith)
-      | inr over ↦ (let e : count_inside depth (NodeItem other other_place other_name ∷ items)
-          ≡ 0 = inside-stops depth other other_place other_name items over in omega arith)
-    ]
+    search (rules, cases_lt, inside-deeper, inside-stops, inside-some depth own place name index items later at stops)
 
 -- A node at the end is not a first property.
 first-node : (items : List TableItem) (depth place : ℕ) (name : List ℕ) →
@@ -112,15 +95,12 @@ properties_alone (p ∷ properties) = ap suc (properties_alone properties)
 first-property : (items : List TableItem) (p : FileProperty) → AreOnlyProperties items →
     length (first_properties (items ++ PropertyItem p ∷ [])) ≡ length items + 1
 first-property [] p all = refl
-first-property (PropertyItem q ∷ items) p all =
-    let rest : length (first_properties (items ++ PropertyItem p ∷ []))
-    ≡ length items + 1 = first-property items p (omega arith) in omega arith
+first-property (PropertyItem q ∷ items) p all = search (rules, first-property items p (omega arith))
 first-property (NodeItem own place name ∷ items) p all = absurd (omega arith)
 
 inside-properties_all : (depth : ℕ) (items : List TableItem) → AreOnlyProperties items → count_inside depth items ≡ length items
 inside-properties_all depth [] all = refl
-inside-properties_all depth (PropertyItem q ∷ items) all =
-    let rest : count_inside depth items ≡ length items = inside-properties_all depth items (omega arith) in omega arith
+inside-properties_all depth (PropertyItem q ∷ items) all = search (rules, inside-properties_all depth items (omega arith))
 inside-properties_all depth (NodeItem own place name ∷ items) all = absurd (omega arith)
 
 AreLinked-properties : (file : List ℕ) (opened at : ℕ) (entries : List Entry) → AreOnlyProperties (map (item_in file) entries) →
@@ -157,60 +137,18 @@ items-set file entries later index n m at same =
 link-same : (opened at : ℕ) (n : NodeEntry) (items : List TableItem) (item : TableItem) →
     first_properties (items ++ item ∷ []) ≡ first_properties items → count_inside n.depth items < length items →
     IsLinked opened at n items → IsLinked opened at n (items ++ item ∷ [])
-link-same opened at n items item first some linked =
-    let inside : count_inside n.depth (items ++ item ∷ []) ≡ count_inside n.depth items = inside-push n.depth items item some in
-    let after : n.after ≡ at + 1 + count_inside n.depth items = linked.before_end some in
-    record {
-      count = linked.count ∙ ap length (sym first);
-      before_end = λ _. omega arith;
-      at_end = λ _. omega arith;
-    }
+link-same opened at n items item first some linked = search (rules, inside-push)
 
 -- The numbers of a node fit still after a node at the end that opens.
 link-node : (opened at : ℕ) (n : NodeEntry) (items : List TableItem) (place : ℕ) (name : List ℕ) → IsLinked opened at n items →
     IsLinked (opened + 1) at n (items ++ NodeItem opened place name ∷ [])
 link-node opened at n items place name linked =
-    let new : TableItem = NodeItem opened place name in
-    let most : count_inside n.depth items ≤ length items = inside-most n.depth items in
-    let longer : length (items ++ new ∷ []) ≡ length items + 1 = length-append items (new ∷ []) in
-    elim (cases_lt (count_inside n.depth items) (length items)) [
-      | inl some ↦ (
-          let inside : count_inside n.depth (items ++ new ∷ []) ≡ count_inside n.depth items = inside-push n.depth items new some in
-          let after : n.after ≡ at + 1 + count_inside n.depth items = linked.before_end some in
-          record {
-            count = linked.count ∙ ap length (sym (first-node items opened place name));
-            before_end = λ _. omega arith;
-            at_end = λ _. omega arith;
-          })
-      | inr all ↦ (
-          let inside : count_inside n.depth (items ++ new ∷ [])
-          ≡ length items + count_inside n.depth (new ∷ []) = inside-all n.depth items (new ∷ []) (omega arith) in
-          elim (cases_lt n.depth opened) [
-            | inl deeper ↦ (
-                let one : count_inside n.depth (new ∷ []) ≡ 0 + 1 = inside-deeper n.depth opened place name [] deeper in
-                record {
-                  count = linked.count ∙ ap length (sym (first-node items opened place name));
-                  before_end = λ within. absurd (omega arith);
-                  at_end = λ closed. absurd (omega arith);
-                })
-            | inr stops ↦ (
-                let none : count_inside n.depth (new ∷ []) ≡ 0 = inside-stops n.depth opened place name [] stops in
-                let after : n.after ≡ at + 1 + count_inside n.depth items = linked.at_end stops in
-                record {
-                  count = linked.count ∙ ap length (sym (first-node items opened place name));
-                  before_end = λ _. omega arith;
-                  at_end = λ _. omega arith;
-                })
-          ])
-    ]
+    search (rules, inside-most, length-append, cases_lt, inside-push, first-node, inside-all, inside-deeper, inside-stops)
 
 -- The numbers of a table fit still after a node at the end that opens.
 pub AreLinked-node : (file : List ℕ) (opened at : ℕ) (entries : List Entry) (new : NodeEntry) → new.depth ≡ opened →
     new.property_count ≡ 0 → AreLinked file opened at entries → AreLinked file (opened + 1) at (entries ++ entry.Node new ∷ [])
-AreLinked-node file opened at [] new deep none linked = (
-  record { count = none; before_end = λ (within : 0 < 0). absurd (omega arith); at_end = λ closed. absurd (omega arith) },
-  tt,
-)
+AreLinked-node file opened at [] new deep none linked = search rules
 AreLinked-node file opened at (entry.Property p ∷ entries) new deep none linked = AreLinked-node file opened
     (at + 1) entries new deep none linked
 AreLinked-node file opened at (entry.Node n ∷ entries) new deep none linked = (
@@ -229,27 +167,7 @@ pub AreLinked-property : (file : List ℕ) (opened at : ℕ) (entries later : Li
 AreLinked-property file opened at [] later zero n m p here deep all same same_item counted linked = absurd cc
 AreLinked-property file opened at [] later (suc index) n m p here deep all same same_item counted linked = absurd cc
 AreLinked-property file opened at (e ∷ entries) later zero n m p here deep all same same_item counted linked =
-    let rest : entries ≡ later = cc in
-    let long : length (map (item_in file) later) ≡ length later = simp length-map in
-    let pushed : map (item_in file) (entries ++ entry.Property p ∷ []) ≡ map (item_in file) later
-    ++ PropertyItem (property_in file p) ∷ [] =
-    ap (λ l. map (item_in file) (l ++ entry.Property p ∷ [])) rest ∙ map-append (item_in file) later (entry.Property p ∷ []) in
-    let more : length (first_properties (map (item_in file) later ++ PropertyItem (property_in file p) ∷ []))
-    ≡ length (map (item_in file) later) + 1 =
-    first-property (map (item_in file) later) (property_in file p) all in
-    let longer : length (map (item_in file) later ++ PropertyItem (property_in file p) ∷ []) ≡ length (map (item_in file) later) + 1 =
-    length-append (map (item_in file) later) (PropertyItem (property_in file p) ∷ []) in
-    let every : AreOnlyProperties (map (item_in file) later ++ PropertyItem (property_in file p) ∷ []) = omega arith in
-    let inside : count_inside m.depth (map (item_in file) later ++ PropertyItem (property_in file p) ∷ [])
-    ≡ length (map (item_in file) later ++ PropertyItem (property_in file p) ∷ []) =
-    inside-properties_all m.depth (map (item_in file) later ++ PropertyItem (property_in file p) ∷ []) every in (
-      subst (IsLinked opened at m) (sym pushed) (record {
-        count = omega arith;
-        before_end = λ within. absurd (omega arith);
-        at_end = λ closed. absurd (omega arith);
-      }),
-      AreLinked-properties file opened (at + 1) (entries ++ entry.Property p ∷ []) (subst AreOnlyProperties (sym pushed) every),
-    )
+    search (rules, length-map, map-append, first-property, length-append, inside-properties_all, AreLinked-properties)
 AreLinked-property file opened at (entry.Property q ∷ entries) later (suc index) n m p here deep all same same_item counted linked =
     AreLinked-property file opened (at + 1) entries later index n m p here deep all same same_item counted linked
 AreLinked-property file opened at (entry.Node o ∷ entries) later (suc index) n m p here deep all same same_item counted linked =
@@ -316,23 +234,7 @@ pub AreLinked-end : (file : List ℕ) (opened at total : ℕ) (entries later : L
 AreLinked-end file opened at total [] later zero n m here deep all same same_item same_count after end linked = absurd cc
 AreLinked-end file opened at total [] later (suc index) n m here deep all same same_item same_count after end linked = absurd cc
 AreLinked-end file opened at total (e ∷ entries) later zero n m here deep all same same_item same_count after end linked =
-    let rest : entries ≡ later = cc in
-    let first : e ≡ entry.Node n = cc in
-    let whole : AreLinked file (opened + 1) at (entry.Node n ∷ later) = subst (AreLinked file (opened + 1) at) here linked in
-    let long : length (map (item_in file) later) ≡ length later = simp length-map in
-    let same_long : length entries ≡ length later = ap length rest in
-    let inside : count_inside m.depth (map (item_in file) later)
-    ≡ length (map (item_in file) later) = ap (λ d. count_inside d (map (item_in file) later)) same ∙ all in
-    let inside_opened : count_inside opened (map (item_in file) later)
-    ≡ length (map (item_in file) later) = ap (λ d. count_inside d (map (item_in file) later)) (sym deep) ∙ all in
-    subst (λ l. AreLinked file opened at (entry.Node m ∷ l)) (sym rest) (
-      record {
-        count = same_count ∙ whole.0.count;
-        before_end = λ within. absurd (omega arith);
-        at_end = λ _. omega arith;
-      },
-      lower file opened (at + 1) later inside_opened whole.1,
-    )
+    search (rules, length-map, lower)
 AreLinked-end file opened at total (entry.Property q ∷ entries) later
     (suc index) n m here deep all same same_item same_count after end linked =
     AreLinked-end file opened (at + 1) total entries later index n m here deep all same same_item same_count after (omega arith) linked

@@ -1,6 +1,5 @@
-use Rattle.std.proofs.Common.{◌≡◌, ℕ, zero, suc, ◌+◌, ◌-◌, ◌*◌, ◌++◌, inl, inr, ◌<◌, ◌≤◌, Bool, true, false, cond, List, [], ◌∷◌, length}
-use Rattle.std.proofs.Common.{take, drop, slice_index_or, refl, sym, ap, subst, ◌∙◌, arith}
-use Rattle.std.specs.Prelude.{◌==◌}
+use Rattle.std.proofs.Common.{◌≡◌, ℕ, zero, suc, ◌+◌, ◌-◌, ◌*◌, ◌++◌, ◌<◌, ◌≤◌, List, [], ◌∷◌, length}
+use Rattle.std.proofs.Common.{take, drop, slice_index_or, refl, sym, ap, ◌∙◌, arith, rules}
 use Rattle.std.proofs.Math.Nat.{eq-or-lt_of_le}
 use Rattle.std.proofs.Math.Seq.{drop-nil}
 use Rattle.std.proofs.lemmas.List.{length-drop, get_or_append_left, get_or-append_right}
@@ -17,16 +16,7 @@ before_zero-drop : (n : ℕ) (bytes : List ℕ) → n ≤ length (before_zero by
     n + length (before_zero (drop n bytes)) ≡ length (before_zero bytes)
 before_zero-drop zero bytes within = omega arith
 before_zero-drop (suc n) [] within = absurd (omega arith)
-before_zero-drop (suc n) (byte ∷ rest) within =
-    subst (λ front. suc n ≤ length front → suc n + length (before_zero (drop n rest)) ≡ length front) (sym (before_zero-cons byte rest))
-    (by_test (byte == 0) (before_zero-drop n rest)) within where
-      by_test : (is_zero : Bool) → (n ≤ length (before_zero rest) → n + length (before_zero (drop n rest)) ≡ length (before_zero rest))
-          → suc n ≤ length (cond is_zero [] (byte ∷ before_zero rest)) →
-          suc n + length (before_zero (drop n rest)) ≡ length (cond is_zero [] (byte ∷ before_zero rest))
-      by_test true later short = absurd (omega arith)
-      by_test false later short =
-          let e : n + length (before_zero (drop n rest)) ≡ length (before_zero rest) = later (omega arith) in
-          omega arith
+before_zero-drop (suc n) (byte ∷ rest) within = search (rules, before_zero, before_zero-cons, before_zero-drop n rest)
 
 pub drop_again : {X : Type 0} (m n : ℕ) (xs : List X) → drop n (drop m xs) ≡ drop (m + n) xs
 drop_again zero n xs = ap (λ k. drop k xs) (omega arith)
@@ -47,21 +37,12 @@ later_end bytes at later ordered within =
 
 -- A name ends within the bytes.
 pub name_end_within : (bytes : List ℕ) (at : ℕ) → at ≤ length bytes → end_of bytes at ≤ length bytes
-name_end_within bytes at within =
-    let most : length (name_from bytes at) ≤ length (drop at bytes) = length_before_zero (drop at bytes) in
-    let long : length (drop at bytes) ≡ length bytes - at = length-drop at bytes in
-    omega arith
+name_end_within bytes at within = search (rules, length_before_zero, length-drop)
 
 -- The bytes before the end are the name.
 take_front : (bytes : List ℕ) → take (length (before_zero bytes)) bytes ≡ before_zero bytes
 take_front [] = refl
-take_front (byte ∷ rest) =
-    subst (λ front. take (length front) (byte ∷ rest) ≡ front) (sym (before_zero-cons byte rest))
-    (by_test (byte == 0) (take_front rest)) where
-      by_test : (is_zero : Bool) → take (length (before_zero rest)) rest ≡ before_zero rest
-          → take (length (cond is_zero [] (byte ∷ before_zero rest))) (byte ∷ rest) ≡ cond is_zero [] (byte ∷ before_zero rest)
-      by_test true later = refl
-      by_test false later = ap (λ l. byte ∷ l) later
+take_front (byte ∷ rest) = search (rules, before_zero-cons, before_zero, take_front rest)
 
 pub name_before_end : (bytes : List ℕ) (at end : ℕ) → end ≡ end_of bytes at → take (end - at) (drop at bytes) ≡ name_from bytes at
 name_before_end bytes at end is = ap (λ n. take n (drop at bytes)) (omega arith) ∙ take_front (drop at bytes)
@@ -81,27 +62,13 @@ pub ends_more : (bytes ends more : List ℕ) (n end : ℕ) → length ends ≡ n
     → ((index : ℕ) (d : ℕ) → index < n → slice_index_or ends index d ≡ end_of bytes (64 * index))
     → end ≡ end_of bytes (64 * n) → more ≡ ends ++ end ∷ []
     → (index : ℕ) (d : ℕ) → index < n + 1 → slice_index_or more index d ≡ end_of bytes (64 * index)
-ends_more bytes ends more n end long each is pushed index d within =
-    ap (λ l. slice_index_or l index d) pushed ∙ elim (eq-or-lt_of_le {n = index} {m = n} (omega arith)) [
-      | inl same ↦ get_or-append_right ends (end ∷ []) n index d long (omega arith)
-          ∙ ap (λ k. slice_index_or (end ∷ []) k d) (first same) ∙ is ∙ ap (λ k. end_of bytes (64 * k)) (sym same)
-      | inr below ↦ get_or_append_left ends (end ∷ []) d index (omega arith) ∙ each index d below
-    ] where
-      first : index ≡ n → index - n ≡ 0
-      first same = omega arith
+ends_more bytes ends more n end long each is pushed index d within = search (rules, eq-or-lt_of_le, get_or-append_right, get_or_append_left)
 
 -- A later end of the bytes before the first zero byte.
 before_zero-later : (n : ℕ) (bytes : List ℕ) → n ≤ length (before_zero bytes) → before_zero (drop n bytes) ≡ drop n (before_zero bytes)
 before_zero-later zero bytes within = refl
 before_zero-later (suc n) [] within = refl
-before_zero-later (suc n) (byte ∷ rest) within =
-    subst (λ front. suc n ≤ length front → before_zero (drop n rest) ≡ drop (suc n) front) (sym (before_zero-cons byte rest))
-    (by_test (byte == 0) (before_zero-later n rest)) within where
-      by_test : (is_zero : Bool) → (n ≤ length (before_zero rest) → before_zero (drop n rest) ≡ drop n (before_zero rest))
-          → suc n ≤ length (cond is_zero [] (byte ∷ before_zero rest)) →
-          before_zero (drop n rest) ≡ drop (suc n) (cond is_zero [] (byte ∷ before_zero rest))
-      by_test true later short = absurd (omega arith)
-      by_test false later short = later (omega arith)
+before_zero-later (suc n) (byte ∷ rest) within = search (rules, before_zero, before_zero-cons, before_zero-later n rest)
 
 -- A later end of a name is the name there.
 pub name_from-later : (bytes : List ℕ) (at n : ℕ) → n ≤ length (name_from bytes at) →
@@ -110,7 +77,4 @@ name_from-later bytes at n within = sym (ap before_zero (drop_again at n bytes))
 
 -- A name is within the bytes.
 pub name_within : (bytes : List ℕ) (at : ℕ) → length (name_from bytes at) ≤ length bytes - at
-name_within bytes at =
-    let most : length (name_from bytes at) ≤ length (drop at bytes) = length_before_zero (drop at bytes) in
-    let long : length (drop at bytes) ≡ length bytes - at = length-drop at bytes in
-    omega arith
+name_within bytes at = search (rules, length_before_zero, length-drop)

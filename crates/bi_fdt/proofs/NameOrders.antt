@@ -1,10 +1,10 @@
-use Rattle.std.proofs.Common.{◌≡◌, ℕ, suc, ◌+◌, ◌<◌, List, [], ◌∷◌, ◌++◌, length, take, drop, get_or, Some, slice_get, All, Bor}
+use Rattle.std.proofs.Common.{◌≡◌, ℕ, suc, ◌+◌, ◌<◌, List, [], ◌∷◌, ◌++◌, length, take, drop, get_or, Some, slice_get, All, Bor, rules}
 use Rattle.std.proofs.Common.{IsPermutation, is_lt, inl, inr, refl, sym, ap, subst, ◌∙◌, arith, get_or-set_same, get_or-set_other}
 use Rattle.std.proofs.Math.ListN.{set, drop_of_length-le}
 use Rattle.std.proofs.Math.Seq.{drop-cons}
 use Rattle.std.specs.Cmp.Lexicographic.{slice_cmp}
 use Rattle.std.specs.List.{AllZip}
-use Rattle.std.specs.List.Sorted.{IsSorted, IsSortedBy, IsStrictlySortedBy}
+use Rattle.std.specs.List.Sorted.{IsSorted, IsSortedBy}
 use Rattle.std.specs.Ordering.{nat_cmp, ordering_then}
 use Rattle.std.proofs.lemmas.Bool.{cases_eq}
 use Rattle.std.proofs.lemmas.Cmp.{nat_list_cmp_total, eq_by_cmp_equiv}
@@ -37,10 +37,7 @@ numbers-push : (number : ℕ) (names : List Slice) (name : Slice) →
     with_numbers_from number (names ++ name ∷ []) ≡ with_numbers_from number names ++
     (prefix_of_name name.now, name, number + length names) ∷ []
 numbers-push number [] name = ap (λ n. (prefix_of_name name.now, name, n) ∷ []) (omega arith)
-numbers-push number (first ∷ names) name =
-    ap (λ l. (prefix_of_name first.now, first, number) ∷ l)
-    (numbers-push (number + 1) names name
-    ∙ ap (λ n. with_numbers_from (number + 1) names ++ (prefix_of_name name.now, name, n) ∷ []) (omega arith))
+numbers-push number (first ∷ names) name = search (rules, numbers-push (number + 1) names name)
 
 -- As many as there are names.
 length-numbers : (number : ℕ) (names : List Slice) → length (with_numbers_from number names) ≡ length names
@@ -100,9 +97,7 @@ sorted_names (one ∷ order) prefixes ascending k d least within =
 -- The names are the same, in another order.
 pub same_sorted_names : (names : List Slice) (order : List NumberedName) → IsPermutation (with_numbers_from 0 names) order →
     IsPermutation (bytes_of names) (names_in order)
-same_sorted_names names order moved =
-    subst (λ l. IsPermutation l (names_in order)) (names_in-numbers 0 names)
-    (IsPermutation-map (λ (one : NumberedName). one.1.now) (with_numbers_from 0 names) order moved)
+same_sorted_names names order moved = search (rules, names_in-numbers, IsPermutation-map)
 
 -- Distinct names with their numbers are in byte order after the sort.
 pub order_sorted : (names : List Slice) (order sorted : List NumberedName) → AreDistinct (bytes_of names) →
@@ -142,8 +137,7 @@ numbered_from all number (name ∷ names) here =
 
 pub all_numbered : (names : List Slice) (order : List NumberedName) → IsPermutation (with_numbers_from 0 names) order →
     All (IsNumbered (bytes_of names)) order
-all_numbered names order moved =
-    All-permutation (IsNumbered (bytes_of names)) (with_numbers_from 0 names) order moved (numbered_from (bytes_of names) 0 names refl)
+all_numbered names order moved = search (rules, All-permutation, numbered_from)
 
 -- So each is less than their count.
 pub number_in_order_within : (names : List Slice) (order : List NumberedName) → IsPermutation (with_numbers_from 0 names) order →
@@ -224,10 +218,4 @@ pub ranks_are : (names : List Slice) (order here there : List NumberedName) (sor
     IsOrderOfNames names order →
     here ≡ order → sorted ≡ slices_in here → there ≡ order → AllZip (IsNumberOf (names_in there)) (bytes_of names) ranks →
     AreRanksOf (bytes_of names) (bytes_of sorted) ranks
-ranks_are names order here there sorted ranks is same are other ranked =
-    let bytes : names_in order ≡ bytes_of sorted = sym (ap bytes_of are ∙ bytes_of-slices here ∙ ap names_in same) in
-    record {
-      in_order = subst (IsStrictlySortedBy (slice_cmp nat_cmp)) bytes is.in_order;
-      same_names = subst (IsPermutation (bytes_of names)) bytes (same_sorted_names names order is.permutation);
-      ranked = subst (λ l. AllZip (IsNumberOf l) (bytes_of names) ranks) (ap names_in other ∙ bytes) ranked;
-    }
+ranks_are names order here there sorted ranks is same are other ranked = search (rules, bytes_of-slices, same_sorted_names)

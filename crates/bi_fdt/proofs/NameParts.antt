@@ -1,5 +1,5 @@
 use Rattle.std.proofs.Common.{◌≡◌, ◌⊎◌, ℕ, zero, suc, inl, inr, Bool, true, false, cond, List, [], ◌∷◌, ◌++◌, length, Option, Some, None}
-use Rattle.std.proofs.Common.{slice_get, ◌≤◌, refl, sym, ap, subst, ◌∙◌, arith}
+use Rattle.std.proofs.Common.{slice_get, ◌≤◌, refl, sym, ap, ◌∙◌, rules}
 use denote.Ref.{Bor}
 use Rattle.std.proofs.lemmas.List.{append_assoc, append-nil}
 use Rattle.std.proofs.lemmas.Option.{none-some, same_Some}
@@ -26,10 +26,7 @@ pub slice_get-pushed : {Item : Type 0} (xs : List Item) (y : Item) (index : ℕ)
 slice_get-pushed [] y zero x is = inr (refl, same_Some y x is)
 slice_get-pushed [] y (suc index) x is = absurd (none-some x is)
 slice_get-pushed (z ∷ xs) y zero x is = inl is
-slice_get-pushed (z ∷ xs) y (suc index) x is = elim (slice_get-pushed xs y index x is) [
-  | inl there ↦ inl there
-  | inr last ↦ inr (ap suc last.0, last.1)
-]
+slice_get-pushed (z ∷ xs) y (suc index) x is = search (rules, slice_get-pushed xs y index x is)
 
 -- What was in the list is in one that begins with it.
 pub slice_get-begin : {Item : Type 0} (all front : List Item) → BeginsWith all front → (index : ℕ) (x : Item) →
@@ -81,59 +78,25 @@ lacks_part numbers parts part listed lacks index there = none-some index (sym la
 
 -- The same parts.
 pub AreMoreParts-same : (old new : List NamePart) → new ≡ old → AreMoreParts old new
-AreMoreParts-same old new same = record {
-  begin = ([], same ∙ sym (append-nil old));
-  once = λ once. subst AreOnce (sym same) once;
-  order = λ order. subst AreAfterTails (sym same) order;
-}
+AreMoreParts-same old new same = search (rules, append-nil)
 
 -- One more part.
 pub once_more : (parts : List NamePart) (part : NamePart) → IsNewPart part parts → AreOnce parts → AreOnce (parts ++ part ∷ [])
-once_more parts part new once other m n at_m at_n =
-    elim (slice_get-pushed parts part m other at_m) [
-      | inl m_there ↦ elim (slice_get-pushed parts part n other at_n) [
-        | inl n_there ↦ once other m n m_there n_there
-        | inr n_last ↦ absurd (new m (m_there ∙ ap Some (sym n_last.1)))
-      ]
-      | inr m_last ↦ elim (slice_get-pushed parts part n other at_n) [
-        | inl n_there ↦ absurd (new n (n_there ∙ ap Some (sym m_last.1)))
-        | inr n_last ↦ m_last.0 ∙ sym n_last.0
-      ]
-    ]
+once_more parts part new once other m n at_m at_n = search (rules, slice_get-pushed)
 
 -- It is in order if the blocks after it are.
 order_more : (parts : List NamePart) (part : NamePart) → part.0 ≤ length parts → AreAfterTails parts → AreAfterTails (parts ++ part ∷ [])
-order_more parts part fits order index other at = elim (slice_get-pushed parts part index other at) [
-  | inl there ↦ order index other there
-  | inr last ↦ subst (λ (other : NamePart). other.0 ≤ index) last.1 (omega (arith, fits, last.0))
-]
+order_more parts part fits order index other at = search (rules, slice_get-pushed)
 
 -- What adding a part does.
 pub placed_more : (old : List NamePart) (part : NamePart) (index : ℕ) (new : List NamePart) → part.0 ≤ length old →
     IsPlaced old part index new → AreMoreParts old new
-placed_more old part index new fits placed = elim placed [
-  | inl there ↦ AreMoreParts-same old new there.1
-  | inr added ↦ record {
-    begin = (part ∷ [], added.2);
-    once = λ once. subst AreOnce (sym added.2) (once_more old part added.0 once);
-    order = λ order. subst AreAfterTails (sym added.2) (order_more old part fits order);
-  }
-]
+placed_more old part index new fits placed = search (rules, AreMoreParts-same, once_more, order_more)
 
 pub placed_at : (old : List NamePart) (part : NamePart) (index : ℕ) (new : List NamePart) → IsPlaced old part index new →
     slice_get new index ≡ Some part
-placed_at old part index new placed = elim placed [
-  | inl there ↦ ap (λ l. slice_get l index) there.1 ∙ there.0
-  | inr added ↦ ap (λ l. slice_get l index) added.2 ∙ ap (slice_get (old ++ part ∷ [])) added.1 ∙ slice_get-last old part
-]
+placed_at old part index new placed = search (rules, slice_get-last)
 
 -- More parts than more parts.
 pub AreMoreParts-again : (a b c : List NamePart) → AreMoreParts a b → AreMoreParts b c → AreMoreParts a c
-AreMoreParts-again a b c first second = record {
-  begin = (
-    first.begin.0 ++ second.begin.0,
-    second.begin.1 ∙ ap (λ l. l ++ second.begin.0) first.begin.1 ∙ append_assoc a first.begin.0 second.begin.0,
-  );
-  once = λ once. second.once (first.once once);
-  order = λ order. second.order (first.order order);
-}
+AreMoreParts-again a b c first second = search (rules, append_assoc)

@@ -1,8 +1,8 @@
-use Rattle.std.proofs.Common.{◌≡◌, ℕ, zero, suc, ◌+◌, ◌-◌, ◌*◌, ◌/◌, ◌%◌, ◌<◌, ◌≤◌, List, [], ◌∷◌, ◌++◌, length, take, drop, Some}
+use Rattle.std.proofs.Common.{◌≡◌, ℕ, zero, suc, ◌+◌, ◌-◌, ◌*◌, ◌/◌, ◌%◌, ◌<◌, ◌≤◌, List, [], ◌∷◌, ◌++◌, length, take, drop, Some, rules}
 use Rattle.std.proofs.Common.{slice_get}
-use Rattle.std.proofs.Common.{slice_index_or, inl, inr}
+use Rattle.std.proofs.Common.{slice_index_or}
 use Rattle.std.proofs.Math.Nat.{eq-or-lt_of_le}
-use Rattle.std.proofs.Common.{refl, sym, ap, subst, ◌∙◌, arith}
+use Rattle.std.proofs.Common.{sym, ap, subst, ◌∙◌, arith}
 use Rattle.std.proofs.lemmas.List.{length-drop, take-append-drop, drop_all, get_or_append_left, get_or-append_right}
 use Rattle.std.proofs.lemmas.Option.{some_pair_parts, slice_get_within}
 use Rattle.bi_blob.specs.Tokens.{name_from}
@@ -19,12 +19,8 @@ pub AreBlocksNumbered-more : (old new : List NamePart) → BeginsWith new old �
     AreBlocksNumbered old count number name →
     AreBlocksNumbered new count number name
 AreBlocksNumbered-more old new begins zero number name is = is
-AreBlocksNumbered-more old new begins (suc count) number name is = (
-  is.0,
-  is.1,
-  slice_get-begin new old begins (number - 1) _ is.2,
-  AreBlocksNumbered-more old new begins count is.0 name is.3,
-)
+AreBlocksNumbered-more old new begins (suc count) number name is =
+    search (rules, slice_get-begin, AreBlocksNumbered-more old new begins count is.0 name is.3)
 
 pub IsTail-kept : (old new : List NamePart) → BeginsWith new old → (number : ℕ) (name : List ℕ) → IsTail old number name →
     IsTail new number name
@@ -37,40 +33,26 @@ AreAllBlocks-kept old new begins number name is = AreBlocksNumbered-more old new
 -- The block that begins this many bytes before the end of a name is that of a later end of it.
 block_later : (skipped size : ℕ) (name : List ℕ) → size + skipped ≤ length name →
     take 64 (drop (length (drop skipped name) - size) (drop skipped name)) ≡ take 64 (drop (length name - size) name)
-block_later skipped size name within =
-    let shorter : length (drop skipped name) ≡ length name - skipped = length-drop skipped name in
-    let at : skipped + (length (drop skipped name) - size) ≡ length name - size = omega arith in
-    ap (take 64) (drop_again skipped (length (drop skipped name) - size) name ∙ ap (λ k. drop k name) at)
+block_later skipped size name within = search (rules, length-drop, drop_again)
 
 -- The last blocks of a name are those of a later end of it.
 pub AreBlocksNumbered-later : (tails : List NamePart) (count skipped number : ℕ) (name : List ℕ) → 64 * count + skipped ≤ length name →
     AreBlocksNumbered tails count number (drop skipped name) → AreBlocksNumbered tails count number name
 AreBlocksNumbered-later tails zero skipped number name within is = is
-AreBlocksNumbered-later tails (suc count) skipped number name within is = (
-  is.0,
-  is.1,
-  is.2 ∙ ap (λ block. Some (is.0, block)) (block_later skipped (64 * (count + 1)) name (omega arith)),
-  AreBlocksNumbered-later tails count skipped is.0 name (omega arith) is.3,
-)
+AreBlocksNumbered-later tails (suc count) skipped number name within is =
+    search (rules, block_later, AreBlocksNumbered-later tails count skipped is.0 name (omega arith) is.3)
 
 -- The number of last blocks is none of a later part.
 pub blocks_number_within : (tails : List NamePart) (count number : ℕ) (name : List ℕ) → AreBlocksNumbered tails count number name →
     number ≤ length tails
 blocks_number_within tails zero number name is = omega (arith, is)
-blocks_number_within tails (suc count) number name is =
-    omega (arith, is.1, slice_get_within tails (number - 1) (is.0, take 64 (drop (length name - 64 * (count + 1)) name)) is.2)
+blocks_number_within tails (suc count) number name is = search (rules, slice_get_within)
 
 -- Some last blocks have one number.
 pub one_number : (tails : List NamePart) → AreOnce tails → (count m n : ℕ) (name : List ℕ) → AreBlocksNumbered tails count m name →
     AreBlocksNumbered tails count n name → m ≡ n
 one_number tails once zero m n name is other = is ∙ sym other
-one_number tails once (suc count) m n name is other =
-    let later : is.0 ≡ other.0 = one_number tails once count is.0 other.0 name is.3 other.3 in
-    let same : m - 1 ≡ n - 1 = once _ (m - 1) (n - 1) is.2
-    (other.2 ∙ ap (λ number. Some (number, take 64 (drop (length name - 64 * (count + 1)) name))) (sym later)) in
-    let m_some : 1 ≤ m = is.1 in
-    let n_some : 1 ≤ n = other.1 in
-    omega arith
+one_number tails once (suc count) m n name is other = search (rules, one_number tails once count is.0 other.0 name is.3 other.3)
 
 -- The end of a name that is one block longer.
 longer_end : (name : List ℕ) (count : ℕ) → 64 * (count + 1) ≤ length name →
@@ -86,19 +68,11 @@ longer_end name count within =
 same_blocks : (tails : List NamePart) (m n number : ℕ) (a b : List ℕ) → 64 * m ≤ length a → 64 * n ≤ length b →
     AreBlocksNumbered tails m number a →
     AreBlocksNumbered tails n number b → drop (length a - 64 * m) a ≡ drop (length b - 64 * n) b
-same_blocks tails zero zero number a b m_within n_within is other = drop_all (length a - 64 * 0) a (omega arith)
-    ∙ sym (drop_all (length b - 64 * 0) b (omega arith))
+same_blocks tails zero zero number a b m_within n_within is other = search (rules, drop_all)
 same_blocks tails zero (suc n) number a b m_within n_within is other = let some : 1 ≤ number = other.1 in absurd (omega arith)
 same_blocks tails (suc m) zero number a b m_within n_within is other = let some : 1 ≤ number = is.1 in absurd (omega arith)
 same_blocks tails (suc m) (suc n) number a b m_within n_within is other =
-    let both = some_pair_parts is.0 other.0 (take 64 (drop (length a - 64 * (m + 1)) a))
-    (take 64 (drop (length b - 64 * (n + 1)) b)) (sym is.2 ∙ other.2) in
-    let more_m : suc m ≡ m + 1 = omega arith in
-    let more_n : suc n ≡ n + 1 = omega arith in
-    ap (λ k. drop (length a - 64 * k) a) more_m ∙ longer_end a m (omega arith)
-    ∙ (λ i. both.1 i ++ (same_blocks tails m n is.0 a b (omega arith) (omega arith) is.3
-    (subst (λ k. AreBlocksNumbered tails n k b) (sym both.0) other.3)) i)
-    ∙ sym (ap (λ k. drop (length b - 64 * k) b) more_n ∙ longer_end b n (omega arith))
+    search (rules, some_pair_parts, longer_end, same_blocks tails m n is.0 a b (omega arith) (omega arith) is.3)
 
 -- Names that have one head, and tails of one number, are one name.
 pub same_name_of_head : (tails : List NamePart) (part : NamePart) (a b : List ℕ) → IsHead tails part a → IsHead tails part b → a ≡ b
@@ -111,30 +85,21 @@ same_name_of_head tails part a b is other =
 -- A name has one head, and its tail one number.
 pub one_head : (tails : List NamePart) → AreOnce tails → (p q : NamePart) (name : List ℕ) → IsHead tails p name → IsHead tails q name →
     p ≡ q
-one_head tails once p q name is other =
-    let tail : p.0 ≡ q.0 = one_number tails once (length name / 64 - 1) p.0 q.0 name is.tail other.tail in
-    let head : p.1 ≡ q.1 = is.head ∙ sym other.head in
-    λ i. (tail i, head i)
+one_head tails once p q name is other = search (rules, one_number)
 
 -- A name of less than 64 bytes ends with no block.
 pub AreAllBlocks-none : (tails : List NamePart) (name : List ℕ) → length name < 64 → AreAllBlocks tails 0 name
-AreAllBlocks-none tails name short = subst (λ count. AreBlocksNumbered tails count 0 name) none refl where
-  none : 0 ≡ length name / 64
-  none = omega arith
+AreAllBlocks-none tails name short = search rules
 
 -- The tail of a name of less than 128 bytes is empty.
 pub IsTail-short : (tails : List NamePart) (name : List ℕ) → length name < 128 → IsTail tails 0 name
-IsTail-short tails name short = subst (λ count. AreBlocksNumbered tails count 0 name) none refl where
-  none : 0 ≡ length name / 64 - 1
-  none = omega arith
+IsTail-short tails name short = search rules
 
 -- The tail of a name is all blocks of an end of it that has a block less.
 pub IsTail-later : (tails : List NamePart) (skipped number : ℕ) (name : List ℕ) → skipped ≤ length name →
     (length name - skipped) / 64 ≡ length name / 64 - 1 →
     AreAllBlocks tails number (drop skipped name) → IsTail tails number name
-IsTail-later tails skipped number name within less is =
-    AreBlocksNumbered-later tails (length name / 64 - 1) skipped number name (omega arith)
-    (subst (λ count. AreBlocksNumbered tails count number (drop skipped name)) (ap (λ n. n / 64) (length-drop skipped name) ∙ less) is)
+IsTail-later tails skipped number name within less is = search (rules, AreBlocksNumbered-later, length-drop)
 
 -- All blocks of a name are the first, and all blocks of the name 64 bytes later.
 pub AreAllBlocks-more : (old new : List NamePart) (begin size later index : ℕ) (name : List ℕ) → 64 ≤ length name →
@@ -161,15 +126,4 @@ pub blocks_more : (old new : List NamePart) (strings numbers more : List ℕ) (c
     → AreAllBlocks new number (name_from strings (64 * (count - 1 - n))) → more ≡ numbers ++ number ∷ []
     → (index : ℕ) (d : ℕ) → index < n + 1 → AreAllBlocks new (slice_index_or more index d) (name_from strings (64 * (count - 1 - index)))
 blocks_more old new strings numbers more count n number begins long each is pushed index d within =
-    subst (λ l. AreAllBlocks new (slice_index_or l index d) (name_from strings (64 * (count - 1 - index)))) (sym pushed)
-    (elim (eq-or-lt_of_le {n = index} {m = n} (omega arith)) [
-      | inl same ↦ subst (λ k. AreAllBlocks new k (name_from strings (64 * (count - 1 - index))))
-          (sym (get_or-append_right numbers (number ∷ []) n index d long (omega arith)
-          ∙ ap (λ k. slice_index_or (number ∷ []) k d) (first same)))
-          (subst (λ k. AreAllBlocks new number (name_from strings (64 * (count - 1 - k)))) (sym same) is)
-      | inr below ↦ subst (λ k. AreAllBlocks new k (name_from strings (64 * (count - 1 - index))))
-          (sym (get_or_append_left numbers (number ∷ []) d index (omega arith)))
-          (AreAllBlocks-kept old new begins _ _ (each index d below))
-    ]) where
-      first : index ≡ n → index - n ≡ 0
-      first same = omega arith
+    search (rules, eq-or-lt_of_le, get_or-append_right, get_or_append_left, AreAllBlocks-kept)

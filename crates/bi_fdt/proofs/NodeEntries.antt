@@ -1,5 +1,5 @@
 use Rattle.std.proofs.Common.{◌≡◌, ℕ, zero, suc, ◌+◌, ◌-◌, ◌<◌, ◌≤◌, List, [], ◌∷◌, length, map, drop, take, get_or, Some, None, slice_get}
-use Rattle.std.proofs.Common.{refl, sym, ap, subst, ◌∙◌, inl, inr, arith}
+use Rattle.std.proofs.Common.{refl, sym, ap, subst, ◌∙◌, inl, inr, arith, rules}
 use Rattle.std.specs.Prelude.{IsTrue}
 use Rattle.std.proofs.Math.Seq.{drop-cons}
 use Rattle.std.proofs.lemmas.Bool.{false≢true, cases_lt}
@@ -27,8 +27,7 @@ entry_here entries index e d within is = drop-cons entries index d within ∙ ap
 
 pub items_here : (file : List ℕ) (entries : List Entry) (index : ℕ) (e d : Entry) → index < length entries → get_or entries index d ≡ e →
     drop index (map (item_in file) entries) ≡ item_in file e ∷ map (item_in file) (drop (suc index) entries)
-items_here file entries index e d within is = drop-map (item_in file) index entries
-    ∙ ap (map (item_in file)) (entry_here entries index e d within is)
+items_here file entries index e d within is = search (rules, drop-map, entry_here)
 
 -- A property is not a node.
 pub no_property : (file : List ℕ) (entries : List Entry) (table : List TableItem) (index : ℕ) (p : PropertyEntry) (d : Entry) →
@@ -43,8 +42,7 @@ pub linked_at : (file : List ℕ) (at : ℕ) (entries later : List Entry) (index
     drop index entries ≡ entry.Node n ∷ later → IsLinked 0 (at + index) n (map (item_in file) later)
 linked_at file at [] later zero n linked here = absurd cc
 linked_at file at [] later (suc index) n linked here = absurd cc
-linked_at file at (e ∷ entries) later zero n linked here =
-    subst (λ k. IsLinked 0 k n (map (item_in file) later)) (omega arith) ((subst (AreLinked file 0 at) here linked).0)
+linked_at file at (e ∷ entries) later zero n linked here = search rules
 linked_at file at (entry.Property p ∷ entries) later (suc index) n linked here =
     subst (λ k. IsLinked 0 k n (map (item_in file) later)) (omega arith) (linked_at file (at + 1) entries later index n linked here)
 linked_at file at (entry.Node m ∷ entries) later (suc index) n linked here =
@@ -59,15 +57,7 @@ pub items_below : (first : ℕ) (es : List FileEvent) (index depth place : ℕ) 
     drop index (items_of first es) ≡ NodeItem depth place name ∷ later → AreBelow depth later
 items_below first [] zero depth place name later at = absurd cc
 items_below first [] (suc index) depth place name later at = absurd cc
-items_below first (FileNodeStart other_place other_name ∷ es) zero depth place name later at =
-    let same : first ≡ depth = node_depth at in
-    let rest : items_of (first + 1) es ≡ later = node_rest at in
-    record { events = es; is = sym rest ∙ ap (λ d. items_of (d + 1) es) same } where
-      node_depth : {a b x y : ℕ} {k l : List ℕ} {u v : List TableItem} → NodeItem a x k ∷ u ≡ NodeItem b y l ∷ v → a ≡ b
-      node_depth e = cc
-
-      node_rest : {a b x y : ℕ} {k l : List ℕ} {u v : List TableItem} → NodeItem a x k ∷ u ≡ NodeItem b y l ∷ v → u ≡ v
-      node_rest e = cc
+items_below first (FileNodeStart other_place other_name ∷ es) zero depth place name later at = search rules
 items_below first (FileNodeStart other_place other_name ∷ es) (suc index) depth place name later at = items_below
     (first + 1) es index depth place name later at
 items_below first (FileNodeProperty property ∷ es) zero depth place name later at = absurd cc
@@ -79,10 +69,7 @@ items_below first (FileNodeEnd ∷ es) index depth place name later at = items_b
 pub first_depth : (depth : ℕ) (es : List FileEvent) (own place : ℕ) (name : List ℕ) (rest : List TableItem) →
     drop (length (first_properties (items_of depth es))) (items_of depth es) ≡ NodeItem own place name ∷ rest → own ≤ depth
 first_depth depth [] own place name rest at = absurd cc
-first_depth depth (FileNodeStart other_place other_name ∷ es) own place name rest at = let same : depth
-    ≡ own = node_depth at in omega arith where
-      node_depth : {a b x y : ℕ} {k l : List ℕ} {u v : List TableItem} → NodeItem a x k ∷ u ≡ NodeItem b y l ∷ v → a ≡ b
-      node_depth e = cc
+first_depth depth (FileNodeStart other_place other_name ∷ es) own place name rest at = search rules
 first_depth depth (FileNodeProperty property ∷ es) own place name rest at = first_depth depth es own place name rest at
 first_depth depth (FileNodeEnd ∷ es) own place name rest at =
     let least : own ≤ depth - 1 = first_depth (depth - 1) es own place name rest at in omega arith
@@ -104,19 +91,14 @@ nodes-past_properties depth (NodeItem own place name ∷ items) = refl
 pub inside-past_properties : (depth : ℕ) (items : List TableItem) →
     count_inside depth items ≡ length (first_properties items) + count_inside depth (drop (length (first_properties items)) items)
 inside-past_properties depth [] = refl
-inside-past_properties depth (PropertyItem p ∷ items) = let e : count_inside depth items
-    ≡ length (first_properties items) + count_inside depth
-    (drop (length (first_properties items)) items) = inside-past_properties depth items in omega arith
+inside-past_properties depth (PropertyItem p ∷ items) = search (rules, inside-past_properties depth items)
 inside-past_properties depth (NodeItem own place name ∷ items) = omega arith
 
 -- What is inside makes no difference to the nodes at a depth.
 pub nodes-past_inside : (depth : ℕ) (items : List TableItem) →
     nodes_of depth items ≡ nodes_of depth (drop (count_inside depth items) items)
 nodes-past_inside depth [] = refl
-nodes-past_inside depth (PropertyItem p ∷ items) = nodes-past_inside depth items
-    ∙ ap (λ n. nodes_of depth (drop n (PropertyItem p ∷ items))) (one_more (count_inside depth items)) where
-      one_more : (n : ℕ) → suc n ≡ n + 1
-      one_more n = omega arith
+nodes-past_inside depth (PropertyItem p ∷ items) = search (rules, nodes-past_inside depth items)
 nodes-past_inside depth (NodeItem own place name ∷ items) = elim (cases_lt depth own) [
   | inl deeper ↦ (nodes-deeper depth own place name items deeper ∙ nodes-past_inside depth items
       ∙ ap (λ n. nodes_of depth (drop n (NodeItem own place name ∷ items)))
@@ -130,10 +112,7 @@ nodes-past_inside depth (NodeItem own place name ∷ items) = elim (cases_lt dep
 pub after_inside : (depth : ℕ) (items rest : List TableItem) (item : TableItem) → drop (count_inside depth items) items ≡ item ∷ rest →
     (own : ℕ) × (place : ℕ) × (name : List ℕ) × (item ≡ NodeItem own place name) × (own ≤ depth)
 after_inside depth [] rest item at = absurd cc
-after_inside depth (PropertyItem p ∷ items) rest item at =
-    after_inside depth items rest item (ap (λ n. drop n (PropertyItem p ∷ items)) (one_more (count_inside depth items)) ∙ at) where
-      one_more : (n : ℕ) → suc n ≡ n + 1
-      one_more n = omega arith
+after_inside depth (PropertyItem p ∷ items) rest item at = search (rules, after_inside depth items rest item)
 after_inside depth (NodeItem own place name ∷ items) rest item at = elim (cases_lt depth own) [
   | inl deeper ↦ after_inside depth items rest item
       (ap (λ n. drop n (NodeItem own place name ∷ items))
@@ -213,9 +192,7 @@ pub record IsFirstAt (items : List TableItem) (index : ℕ) : Type 0 where
 pub first_at : (items : List TableItem) (index : ℕ) → index < length (first_properties items) → IsFirstAt items index
 first_at [] index within = absurd (omega arith)
 first_at (PropertyItem p ∷ items) zero within = record { property = p; rest = items; is_at = refl; is_got = refl }
-first_at (PropertyItem p ∷ items) (suc index) within =
-    let r : IsFirstAt items index = first_at items index (omega arith) in
-    record { property = r.property; rest = r.rest; is_at = r.is_at; is_got = r.is_got }
+first_at (PropertyItem p ∷ items) (suc index) within = search (rules, first_at items index (omega arith))
 first_at (NodeItem own place name ∷ items) index within = absurd (omega arith)
 
 -- Nothing is got past the end, and what is got of changed elements is the changed element.

@@ -1,6 +1,6 @@
-use Rattle.std.proofs.Common.{◌≡◌, ℕ, zero, suc, ◌+◌, ◌<◌, ◌≤◌, Bool, true, false, List, [], ◌∷◌, length, map, drop, take, get_or, Some}
-use Rattle.std.proofs.Common.{None, slice_get, refl, sym, ap, subst, ◌∙◌, inl, inr, arith}
-use Rattle.std.specs.Prelude.{IsTrue, bytes_eq, cond}
+use Rattle.std.proofs.Common.{◌≡◌, ℕ, zero, suc, ◌+◌, ◌<◌, ◌≤◌, false, List, [], ◌∷◌, length, map, drop, take, get_or, Some}
+use Rattle.std.proofs.Common.{None, slice_get, refl, sym, ap, subst, ◌∙◌, inl, inr, arith, rules}
+use Rattle.std.specs.Prelude.{IsTrue, bytes_eq}
 use Rattle.std.specs.Map.{lookup}
 use Rattle.std.proofs.lemmas.Bool.{cases_lt, cases_order}
 use Rattle.std.proofs.lemmas.List.{drop-map, length-map, take-map}
@@ -11,7 +11,7 @@ use Rattle.bi_fdt.specs.declared.table.Entry.{Entry}
 use Rattle.bi_fdt.specs.declared.table.Entry.TheVariants as entry
 use Rattle.bi_fdt.specs.declared.table.NodeEntry.{NodeEntry}
 use Rattle.bi_fdt.specs.declared.table.PropertyEntry.{PropertyEntry}
-use Rattle.bi_fdt.specs.Table.{node_name_in, property_in, item_in}
+use Rattle.bi_fdt.specs.Table.{property_in, item_in}
 use Rattle.bi_fdt.specs.TableItems.{TableItem, NodeItem, PropertyItem, first_properties, nodes_of, count_inside}
 use Rattle.bi_fdt.specs.Content.{begins_with_node, first_sibling}
 use Rattle.bi_fdt.specs.Fields.{IsNodeOf}
@@ -27,15 +27,10 @@ use Rattle.bi_fdt.proofs.NodeEntries.{nodes-past_properties, inside-past_propert
 module _ (file : List ℕ) (table : List TableItem) (index : ℕ) (n : NodeEntry) (there : IsNodeOf file table index n) where
   -- Its properties are within the table.
   pub properties_within : index + 1 + n.property_count ≤ length table
-  properties_within =
-      let long : index + 1 + length there.later
-      ≡ length table = drop-within table there.later index (NodeItem n.depth n.place (node_name_in file n)) there.is_at in
-      let most : length (first_properties there.later) ≤ length there.later = first_most there.later in
-      let count : n.property_count ≡ length (first_properties there.later) = there.linked.count in
-      omega arith
+  properties_within = search (rules, drop-within, first_most)
 
   pub after_node : (more : ℕ) → drop (index + 1 + more) table ≡ drop more there.later
-  after_node more = drop-next table there.later index more (NodeItem n.depth n.place (node_name_in file n)) there.is_at
+  after_node more = search (rules, drop-next)
 
   -- The entries after it as many as it has properties are these.
   pub properties_there : (entries : List Entry) → map (item_in file) entries ≡ table →
@@ -60,14 +55,10 @@ module _ (file : List ℕ) (table : List TableItem) (index : ℕ) (n : NodeEntry
   after_is = there.linked.at_end (omega arith)
 
   inside_is : count_inside n.depth there.later ≡ n.property_count + count_inside n.depth rest
-  inside_is =
-      let all : count_inside n.depth there.later
-      ≡ length (first_properties there.later) + count_inside n.depth rest = inside-past_properties n.depth there.later in
-      let count : n.property_count ≡ length (first_properties there.later) = there.linked.count in
-      omega arith
+  inside_is = search (rules, inside-past_properties)
 
   children_are : (first_sibling (drop index table)).children ≡ nodes_of (n.depth + 1) rest
-  children_are = ap (λ items. (first_sibling items).children) there.is_at ∙ nodes-past_properties (n.depth + 1) there.later
+  children_are = search (rules, nodes-past_properties)
 
   -- Without entries inside it there is no child.
   pub no_child : index + 1 + n.property_count ≡ n.after → (first_sibling (drop index table)).children ≡ none
@@ -143,83 +134,43 @@ module _ (file : List ℕ) (table : List TableItem) (index : ℕ) (n : NodeEntry
 
   -- No property comes there.
   pub no_property_later : (p : FileProperty) (items : List TableItem) → drop n.after table ≡ PropertyItem p ∷ items → ⊥
-  no_property_later p items at = not_node (after_inside n.depth there.later items (PropertyItem p) (sym beyond_there ∙ at)) where
-    not_node : ((own : ℕ) × (place : ℕ) × (name : List ℕ) × (PropertyItem p ≡ NodeItem own place name) × (own ≤ n.depth)) → ⊥
-    not_node found = (let e = found.3 in cc)
+  no_property_later p items at = search (rules, after_inside, beyond_there)
 
   -- A node of another depth is not a sibling.
   pub other_later : (own place : ℕ) (name : List ℕ) (items : List TableItem) → drop n.after table ≡ NodeItem own place name ∷ items →
       ¬ (own ≡ n.depth) → (first_sibling (drop index table)).later ≡ none
-  other_later own place name items at other =
-      let most : own ≤ n.depth = no_deeper (after_inside n.depth there.later items (NodeItem own place name) (sym beyond_there ∙ at)) in
-      later_are ∙ ap (nodes_of n.depth) (sym beyond_there ∙ at) ∙ nodes-above n.depth own place name items (omega arith) where
-        no_deeper : ((o : ℕ) × (p : ℕ) × (l : List ℕ) × (NodeItem own place name ≡ NodeItem o p l) × (o ≤ n.depth)) → own ≤ n.depth
-        no_deeper found = (let e : NodeItem own place name ≡ NodeItem found.0 found.1 found.2 = found.3 in
-            let same : own ≡ found.0 = item_depth e in let most : found.0 ≤ n.depth = found.4 in omega arith) where
-              item_depth : {a b x y : ℕ} {k l : List ℕ} → NodeItem a x k ≡ NodeItem b y l → a ≡ b
-              item_depth e = cc
+  other_later own place name items at other = search (rules, after_inside, beyond_there, later_are, nodes-above)
 
   -- A node of its depth is the next sibling.
   pub next_later : (own place : ℕ) (name : List ℕ) (items : List TableItem) → drop n.after table ≡ NodeItem own place name ∷ items →
       own ≡ n.depth → IsTrue (begins_with_node (drop n.after table))
       × (Some (first_sibling (drop n.after table)) ≡ node_at (first_sibling (drop index table)).later 0)
-  next_later own place name items at same = (
-    ap begins_with_node at,
-    ap (λ l. Some (first_sibling l)) at
-        ∙ sym (ap (λ nodes. node_at nodes 0)
-        (later_are ∙ ap (nodes_of n.depth) (sym beyond_there ∙ at) ∙ nodes-same n.depth own place name items same
-        ∙ ap (λ d. node name (record { place = place; properties = first_properties items }) (nodes_of (d + 1) items)
-        (nodes_of d items)) (sym same))),
-  )
+  next_later own place name items at same = search (rules, later_are, beyond_there, nodes-same)
 
 -- The first node of a tree's table is the root.
 pub root_there : (root : Root FileNode) → first_sibling (table_of root) ≡ root_node root
-root_there root = ap head_of (nodes-table root) where
-  head_of : Nodes FileNode → Sibling FileNode
-  head_of none = record { name = []; own = record { place = 0; properties = [] }; children = none; later = none }
-  head_of (node name own children later) = record { name = name; own = own; children = children; later = later }
+root_there root = search (rules, nodes-table)
 
 -- The siblings of a node are within the table.
 pub siblings_few : (depth : ℕ) (items : List TableItem) → length (siblings (nodes_of depth items)) ≤ length items
 siblings_few depth [] = omega arith
-siblings_few depth (PropertyItem p ∷ items) = let e : length
-    (siblings (nodes_of depth items)) ≤ length items = siblings_few depth items in omega arith
+siblings_few depth (PropertyItem p ∷ items) = search (rules, siblings_few depth items)
 siblings_few depth (NodeItem own place name ∷ items) =
-    let e : length (siblings (nodes_of depth items)) ≤ length items = siblings_few depth items in
-    elim (cases_order own depth) [
-      | inl same ↦ (let f : length (siblings (nodes_of depth (NodeItem own place name ∷ items)))
-          ≡ suc (length (siblings (nodes_of depth items))) = ap (λ nodes. length (siblings nodes))
-          (nodes-same depth own place name items same) in omega arith)
-      | inr other ↦ elim other [
-        | inl above ↦ (let f : length (siblings (nodes_of depth (NodeItem own place name ∷ items)))
-            ≡ 0 = ap (λ nodes. length (siblings nodes)) (nodes-above depth own place name items above) in omega arith)
-        | inr deeper ↦ (let f : length (siblings (nodes_of depth (NodeItem own place name ∷ items)))
-            ≡ length (siblings (nodes_of depth items)) = ap (λ nodes. length (siblings nodes))
-            (nodes-deeper depth own place name items deeper) in omega arith)
-      ]
-    ]
+    search (rules, cases_order, nodes-same, nodes-above, nodes-deeper, siblings_few depth items)
 
 -- So are the children of the node that items begin with.
 pub children_few : (items : List TableItem) → length (siblings (first_sibling items).children) ≤ length items
 children_few [] = omega arith
 children_few (PropertyItem p ∷ items) = omega arith
-children_few (NodeItem depth place name ∷ items) = let e : length (siblings (nodes_of (depth + 1) items)) ≤ length items = siblings_few
-    (depth + 1) items in omega arith
+children_few (NodeItem depth place name ∷ items) = search (rules, siblings_few)
 
 -- The next sibling of a child is the next child.
 pub next_child_at : (nodes : Nodes FileNode) (index : ℕ) (child : Sibling FileNode) → Some child ≡ node_at nodes index →
     node_at child.later 0 ≡ node_at nodes (index + 1)
 next_child_at none zero child at = absurd cc
 next_child_at none (suc index) child at = absurd cc
-next_child_at (node name own children later) zero child at =
-    let e : child ≡ record { name = name; own = own; children = children; later = later } = cc in
-    ap (λ (s : Sibling FileNode). node_at s.later 0) e ∙ ap (node_at (node name own children later)) (one 0) where
-      one : (n : ℕ) → suc n ≡ n + 1
-      one n = omega arith
-next_child_at (node name own children later) (suc index) child at =
-    next_child_at later index child at ∙ ap (node_at (node name own children later)) (one index) where
-      one : (n : ℕ) → suc (n + 1) ≡ suc n + 1
-      one n = omega arith
+next_child_at (node name own children later) zero child at = search rules
+next_child_at (node name own children later) (suc index) child at = search (rules, next_child_at later index child at)
 
 -- Past a missing child there is none.
 pub no_child_past : (nodes : Nodes FileNode) (index more : ℕ) → node_at nodes index ≡ None → index ≤ more → node_at nodes more ≡ None
@@ -271,25 +222,16 @@ module _ (file : List ℕ) (entries : List Entry) (table : List TableItem) (inde
 -- A node has as many properties as its entry counts.
 pub property_count_is : (file : List ℕ) (table : List TableItem) (index : ℕ) (n : NodeEntry) → IsNodeOf file table index n →
     n.property_count ≡ length (first_sibling (drop index table)).own.properties
-property_count_is file table index n there = there.linked.count
-    ∙ ap (λ items. length (first_sibling items).own.properties) (sym there.is_at)
+property_count_is file table index n there = search rules
 
 -- A look-up passes over a node of another name.
 pub lookup_passes : (name : List ℕ) (child : Sibling FileNode) (later : List (Sibling FileNode)) → bytes_eq child.name name ≡ false →
     lookup (λ other. bytes_eq other name) (map (λ sibling. (sibling.name, sibling)) (child ∷ later))
     ≡ lookup (λ other. bytes_eq other name) (map (λ sibling. (sibling.name, sibling)) later)
-lookup_passes name child later other =
-    ap (λ b. cond b (Some child) (lookup (λ o. bytes_eq o name)
-    (map (λ (sibling : Sibling FileNode). (sibling.name, sibling)) later))) other
+lookup_passes name child later other = search rules
 
 -- The value of a property of a name.
 pub value_found : (properties : List FileProperty) (name : List ℕ) →
     value_named (map property_of properties) name ≡ option_map (λ property. property.value) (property_named properties name)
 value_found [] name = refl
-value_found (p ∷ properties) name = by_test (bytes_eq p.name name) (value_found properties name) where
-  by_test : (b : Bool) → value_named (map property_of properties) name ≡
-      option_map (λ (property : FileProperty). property.value) (property_named properties name)
-      → cond b (Some p.value) (value_named (map property_of properties) name) ≡
-      option_map (λ (property : FileProperty). property.value) (cond b (Some p) (property_named properties name))
-  by_test true later = refl
-  by_test false later = later
+value_found (p ∷ properties) name = search (rules, value_found properties name)

@@ -1,5 +1,4 @@
-use Rattle.std.proofs.Common.{◌≡◌, ℕ, zero, suc, ◌<◌, List, [], ◌∷◌, ◌++◌, length, Some, slice_get, inl, inr, refl, ap, subst, ◌∙◌}
-use Rattle.std.proofs.Common.{arith}
+use Rattle.std.proofs.Common.{◌≡◌, ℕ, zero, suc, List, [], ◌∷◌, ◌++◌, length, Some, slice_get, refl, ap, subst, rules}
 use Rattle.std.specs.List.{AllZip}
 use Rattle.std.proofs.lemmas.Option.{none-some, same_Some, slice_get_within}
 use Rattle.bi_blob.specs.Tree.{IsNew}
@@ -37,34 +36,22 @@ IsNumbered-more all front begins (PropertyItem property) number is = slice_get-b
 
 pub AreNumbered-more : (all front : List (List ℕ)) → BeginsWith all front → (table : List TableItem) (numbers : List ℕ) →
     AreNumbered front table numbers → AreNumbered all table numbers
-AreNumbered-more all front begins table numbers are =
-    AllZip-then (IsNumbered front) (IsNumbered all) table numbers (IsNumbered-more all front begins) are
+AreNumbered-more all front begins table numbers are = search (rules, AllZip-then, IsNumbered-more)
 
 -- The heads of names are the same when tails are added.
 heads_kept : (old new : List NamePart) → BeginsWith new old → (heads : List NamePart) (names : List (List ℕ)) →
     AllZip (IsHead old) heads names →
     AllZip (IsHead new) heads names
-heads_kept old new begins heads names all =
-    AllZip-then (IsHead old) (IsHead new) heads names
-    (λ part name is. record { head = is.head; tail = IsTail-kept old new begins part.0 name is.tail }) all
+heads_kept old new begins heads names all = search (rules, AllZip-then, IsTail-kept)
 
 pub AreHeads-tails : (old new heads : List NamePart) (names : List (List ℕ)) → AreMoreParts old new → AreHeads old heads names →
     AreHeads new heads names
-AreHeads-tails old new heads names more are = record {
-  tails_once = more.once are.tails_once;
-  tails_order = more.order are.tails_order;
-  heads_once = are.heads_once;
-  each = heads_kept old new more.begin heads names are.each;
-  distinct = are.distinct;
-}
+AreHeads-tails old new heads names more are = search (rules, heads_kept)
 
 pub AreBlockNumbers-more : (old new : List NamePart) (strings numbers : List ℕ) → BeginsWith new old →
     AreBlockNumbers old strings numbers →
     AreBlockNumbers new strings numbers
-AreBlockNumbers-more old new strings numbers begins are = record {
-  count = are.count;
-  each = λ index d within. AreAllBlocks-kept old new begins _ _ (are.each index d within);
-}
+AreBlockNumbers-more old new strings numbers begins are = search (rules, AreAllBlocks-kept)
 
 -- As many heads as names.
 AllZip-same_length : {A B : Type 0} (R : A → B → Type 0) (xs : List A) (ys : List B) → AllZip R xs ys → length xs ≡ length ys
@@ -81,20 +68,14 @@ name_there : (tails heads : List NamePart) (names : List (List ℕ)) → AllZip 
     slice_get heads index ≡ Some part → (name : List ℕ) × (slice_get names index ≡ Some name) × IsHead tails part name
 name_there tails [] names all index part is = absurd (none-some part is)
 name_there tails (head ∷ heads) [] all index part is = absurd all
-name_there tails (head ∷ heads) (name ∷ names) all zero part is = (
-  name,
-  refl,
-  subst (λ p. IsHead tails p name) (same_Some head part is) all.0,
-)
+name_there tails (head ∷ heads) (name ∷ names) all zero part is = search (rules, same_Some)
 name_there tails (head ∷ heads) (name ∷ names) all (suc index) part is = name_there tails heads names all.1 index part is
 
 -- A name has the number of its head, if the head was found.
 pub known_name : (tails heads : List NamePart) (names : List (List ℕ)) (part : NamePart) (name : List ℕ) (number : ℕ) →
     AreHeads tails heads names →
     IsHead tails part name → slice_get heads number ≡ Some part → slice_get names number ≡ Some name
-known_name tails heads names part name number are is found =
-    let there = name_there tails heads names are.each number part found in
-    there.1 ∙ ap Some (same_name_of_head tails part there.0 name there.2 is)
+known_name tails heads names part name number are is found = search (rules, name_there, same_name_of_head)
 
 -- A name with a new head is new.
 pub new_name : (tails heads : List NamePart) (names : List (List ℕ)) (part : NamePart) (name : List ℕ) → AreOnce tails →
@@ -111,27 +92,15 @@ new_name tails (head ∷ heads) (other ∷ names) part name once all is new = (
 -- A table with one more name.
 pub AreHeads-push : (tails heads : List NamePart) (names : List (List ℕ)) (part : NamePart) (name : List ℕ) → AreHeads tails heads names →
     IsHead tails part name → IsNewPart part heads → AreHeads tails (heads ++ part ∷ []) (names ++ name ∷ [])
-AreHeads-push tails heads names part name are is new = record {
-  tails_once = are.tails_once;
-  tails_order = are.tails_order;
-  heads_once = once_more heads part new are.heads_once;
-  each = AllZip-append (IsHead tails) heads names (part ∷ []) (name ∷ []) are.each (is, tt);
-  distinct = AreDistinct-push names name are.distinct (new_name tails heads names part name are.tails_once are.each is new);
-}
+AreHeads-push tails heads names part name are is new = search (rules, once_more, AllZip-append, AreDistinct-push, new_name)
 
 -- A part that is placed at the end was new, and one that is placed elsewhere was there.
 pub placed_last : (heads : List NamePart) (part : NamePart) (index : ℕ) (new : List NamePart) → IsPlaced heads part index new →
     index ≡ length heads →
     IsNewPart part heads × (new ≡ heads ++ part ∷ [])
-placed_last heads part index new placed last = elim placed [
-  | inl there ↦ let within : index < length heads = slice_get_within heads index part there.0 in absurd (omega arith)
-  | inr added ↦ (added.0, added.2)
-]
+placed_last heads part index new placed last = search (rules, slice_get_within)
 
 pub placed_there : (heads : List NamePart) (part : NamePart) (index : ℕ) (new : List NamePart) → IsPlaced heads part index new →
     ¬ (index ≡ length heads) →
     (slice_get heads index ≡ Some part) × (new ≡ heads)
-placed_there heads part index new placed elsewhere = elim placed [
-  | inl there ↦ there
-  | inr added ↦ absurd (elsewhere added.1)
-]
+placed_there heads part index new placed elsewhere = search rules

@@ -1,4 +1,4 @@
-use Rattle.std.proofs.Common.{◌≡◌, ℕ, ◌+◌, List, [], ◌∷◌, ◌++◌, length, arith}
+use Rattle.std.proofs.Common.{◌≡◌, ℕ, ◌+◌, List, [], ◌∷◌, ◌++◌, length, arith, rules}
 use Rattle.bi_blob.specs.Tree.{names}
 use Rattle.bi_blob.specs.NameSets.{HoldsNames}
 use Rattle.bi_blob.specs.OpenNodes.{OpenFileNode}
@@ -14,8 +14,7 @@ AreOpen-length [] children name outer are = absurd are
 AreOpen-length (o ∷ []) children name [] are = omega arith
 AreOpen-length (o ∷ p ∷ later) children name [] are = absurd are
 AreOpen-length (o ∷ later) children name (parent ∷ outer) are =
-    let e : length later ≡ length outer + 1 = AreOpen-length later (names parent.children ++ name ∷ []) parent.name outer are.2 in
-    omega arith
+    search (rules, AreOpen-length later (names parent.children ++ name ∷ []) parent.name outer are.2)
 
 -- The innermost has the names of its children.
 pub AreOpen-held : (innermost : OpenNode) (later : List OpenNode) (children : List (List ℕ)) (name : List ℕ) (outer : List OpenFileNode) →

@@ -1,11 +1,11 @@
-use Rattle.std.proofs.Common.{◌≡◌, ℕ, zero, suc, ◌+◌, ◌-◌, ◌*◌, ◌/◌, ◌<◌, ◌≤◌, List, [], ◌∷◌, ◌++◌, length, take, drop, Option, Some, None}
-use Rattle.std.proofs.Common.{slice_get, inl, inr}
+use Rattle.std.proofs.Common.{◌≡◌, ℕ, zero, suc, ◌+◌, ◌-◌, ◌/◌, ◌<◌, ◌≤◌, List, [], ◌∷◌, ◌++◌, length, take, Option, Some, None}
+use Rattle.std.proofs.Common.{slice_get, inl, inr, rules}
 use Rattle.std.proofs.Common.{refl, sym, ap, subst, ◌∙◌, arith}
 use Rattle.std.specs.List.{AllZip}
 use Rattle.std.proofs.lemmas.Option.{none-some, same_Some, some_pair_parts}
 use Rattle.bi_blob.specs.Tree.{IsNew}
 use Rattle.bi_fdt.specs.NameParts.{NamePart, AreOnce, AreAfterTails}
-use Rattle.bi_fdt.specs.NameTails.{AreBlocksNumbered, IsTail, IsHead, AreHeads, head_length}
+use Rattle.bi_fdt.specs.NameTails.{IsTail, IsHead, AreHeads, head_length}
 use Rattle.bi_fdt.specs.Numbers.{FindsNumber}
 use Rattle.bi_fdt.specs.OtherNames.{FindsBlocks, HasOtherNumber, AreOtherNumbers, FindsAfter, FindsTail, AreFoundAmong, AreOwnNumbers}
 use Rattle.bi_fdt.proofs.NameParts.{slice_get-pushed}
@@ -26,25 +26,7 @@ part_other : (parts others : List NamePart) → AreOnce others → (index later 
     HasOtherNumber parts others (index + 1) found
 part_other parts others once index later block tail found there after finds zero name is = absurd (omega (arith, is))
 part_other parts others once index later block tail found there after finds (suc count) name is =
-    by tail found finds (after count name (subst (λ number. AreBlocksNumbered parts count number name) (sym both.0) is.3))
-  where
-    first : List ℕ
-    first = take 64 (drop (length name - 64 * (count + 1)) name)
-
-    here : index ≡ index + 1 - 1
-    here = omega arith
-
-    both : (later ≡ is.0) × (block ≡ first)
-    both = some_pair_parts later is.0 block first (sym there ∙ ap (slice_get parts) here ∙ is.2)
-
-    by : (tail found : Option ℕ) → FindsTail others tail block found → FindsBlocks others count name tail →
-        FindsBlocks others (suc count) name found
-    by None None finds none = λ number other. none other.0 other.3
-    by None (Some number) finds none = absurd (none-some (number - 1) (sym finds.1))
-    by (Some tail) None finds some = λ number other.
-        let same : other.0 ≡ tail = one_number others once count other.0 tail name other.3 some in
-        finds (number - 1) (other.2 ∙ (λ i. Some (same i, sym both.1 i)))
-    by (Some tail) (Some number) finds some = (tail, finds.0, finds.1 ∙ ap (λ block. Some (tail, block)) both.1, some)
+    search (rules, some_pair_parts, none-some, one_number)
 
 -- One more number.
 pub others_more : (parts others : List NamePart) (numbers more : List (Option ℕ)) (index later : ℕ) (block : List ℕ)
@@ -72,20 +54,16 @@ new_by_blocks : (tails heads : List NamePart) (names : List (List ℕ)) (name : 
 new_by_blocks tails [] [] name all none = tt
 new_by_blocks tails [] (other ∷ names) name all none = absurd all
 new_by_blocks tails (head ∷ heads) [] name all none = absurd all
-new_by_blocks tails (head ∷ heads) (other ∷ names) name all none =
-    ((λ same. none head.0 (subst (IsTail tails head.0) same all.0.tail)), new_by_blocks tails heads names name all.1 none)
+new_by_blocks tails (head ∷ heads) (other ∷ names) name all none = search (rules, new_by_blocks tails heads names name all.1 none)
 
 -- A name is found by its head, if its last blocks are.
 name_found : (tails heads : List NamePart) (names : List (List ℕ)) (head name : List ℕ) (tail found : Option ℕ) →
     AreHeads tails heads names →
     head ≡ take (head_length name) name → FindsBlocks tails (length name / 64 - 1) name tail → FindsAfter heads tail head found →
     FindsNumber names name found
-name_found tails heads names head name None found are is none finds =
-    subst (FindsNumber names name) (sym finds) (new_by_blocks tails heads names name are.each none)
-name_found tails heads names head name (Some tail) None are is some finds =
-    new_name tails heads names (tail, head) name are.tails_once are.each (record { head = is; tail = some }) finds
-name_found tails heads names head name (Some tail) (Some number) are is some finds =
-    known_name tails heads names (tail, head) name number are (record { head = is; tail = some }) finds
+name_found tails heads names head name None found are is none finds = search (rules, new_by_blocks)
+name_found tails heads names head name (Some tail) None are is some finds = search (rules, new_name)
+name_found tails heads names head name (Some tail) (Some number) are is some finds = search (rules, known_name)
 
 -- The head of the name at an index.
 head_there : (tails heads : List NamePart) (names : List (List ℕ)) → AllZip (IsHead tails) heads names → (index : ℕ) (name : List ℕ) →
@@ -131,14 +109,9 @@ same_names tails [] (name ∷ names) others are other_are = absurd are
 same_names tails (head ∷ heads) [] others are other_are = absurd are
 same_names tails (head ∷ heads) (name ∷ names) [] are other_are = absurd other_are
 same_names tails (head ∷ heads) (name ∷ names) (other ∷ others) are other_are =
-    ap (λ first. first ∷ names) (same_name_of_head tails head name other are.0 other_are.0)
-    ∙ ap (λ later. other ∷ later) (same_names tails heads names others are.1 other_are.1)
+    search (rules, same_name_of_head, same_names tails heads names others are.1 other_are.1)
 
 -- Names are found among themselves, each at its own index.
 pub own_names_found : (names : List (List ℕ)) (found : List (Option ℕ)) → AreOwnNumbers (length names) found →
     AllZip (FindsNumber names) names found
-own_names_found names found own = each_place (FindsNumber names) names found own.count each
-  where
-    each : (index : ℕ) (name : List ℕ) (number : Option ℕ) → slice_get names index ≡ Some name → slice_get found index ≡ Some number →
-        FindsNumber names name number
-    each index name number at_name at_number = subst (FindsNumber names name) (sym (own.each index number at_number)) at_name
+own_names_found names found own = search (rules, each_place)

@@ -1,10 +1,9 @@
-use Rattle.std.proofs.Common.{◌≡◌, ◌≢◌, ◌<◌, ℕ, zero, suc, inl, inr, Bool, true, false, cond, List, [], ◌∷◌, length, Option, Some}
+use Rattle.std.proofs.Common.{◌≡◌, ◌≢◌, ◌<◌, ℕ, zero, suc, inl, inr, Bool, true, false, cond, List, [], ◌∷◌, length, Option, Some, rules}
 use Rattle.std.proofs.Common.{slice_get, slice_set, refl, sym, ap, subst, ◌∙◌}
 use Rattle.std.specs.BTreeMap.{BTreeMap, get, Updates}
 use Rattle.std.specs.Option.{option_and_then}
 use Rattle.std.specs.Ordering.{nat_cmp, ordering_then, is_eq}
 use Rattle.std.specs.declared.cmp.Ordering.{Ordering}
-use Rattle.std.specs.declared.cmp.Ordering.TheVariants.{Less, Equal, Greater}
 use Rattle.std.specs.Cmp.Lexicographic.{slice_cmp, lists_total}
 use denote.Ref.{Bor}
 use Rattle.std.proofs.lemmas.Bool.{true≢false}
@@ -29,18 +28,7 @@ Bucket = BTreeMap (ℕ × ℕ × Bor (List ℕ)) ℕ
 
 -- Keys are equal in the order of a map if and only if the parts are.
 pub same_part : (a b : ℕ × Bor (List ℕ)) → is_same_key a b ≡ true → part_of_slice a ≡ part_of_slice b
-same_part a b is =
-    ap (λ (key : (ℕ × ℕ) × List ℕ). (key.0.0, key.1))
-    (exact_pairs (λ x y. ordering_then (nat_cmp x.0 y.0) (nat_cmp x.1 y.1)) (slice_cmp nat_cmp)
-    (exact_pairs nat_cmp nat_cmp exact_unsigned exact_unsigned) exact_bytes
-    ((a.0, prefix_of_name a.1.now), a.1.now) (
-      (b.0, prefix_of_name b.1.now),
-      b.1.now,
-    ) (equal (by_prefix (key_of_part a) (key_of_part b)) is)) where
-      equal : (o : Ordering) → is_eq o ≡ true → o ≡ Equal
-      equal Less is = absurd (true≢false (sym is))
-      equal Equal is = refl
-      equal Greater is = absurd (true≢false (sym is))
+same_part a b is = search (rules, exact_pairs, exact_unsigned, exact_bytes, true≢false)
 
 pub equal_part : (a b : ℕ × Bor (List ℕ)) → part_of_slice a ≡ part_of_slice b → is_same_key a b ≡ true
 equal_part a b same =
@@ -79,9 +67,7 @@ number_from buckets index part = option_and_then (λ bucket. get by_prefix bucke
 pub number_at : (numbers : PartNumbers) (part : ℕ × Bor (List ℕ)) (index : ℕ) (bucket : Bucket)
     → index ≡ bucket_of (bucket_count numbers) (part_of_slice part) → slice_get numbers.buckets.items index ≡ Some bucket
     → number_in numbers part ≡ get by_prefix bucket (key_of_part part)
-number_at numbers part index bucket chosen is =
-    ap (λ at. number_from numbers.buckets.items at part) (sym chosen)
-    ∙ ap (option_and_then (λ bucket. get by_prefix bucket (key_of_part part))) is
+number_at numbers part index bucket chosen is = search rules
 
 -- One map has one more part, which chose it: so the other parts have the numbers that they had.
 pub number_more : (buckets : List Bucket) (index : ℕ) (old new : Bucket) (count : ℕ) (added : ℕ × Bor (List ℕ)) (number : ℕ)

@@ -1,4 +1,4 @@
-use Rattle.std.proofs.Common.{◌≡◌, ℕ, zero, suc, ◌<◌, ◌≤◌, inl, inr, Bool, true, false, List, [], ◌∷◌, ◌++◌, length}
+use Rattle.std.proofs.Common.{◌≡◌, ℕ, zero, suc, ◌<◌, ◌≤◌, inl, inr, Bool, true, false, List, [], ◌∷◌, ◌++◌, length, rules}
 use Rattle.std.proofs.Common.{refl, sym, ap, subst, ◌∙◌, arith}
 use Rattle.std.specs.Prelude.{◌||◌, ◌==◌, if◌then◌else◌, bytes_eq, slice_index_or, slice_set}
 use Rattle.std.specs.List.{AllByRecursion}
@@ -23,11 +23,7 @@ or_true false = refl
 
 -- Two names that differ.
 differ : (a b : List ℕ) → ¬ (a ≡ b) → bytes_eq a b ≡ false
-differ a b apart = by (bytes_eq a b) refl
-  where
-    by : (e : Bool) → bytes_eq a b ≡ e → bytes_eq a b ≡ false
-    by true is = absurd (apart ((bytes_eq-Decides a b).0 is))
-    by false is = is
+differ a b apart = search (rules, bytes_eq-Decides)
 
 same_bytes : (name : List ℕ) → bytes_eq name name ≡ true
 same_bytes name = (bytes_eq-Decides name name).1 refl
@@ -43,16 +39,7 @@ pub no_greater_mark : (used : List (List ℕ)) (marks : List ℕ) (mark : ℕ) (
     has_mark used marks mark name ≡ false
 no_greater_mark [] marks mark name less = refl
 no_greater_mark (first ∷ later) [] mark name less = refl
-no_greater_mark (first ∷ later) (own ∷ marks) mark name less = by (bytes_eq first name) refl (no_greater_mark later marks mark name less.1)
-  where
-    by : (e : Bool) → bytes_eq first name ≡ e → has_mark later marks mark name ≡ false →
-        has_mark (first ∷ later) (own ∷ marks) mark name ≡ false
-    by false is behind = rw is behind
-    by true is behind = rw is (by_mark (own == mark) refl)
-      where
-        by_mark : (e : Bool) → (own == mark) ≡ e → (own == mark) ≡ false
-        by_mark false apart = apart
-        by_mark true one = let same : own ≡ mark = (unsigned_Decides own mark).0 one in absurd (omega (arith, less.0, same))
+no_greater_mark (first ∷ later) (own ∷ marks) mark name less = search (rules, no_greater_mark later marks mark name less.1)
 
 -- The mark of a name is at its number.
 pub mark_at : (used : List (List ℕ)) (marks : List ℕ) (mark : ℕ) (name : List ℕ) (number d : ℕ) → AreDistinct used →
@@ -62,8 +49,7 @@ mark_at (first ∷ later) [] mark name number d distinct long is = absurd (omega
 mark_at (first ∷ later) (own ∷ marks) mark name zero d distinct long is =
     rw ((bytes_eq-Decides first name).1 (same_Some _ _ is)) refl
 mark_at (first ∷ later) (own ∷ marks) mark name (suc number) d distinct long is =
-    rw (differ first name (λ same. numbered_old later name number is (subst (λ n. IsNew n later) same distinct.0)))
-    (mark_at later marks mark name number d distinct.1 (omega (arith, long)) is)
+    search (rules, differ, numbered_old, mark_at later marks mark name number d distinct.1 (omega (arith, long)) is)
 
 -- The marks after a name gets another.
 pub mark_set : (used : List (List ℕ)) (marks : List ℕ) (mark : ℕ) (name other : List ℕ) (number : ℕ) → AreDistinct used →
@@ -100,43 +86,21 @@ mark_set (first ∷ later) (own ∷ marks) mark name other (suc number) distinct
 -- The marks with that of a new name.
 pub mark_push : (used : List (List ℕ)) (marks : List ℕ) (mark : ℕ) (name other : List ℕ) → length marks ≡ length used → IsNew name used →
     has_mark (used ++ name ∷ []) (marks ++ mark ∷ []) mark other ≡ (has_mark used marks mark other || bytes_eq name other)
-mark_push [] [] mark name other long new = by (bytes_eq name other) refl
-  where
-    by : (e : Bool) → bytes_eq name other ≡ e → (if bytes_eq name other then mark == mark else false) ≡ bytes_eq name other
-    by true is = rw is ((unsigned_Decides mark mark).1 refl)
-    by false is = rw is refl
+mark_push [] [] mark name other long new = search rules
 mark_push [] (own ∷ marks) mark name other long new = absurd (omega (arith, long))
 mark_push (first ∷ later) [] mark name other long new = absurd (omega (arith, long))
 mark_push (first ∷ later) (own ∷ marks) mark name other long new =
-    by (bytes_eq first other) refl (mark_push later marks mark name other (omega (arith, long)) new.1)
-  where
-    by : (e : Bool) → bytes_eq first other ≡ e →
-        has_mark (later ++ name ∷ []) (marks ++ mark ∷ []) mark other ≡ (has_mark later marks mark other || bytes_eq name other) →
-        has_mark (first ∷ (later ++ name ∷ [])) (own ∷ (marks ++ mark ∷ [])) mark other
-        ≡ (has_mark (first ∷ later) (own ∷ marks) mark other || bytes_eq name other)
-    by true one behind =
-        let no = differ name other (λ same. new.0 ((bytes_eq-Decides first other).0 one ∙ sym same)) in
-        rw (one, no) (sym (or-false (own == mark)))
-    by false two behind = rw two behind
+    search (rules, differ, bytes_eq-Decides, or-false, mark_push later marks mark name other (omega (arith, long)) new.1)
 
 -- A name is among names with one more if it was among them or is that.
 among_push : (held : List (List ℕ)) (name other : List ℕ) →
     is_among other (held ++ name ∷ []) ≡ (is_among other held || bytes_eq name other)
-among_push held name other =
-    list_any-append (λ one. bytes_eq one other) held (name ∷ []) ∙ ap (λ b. is_among other held || b) (or-false (bytes_eq name other))
+among_push held name other = search (rules, list_any-append, or-false)
 
 -- A name that comes next was not used before, and any other was.
 pub next_is_new : (used : List (List ℕ)) (name : List ℕ) (number : ℕ) → IsNumberOf (with_used_name used name) name number →
     number ≡ length used → is_among name used ≡ false
-next_is_new used name number is last = by (is_among name used) refl
-  where
-    by : (b : Bool) → is_among name used ≡ b → is_among name used ≡ false
-    by false new = new
-    by true old =
-        let kept : IsNumberOf used name number = subst (λ l. IsNumberOf l name number)
-        (ap (λ b. if b then used else used ++ name ∷ []) old) is in
-        let within : number < length used = slice_get_within used number name kept in
-        absurd (omega (arith, within, last))
+next_is_new used name number is last = search (rules, slice_get_within)
 
 pub other_is_old : (used : List (List ℕ)) (name : List ℕ) (number : ℕ) → IsNumberOf (with_used_name used name) name number →
     ¬ (number ≡ length used) → with_used_name used name ≡ used

@@ -1,4 +1,4 @@
-use Rattle.std.proofs.Common.{◌≡◌, ℕ, zero, suc, ◌+◌, ◌<◌, ◌≤◌, List, [], ◌∷◌, ◌++◌, length, map, take, drop, get_or}
+use Rattle.std.proofs.Common.{◌≡◌, ℕ, zero, suc, ◌+◌, ◌<◌, ◌≤◌, List, [], ◌∷◌, ◌++◌, length, map, take, drop, get_or, rules}
 use Rattle.std.proofs.Common.{IsPermutation, is_lt, inl, inr, refl, sym, ap, subst, ◌∙◌, arith}
 use Rattle.std.proofs.lemmas.Bool.{false≢true, cases_eq}
 use Rattle.std.proofs.lemmas.List.{drop-take, length-drop, length-take-le, take_more}
@@ -36,9 +36,7 @@ Pairs = List (ℕ × ℕ)
 indices-push : (index : ℕ) (keys : List ℕ) (key : ℕ) →
     with_indices_from index (keys ++ key ∷ []) ≡ with_indices_from index keys ++ (key, index + length keys) ∷ []
 indices-push index [] key = ap (λ n. (key, n) ∷ []) (omega arith)
-indices-push index (first ∷ keys) key =
-    ap (λ l. (first, index) ∷ l)
-    (indices-push (index + 1) keys key ∙ ap (λ n. with_indices_from (index + 1) keys ++ (key, n) ∷ []) (omega arith))
+indices-push index (first ∷ keys) key = search (rules, indices-push (index + 1) keys key)
 
 -- Some keys before their indices, and then the next.
 pub indices_more : (keys : List ℕ) (k d : ℕ) (pairs more : Pairs) → k < length keys → pairs ≡ with_indices_from 0 (take k keys) →
@@ -63,8 +61,7 @@ after_properties [] zero is = absurd (false≢true is)
 after_properties [] (suc index) is = absurd (false≢true is)
 after_properties (NodeItem depth place name ∷ items) index is = omega arith
 after_properties (PropertyItem property ∷ items) zero is = absurd (false≢true is)
-after_properties (PropertyItem property ∷ items) (suc index) is =
-    let rest : length (first_properties items) ≤ index = after_properties items index is in omega arith
+after_properties (PropertyItem property ∷ items) (suc index) is = search (rules, after_properties items index is)
 
 -- The number of the properties of the node at an index of a table.
 abbrev count_at : List TableItem → ℕ → ℕ
@@ -76,8 +73,7 @@ nodes_apart : (table : List TableItem) (index other : ℕ) → HasNodeAt table i
 nodes_apart [] zero other is other_is before = absurd (false≢true is)
 nodes_apart [] (suc index) other is other_is before = absurd (false≢true is)
 nodes_apart (item ∷ table) index zero is other_is before = absurd (omega arith)
-nodes_apart (NodeItem depth place name ∷ table) zero (suc other) is other_is before =
-    let rest : length (first_properties table) ≤ other = after_properties table other other_is in omega arith
+nodes_apart (NodeItem depth place name ∷ table) zero (suc other) is other_is before = search (rules, after_properties)
 nodes_apart (PropertyItem property ∷ table) zero (suc other) is other_is before = absurd (false≢true is)
 nodes_apart (item ∷ table) (suc index) (suc other) is other_is before =
     let rest : index + 1 + count_at table index ≤ other = nodes_apart table index other is other_is (omega arith) in omega arith
@@ -115,24 +111,13 @@ pub record AreInOrderBefore (table : List TableItem) (end : ℕ) (pairs now : Pa
   pub left : (index : ℕ) → HasNodeAt table index → end ≤ index → pairs_of_node table index now ≡ pairs_of_node table index pairs
 
 pub none_before : (table : List TableItem) (pairs : Pairs) → AreInOrderBefore table 0 pairs pairs
-none_before table pairs = record {
-  count = refl;
-  done = λ index is before. absurd (omega arith);
-  left = λ index is after. refl;
-}
+none_before table pairs = search rules
 
 -- An item that is not a node changes nothing.
 pub no_node_more : (table : List TableItem) (end : ℕ) (pairs now : Pairs) → (HasNodeAt table end → ⊥) →
     AreInOrderBefore table end pairs now →
     AreInOrderBefore table (end + 1) pairs now
-no_node_more table end pairs now is_none are = record {
-  count = are.count;
-  done = λ index is before. elim (cases_eq index end) [
-    | inl same ↦ absurd (is_none (subst (HasNodeAt table) same is))
-    | inr other ↦ are.done index is (omega arith)
-  ];
-  left = λ index is after. are.left index is (omega arith);
-}
+no_node_more table end pairs now is_none are = search (rules, cases_eq)
 
 -- A sort of the pairs of a node.
 pub node_more : (table : List TableItem) (end begin count : ℕ) (pairs now part : Pairs) → HasNodeAt table end → begin ≡ end + 1 →
@@ -206,19 +191,11 @@ module _ (file : List ℕ) (entries : List Entry) (table : List TableItem) (same
 -- What was written over a whole list is all of it.
 whole : (count : ℕ) (written pairs : Pairs) → length written ≡ length pairs → count ≡ length pairs →
     take count (written ++ drop (length written) pairs) ≡ written
-whole count written pairs long counted =
-    ap (λ l. take count (written ++ l)) (drop_of_length-le pairs (omega arith))
-    ∙ ap (take count) (append-nil written)
-    ∙ ap (λ n. take n written) (counted ∙ sym long)
-    ∙ take-length written
+whole count written pairs long counted = search (rules, drop_of_length-le, append-nil, take-length)
 
 -- The keys with their indices after the sort of each node's.
 pub order_made : (table : List TableItem) (keys : List ℕ) (count : ℕ) (pairs before now : Pairs) → length keys ≡ length table →
     pairs ≡ with_indices_from 0 keys → before ≡ pairs → length now ≡ length before → count ≡ length pairs →
     ((index : ℕ) → HasNodeAt table index → AreInOrder (pairs_of_node table index before) (pairs_of_node table index now)) →
     IsPropertyOrder table keys (take count (now ++ drop (length now) pairs))
-order_made table keys count pairs before now long are same kept counted each =
-    subst (IsPropertyOrder table keys) (sym (whole count now pairs (kept ∙ ap length same) counted)) (record {
-      count = kept ∙ ap length (same ∙ are) ∙ length-indices 0 keys ∙ long;
-      each = λ index is. subst (λ l. AreInOrder (pairs_of_node table index l) (pairs_of_node table index now)) (same ∙ are) (each index is);
-    })
+order_made table keys count pairs before now long are same kept counted each = search (rules, whole, length-indices)

@@ -1,5 +1,5 @@
-use Rattle.std.proofs.Common.{◌≡◌, ◌≢◌, ap, ◌∙◌, Bool, false, ℕ, ◌+◌, ◌≤◌, List, [], length, refl, sym, subst, inl, inr, arith}
-use Rattle.std.specs.Prelude.{IsTrue, ◌||◌}
+use Rattle.std.proofs.Common.{◌≡◌, ◌≢◌, false, ℕ, ◌+◌, ◌≤◌, List, [], length, refl, sym, subst, rules}
+use Rattle.std.specs.Prelude.{IsTrue}
 use Rattle.std.proofs.lemmas.Bool.{ne_eqb, false≢true}
 use Rattle.bi_base.specs.declared.fault.Fault.{Fault}
 use Rattle.bi_base.specs.Cells.{up4}
@@ -23,18 +23,12 @@ module _ (blocks : TreeBlocks) (depth_limit place : ℕ) (so_far : TreeSoFar) (p
   -- FDT_NOP.
   pub past_nop : IsNumberAt blocks place nop_number → IsTrue (is_expected (stage_of so_far) nop_number) →
       IsOpenAt blocks depth_limit (place + 4) so_far
-  past_nop number may =
-      subst (λ w. IsOpenAt blocks depth_limit (place + w) so_far) width-nop
-      (next_nop blocks depth_limit place so_far position (record {
-        is_number = number.is_number;
-        passes = (number.within, (subst (λ n. IsTrue (is_expected (stage_of so_far) n)) (sym number.is_number) may, tt));
-      }))
+  past_nop number may = search (rules, width-nop, next_nop)
 
   -- The block ends before the number of a token.
   pub no_number : (fault : Fault) → blocks.end + 1 ≤ place + 4 → fault ≡ token_fault place HasTokenNumber →
       IsStructureFault blocks depth_limit fault
-  no_number fault past is = fault_there blocks depth_limit place so_far fault position
-      (inl ((λ (within : place + 4 ≤ blocks.end). omega arith), is))
+  no_number fault past is = search (rules, fault_there)
 
 -- FDT_BEGIN_NODE of the root.
 pub past_root : (blocks : TreeBlocks) (depth_limit place : ℕ) (name : List ℕ) → IsOpenAt blocks depth_limit place NoTree →
@@ -63,23 +57,10 @@ pub bad_token : (blocks : TreeBlocks) (depth_limit place : ℕ) (so_far : TreeSo
     IsOpenAt blocks depth_limit place so_far →
     IsNumberAt blocks place number → is_expected (stage_of so_far) number ≡ false →
     IsStructureFault blocks depth_limit (token_fault place IsExpected)
-bad_token blocks depth_limit place so_far number position is_number unexpected =
-    fault_there blocks depth_limit place so_far (token_fault place IsExpected) position
-    (inr (
-      is_number.within,
-      inl (
-        (λ may. false≢true
-            (sym unexpected ∙ ap (is_expected (stage_of so_far)) (sym is_number.is_number) ∙ may)),
-        refl,
-      ),
-    ))
+bad_token blocks depth_limit place so_far number position is_number unexpected = search (rules, fault_there, false≢true)
 
 pub unexpected_before : (number : ℕ) → number ≢ nop_number → number ≢ begin_node_number → is_expected BeforeRoot number ≡ false
-unexpected_before number nop begin = or_false _ _ (ne_eqb number nop_number nop) (ne_eqb number begin_node_number begin) where
-  or_false : (a b : Bool) → a ≡ false → b ≡ false → (a || b) ≡ false
-  or_false a b e f = ap (λ x. x || b) e ∙ f
+unexpected_before number nop begin = search (rules, ne_eqb)
 
 pub unexpected_after : (number : ℕ) → number ≢ nop_number → number ≢ end_number → is_expected AfterRoot number ≡ false
-unexpected_after number nop end = or_false _ _ (ne_eqb number nop_number nop) (ne_eqb number end_number end) where
-  or_false : (a b : Bool) → a ≡ false → b ≡ false → (a || b) ≡ false
-  or_false a b e f = ap (λ x. x || b) e ∙ f
+unexpected_after number nop end = search (rules, ne_eqb)

@@ -1,5 +1,5 @@
 use Rattle.std.proofs.Common.{◌≡◌, ℕ, zero, suc, List, [], ◌∷◌, ◌++◌, map, drop, length, ◌+◌, ◌≤◌, arith, refl, sym, ap, subst, ◌∙◌, Bool}
-use Rattle.std.proofs.Common.{true, false}
+use Rattle.std.proofs.Common.{true, false, rules}
 use Rattle.std.specs.Prelude.{if◌then◌else◌}
 use Rattle.std.proofs.Math.ListN.{set}
 use Rattle.std.proofs.lemmas.List.{map-append, append-nil, length-append, length-map}
@@ -35,25 +35,16 @@ with_used_name-begins used name = by (is_among name used) refl
 
 -- There are at most as many names as items.
 with_used_name-few : (used : List (List ℕ)) (name : List ℕ) → length (with_used_name used name) ≤ length used + 1
-with_used_name-few used name = by (is_among name used)
-  where
-    by : (b : Bool) → length (if b then used else used ++ name ∷ []) ≤ length used + 1
-    by true = omega arith
-    by false = omega (arith, length-append used (name ∷ []))
+with_used_name-few used name = search (rules, length-append)
 
 names-few : (used : List (List ℕ)) (table : List TableItem) → length (names_after used table) ≤ length used + length table
 names-few used [] = omega arith
 names-few used (NodeItem depth place name ∷ table) = omega (arith, names-few used table)
-names-few used (PropertyItem property ∷ table) = omega (
-  arith,
-  names-few (with_used_name used property.name) table,
-  with_used_name-few used property.name,
-)
+names-few used (PropertyItem property ∷ table) = search (rules, with_used_name-few, names-few (with_used_name used property.name) table)
 
 pub table_names-few : (file : List ℕ) (entries : List Entry) (used : List (List ℕ)) → AreTableNames file entries used →
     length used ≤ length entries
-table_names-few file entries used are =
-    omega (arith, ap length are.names, names-few [] (map (item_in file) entries), length-map entries (item_in file))
+table_names-few file entries used are = search (rules, names-few, length-map)
 
 -- So a number fits.
 pub number_few : (file : List ℕ) (entries : List Entry) (used more : List (List ℕ)) (name : List ℕ) (number : ℕ) →
@@ -65,15 +56,7 @@ number_few file entries used more name number are is has =
 -- One more node.
 pub table_names-node : (file : List ℕ) (entries : List Entry) (used : List (List ℕ)) (n : NodeEntry) → AreTableNames file entries used →
     AreTableNames file (entries ++ entry.Node n ∷ []) used
-table_names-node file entries used n are = record {
-  names = are.names ∙ sym (names-item [] (map (item_in file) entries) (item_in file (entry.Node n)))
-      ∙ ap names_of_table (sym (map-append (item_in file) entries (entry.Node n ∷ [])));
-  numbered = subst (λ items. AreNumbered used items (map name_number_of (entries ++ entry.Node n ∷ [])))
-      (sym (map-append (item_in file) entries (entry.Node n ∷ [])))
-      (subst (AreNumbered used (map (item_in file) entries ++ item_in file (entry.Node n) ∷ []))
-      (sym (map-append name_number_of entries (entry.Node n ∷ [])))
-      (AllZip-append (IsNumbered used) (map (item_in file) entries) (map name_number_of entries) _ _ are.numbered (tt, tt)));
-}
+table_names-node file entries used n are = search (rules, names-item, map-append, AllZip-append)
 
 -- One more property.
 pub table_names-property : (file : List ℕ) (entries : List Entry) (used more : List (List ℕ)) (p : PropertyEntry) →
@@ -99,22 +82,14 @@ numbers-set : (entries later : List Entry) (index : ℕ) (n m : NodeEntry) → d
     map name_number_of (set entries index (entry.Node m)) ≡ map name_number_of entries
 numbers-set [] later zero n m at = absurd cc
 numbers-set [] later (suc index) n m at = absurd cc
-numbers-set (e ∷ entries) later zero n m at = let is : e
-    ≡ entry.Node n = cc in ap (λ l. l ∷ map name_number_of entries) (sym (ap name_number_of is))
+numbers-set (e ∷ entries) later zero n m at = search rules
 numbers-set (e ∷ entries) later (suc index) n m at = ap (λ l. name_number_of e ∷ l) (numbers-set entries later index n m at)
 
 pub table_names-set : (file : List ℕ) (entries later : List Entry) (used : List (List ℕ)) (index : ℕ) (n m : NodeEntry) →
     drop index entries ≡ entry.Node n ∷ later → item_in file (entry.Node m) ≡ item_in file (entry.Node n) →
     AreTableNames file entries used →
     AreTableNames file (set entries index (entry.Node m)) used
-table_names-set file entries later used index n m at same are =
-    let items : map (item_in file) (set entries index (entry.Node m))
-    ≡ map (item_in file) entries = items-set file entries later index n m at same in
-    record {
-      names = are.names ∙ ap names_of_table (sym items);
-      numbered = subst (λ items. AreNumbered used items (map name_number_of (set entries index (entry.Node m)))) (sym items)
-          (subst (AreNumbered used (map (item_in file) entries)) (sym (numbers-set entries later index n m at)) are.numbered);
-    }
+table_names-set file entries later used index n m at same are = search (rules, set, items-set, numbers-set)
 
 -- The numbers of the entries of a table.
 pub numbers_of_table : (file : List ℕ) (entries : List Entry) (used : List (List ℕ)) (numbers : List ℕ) →

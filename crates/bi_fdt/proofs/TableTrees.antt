@@ -1,5 +1,4 @@
-use Rattle.std.proofs.Common.{◌≡◌, ℕ, ◌+◌, ◌<◌, List, [], ◌∷◌, ◌++◌, map, refl, sym, ap, ◌∙◌, arith}
-use Rattle.std.specs.Prelude.{nat_lt, if◌then◌else◌}
+use Rattle.std.proofs.Common.{◌≡◌, ℕ, ◌+◌, ◌<◌, List, [], ◌∷◌, ◌++◌, map, refl, sym, ap, ◌∙◌, arith, rules}
 use Rattle.std.proofs.lemmas.Bool.{lt-ltb, le-ltb, eq-eqb, ne_eqb}
 use Rattle.std.proofs.lemmas.List.{append_assoc, append-nil}
 use Rattle.bi_blob.specs.Tree.{Nodes, none, node, Root, FileProperty, FileNode, as_nodes}
@@ -20,23 +19,15 @@ EndsAbove depth (NodeItem own place name ∷ items) = own < depth
 pub nodes-same : (depth own place : ℕ) (name : List ℕ) (items : List TableItem) → own ≡ depth →
     nodes_of depth (NodeItem own place name ∷ items)
     ≡ node name (record { place = place; properties = first_properties items }) (nodes_of (depth + 1) items) (nodes_of depth items)
-nodes-same depth own place name items same =
-    ap (λ b. if b then node name (record { place = place; properties = first_properties items }) (nodes_of (depth + 1) items)
-    (nodes_of depth items) else (if nat_lt depth own then nodes_of depth items else none)) (eq-eqb own depth same)
+nodes-same depth own place name items same = search (rules, eq-eqb)
 
 pub nodes-deeper : (depth own place : ℕ) (name : List ℕ) (items : List TableItem) → depth < own →
     nodes_of depth (NodeItem own place name ∷ items) ≡ nodes_of depth items
-nodes-deeper depth own place name items deeper =
-    ap (λ b. if b then node name (record { place = place; properties = first_properties items }) (nodes_of (depth + 1) items)
-    (nodes_of depth items) else (if nat_lt depth own then nodes_of depth items else none)) (ne_eqb own depth (λ e. omega arith))
-    ∙ ap (λ b. if b then nodes_of depth items else none) (lt-ltb depth own deeper)
+nodes-deeper depth own place name items deeper = search (rules, ne_eqb, lt-ltb)
 
 pub nodes-above : (depth own place : ℕ) (name : List ℕ) (items : List TableItem) → own < depth →
     nodes_of depth (NodeItem own place name ∷ items) ≡ none
-nodes-above depth own place name items above =
-    ap (λ b. if b then node name (record { place = place; properties = first_properties items }) (nodes_of (depth + 1) items)
-    (nodes_of depth items) else (if nat_lt depth own then nodes_of depth items else none)) (ne_eqb own depth (λ e. omega arith))
-    ∙ ap (λ b. if b then nodes_of depth items else none) (le-ltb depth own (omega arith))
+nodes-above depth own place name items above = search (rules, ne_eqb, le-ltb)
 
 nodes-end : (depth : ℕ) (items : List TableItem) → EndsAbove depth items → nodes_of depth items ≡ none
 nodes-end depth [] ends = refl
@@ -76,8 +67,7 @@ ends-children depth nodes items ends = ends-nodes (depth + 1) nodes items ends
 -- The items of a node and its siblings, in parts.
 parts : (properties below after items : List TableItem) →
     (properties ++ (below ++ after)) ++ items ≡ properties ++ (below ++ (after ++ items))
-parts properties below after items = append_assoc properties (below ++ after) items
-    ∙ ap (λ l. properties ++ l) (append_assoc below after items)
+parts properties below after items = search (rules, append_assoc)
 
 -- Nodes that are deeper are passed over.
 pub nodes-passed : (depth own : ℕ) (nodes : Nodes FileNode) (items : List TableItem) → depth < own →

@@ -1,4 +1,5 @@
-use Rattle.std.proofs.Common.{◌≡◌, ℕ, ◌+◌, ◌≤◌, List, [], ◌∷◌, length, map, refl, sym, ap, subst, ◌∙◌, inl, inr, Bool, true, false, arith}
+use Rattle.std.proofs.Common.{rules}
+use Rattle.std.proofs.Common.{◌≡◌, ℕ, ◌+◌, ◌≤◌, List, [], ◌∷◌, length, map, refl, sym, ap, subst, ◌∙◌, Bool, true, false, arith}
 use Rattle.std.specs.Prelude.{IsTrue}
 use Rattle.std.proofs.lemmas.List.{append-nil, length-append}
 use Rattle.bi_base.specs.declared.fault.Fault.{Fault}
@@ -8,13 +9,11 @@ use Rattle.bi_base.proofs.CellLaws.{length-cell}
 use Rattle.bi_blob.specs.Tokens.{BeginNode, EndNode, Prop, Nop, width, name_from, begin_node_number, end_node_number, prop_number}
 use Rattle.bi_blob.specs.Tokens.{nop_number}
 use Rattle.bi_blob.specs.Tree.{FileProperty, IsNew, names}
-use Rattle.bi_blob.specs.Events.{FileNodeEnd}
 use Rattle.bi_blob.specs.Stages.{is_expected}
 use Rattle.bi_blob.specs.Blob.{TreeBlocks}
-use Rattle.bi_blob.specs.BlobFaults.{TokenPasses, IsNewNode, IsNewProperty, token_checks, token_fault, begin_checks, property_checks}
+use Rattle.bi_blob.specs.BlobFaults.{TokenPasses, IsNewNode, IsNewProperty, token_fault, begin_checks, property_checks}
 use Rattle.bi_blob.specs.BlobFaults.{IsStructureFault}
 use Rattle.bi_blob.specs.OpenNodes.{OpenFileNode, IsOpenAt, OpenTree, WholeTree, new_node, with_one_property, with_one_child, stage_of}
-use Rattle.bi_blob.specs.OpenNodes.{events_of_open_node}
 use Rattle.bi_blob.proofs.Blobs.OpenNodes.{ended_root, events_of_open_nodes-root}
 use Rattle.bi_blob.proofs.Blobs.Tokens.{length-token_bytes}
 use Rattle.bi_blob.proofs.Blobs.TreeTokens.{length-Prop}
@@ -23,7 +22,6 @@ use Rattle.bi_blob.proofs.Blobs.TreeOrFault.{fault_there}
 use Rattle.bi_fdt.specs.declared.growing.Growing.{Growing}
 use Rattle.bi_fdt.specs.declared.tokens.Reading.{Reading}
 use Rattle.bi_fdt.specs.Blocks.{IsNumberAt, node_name_checks, property_token_checks}
-use Rattle.bi_fdt.specs.TableItems.{items_of}
 use Rattle.bi_fdt.specs.Growth.{IsFinished, EndsInside, EndsChild, EndsRoot, IsEnding}
 use Rattle.bi_fdt.specs.Reading.{IsReading, IsTable, IsAfter, IsAhead}
 use Rattle.bi_fdt.proofs.Items.{items_of-append}
@@ -59,63 +57,31 @@ module _ (blocks : TreeBlocks) (depth_limit place : ℕ) (o : OpenFileNode) (out
   pub begin_fault : (fault : Fault) → IsNumberAt blocks place begin_node_number →
       IsFirstFault (TokenPasses blocks depth_limit place (stage_of (OpenTree o outer))) (token_fault place) begin_checks fault →
       IsStructureFault blocks depth_limit fault
-  begin_fault fault number first =
-      fault_there blocks depth_limit place (OpenTree o outer) fault position
-      (subst (λ n. IsFirstFault (TokenPasses blocks depth_limit place (stage_of (OpenTree o outer))) (token_fault place)
-      (token_checks n) fault) (sym number.is_number)
-      (inr (number.within, inr (expected begin_node_number number.is_number refl, first))))
+  begin_fault fault number first = search (rules, fault_there, expected)
 
   -- A fault of FDT_PROP.
   pub property_fault : (fault : Fault) → IsNumberAt blocks place prop_number →
       IsFirstFault (TokenPasses blocks depth_limit place (stage_of (OpenTree o outer))) (token_fault place) property_checks fault →
       IsStructureFault blocks depth_limit fault
-  property_fault fault number first =
-      fault_there blocks depth_limit place (OpenTree o outer) fault position
-      (subst (λ n. IsFirstFault (TokenPasses blocks depth_limit place (stage_of (OpenTree o outer))) (token_fault place)
-      (token_checks n) fault) (sym number.is_number)
-      (inr (number.within, inr (expected prop_number number.is_number refl, first))))
+  property_fault fault number first = search (rules, fault_there, expected)
 
   -- A child of a name that another child has.
   pub duplicate_node : (name : List ℕ) (fault : Fault) → IsNumberAt blocks place begin_node_number →
       name ≡ name_from blocks.file (place + 4) →
       HasNoFault (TokenPasses blocks depth_limit place (stage_of (OpenTree o outer))) node_name_checks →
       fault ≡ token_fault place IsNewNode → ¬ (IsNew name (names o.children)) → IsStructureFault blocks depth_limit fault
-  duplicate_node name fault number is passes is_fault old =
-      begin_fault fault number (inr (
-        passes.0,
-        inr (passes.1.0, inr (passes.1.1.0, inl ((λ new. old (subst (λ n. IsNew n (names o.children)) (sym is) new)), is_fault))),
-      ))
+  duplicate_node name fault number is passes is_fault old = search (rules, begin_fault)
 
   -- A property of a name that another property has.
   pub duplicate_property : (name : List ℕ) (fault : Fault) → IsNumberAt blocks place prop_number →
       name ≡ name_from blocks.strings (u32_at blocks.file (place + 8)) →
       HasNoFault (TokenPasses blocks depth_limit place (stage_of (OpenTree o outer))) property_token_checks →
       fault ≡ token_fault place IsNewProperty → ¬ (IsNew name (map (λ p. p.name) o.properties)) → IsStructureFault blocks depth_limit fault
-  duplicate_property name fault number is passes is_fault old =
-      property_fault fault number (inr (
-        passes.0,
-        inr (
-          passes.1.0,
-          inr (
-            passes.1.1.0,
-            inr (
-              passes.1.1.1.0,
-              inl (
-                (λ new. old
-                    (subst (λ n. IsNew n (map (λ (p : FileProperty). p.name) o.properties)) (sym is) new)),
-                is_fault,
-              ),
-            ),
-          ),
-        ),
-      ))
+  duplicate_property name fault number is passes is_fault old = search (rules, property_fault)
 
   -- FDT_NOP.
   pub after_nop : IsNumberAt blocks place nop_number → IsOpenAt blocks depth_limit (place + 4) (OpenTree o outer)
-  after_nop number =
-      subst (λ w. IsOpenAt blocks depth_limit (place + w) (OpenTree o outer)) width-nop
-      (next_nop blocks depth_limit place (OpenTree o outer) position
-      (record { is_number = number.is_number; passes = (number.within, (expected nop_number number.is_number refl, tt)) }))
+  after_nop number = search (rules, width-nop, next_nop, expected)
 
   -- FDT_BEGIN_NODE of a child.
   pub after_begin : (name : List ℕ) → IsNumberAt blocks place begin_node_number → name ≡ name_from blocks.file (place + 4) →
@@ -165,36 +131,23 @@ module _ (blocks : TreeBlocks) (depth_limit place : ℕ) (o : OpenFileNode) (out
       })))
 
   end_is_next : IsNumberAt blocks place end_node_number → IsNext blocks depth_limit place (stage_of (OpenTree o outer)) end_node_number
-  end_is_next number = record {
-    is_number = number.is_number;
-    passes = (number.within, (expected end_node_number number.is_number refl, tt));
-  }
+  end_is_next number = search (rules, expected)
 
 -- FDT_END_NODE of a child.
 pub after_child : (blocks : TreeBlocks) (depth_limit place : ℕ) (o parent : OpenFileNode) (outer : List OpenFileNode) →
     IsOpenAt blocks depth_limit place (OpenTree o (parent ∷ outer)) → IsNumberAt blocks place end_node_number →
     IsOpenAt blocks depth_limit (place + 4) (OpenTree (with_one_child parent o) outer)
-after_child blocks depth_limit place o parent outer position number =
-    subst (λ w. IsOpenAt blocks depth_limit (place + w) (OpenTree (with_one_child parent o) outer)) width-end_node
-    (next_end_of_child blocks depth_limit place o parent outer position
-    (end_is_next blocks depth_limit place o (parent ∷ outer) position number))
+after_child blocks depth_limit place o parent outer position number = search (rules, width-end_node, next_end_of_child, end_is_next)
 
 -- FDT_END_NODE of the root.
 pub after_root : (blocks : TreeBlocks) (depth_limit place : ℕ) (o : OpenFileNode) → IsOpenAt blocks depth_limit place (OpenTree o []) →
     IsNumberAt blocks place end_node_number → IsOpenAt blocks depth_limit (place + 4) (WholeTree (ended_root o))
-after_root blocks depth_limit place o position number =
-    subst (λ w. IsOpenAt blocks depth_limit (place + w) (WholeTree (ended_root o))) width-end_node
-    (next_last blocks depth_limit place o position (end_is_next blocks depth_limit place o [] position number))
+after_root blocks depth_limit place o position number = search (rules, ended_root, width-end_node, next_last, end_is_next)
 
 -- The table of a root that has ended is that of its tree.
 pub finished_table : (file : List ℕ) (finished : Growing) (o : OpenFileNode) → o.name ≡ [] → IsFinished file finished o →
     IsTable file finished.entries.items (ended_root o)
-finished_table file growing o unnamed finished = record {
-  items = finished.items ∙ sym (append-nil (items_of 0 (events_of_open_node o)))
-      ∙ sym (items_of-append 0 (events_of_open_node o) (FileNodeEnd ∷ []))
-      ∙ ap (items_of 0) (sym (events_of_open_nodes-root o unnamed));
-  linked = finished.linked;
-}
+finished_table file growing o unnamed finished = search (rules, append-nil, items_of-append, events_of_open_nodes-root)
 
 -- A reader after FDT_END_NODE of a child.
 after_end_inside : (blocks : TreeBlocks) (depth_limit : ℕ) (old new : Reading) →

@@ -1,4 +1,4 @@
-use Rattle.std.proofs.Common.{◌≡◌, ◌⊎◌, ℕ, ◌+◌, ◌-◌, List, [], ◌∷◌, ◌++◌, Contains, Bool, true, false, inl, inr, refl, subst}
+use Rattle.std.proofs.Common.{◌≡◌, ℕ, ◌+◌, ◌-◌, List, [], ◌∷◌, Contains, refl, rules}
 use Rattle.bi_base.proofs.ListMembers.{Contains-none, Contains-cases, Contains-first, Contains-others}
 use Rattle.bi_blob.specs.Tree.{Root, FileNode, FileProperty}
 use Rattle.bi_blob.specs.Events.{FileEvent, FileNodeStart, FileNodeProperty, FileNodeEnd, file_events_of}
@@ -7,8 +7,6 @@ use Rattle.bi_fdt.proofs.Items.{table_of}
 use Rattle.bi_fdt.specs.TableItems.{TableItem, NodeItem, PropertyItem, items_of}
 use Rattle.bi_fdt.specs.Numbers.{with_used_name, names_after, names_of_table}
 use Rattle.bi_fdt.specs.TreeNames.{IsNameIn, AreNamesIn}
-use Rattle.bi_blob.specs.Layout.{is_among}
-use Rattle.std.specs.Prelude.{if◌then◌else◌}
 
 -- The name of a property in the table of a tree is that of a property of the tree, so that the names of the table's properties are names
 -- in the tree.
@@ -18,27 +16,9 @@ property_in_events : (depth : ℕ) (events : List FileEvent) (property : FilePro
     Contains (items_of depth events) (PropertyItem property) → Contains events (FileNodeProperty property)
 property_in_events depth [] property has = absurd (Contains-none (PropertyItem property) has)
 property_in_events depth (FileNodeStart place name ∷ later) property has =
-    where_first (Contains-cases (NodeItem depth place name) (items_of (depth + 1) later) (PropertyItem property) has)
-    (λ has. property_in_events (depth + 1) later property has)
-  where
-    where_first : (NodeItem depth place name ≡ PropertyItem property) ⊎ Contains (items_of (depth + 1) later) (PropertyItem property) →
-        (Contains (items_of (depth + 1) later) (PropertyItem property) → Contains later (FileNodeProperty property)) →
-        Contains (FileNodeStart place name ∷ later) (FileNodeProperty property)
-    where_first (inl same) rest = absurd cc
-    where_first (inr has) rest = Contains-others (FileNodeStart place name) later (FileNodeProperty property) (rest has)
+    search (rules, Contains-cases, Contains-others, property_in_events (depth + 1) later property)
 property_in_events depth (FileNodeProperty first ∷ later) property has =
-    where_first (Contains-cases (PropertyItem first) (items_of depth later) (PropertyItem property) has)
-    (λ has. property_in_events depth later property has)
-  where
-    where_first : (PropertyItem first ≡ PropertyItem property) ⊎ Contains (items_of depth later) (PropertyItem property) →
-        (Contains (items_of depth later) (PropertyItem property) → Contains later (FileNodeProperty property)) →
-        Contains (FileNodeProperty first ∷ later) (FileNodeProperty property)
-    where_first (inl same) rest =
-        let is : first ≡ property = cc in
-        subst (λ found. Contains (FileNodeProperty first ∷ later) (FileNodeProperty found)) is
-        (Contains-first (FileNodeProperty first) later)
-    where_first (inr has) rest =
-        Contains-others (FileNodeProperty first) later (FileNodeProperty property) (rest has)
+    search (rules, Contains-cases, Contains-first, Contains-others, property_in_events depth later property)
 property_in_events depth (FileNodeEnd ∷ later) property has =
     Contains-others FileNodeEnd later (FileNodeProperty property) (property_in_events (depth - 1) later property has)
 
@@ -50,11 +30,7 @@ name_in_table root property has = (property, property_in_events 0 (file_events_o
 -- The names of properties of the tree with one more.
 with_used_name-in : (root : Root FileNode) (used : List (List ℕ)) (name : List ℕ) → AreNamesIn used root → IsNameIn name root →
     AreNamesIn (with_used_name used name) root
-with_used_name-in root used name are is = by (is_among name used)
-  where
-    by : (b : Bool) → AreNamesIn (if b then used else used ++ name ∷ []) root
-    by true = are
-    by false = All-push (λ name. IsNameIn name root) used name are is
+with_used_name-in root used name are is = search (rules, All-push)
 
 -- The names of a table are those of properties of the tree.
 names_after-in : (root : Root FileNode) (table : List TableItem) (used : List (List ℕ)) →
@@ -70,6 +46,4 @@ names_after-in root (PropertyItem first ∷ table) used each are =
     (with_used_name-in root used first.name are (each first (Contains-first (PropertyItem first) table)))
 
 pub table_names_in_tree : (root : Root FileNode) (table : List TableItem) → table ≡ table_of root → AreNamesIn (names_of_table table) root
-table_names_in_tree root table is =
-    names_after-in root table [] (λ property has. name_in_table root property
-    (subst (λ table. Contains table (PropertyItem property)) is has)) tt
+table_names_in_tree root table is = search (rules, names_after-in, name_in_table)

@@ -1,15 +1,14 @@
-use Rattle.std.proofs.Common.{◌≡◌, ◌↔◌, ℕ, zero, suc, inl, inr, Bool, true, false, List, Some, [], ◌∷◌, ◌++◌, slice_get}
+use Rattle.std.proofs.Common.{◌≡◌, ◌↔◌, ℕ, zero, suc, List, Some, [], ◌∷◌, ◌++◌, slice_get, rules}
 use Rattle.std.proofs.Common.{refl, sym, ap, subst, ◌∙◌}
-use Rattle.std.specs.Prelude.{if◌then◌else◌, IfOk, OnOk, Ok, Err}
+use Rattle.std.specs.Prelude.{IfOk, OnOk, Ok, Err}
 use Rattle.std.specs.declared.result.Result.{Result}
 use Rattle.std.specs.List.{AllByRecursion}
 use Rattle.std.proofs.lemmas.Option.{none-some, same_Some}
-use Rattle.bi_blob.specs.Layout.{is_among}
 use Rattle.bi_blob.specs.Tree.{AreDistinct, IsNew, FileProperty}
 use Rattle.bi_blob.proofs.Blobs.OpenNodes.{AreDistinct-push}
 use Rattle.bi_blob.proofs.NameSets.{new_by_test, held_by_test}
 use Rattle.bi_fdt.specs.NameTables.{HasAtMostMore}
-use Rattle.bi_fdt.specs.Numbers.{IsNumberOf, IsNumbered, AreNumbered, with_used_name, names_after}
+use Rattle.bi_fdt.specs.Numbers.{IsNumberOf, AreNumbered, with_used_name, names_after}
 use Rattle.bi_fdt.specs.TableItems.{TableItem, NodeItem, PropertyItem}
 
 -- Names that were used are there once, at their numbers.
@@ -36,14 +35,7 @@ last_is_new (first ∷ later) name distinct = (
 -- The names after one more use of one of them.
 pub used_once_more : (old new : List (List ℕ)) (name : List ℕ) (number : ℕ) → HasAtMostMore old new name → AreDistinct new →
     IsNumberOf new name number → new ≡ with_used_name old name
-used_once_more old new name number at_most distinct is = by (is_among name old) refl at_most
-  where
-    by : (b : Bool) → is_among name old ≡ b → HasAtMostMore old new name → new ≡ with_used_name old name
-    by true among (inl same) = same ∙ ap (λ b. if b then old else old ++ name ∷ []) (sym among)
-    by true among (inr more) = absurd (held_by_test name old among (last_is_new old name (subst AreDistinct more distinct)))
-    by false among (inl same) =
-        absurd (numbered_old old name number (subst (λ l. IsNumberOf l name number) same is) (new_by_test name old among))
-    by false among (inr more) = more ∙ ap (λ b. if b then old else old ++ name ∷ []) (sym among)
+used_once_more old new name number at_most distinct is = search (rules, held_by_test, last_is_new, numbered_old, new_by_test)
 
 -- Two names are equal if and only if their numbers are.
 pub one_number_each : (names : List (List ℕ)) → AreDistinct names → (a b : List ℕ) (m n : ℕ) → IsNumberOf names a m →
@@ -70,12 +62,7 @@ on_ok (Err e) P Q has follows = tt
 
 -- The names after one more use are there once.
 with_used_name-distinct : (used : List (List ℕ)) (name : List ℕ) → AreDistinct used → AreDistinct (with_used_name used name)
-with_used_name-distinct used name distinct = by (is_among name used) refl
-  where
-    by : (b : Bool) → is_among name used ≡ b → AreDistinct (with_used_name used name)
-    by true old = subst AreDistinct (sym (ap (λ b. if b then used else used ++ name ∷ []) old)) distinct
-    by false new = subst AreDistinct (sym (ap (λ b. if b then used else used ++ name ∷ []) new))
-        (AreDistinct-push used name distinct (new_by_test name used new))
+with_used_name-distinct used name distinct = search (rules, AreDistinct-push, new_by_test)
 
 pub names_after-distinct : (used : List (List ℕ)) (table : List TableItem) → AreDistinct used → AreDistinct (names_after used table)
 names_after-distinct used [] distinct = distinct
@@ -89,8 +76,6 @@ pub numbered_property : (names : List (List ℕ)) (table : List TableItem) (numb
     IsNumberOf names property.name number
 numbered_property names [] numbers at number property are is has = absurd (none-some (PropertyItem property) is)
 numbered_property names (item ∷ table) [] at number property are is has = absurd are
-numbered_property names (item ∷ table) (first ∷ numbers) zero number property are is has =
-    subst (IsNumberOf names property.name) (same_Some first number has)
-    (subst (λ item. IsNumbered names item first) (same_Some item (PropertyItem property) is) are.0)
+numbered_property names (item ∷ table) (first ∷ numbers) zero number property are is has = search (rules, same_Some)
 numbered_property names (item ∷ table) (first ∷ numbers)
     (suc at) number property are is has = numbered_property names table numbers at number property are.1 is has

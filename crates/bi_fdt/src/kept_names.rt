@@ -1,6 +1,6 @@
 //! The names of the properties of a blob that was read.
 
-ghost use Rattle.std.specs.Prelude.{◌≡◌, IfOk, true};
+ghost use Rattle.std.specs.Prelude.{◌≡◌, IfOk};
 ghost use Rattle.std.specs.List.{AllZip};
 ghost use Rattle.bi_base.specs.Slices.{bytes_of};
 ghost use Rattle.bi_blob.specs.Tree.{AreDistinct};
@@ -9,7 +9,7 @@ ghost use Rattle.bi_fdt.specs.Numbers.{FindsNumber};
 
 use crate::name_parts::NameParts;
 use crate::name_table::NameTable;
-use crate::other_names::{are_same_parts, own_numbers, parts_among, tails_among};
+use crate::other_names::{have_same_parts, own_numbers, parts_among, tails_among};
 use std::alloc::{AllocError, Global};
 use std::marker::Model;
 
@@ -86,17 +86,10 @@ impl<'a> KeptNames<'a> {
         ensures { IfOk result (λ numbers.
             AllZip (FindsNumber other.now) self.now numbers.items) }
     {
-        if self.has_same_parts(other) {
+        if have_same_parts(&self.tails, &other.tails, &self.heads, &other.heads) {
             return own_numbers(alloc, self.names.len());
         }
         self.look_up_in(alloc, other)
-    }
-
-    /// Whether the parts of both are the same, so that the names are.
-    fn has_same_parts(&self, other: &KeptNames<'a>) -> bool
-        ensures { result ≡ true → self.now ≡ other.now }
-    {
-        are_same_parts(&self.tails, &other.tails) && are_same_parts(&self.heads, &other.heads)
     }
 
     /// Returns, for each name, its number among other names, if it is there. Each block and each

@@ -1,6 +1,6 @@
 //! The numbers that names have among other names, by their parts.
 
-ghost use Rattle.std.specs.Prelude.{◌≡◌, ℕ, IfOk, Option, Some, true, length, slice_get};
+ghost use Rattle.std.specs.Prelude.{◌≡◌, ◌↔◌, ℕ, IfOk, IsTrue, Option, Some, length, slice_get};
 ghost use Rattle.bi_fdt.specs.NameParts.{AreOnce, AreAfterTails, parts_of_slices};
 ghost use Rattle.bi_fdt.specs.OtherNames.{AreOtherNumbers, AreFoundAmong, AreOwnNumbers};
 
@@ -66,9 +66,23 @@ pub(crate) fn own_numbers(alloc: Global, count: usize) -> Result<Vec<Option<usiz
     Ok(numbers)
 }
 
-/// Whether two lists have the same parts in the same order.
-pub(crate) fn are_same_parts(parts: &[(usize, &[u8])], others: &[(usize, &[u8])]) -> bool
-    ensures { result ≡ true → parts_of_slices parts.now ≡ parts_of_slices others.now }
+/// Returns whether two lists of tails are the same, and two lists of heads.
+pub(crate) fn have_same_parts(
+    tails: &[(usize, &[u8])],
+    other_tails: &[(usize, &[u8])],
+    heads: &[(usize, &[u8])],
+    other_heads: &[(usize, &[u8])],
+) -> bool
+    ensures { IsTrue result ↔ (
+        (parts_of_slices tails.now ≡ parts_of_slices other_tails.now)
+        × (parts_of_slices heads.now ≡ parts_of_slices other_heads.now)) }
+{
+    are_same_parts(tails, other_tails) && are_same_parts(heads, other_heads)
+}
+
+/// Returns whether two lists have the same parts in the same order.
+fn are_same_parts(parts: &[(usize, &[u8])], others: &[(usize, &[u8])]) -> bool
+    ensures { IsTrue result ↔ (parts_of_slices parts.now ≡ parts_of_slices others.now) }
 {
     parts == others
 }

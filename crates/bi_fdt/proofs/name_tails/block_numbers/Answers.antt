@@ -22,9 +22,7 @@ loop-turn-preserved c =
     }
 
 pub returns-in_err-later-clause-more : goal.returns-in_err-later-clause-more
-returns-in_err-later-clause-more c =
-    AreMoreParts-again c.args.tails.now c.loop-turn.tails c.blocks_before.new.tails c.loop-turn.invariant.more c.blocks_before.ensures.more
+returns-in_err-later-clause-more c = search (rules, AreMoreParts-again)
 
 pub returns-in_err-push-clause-more : goal.returns-in_err-push-clause-more
-returns-in_err-push-clause-more c =
-    AreMoreParts-again c.args.tails.now c.loop-turn.tails c.blocks_before.new.tails c.loop-turn.invariant.more c.blocks_before.ensures.more
+returns-in_err-push-clause-more c = search (rules, AreMoreParts-again)

@@ -1,4 +1,4 @@
-use Rattle.std.proofs.Common.{◌∙◌, ◌≡◌, ◌+◌, ◌-◌, ◌≤◌, ◌/◌, ℕ, List, length, take, drop, refl, sym, ap, subst, arith}
+use Rattle.std.proofs.Common.{◌∙◌, ◌≡◌, ◌+◌, ◌-◌, ◌≤◌, ◌/◌, ℕ, List, length, take, drop, refl, sym, ap, subst, arith, rules}
 use Rattle.bi_blob.specs.Tokens.{name_from}
 use Rattle.bi_fdt.specs.NameParts.{AreMoreParts}
 use Rattle.bi_fdt.specs.NameTails.{AreAllBlocks}
@@ -8,9 +8,7 @@ use Rattle.bi_fdt.proofs.NameTails.{AreAllBlocks-none, AreAllBlocks-more, blocks
 use Rattle.bi_fdt.proofs.name_tails.blocks_before.Goals as goal
 
 pub returns-then-name-lt-STRIDE-clause-blocks : goal.returns-then-name-lt-STRIDE-clause-blocks
-returns-then-name-lt-STRIDE-clause-blocks c =
-    subst (AreAllBlocks c.args.tails.now 0) (name_before_end c.args.strings.now c.args.at c.args.end c.requires.end)
-    (AreAllBlocks-none c.args.tails.now _ c.if-name-lt-STRIDE.true)
+returns-then-name-lt-STRIDE-clause-blocks c = search (rules, name_before_end, AreAllBlocks-none)
 
 pub returns-then-name-lt-STRIDE-clause-more : goal.returns-then-name-lt-STRIDE-clause-more
 returns-then-name-lt-STRIDE-clause-more c = AreMoreParts-same _ _ refl

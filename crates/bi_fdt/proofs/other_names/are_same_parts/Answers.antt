@@ -1,4 +1,4 @@
-use Rattle.std.proofs.Common.{◌≡◌, ℕ, true, List, [], ◌∷◌, ◌&&◌, ◌==◌, ap, refl, sym, ◌∙◌}
+use Rattle.std.proofs.Common.{◌≡◌, ℕ, true, List, [], ◌∷◌, ◌&&◌, ◌==◌, drop, ap, refl, sym, ◌∙◌}
 use lib.Pointwise.{pointwise}
 use Rattle.std.specs.Prelude.{bytes_eq}
 use Rattle.std.proofs.lemmas.Bool.{and_parts, false≢true}
@@ -23,5 +23,24 @@ same_parts (part ∷ parts) (other ∷ others) equal =
     ∙ ap (λ bytes. (other.0, bytes)) ((bytes_eq-Decides part.1.now other.1.now).0 first.1))
     ∙ ap (λ later. (other.0, other.1.now) ∷ later) (same_parts parts others both.1)
 
+same_first : {X : Type 0} {x y : X} {xs ys : List X} → x ∷ xs ≡ y ∷ ys → x ≡ y
+same_first same = cc
+
+-- The same parts are equal one by one.
+equal_parts : (parts others : List (ℕ × Bor (List ℕ))) → parts_of_slices parts ≡ parts_of_slices others →
+    pointwise (λ part other. (part.0 == other.0) && bytes_eq part.1.now other.1.now) parts others ≡ true
+equal_parts [] [] same = refl
+equal_parts [] (other ∷ others) same = absurd cc
+equal_parts (part ∷ parts) [] same = absurd cc
+equal_parts (part ∷ parts) (other ∷ others) same =
+    let first = same_first same in
+    ap (λ equal. equal && pointwise (λ part other. (part.0 == other.0) && bytes_eq part.1.now other.1.now) parts others)
+    (ap (λ equal. equal && bytes_eq part.1.now other.1.now) ((Decides-eqb part.0 other.0).1 (ap (λ (p : NamePart). p.0) first))
+    ∙ (bytes_eq-Decides part.1.now other.1.now).1 (ap (λ (p : NamePart). p.1) first))
+    ∙ equal_parts parts others (ap (drop 1) same)
+
 pub returns : goal.returns
-returns c = λ equal. same_parts c.args.parts.now c.args.others.now (sym c.eq.ensures ∙ equal)
+returns c = (
+  λ equal. same_parts c.args.parts.now c.args.others.now (sym c.eq.ensures ∙ equal),
+  λ same. c.eq.ensures ∙ equal_parts c.args.parts.now c.args.others.now same,
+)

@@ -1,9 +1,9 @@
-use Rattle.std.proofs.Common.{◌≡◌, refl, ◌+◌, ◌<◌, ℕ, List, [], ◌∷◌, ◌++◌, Option, Some, slice_get, get_or, length, map, sym, ap, ◌∙◌}
+use Rattle.std.proofs.Common.{◌≡◌, ◌+◌, ◌<◌, ℕ, List, [], ◌∷◌, ◌++◌, Option, Some, slice_get, get_or, length, map, sym, ap, ◌∙◌}
 use Rattle.std.proofs.Common.{arith, rules}
 use Rattle.std.proofs.lemmas.List.{length-map, get_or-map}
 use Rattle.std.proofs.lemmas.Option.{slice_get-get_or}
 use denote.Ref.{Bor}
-use Rattle.bi_fdt.specs.NameParts.{NamePart, AreOnce, AreAfterTails, parts_of_slices}
+use Rattle.bi_fdt.specs.NameParts.{NamePart, AreOnce, AreAfterTails}
 use Rattle.bi_fdt.specs.OtherNames.{HasOtherNumber, FindsTail}
 use Rattle.bi_fdt.proofs.OtherNames.{others_more}
 use Rattle.bi_fdt.proofs.other_names.tails_among.Goals as goal
@@ -31,13 +31,4 @@ next items d parts others numbers now more index tail found is within once order
           ∙ ap Some (get_or-map part_of items index d (part_of d) within)
 
 pub loop-tail-preserved : goal.loop-tail-preserved
-loop-tail-preserved c =
-    let counted : length c.loop-tail.numbers.items ≡ c.loop-tail.tail-index + 1 = search rules in
-    record {
-      count = omega (arith, c.in_ok-push-2.ensures.len, c.loop-tail.invariant.count);
-      each = next c.args.parts.now _ (parts_of_slices c.args.parts.now) c.args.others.now c.loop-tail.numbers.items c.deref.result.now
-          c.push-in-loop-tail.new.self.items c.loop-tail.tail-index
-          c.option_at-later.result c.find_tail.result refl c.loop-tail-test.true
-          c.requires.once c.requires.order counted c.loop-tail.invariant.each
-          c.deref.ensures.value c.option_at-later.ensures c.find_tail.ensures c.in_ok-push-2.ensures.items;
-    }
+loop-tail-preserved c = search (rules, next)

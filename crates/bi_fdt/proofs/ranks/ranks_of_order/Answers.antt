@@ -1,4 +1,4 @@
-use Rattle.std.proofs.Common.{◌≡◌, length, vec_len, ◌∙◌, arith}
+use Rattle.std.proofs.Common.{◌≡◌, length, vec_len, arith, rules}
 use Rattle.std.proofs.lemmas.List.{length-set}
 use Rattle.bi_fdt.proofs.NameOrders.{all_ranked, number_in_order_within, rank_more}
 use Rattle.bi_fdt.proofs.ranks.ranks_of_order.Goals as goal
@@ -9,11 +9,7 @@ index_mut-requires c =
     (omega (arith, c.loop-rank.invariant.count, c.loop-rank.ranks.ok)) c.loop-rank.rank _ c.loop-rank-test.true
 
 pub loop-rank-preserved : goal.loop-rank-preserved
-loop-rank-preserved c = record {
-  count = length-set c.loop-rank.ranks.items _ c.loop-rank.rank ∙ c.loop-rank.invariant.count;
-  ranked = rank_more c.args.names.now c.args.order.now c.loop-rank.ranks.items c.loop-rank.rank _ c.requires.permutation
-      c.loop-rank.invariant.count c.loop-rank-test.true c.loop-rank.invariant.ranked;
-}
+loop-rank-preserved c = search (rules, length-set, rank_more)
 
 pub returns : goal.returns
 returns c =

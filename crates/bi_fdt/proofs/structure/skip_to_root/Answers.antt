@@ -1,4 +1,4 @@
-use Rattle.std.proofs.Common.{◌+◌, ◌≤◌, refl, sym, ◌∙◌, arith}
+use Rattle.std.proofs.Common.{sym, rules}
 use Rattle.bi_base.proofs.Refusals.{fault_passed_on, refused_with}
 use Rattle.bi_blob.specs.OpenNodes.{NoTree}
 use Rattle.bi_fdt.specs.Blocks.{blocks_of}
@@ -21,11 +21,4 @@ returns-then-number-ne-NOP-clause-fault c =
     (unexpected_before c.in_ok-number.number c.if-number-ne-NOP.true c.if-number-eq-BEGIN_NODE.false))
 
 pub loop-number-preserved : goal.loop-number-preserved
-loop-number-preserved c =
-    let within : c.loop-number.place + 4 ≤ c.args.blocks.end = c.in_ok-number.ensures.within in
-    record {
-      position = λ depth_limit. past_nop (blocks_of c.args.blocks) depth_limit c.loop-number.place NoTree
-          (c.loop-number.invariant.position depth_limit)
-          (record { within = within; is_number = sym c.in_ok-number.ensures.number ∙ c.if-number-ne-NOP.false }) refl;
-      within = omega arith;
-    }
+loop-number-preserved c = search (rules, past_nop)

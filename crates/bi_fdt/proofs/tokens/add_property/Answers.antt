@@ -1,8 +1,7 @@
-use Rattle.std.proofs.Common.{◌≡◌, ℕ, ◌+◌, ◌≤◌, length, map, sym, ap, subst, ◌∙◌, arith}
+use Rattle.std.proofs.Common.{◌≡◌, ℕ, ◌+◌, ◌≤◌, length, map, sym, ap, subst, ◌∙◌, arith, rules}
 use Rattle.bi_base.specs.Cells.{up4, u32_at, slice}
 use Rattle.bi_base.proofs.CellLaws.{length-slice}
 use Rattle.bi_base.proofs.Refusals.{refused_by, refusal_passed_on}
-use Rattle.bi_blob.specs.Tokens.{name_from}
 use Rattle.bi_blob.specs.Tree.{FileProperty, IsNew}
 use Rattle.bi_blob.specs.BlobFaults.{token_fault, IsNewProperty, HasName}
 use Rattle.bi_blob.specs.OpenNodes.{IsOpenAt, OpenTree, open_node_of, outer_nodes_of, with_one_property}
@@ -21,9 +20,7 @@ add_property-requires-clause-there c =
     (subst (λ at. HasName c.args.blocks.strings.now at (length c.args.blocks.strings.now)) (sym c.name_offset-at.ensures) passes.1.1.0)
 
 pub add_property-requires-clause-name : goal.add_property-requires-clause-name
-add_property-requires-clause-name c =
-    c.name_in-name.ensures ∙ c.in_ok-property.ensures.name
-    ∙ (λ i. name_from (sym c.requires.reading.strings i) (sym c.name_offset-at.ensures i))
+add_property-requires-clause-name c = search rules
 
 pub returns-in_err-property-clause-failed : goal.returns-in_err-property-clause-failed
 returns-in_err-property-clause-failed c =

@@ -1,9 +1,7 @@
 use Rattle.std.proofs.Common.{◌≡◌, ℕ, List, sym, subst, arith, rules}
 use Rattle.bi_base.specs.Cells.{AreBytes}
-use Rattle.bi_base.specs.Errors.{IsFaultOrNoMemory}
 use Rattle.bi_base.proofs.Refusals.{error_passed_on}
 use Rattle.bi_blob.specs.Blob.{tree_blocks}
-use Rattle.bi_blob.specs.BlobFaults.{IsStructureFault}
 use Rattle.bi_fdt.specs.Reading.{HasTable}
 use Rattle.bi_fdt.specs.TableNames.{AreTableNames}
 use Rattle.bi_fdt.specs.declared.table.Entry.{Entry}
@@ -18,14 +16,7 @@ returns-in_err-reservation_count-clause-failed c =
     (first_fault c.args.limits c.args.file.now c.in_err-reservation_count.field-0.0 c.in_err-reservation_count.ensures.fault))
 
 pub returns-in_err-entries-clause-failed : goal.returns-in_err-entries-clause-failed
-returns-in_err-entries-clause-failed c =
-    let depth : c.from.result ≡ c.args.limits.depth = search rules in
-    error_passed_on _ _ _ c.from_residual-in_err-entries.ensures.1
-    (refused_in_tree c.args.limits c.args.file.now c.in_ok-reservation_count.reservation_count c.in_err-entries.field-0.0
-    c.in_ok-reservation_count.ensures.header c.in_ok-reservation_count.ensures.reservations
-    (subst (λ n. IsFaultOrNoMemory (IsStructureFault (tree_blocks c.args.file.now) n) c.in_err-entries.field-0.0) depth
-    (subst (λ b. IsFaultOrNoMemory (IsStructureFault b c.from.result) c.in_err-entries.field-0.0) c.tree_blocks-blocks.ensures.blocks
-    c.in_err-entries.ensures.failed)))
+returns-in_err-entries-clause-failed c = search (rules, error_passed_on, refused_in_tree)
 
 pub invariant_of-result : goal.invariant_of-result
 invariant_of-result c =

@@ -15,9 +15,7 @@ use Rattle.bi_fdt.proofs.GrowingTables.{growing_property, innermost_within}
 use Rattle.bi_fdt.proofs.growing.Growing.add_property.Goals as goal
 
 pub overflow_cast-node : goal.overflow_cast-node
-overflow_cast-node c =
-    let grown = c.requires.grown in
-    omega (arith, innermost_within grown.file c.args.self.now grown.innermost grown.outer grown.is, c.requires.few)
+overflow_cast-node c = search (rules, innermost_within)
 
 pub overflow_cast-number : goal.overflow_cast-number
 overflow_cast-number c =
@@ -32,35 +30,13 @@ overflow_cast-number c =
     )
 
 pub overflow_sub-property_count : goal.overflow_sub-property_count
-overflow_sub-property_count c =
-    let grown = c.requires.grown in
-    omega (
-      arith,
-      innermost_within grown.file c.args.self.now grown.innermost grown.outer grown.is,
-      ap length c.in_ok-push.ensures.items,
-      length-append c.args.self.now.entries.items (entry.Property (record c.args.property { number = c.in-Some.number }) ∷ []),
-    )
+overflow_sub-property_count c = search (rules, innermost_within, length-append)
 
 pub overflow_sub-property_count-2 : goal.overflow_sub-property_count-2
-overflow_sub-property_count-2 c =
-    let grown = c.requires.grown in
-    omega (
-      arith,
-      innermost_within grown.file c.args.self.now grown.innermost grown.outer grown.is,
-      ap length c.in_ok-push.ensures.items,
-      length-append c.args.self.now.entries.items (entry.Property (record c.args.property { number = c.in-Some.number }) ∷ []),
-    )
+overflow_sub-property_count-2 c = search (rules, innermost_within, length-append)
 
 pub set_property_count-requires : goal.set_property_count-requires
-set_property_count-requires c =
-    let grown = c.requires.grown in
-    omega (
-      arith,
-      innermost_within grown.file c.args.self.now grown.innermost grown.outer grown.is,
-      ap length c.in_ok-push.ensures.items,
-      length-append c.args.self.now.entries.items (entry.Property (record c.args.property { number = c.in-Some.number }) ∷ []),
-      ap length c.deref_mut.ensures.value,
-    )
+set_property_count-requires c = search (rules, innermost_within, length-append)
 
 pub returns-clause-added : goal.returns-clause-added
 returns-clause-added c =

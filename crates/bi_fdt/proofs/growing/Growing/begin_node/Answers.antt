@@ -28,14 +28,10 @@ outer_few file growing innermost outer is =
     omega (arith, outer_count file growing innermost outer is, open_nodes_within file growing innermost outer is)
 
 pub overflow_cast-len : goal.overflow_cast-len
-overflow_cast-len c =
-    let grown = c.requires.grown in
-    omega (arith, outer_few grown.file c.args.self.now grown.innermost grown.outer grown.is)
+overflow_cast-len c = search (rules, outer_few)
 
 pub overflow_add-len : goal.overflow_add-len
-overflow_add-len c =
-    let grown = c.requires.grown in
-    omega (arith, outer_few grown.file c.args.self.now grown.innermost grown.outer grown.is)
+overflow_add-len c = search (rules, outer_few)
 
 pub returns-then-not-branch-clause-failed : goal.returns-then-not-branch-clause-failed
 returns-then-not-branch-clause-failed c =

@@ -1,5 +1,4 @@
 use Rattle.std.proofs.Common.{◌≡◌, ℕ, zero, suc, true, false, slice_get, ◌<◌, length, refl, ap, ◌∙◌, arith, rules}
-use Rattle.std.specs.Vec.{with_items}
 use Rattle.std.proofs.Math.ListN.{set}
 use Rattle.std.proofs.lemmas.List.{with_items_is, nil_from_length}
 use Rattle.std.proofs.lemmas.Bool.{false≢true}
@@ -8,33 +7,10 @@ use Rattle.bi_fdt.proofs.GrowingTables.{growing_ended, growing_finished, innermo
 use Rattle.bi_fdt.proofs.growing.Growing.end_node.Goals as goal
 
 pub set_after-requires : goal.set_after-requires
-set_after-requires c =
-    let grown = c.requires.grown in
-    let within : c.args.self.now.innermost.entry < length c.args.self.now.entries.items = innermost_within grown.file c.args.self.now
-    grown.innermost grown.outer grown.is in
-    let now : length c.deref_mut.result.now ≡ length c.args.self.now.entries.items = ap length c.deref_mut.ensures.value in
-    omega (arith, within, now)
+set_after-requires c = search (rules, innermost_within)
 
 pub returns-in-Some : goal.returns-in-Some
-returns-in-Some c =
-    let old = c.args.self.now in
-    let index : ℕ = old.innermost.entry in
-    let long : c.len-after.result ≡ length old.entries.items = search rules in
-    let now = c.deref_mut.ensures.value in
-    let held : (with_items old.entries c.set_after.new.entries).items ≡ c.set_after.new.entries =
-    with_items_is old.entries c.set_after.new.entries (c.set_after.auto.entries ∙ c.deref_mut.ensures.len) in
-    record {
-      count = ap length held ∙ c.set_after.auto.entries ∙ ap length now;
-      strings = refl;
-      grown = λ file innermost outer growing.
-          growing_ended file old _ innermost outer c.in-Some.parent growing
-          (λ n at.
-          held
-          ∙ c.set_after.ensures n (ap (λ l. slice_get l index) now ∙ at)
-          ∙ ap (λ l. set l index (entry.Node (record n { after = c.len-after.result }))) now
-          ∙ ap (λ k. set old.entries.items index (entry.Node (record n { after = k }))) long)
-          c.in-Some.ensures.items refl refl;
-    }
+returns-in-Some c = search (rules, with_items_is, growing_ended, set)
 
 -- A list that has no last item is empty.
 none_left : (n : ℕ) → (0 < n → false ≡ true) → n ≡ 0

@@ -1,4 +1,4 @@
-use Rattle.std.proofs.Common.{◌≡◌, ℕ, suc, ◌<◌, List, [], ◌∷◌, Some, slice_get, get_or, length, inl, inr, sym, ap, ◌∙◌, arith}
+use Rattle.std.proofs.Common.{◌≡◌, ℕ, suc, ◌<◌, List, [], ◌∷◌, Some, slice_get, get_or, length, inl, inr, sym, ap, ◌∙◌, arith, rules}
 use Rattle.std.proofs.Math.Nat.{eq-or-lt_of_le}
 use Rattle.std.proofs.lemmas.List.{length-map, get_or-map}
 use Rattle.std.proofs.lemmas.Option.{slice_get-get_or, same_Some}
@@ -25,10 +25,7 @@ nowhere (first ∷ names) name none =
     ((λ same. none 0 (omega arith) (ap Some same)), nowhere names name (λ k within. none (suc k) (omega (arith, within))))
 
 pub returns-then-eq : goal.returns-then-eq
-returns-then-eq c =
-    there c.deref-other-items.result.now _ c.args.self.now c.loop-number.number
-    (ap bytes_of c.deref-other-items.ensures.value ∙ c.self.view_is) c.loop-number-test.true
-    ∙ ap Some ((bytes_eq-Decides _ _).0 (sym c.if-eq.ensures))
+returns-then-eq c = search (rules, there, bytes_eq-Decides)
 
 pub loop-number-preserved : goal.loop-number-preserved
 loop-number-preserved c k within at = elim (eq-or-lt_of_le {n = k} {m = c.loop-number.number} (omega (arith, within))) [
@@ -41,11 +38,4 @@ loop-number-preserved c k within at = elim (eq-or-lt_of_le {n = k} {m = c.loop-n
 ]
 
 pub returns : goal.returns
-returns c = nowhere c.args.self.now c.args.name.now (λ k within. c.loop-number.invariant k
-    (omega (
-      arith,
-      within,
-      c.loop-number-test.false,
-      ap length (ap bytes_of c.deref-other-items.ensures.value ∙ c.self.view_is),
-      length-map c.deref-other-items.result.now (λ (item : Bor (List ℕ)). item.now),
-    )))
+returns c = search (rules, nowhere, length-map)

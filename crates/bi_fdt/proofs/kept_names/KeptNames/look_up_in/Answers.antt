@@ -1,4 +1,4 @@
-use Rattle.std.proofs.Common.{◌≡◌, ℕ, List, Option, Result, Ok, Err, Vec, Global, subst, sym, ap, ◌∙◌}
+use Rattle.std.proofs.Common.{◌≡◌, ℕ, List, Option, Result, Ok, Err, Vec, Global, subst, sym, ap, ◌∙◌, rules}
 use Rattle.std.specs.Prelude.{IfOk}
 use Rattle.std.specs.List.{AllZip}
 use Rattle.std.specs.declared.alloc.AllocError.{AllocError}
@@ -16,17 +16,14 @@ found : (tails heads : List NamePart) (names : List (List ℕ)) (other_tails oth
     AreHeads other_tails other_heads others → AreOtherNumbers tails other_tails numbers →
     IfOk result (λ found. AreFoundAmong heads other_heads numbers found.items) →
     IfOk result (λ found. AllZip (FindsNumber others) names found.items)
-found tails heads names other_tails other_heads others numbers (Ok all) are other_are kept among =
-    names_found tails heads names other_tails other_heads others numbers all.items are other_are kept among
+found tails heads names other_tails other_heads others numbers (Ok all) are other_are kept among = search (rules, names_found)
 found tails heads names other_tails other_heads others numbers (Err e) are other_are kept among = tt
 
 -- The same parts are those of the same names.
 same_heads : (tails heads other_tails other_heads : List NamePart) (names others : List (List ℕ)) → tails
     ≡ other_tails → heads ≡ other_heads →
     names ≡ others → AreHeads tails heads names → AreHeads other_tails other_heads others
-same_heads tails heads other_tails other_heads names others tails_are heads_are names_are are =
-    subst (λ tails. AreHeads tails other_heads others) tails_are
-    (subst (λ heads. AreHeads tails heads others) heads_are (subst (AreHeads tails heads) names_are are))
+same_heads tails heads other_tails other_heads names others tails_are heads_are names_are are = search rules
 
 pub returns : goal.returns
 returns c =

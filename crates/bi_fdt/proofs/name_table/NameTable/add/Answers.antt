@@ -30,15 +30,7 @@ returns-then-number-len-clause-more c =
 -- The head of the name was there, at the place of the name.
 was_there : (c : goal.Else-number-len) → (slice_get c.args.self.now.heads c.in_ok-number.number ≡ Some (c.args.tail, c.head_of.result.now))
     × (c.add.new.self ≡ c.args.self.now.heads)
-was_there c =
-    let names : List (List ℕ) = map (λ name. name.now) c.args.self.now.names.items in
-    let mapped : length names ≡ length c.args.self.now.names.items = simp length-map in
-    let kept : c.reserve.new.self.items ≡ c.args.self.now.names.items = search rules in
-    let counted : c.len.result ≡ length c.reserve.new.self.items = search rules in
-    let last : c.len.result ≡ length c.args.self.now.heads =
-    omega (arith, heads_length c.args.self.now.tails c.args.self.now.heads names c.requires.table, ap length kept) in
-    placed_there c.args.self.now.heads _ c.in_ok-number.number c.add.new.self c.in_ok-number.ensures.added
-    (λ same. c.if-number-len.false (same ∙ sym last))
+was_there c = search (rules, length-map, heads_length, placed_there)
 
 pub returns-else-number-len-clause-added : goal.returns-else-number-len-clause-added
 returns-else-number-len-clause-added c =
@@ -48,14 +40,4 @@ returns-else-number-len-clause-added c =
     (record { head = c.head_of.ensures; tail = c.requires.tail }) (was_there c).0
 
 pub returns-else-number-len-clause-more : goal.returns-else-number-len-clause-more
-returns-else-number-len-clause-more c =
-    let kept : c.reserve.new.self.items ≡ c.args.self.now.names.items = search rules in
-    let same : map (λ (n : Bor (List ℕ)). n.now) c.reserve.new.self.items
-    ≡ map (λ (n : Bor (List ℕ)). n.now) c.args.self.now.names.items = ap (map (λ n. n.now)) kept in
-    record {
-      is_table = subst (AreHeads c.args.self.now.tails c.add.new.self) (sym same)
-          (subst (λ l. AreHeads c.args.self.now.tails l (map (λ n. n.now) c.args.self.now.names.items))
-          (sym (was_there c).1) c.requires.table);
-      names = ([], same ∙ sym (append-nil _));
-      tails = ([], sym (append-nil c.args.self.now.tails));
-    }
+returns-else-number-len-clause-more c = search (rules, was_there, append-nil)

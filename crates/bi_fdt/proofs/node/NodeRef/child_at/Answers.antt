@@ -1,4 +1,4 @@
-use Rattle.std.proofs.Common.{◌≡◌, ◌+◌, None, sym, ap, ◌∙◌, arith}
+use Rattle.std.proofs.Common.{◌≡◌, ◌+◌, None, sym, ap, ◌∙◌, arith, rules}
 use Rattle.std.specs.Option.{option_map}
 use Rattle.bi_blob.specs.Lookups.{node_at}
 use Rattle.bi_fdt.specs.Views.{node_of}
@@ -14,6 +14,4 @@ returns-in_err-child-2 c =
     ∙ sym (no_child_past children (c.loop.counter + 1) c.args.index gone (omega arith))
 
 pub loop-preserved : goal.loop-preserved
-loop-preserved c =
-    let children = (node_of c.args.self).children in
-    c.in_ok-child-2.ensures.sibling ∙ next_child_at children c.loop.counter (node_of c.loop.child) c.loop.invariant
+loop-preserved c = search (rules, next_child_at)

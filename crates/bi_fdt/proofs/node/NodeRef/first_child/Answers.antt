@@ -1,15 +1,10 @@
-use Rattle.std.proofs.Common.{◌+◌, ◌<◌, ◌≤◌, ◌^◌, length, sym, ap, arith}
+use Rattle.std.proofs.Common.{sym, ap, rules}
 use Rattle.bi_blob.specs.Lookups.{node_at}
 use Rattle.bi_fdt.proofs.NodeViews.{properties_within, no_child, first_child_there}
 use Rattle.bi_fdt.proofs.node.NodeRef.first_child.Goals as goal
 
 pub overflow_add-index-2 : goal.overflow_add-index-2
-overflow_add-index-2 c =
-    let r = c.args.self in
-    let within : r.index + 1 + c.entry-node.result.property_count ≤ length r.blob.now.table = properties_within r.blob.now.file
-    r.blob.now.table r.index c.entry-node.result c.entry-node.ensures in
-    let small : length r.blob.now.table < 2 ^ 63 = r.small in
-    omega arith
+overflow_add-index-2 c = search (rules, properties_within)
 
 pub returns-then-index-node-clause-child : goal.returns-then-index-node-clause-child
 returns-then-index-node-clause-child c =

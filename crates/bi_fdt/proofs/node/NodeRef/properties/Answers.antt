@@ -1,4 +1,4 @@
-use Rattle.std.proofs.Common.{◌≡◌, ◌+◌, ◌-◌, ◌<◌, ◌≤◌, ◌^◌, length, map, take, drop, sym, ap, ◌∙◌, arith, rules}
+use Rattle.std.proofs.Common.{◌≡◌, ◌+◌, ◌-◌, ◌≤◌, length, map, take, drop, sym, ap, ◌∙◌, arith, rules}
 use Rattle.std.proofs.lemmas.List.{length-map}
 use Rattle.bi_fdt.specs.Table.{item_in}
 use Rattle.bi_fdt.specs.TableItems.{first_properties}
@@ -6,12 +6,7 @@ use Rattle.bi_fdt.proofs.NodeViews.{properties_within, properties_there}
 use Rattle.bi_fdt.proofs.node.NodeRef.properties.Goals as goal
 
 pub overflow_add-end : goal.overflow_add-end
-overflow_add-end c =
-    let r = c.args.self in
-    let within : r.index + 1 + c.entry.result.property_count ≤ length r.blob.now.table = properties_within r.blob.now.file r.blob.now.table
-    r.index c.entry.result c.entry.ensures in
-    let small : length r.blob.now.table < 2 ^ 63 = r.small in
-    omega arith
+overflow_add-end c = search (rules, properties_within)
 
 pub slice_bounds-new-end : goal.slice_bounds-new-end
 slice_bounds-new-end c =

@@ -1,4 +1,4 @@
-use Rattle.std.proofs.Common.{◌≡◌, ℕ, List, ◌+◌, ◌-◌, ◌<◌, ◌≤◌, ◌^◌, length, map, take, drop, sym, ap, ap₂, subst, ◌∙◌, arith, rules}
+use Rattle.std.proofs.Common.{◌≡◌, ℕ, List, ◌+◌, ◌-◌, ◌≤◌, length, map, take, drop, ap, ap₂, ◌∙◌, arith, rules}
 use Rattle.bi_fdt.specs.Order.{AreByNumber, IsNumberOrder, keyed_properties, pairs_of_node}
 use Rattle.bi_fdt.specs.Table.{item_in}
 use Rattle.bi_fdt.specs.Views.{node_of, table_of_node}
@@ -9,12 +9,7 @@ use Rattle.bi_fdt.proofs.NodeViews.{properties_within, property_count_is}
 use Rattle.bi_fdt.proofs.node.NodeRef.properties_in.Goals as goal
 
 pub overflow_add-end : goal.overflow_add-end
-overflow_add-end c =
-    let r = c.args.self in
-    let within : r.index + 1 + c.entry.result.property_count ≤ length r.blob.now.table = properties_within r.blob.now.file r.blob.now.table
-    r.index c.entry.result c.entry.ensures in
-    let small : length r.blob.now.table < 2 ^ 63 = r.small in
-    omega arith
+overflow_add-end c = search (rules, properties_within)
 
 pub slice_bounds-new-end : goal.slice_bounds-new-end
 slice_bounds-new-end c =
@@ -39,14 +34,10 @@ result_is c =
 numbered : (c : goal.After-new) → (names : List (List ℕ)) → IsNumberOrder names (table_of_node c.args.self) c.args.order.now →
     AreDistinct (map (λ property. property.0) (properties_of (node_of c.args.self).own)) →
     AreByNumber names (node_of c.args.self).own.properties c.new.result
-numbered c names is distinct =
-    let r = c.args.self in
-    subst (AreByNumber names (node_of r).own.properties) (sym (result_is c))
-    (node_by_number r.blob.now.file r.blob.now.table r.index c.entry.result c.entry.ensures r.is_node names c.args.order.now is distinct)
+numbered c names is distinct = search (rules, result_is, node_by_number)
 
 pub returns-clause-by_number : goal.returns-clause-by_number
 returns-clause-by_number c names is distinct = numbered c names is distinct
 
 pub returns-clause-by_name : goal.returns-clause-by_name
-returns-clause-by_name c names is distinct ascend =
-    by_rank_by_name names (node_of c.args.self).own.properties c.new.result ascend distinct (numbered c names is distinct)
+returns-clause-by_name c names is distinct ascend = search (rules, by_rank_by_name, numbered)

@@ -1,4 +1,4 @@
-use Rattle.std.proofs.Common.{◌≡◌, ◌+◌, ◌<◌, length, map, drop, Some, sym, ap, ◌∙◌, arith}
+use Rattle.std.proofs.Common.{◌≡◌, length, drop, Some, sym, ap, ◌∙◌, arith, rules}
 use Rattle.std.proofs.lemmas.List.{length-map}
 use Rattle.bi_blob.specs.Tree.{FileProperty, property_of}
 use Rattle.bi_fdt.specs.Content.{first_sibling}
@@ -9,36 +9,13 @@ use Rattle.bi_fdt.proofs.NodeViews.{property_count_is, property_within, no_node_
 use Rattle.bi_fdt.proofs.node.NodeRef.property_at.Goals as goal
 
 pub returns-then-index-node : goal.returns-then-index-node
-returns-then-index-node c =
-    let r = c.args.self in
-    let count : c.entry-node.result.property_count
-    ≡ length (first_sibling (drop r.index r.blob.now.table)).own.properties = property_count_is r.blob.now.file r.blob.now.table r.index
-    c.entry-node.result c.entry-node.ensures in
-    let long : length (map property_of (first_sibling (drop r.index r.blob.now.table)).own.properties)
-    ≡ length (first_sibling (drop r.index r.blob.now.table)).own.properties = simp length-map in
-    sym (get_past (map property_of (first_sibling (drop r.index r.blob.now.table)).own.properties) c.args.index (omega arith))
+returns-then-index-node c = search (rules, property_count_is, length-map, get_past)
 
 pub overflow_add-entry-2 : goal.overflow_add-entry-2
-overflow_add-entry-2 c =
-    let r = c.args.self in
-    let count : c.entry-node.result.property_count
-    ≡ length (first_sibling (drop r.index r.blob.now.table)).own.properties = property_count_is r.blob.now.file r.blob.now.table r.index
-    c.entry-node.result c.entry-node.ensures in
-    let within : r.index + 1 + c.args.index < length c.entries.result.now =
-    property_within r.blob.now.file c.entries.result.now r.blob.now.table r.index c.entry-node.result c.entries.ensures.items
-    c.entry-node.ensures c.args.index (omega arith) in
-    omega arith
+overflow_add-entry-2 c = search (rules, property_count_is, property_within)
 
 pub offset_bounds-entries-self : goal.offset_bounds-entries-self
-offset_bounds-entries-self c =
-    let r = c.args.self in
-    let count : c.entry-node.result.property_count
-    ≡ length (first_sibling (drop r.index r.blob.now.table)).own.properties = property_count_is r.blob.now.file r.blob.now.table r.index
-    c.entry-node.result c.entry-node.ensures in
-    let within : r.index + 1 + c.args.index < length c.entries.result.now =
-    property_within r.blob.now.file c.entries.result.now r.blob.now.table r.index c.entry-node.result c.entries.ensures.items
-    c.entry-node.ensures c.args.index (omega arith) in
-    omega (arith, c.entries.type_inv)
+offset_bounds-entries-self c = search (rules, property_count_is, property_within)
 
 pub bounds-entries-self : goal.bounds-entries-self
 bounds-entries-self c =

@@ -1,10 +1,9 @@
-use Rattle.std.proofs.Common.{length, ap, ◌∙◌, arith}
+use Rattle.std.proofs.Common.{arith, rules}
 use Rattle.bi_fdt.proofs.PropertyOrders.{order_made, length-indices}
 use Rattle.bi_fdt.proofs.order.PropertyOrder.new.Goals as goal
 
 pub sort_properties-requires : goal.sort_properties-requires
-sort_properties-requires c =
-    ap length (c.deref_mut.ensures.value ∙ c.in_ok-pairs.ensures) ∙ length-indices 0 c.args.keys.now ∙ c.requires
+sort_properties-requires c = search (rules, length-indices)
 
 pub returns : goal.returns
 returns c =
