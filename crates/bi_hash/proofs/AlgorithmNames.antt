@@ -1,10 +1,9 @@
-use Rattle.std.proofs.Common.{◌≡◌, ℕ, Bool, true, false, cond, List, [], ◌∷◌, Option, Some, refl, sym}
+use Rattle.std.proofs.Common.{◌≡◌, ℕ, Bool, true, false, cond, List, [], ◌∷◌, Option, Some, refl, sym, rules}
 use Rattle.std.specs.List.{find}
-use Rattle.std.specs.Str.{bytes_eq}
 use Rattle.std.proofs.lemmas.Slice.Eq.{bytes_eq-Decides}
 use Rattle.bi_hash.specs.declared.algo.Algo.{Algo}
 use Rattle.bi_hash.specs.declared.algo.Algo.TheVariants.{Crc32, Md5, Sha1, Sha256, Sha384, Sha512}
-use Rattle.bi_hash.specs.Algos.{algorithm_name, all_algorithms, find_algorithm}
+use Rattle.bi_hash.specs.Algos.{algorithm_name, find_algorithm}
 
 -- Proves that an algorithm is found by its name, and by no other.
 
@@ -22,8 +21,7 @@ find_passes p (y ∷ ys) x e = chosen_passes (p y) p y (find p ys) x refl (find_
 -- The algorithm that is found by a name has that name.
 pub algorithm_name-find_algorithm : (name : List ℕ) (algo : Algo) → find_algorithm name ≡ Some algo → name ≡ algorithm_name algo
 unfolding find_algorithm
-algorithm_name-find_algorithm name algo e =
-    sym ((bytes_eq-Decides (algorithm_name algo) name).0 (find_passes (λ a. bytes_eq (algorithm_name a) name) all_algorithms algo e))
+algorithm_name-find_algorithm name algo e = sym ((bytes_eq-Decides (algorithm_name algo) name).0 (search (rules, find_passes)))
 
 -- The name of an algorithm finds it.
 pub find_algorithm-algorithm_name : (algo : Algo) → find_algorithm (algorithm_name algo) ≡ Some algo

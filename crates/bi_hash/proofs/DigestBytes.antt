@@ -1,6 +1,5 @@
-use Rattle.std.proofs.Common.{◌≡◌, ℕ, zero, suc, ◌*◌, List, length, refl, arith, length-append}
+use Rattle.std.proofs.Common.{◌≡◌, ℕ, zero, suc, ◌*◌, List, length, refl, length-append, rules}
 use Rattle.std.specs.Prelude.{slice_index}
-use Rattle.std.specs.Int.{to_be_bytes, w32}
 use Rattle.bi_base.specs.Cells.{cell, AreBytes}
 use Rattle.bi_base.specs.Crc.{crc32}
 use Rattle.bi_base.proofs.CellLaws.{length-cell}
@@ -47,9 +46,7 @@ AreBytes-sha512 h (suc n) = AreBytes-append (sha512_bytes h n) _ (AreBytes-sha51
 length-sha1 : (h : List ℕ) (n : ℕ) → length (sha1_bytes h n) ≡ n * 4
 unfolding sha1_bytes
 length-sha1 h zero = refl
-length-sha1 h (suc n) =
-    let last : length (to_be_bytes w32 (slice_index h n)) ≡ 4 = refl in
-    omega (arith, length-sha1 h n, last, length-append (sha1_bytes h n) (to_be_bytes w32 (slice_index h n)))
+length-sha1 h (suc n) = search (rules, length-append, length-sha1 h n)
 
 -- A digest is a list of bytes.
 pub AreBytes-digest_of : (algo : Algo) (payload : List ℕ) → AreBytes (digest_of algo payload)

@@ -1,4 +1,4 @@
-use Rattle.std.proofs.Common.{◌≡◌, ℕ, Bool, true, false, cond, List, ◌∷◌, ◌++◌, Option, Some, None, refl, ap, ◌∙◌}
+use Rattle.std.proofs.Common.{◌≡◌, ℕ, Bool, true, false, cond, List, ◌∷◌, ◌++◌, Option, Some, None, refl, rules}
 use Rattle.std.proofs.lemmas.Slice.Eq.{bytes_eq-Decides}
 use Rattle.bi_base.specs.Strings.{text_before_nul}
 use Rattle.bi_base.proofs.NulTexts.{text_then_zero}
@@ -26,17 +26,7 @@ text_before_nul-name Sha512 rest = refl
 pub good-from_digest : (algo value payload : Option (List ℕ)) → HasItsDigest algo value payload
     → verdict_of algo value payload ≡ Good
 unfolding verdict_of
-good-from_digest algo value payload has =
-    let same = (bytes_eq-Decides (digest_of has.algorithm has.bytes) (digest_of has.algorithm has.bytes)).1 refl in
-    rw (
-      has.algo_is,
-      has.value_is,
-      has.payload_is,
-      text_before_nul-name has.algorithm has.rest,
-      find_algorithm-algorithm_name has.algorithm,
-      same,
-    )
-    refl
+good-from_digest algo value payload has = search (rules, bytes_eq-Decides, text_before_nul-name, find_algorithm-algorithm_name)
 
 -- Where a choice between Good and Bad is Good, its test holds.
 test_of_good : (b : Bool) → cond b Good Bad ≡ Good → b ≡ true
@@ -48,8 +38,7 @@ digest_under : (found : Option Algo) (value : List ℕ) (payload : Option (List 
     → (algorithm : Algo) × (bytes : List ℕ) × (found ≡ Some algorithm) × (payload ≡ Some bytes) × (value ≡ digest_of algorithm bytes)
 digest_under None value payload e = cc
 digest_under (Some algorithm) value None e = cc
-digest_under (Some algorithm) value (Some bytes) e =
-    (algorithm, bytes, refl, refl, (bytes_eq-Decides value (digest_of algorithm bytes)).0 (test_of_good _ e))
+digest_under (Some algorithm) value (Some bytes) e = search (rules, bytes_eq-Decides, test_of_good)
 
 -- Where the verdict is Good, there are a name and a value.
 value_named : (found value payload : Option (List ℕ)) → verdict_by_name found value payload ≡ Good
@@ -64,15 +53,4 @@ pub digest-from_good : (algo value payload : Option (List ℕ)) → verdict_of a
     → HasItsDigest algo value payload
 unfolding verdict_of
 digest-from_good None value payload e = cc
-digest-from_good (Some algo) value payload e =
-    let (name, given, text_is, value_is, under) = value_named (text_before_nul algo) value payload e in
-    let (algorithm, bytes, found_is, payload_is, digest_is) = digest_under (find_algorithm name) given payload under in
-    let (rest, cut) = text_then_zero algo name text_is in
-    record {
-      algorithm = algorithm;
-      rest = rest;
-      bytes = bytes;
-      algo_is = ap Some (cut ∙ ap (λ text. text ++ 0 ∷ rest) (algorithm_name-find_algorithm name algorithm found_is));
-      value_is = value_is ∙ ap Some digest_is;
-      payload_is = payload_is;
-    }
+digest-from_good (Some algo) value payload e = search (rules, value_named, digest_under, text_then_zero, algorithm_name-find_algorithm)

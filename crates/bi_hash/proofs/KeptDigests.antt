@@ -1,9 +1,10 @@
-use Rattle.std.proofs.Common.{◌≡◌, ℕ, zero, suc, List, cond, Option, Some, refl, sym, ap, ◌∙◌}
-use Rattle.std.proofs.lemmas.Option.{same_Some}
+use Rattle.std.proofs.Common.{◌≡◌, ℕ, zero, suc, List, cond, Option, Some, None, refl, sym, ap, ◌∙◌}
+use Rattle.std.proofs.lemmas.Cmp.{nat_cmp_total}
+use Rattle.std.proofs.lemmas.Option.{none-some, same_Some}
 use Rattle.std.proofs.lemmas.Map.Lookups.{exact_unsigned}
 use Rattle.std.specs.declared.cmp.Ordering.{Ordering}
 use Rattle.std.specs.declared.cmp.Ordering.TheVariants.{Less, Equal, Greater}
-use Rattle.std.specs.Ordering.{nat_cmp, ordering_then, is_eq}
+use Rattle.std.specs.Ordering.{nat_cmp, ordering_then, ordering_reverse, is_eq}
 use Rattle.std.specs.BTreeMap.{BTreeMap, Updates, get}
 use Rattle.bi_hash.specs.declared.algo.Algo.{Algo}
 use Rattle.bi_hash.specs.declared.algo.Algo.TheVariants.{Crc32, Md5, Sha1, Sha256, Sha384, Sha512}
@@ -11,7 +12,7 @@ use Rattle.bi_hash.specs.declared.region_digests.Region.{Region}
 use Rattle.bi_hash.specs.Algos.{algorithm_index}
 use Rattle.bi_hash.specs.Digests.{padded_digest}
 use Rattle.bi_hash.specs.Regions.{bytes_of_region}
-use Rattle.bi_hash.specs.KeptDigests.{DigestKey, by_digest_key, digest_key}
+use Rattle.bi_hash.specs.KeptDigests.{DigestKey, AreDigestsOf, KeepsDigest, KeepsAll, by_digest_key, digest_key}
 
 -- If one more digest of a region is kept, all digests that are kept are those of their regions.
 
@@ -49,28 +50,61 @@ same_key one other is =
     let first = both_equal (nat_cmp one.0 other.0) (nat_cmp one.1 other.1) last.0 in
     (exact_unsigned one.0 other.0 first.0, exact_unsigned one.1 other.1 first.1, exact_unsigned one.2 other.2 last.1)
 
--- The digests of a file in a map are those of their regions.
-abbrev AreDigests : (file : List ℕ) → BTreeMap DigestKey (List ℕ) → Type 0
-AreDigests file digests =
-    (region : Region) (algo : Algo) (digest : List ℕ) → get by_digest_key digests (digest_key region algo) ≡ Some digest →
-    digest ≡ padded_digest algo (bytes_of_region file region)
-
 -- One more digest is kept.
 pub one_more_digest : (file : List ℕ) (old new : BTreeMap DigestKey (List ℕ)) (region : Region) (algo : Algo) (digest : List ℕ) →
     digest ≡ padded_digest algo (bytes_of_region file region) → Updates by_digest_key old new (digest_key region algo) (Some digest) →
-    AreDigests file old → AreDigests file new
-one_more_digest file old new region algo digest is updates kept other other_algo found at =
-    by_order (by_digest_key (digest_key region algo) (digest_key other other_algo)) refl
-    (sym (updates.0 (digest_key other other_algo)) ∙ at)
+    AreDigestsOf file old → AreDigestsOf file new
+one_more_digest file old new region algo digest is updates kept = record {
+  each = λ other other_algo found at.
+      by_order other other_algo found (by_digest_key (digest_key region algo) (digest_key other other_algo)) refl
+      (sym (updates.0 (digest_key other other_algo)) ∙ at);
+}
   where
-    by_order : (order : Ordering) → by_digest_key (digest_key region algo) (digest_key other other_algo) ≡ order →
+    by_order : (other : Region) (other_algo : Algo) (found : List ℕ) (order : Ordering) →
+        by_digest_key (digest_key region algo) (digest_key other other_algo) ≡ order →
         cond (is_eq order) (Some digest) (get by_digest_key old (digest_key other other_algo)) ≡ Some found →
         found ≡ padded_digest other_algo (bytes_of_region file other)
-    by_order Less differs before = kept other other_algo found before
-    by_order Greater differs before = kept other other_algo found before
-    by_order Equal same now =
+    by_order other other_algo found Less differs before = kept.each other other_algo found before
+    by_order other other_algo found Greater differs before = kept.each other other_algo found before
+    by_order other other_algo found Equal same now =
         let keys = same_key (digest_key region algo) (digest_key other other_algo) same in
         sym (same_Some digest found now) ∙ is
         ∙ ap (λ a. padded_digest a (bytes_of_region file region)) (same_index algo other_algo keys.2)
         ∙ ap (padded_digest other_algo) (ap (λ begin. bytes_of_region file (record { begin = begin; length = region.length })) keys.0)
         ∙ ap (padded_digest other_algo) (ap (λ long. bytes_of_region file (record { begin = other.begin; length = long })) keys.1)
+
+-- A number is equal to itself, and so is a key.
+own_number : (number : ℕ) → nat_cmp number number ≡ Equal
+own_number number = by_order (nat_cmp number number) (nat_cmp_total.antisymm number number)
+  where
+    by_order : (order : Ordering) → order ≡ ordering_reverse order → order ≡ Equal
+    by_order Less is = absurd cc
+    by_order Equal is = refl
+    by_order Greater is = absurd cc
+
+own_order : (key : DigestKey) → by_digest_key key key ≡ Equal
+own_order key =
+    ap (λ order. ordering_then (ordering_then order (nat_cmp key.1 key.1)) (nat_cmp key.2 key.2)) (own_number key.0)
+    ∙ ap (λ order. ordering_then order (nat_cmp key.2 key.2)) (own_number key.1)
+    ∙ own_number key.2
+
+-- The new digest is kept.
+pub new_digest_is_kept : (old new : BTreeMap DigestKey (List ℕ)) (key : DigestKey) (digest : List ℕ) →
+    Updates by_digest_key old new key (Some digest) → KeepsDigest new key digest
+new_digest_is_kept old new key digest updates =
+    updates.0 key ∙ ap (λ order. cond (is_eq order) (Some digest) (get by_digest_key old key)) (own_order key)
+
+-- The digests that were kept still are, if none had the new key.
+pub others_are_kept : (old new : BTreeMap DigestKey (List ℕ)) (key : DigestKey) (digest : List ℕ) →
+    Updates by_digest_key old new key (Some digest) → get by_digest_key old key ≡ None → KeepsAll old new
+others_are_kept old new key digest updates absent other kept at =
+    updates.0 other ∙ by_order (by_digest_key key other) refl
+  where
+    by_order : (order : Ordering) → by_digest_key key other ≡ order →
+        cond (is_eq order) (Some digest) (get by_digest_key old other) ≡ Some kept
+    by_order Less differs = at
+    by_order Greater differs = at
+    by_order Equal same =
+        let keys = same_key key other same in
+        let equal : key ≡ other = (λ i. (keys.0 i, keys.1 i, keys.2 i)) in
+        absurd (none-some kept (sym absent ∙ ap (get by_digest_key old) equal ∙ at))

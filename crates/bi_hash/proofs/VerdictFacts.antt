@@ -1,4 +1,4 @@
-use Rattle.std.proofs.Common.{refl}
+use Rattle.std.proofs.Common.{refl, rules}
 use Rattle.md5.proofs.StandardFacts.{digest_of_abc as md5_digest_of_abc}
 use Rattle.sha1.proofs.StandardFacts.{digest_of_abc as sha1_digest_of_abc}
 use Rattle.sha2.proofs.Facts256.{digest_of_abc_256}
@@ -15,33 +15,11 @@ use Rattle.bi_hash.specs.KnownVerdicts.{VerdictsAreKnown, VerdictsHaveOrder, Eac
 
 pub verdicts_are_known : VerdictsAreKnown
 unfolding text_before_nul verdict_of find_algorithm digest_of cell crc32 crc_after low_bits
-verdicts_are_known = record {
-  good = refl;
-  after_nul = refl;
-  empty_payload = refl;
-  too_short = refl;
-  too_long = refl;
-  empty_value = refl;
-  other_payload = refl;
-  no_payload = refl;
-  unknown = refl;
-  empty_name = refl;
-  no_value = refl;
-  no_algo = refl;
-  no_nul = refl;
-}
+verdicts_are_known = search rules
 
 pub verdicts_have_order : VerdictsHaveOrder
 unfolding text_before_nul verdict_of find_algorithm digest_of
-verdicts_have_order = record {
-  value_before_unknown = refl;
-  value_before_payload = refl;
-  algo_before_payload = refl;
-  nul_before_unknown = refl;
-  nul_before_payload = refl;
-  unknown_before_payload = refl;
-  nothing = refl;
-}
+verdicts_have_order = search rules
 
 -- The kit's crates compute the digests of `abc`.
 pub each_algorithm_is_known : EachAlgorithmIsKnown

@@ -1,5 +1,5 @@
 use Rattle.std.specs.Prelude.{◌≡◌, ℕ, List, Some}
-use Rattle.std.specs.BTreeMap.{get}
+use Rattle.std.specs.BTreeMap.{BTreeMap, get}
 use Rattle.std.specs.declared.cmp.Ordering.{Ordering}
 use Rattle.std.specs.Ordering.{nat_cmp, ordering_then}
 use Rattle.bi_hash.specs.declared.algo.Algo.{Algo}
@@ -27,8 +27,21 @@ by_digest_key one other =
 abbrev pub digest_key : Region → Algo → DigestKey
 digest_key region algo = (region.begin, region.length, algorithm_index algo)
 
--- Each digest that is kept is that of its region with its algorithm.
-pub record AreKept (fields : Fields) : Type 0 where
+-- A map has this digest under this key.
+abbrev pub KeepsDigest : BTreeMap DigestKey (List ℕ) → DigestKey → (digest : List ℕ) → Type 0
+KeepsDigest digests key digest = get by_digest_key digests key ≡ Some digest
+
+-- What one map has, the other one has.
+abbrev pub KeepsAll : (old new : BTreeMap DigestKey (List ℕ)) → Type 0
+KeepsAll old new = (key : DigestKey) (digest : List ℕ) → KeepsDigest old key digest
+    → KeepsDigest new key digest
+
+-- Each digest in a map is that of its region of a file with its algorithm.
+pub record AreDigestsOf (file : List ℕ) (digests : BTreeMap DigestKey (List ℕ)) : Type 0 where
   pub each : (region : Region) (algo : Algo) (digest : List ℕ)
-      → get by_digest_key fields.digests (digest_key region algo) ≡ Some digest
-      → digest ≡ padded_digest algo (bytes_of_region fields.file.now region)
+      → KeepsDigest digests (digest_key region algo) digest
+      → digest ≡ padded_digest algo (bytes_of_region file region)
+
+-- The digests that are kept are those of the file.
+abbrev pub AreKept : Fields → Type 0
+AreKept fields = AreDigestsOf fields.file.now fields.digests

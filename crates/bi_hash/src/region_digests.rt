@@ -3,6 +3,7 @@
 ghost use Rattle.std.specs.Prelude.{◌≡◌, ◌++◌, OnOk, OnErr, IfOk, IfSome};
 ghost use Rattle.std.specs.Option.{option_copied, option_map};
 ghost use Rattle.bi_hash.specs.Digests.{digest_or_nothing, padded_digest};
+ghost use Rattle.bi_hash.specs.KeptDigests.{AreDigestsOf, KeepsDigest, KeepsAll, digest_key};
 ghost use Rattle.bi_hash.specs.Regions.{IsRegionOf, bytes_of_region};
 ghost use Rattle.bi_hash.specs.Verdicts.{verdict_of};
 
@@ -143,13 +144,7 @@ impl<'a> RegionDigests<'a> {
             ≡ padded_digest algo (bytes_of_region self.old region)) }
         ensures same { self.new ≡ self.old }
     {
-        let key = (region.begin, region.length, algo.index());
-        if let Some(digest) = self.digests.get(&key) {
-            return Ok(*digest);
-        }
-        let digest = self.compute(algo, region);
-        self.digests.insert(key, digest)?;
-        Ok(digest)
+        keep_digest(&mut self.digests, self.file, algo, region)
     }
 
     /// Returns the digest of a region with this algorithm, with zeros after it. Reads the region if
@@ -164,19 +159,46 @@ impl<'a> RegionDigests<'a> {
             .get(&(region.begin, region.length, algo.index()));
         match kept {
             Some(digest) => *digest,
-            None => self.compute(algo, region),
+            None => compute_digest(self.file, algo, region),
         }
     }
+}
 
-    /// Computes the digest of a region with this algorithm, with zeros after it. Reads the region.
-    /// Requires: the region is within the file.
-    fn compute(&self, algo: Algo, region: Region) -> [u8; 64]
-        requires within { IsRegionOf self.now region }
-        ensures { result ≡ padded_digest algo (bytes_of_region self.now region) }
-    {
-        let bytes = &self.file[region.begin..region.begin + region.length];
-        let mut digest = [0; 64];
-        algo.digest(bytes, &mut digest);
-        digest
+/// Returns the digest of a region of a file with this algorithm, with zeros after it. The digest is
+/// then in the map, beside all that was there. Reads the region only if the digest was not there.
+/// Fails if memory runs out. Requires: the region is within the file, and the digests in the map
+/// are those of their regions.
+fn keep_digest(
+    digests: &mut BTreeMap<(usize, usize, usize), [u8; 64]>,
+    file: &[u8],
+    algo: Algo,
+    region: Region,
+) -> Result<[u8; 64], AllocError>
+    requires within { IsRegionOf file.now region }
+    requires right { AreDigestsOf file.now digests.old }
+    ensures digest { IfOk result (λ digest. digest
+        ≡ padded_digest algo (bytes_of_region file.now region)) }
+    ensures kept { IfOk result (KeepsDigest digests.new (digest_key region algo)) }
+    ensures others { KeepsAll digests.old digests.new }
+    ensures right { AreDigestsOf file.now digests.new }
+{
+    let key = (region.begin, region.length, algo.index());
+    if let Some(digest) = digests.get(&key) {
+        return Ok(*digest);
     }
+    let digest = compute_digest(file, algo, region);
+    digests.insert(key, digest)?;
+    Ok(digest)
+}
+
+/// Computes the digest of a region of a file with this algorithm, with zeros after it. Reads the
+/// region. Requires: the region is within the file.
+fn compute_digest(file: &[u8], algo: Algo, region: Region) -> [u8; 64]
+    requires within { IsRegionOf file.now region }
+    ensures { result ≡ padded_digest algo (bytes_of_region file.now region) }
+{
+    let bytes = &file[region.begin..region.begin + region.length];
+    let mut digest = [0; 64];
+    algo.digest(bytes, &mut digest);
+    digest
 }
