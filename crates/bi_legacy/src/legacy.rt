@@ -1,11 +1,11 @@
 //! Reading a legacy image.
 
 ghost use Rattle.std.specs.Prelude.{◌≡◌, ◌+◌, ◌-◌, ◌≤◌, length, map, slice_get, OnOk};
-ghost use Rattle.std.specs.Prelude.{IfOk, IfErr, IfSome};
+ghost use Rattle.std.specs.Prelude.{IfOk, IfErr, IsTrue, MatchOption};
 ghost use Rattle.std.specs.Option.{option_map};
 ghost use Rattle.bi_base.specs.Cells.{u32_at};
 ghost use Rattle.bi_base.specs.Crc.{crc32};
-ghost use Rattle.bi_legacy.specs.Meaning.{image_of};
+ghost use Rattle.bi_legacy.specs.Meaning.{image_of, has_part_table as is_part_table_type};
 ghost use Rattle.bi_legacy.specs.Faults.{IsLegacyFault, IsOnlyLegacyFault, HasNoLegacyFault};
 ghost use Rattle.bi_legacy.specs.Faults.{body_of};
 ghost use Rattle.bi_legacy.specs.PlacedParts.{placed_parts};
@@ -114,7 +114,8 @@ impl<'a> Legacy<'a> {
     /// image. Returns None for multi-file images and scripts: their normal data may differ from the
     /// data of the file.
     pub(crate) fn normal_data_checksum(&self) -> Option<u32>
-        ensures { let image = self.now.image in IfSome result (λ checksum.
+        ensures { let image = self.now.image in
+            MatchOption result (IsTrue (is_part_table_type image.image_type)) (λ checksum.
             checksum ≡ crc32 (normal_body image.image_type image.parts)) }
     {
         if has_part_table(self.fields.image_type) {
