@@ -14,13 +14,15 @@ use Rattle.bi_blob.specs.Blob.{IsBlob}
 use Rattle.bi_blob.specs.Layout.{text_of_tree, text_of_events, text_of_blocks, tree_with_places, tokens_of, structure_block, longest_text}
 use Rattle.bi_blob.specs.Events.{events_of}
 use Rattle.bi_base.specs.Limits.{widest}
-use Rattle.bi_blob.specs.KnownTexts.{smallest_tree}
+use Rattle.bi_blob.specs.KnownTexts.{smallest_text, smallest_tree}
 use Rattle.bi_blob.proofs.HeaderDecisions.{test, fine_by_test}
 use Rattle.bi_blob.proofs.Blobs.Headers.{HasNoHeaderFault-Header}
 use Rattle.bi_blob.proofs.Texts.Structure.{says_tree}
 use Rattle.bi_blob.proofs.Texts.TextBlob.{text_blob}
 use Rattle.bi_fit.specs.declared.form.Form.{Form}
 use Rattle.bi_fit.specs.declared.form.Form.TheVariants.{Embedded, External, Aligned}
+use Rattle.bi_fit.specs.File.{FitMeans}
+use Rattle.bi_fit.specs.KnownFiles.{bare_file}
 use Rattle.bi_fit.specs.Names.{is_payload_name, images_name, data_name, data_offset_name, data_position_name, data_size_name}
 use Rattle.bi_fit.specs.ImageTree.{without_payload, without_payloads}
 use Rattle.bi_fit.specs.Text.{alignment_of, blob_alignment, with_payload, with_payloads, end_after, normal_tree, blob_of, after_blob}
@@ -102,7 +104,7 @@ images_listed alignment end (payload ∷ payloads) (name ∷ names) =
     (images_listed alignment (end_after (blob_alignment alignment) end payload) payloads names)
 
 -- The blob of image nodes that have no other properties.
-plain_blob : (form : Form) (names : List (List ℕ)) (payloads : List (Option (List ℕ))) →
+pub plain_blob : (form : Form) (names : List (List ℕ)) (payloads : List (Option (List ℕ))) →
     blob_of form (plain_tree names payloads)
     ≡ text_of_tree (blob_alignment (alignment_of form)) 0 [] (tree_with_images (listed_images (alignment_of form) 0 payloads names))
 plain_blob form names payloads =
@@ -170,7 +172,7 @@ abbrev three_nodes : (List Property) → (List Property) → (List Property) →
 three_nodes a b c = node (codes "a") a none (node (codes "b") b none (node (codes "c") c none none))
 
 -- Three image nodes without the properties that give their payloads are plain ones.
-three_plain : (a b c : List Property) → AllByRecursion (λ property. not (is_payload_name property.0) ≡ false) a →
+pub three_plain : (a b c : List Property) → AllByRecursion (λ property. not (is_payload_name property.0) ≡ false) a →
     AllByRecursion (λ property. not (is_payload_name property.0) ≡ false) b →
     AllByRecursion (λ property. not (is_payload_name property.0) ≡ false) c →
     root_of_images (plain_images (codes "a" ∷ codes "b" ∷ codes "c" ∷ []))
@@ -274,9 +276,38 @@ two_plain first second a b are_a are_b =
     (node first (sym (all_taken_out a are_a) i) none (node second (sym (all_taken_out b are_b) i) none none))
 
 -- One image node without the properties that give its payload is a plain one.
-one_plain : (name : List ℕ) (a : List Property) → AllByRecursion (λ property. not (is_payload_name property.0) ≡ false) a →
+pub one_plain : (name : List ℕ) (a : List Property) → AllByRecursion (λ property. not (is_payload_name property.0) ≡ false) a →
     root_of_images (plain_images (name ∷ [])) ≡ root_of_images (without_payloads (with_each from_entries (node name a none none)))
 one_plain name a are = λ i. root_of_images (node name (sym (all_taken_out a are) i) none none)
+
+-- The smallest file, and the one with an image without a payload, are within the widest limits.
+pub smallest_means : FitMeans widest smallest_text (plain_tree [] [])
+unfolding text_of_events text_of_blocks cell cell8 u32_at
+smallest_means = record {
+  is_file = record {
+    root = tree_with_places [] smallest_tree;
+    blob = blob_by_test smallest_tree [] refl refl (lit≤ tt);
+    images = _;
+    has_images = refl;
+    payloads = tt;
+    is_root = refl;
+  };
+  within = record { short = lit≤ tt; shallow = lit≤ tt };
+}
+
+pub bare_means : FitMeans widest bare_file (plain_tree (codes "a" ∷ []) (None ∷ []))
+unfolding text_of_events text_of_blocks cell cell8 u32_at
+bare_means = record {
+  is_file = record {
+    root = tree_with_places [] (tree_with_images (node (codes "a") [] none none));
+    blob = blob_by_test (tree_with_images (node (codes "a") [] none none)) [] refl refl (lit≤ tt);
+    images = _;
+    has_images = refl;
+    payloads = (refl, tt);
+    is_root = one_plain (codes "a") [] tt;
+  };
+  within = record { short = lit≤ tt; shallow = lit≤ tt };
+}
 
 pub children_keep_order : ChildrenKeepOrder
 unfolding text_of_events text_of_blocks cell cell8 u32_at

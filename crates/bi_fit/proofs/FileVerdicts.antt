@@ -1,5 +1,4 @@
-use Rattle.std.proofs.Common.{◌≡◌, ℕ, Bool, true, false, List, [], ◌∷◌, ◌++◌, map, flat_map, filter, Option, option_and_then, refl, ap, ap₂}
-use Rattle.std.proofs.Common.{◌∙◌, ◌⊎◌, inl, inr, append-nil}
+use Rattle.std.proofs.Common.{◌≡◌, ℕ, Bool, true, false, List, [], ◌∷◌, ◌++◌, map, flat_map, filter, Option, option_and_then, refl, ap, ap₂, ◌∙◌}
 use Rattle.bi_base.specs.Strings.{text_before_nul}
 use Rattle.bi_blob.specs.Tree.{FileNode, PropertyMap, properties_of}
 use Rattle.bi_blob.specs.Lookups.{Sibling, siblings}
@@ -57,13 +56,3 @@ verdicts_are content =
     ap (λ (entries : List (Sibling PropertyMap)). flat_map (λ image. map (checked_hash image) (hash_nodes image))
     (images_with entries (map (λ image. image.payload) content.images))) (image_siblings content)
     ∙ verdicts_with (siblings (file_images content.blob)) content.images
-
--- After the last image nothing is added.
-pub after_last : (entries : List (Sibling FileNode)) (images : List ImageModel) (done : List CheckedHash) → (entries ≡ []) ⊎ (images ≡ []) →
-    done ++ file_verdicts entries images ≡ done
-after_last entries images done (inl none) = ap (λ l. done ++ file_verdicts l images) none ∙ append-nil done
-after_last entries images done (inr none) = ap (λ l. done ++ file_verdicts entries l) none ∙ by_entries entries
-  where
-    by_entries : (entries : List (Sibling FileNode)) → done ++ file_verdicts entries [] ≡ done
-    by_entries [] = append-nil done
-    by_entries (entry ∷ entries) = append-nil done

@@ -1,6 +1,6 @@
 use Rattle.std.proofs.Common.{◌≡◌, ℕ, ◌+◌, ◌≤◌, Bool, List, [], ◌∷◌, length, Option, Some, None, refl, ap, ◌∙◌, arith}
 use Rattle.std.specs.FinMap.{insert, entries}
-use Rattle.bi_blob.specs.Tree.{Nodes, none, node, Property, PropertyMap, FileNode, with_each}
+use Rattle.bi_blob.specs.Tree.{Nodes, none, node, Property, PropertyMap, FileNode, EachOwn, with_each}
 use Rattle.bi_blob.specs.Lookups.{Sibling}
 use Rattle.bi_blob.specs.Events.{Event}
 use Rattle.bi_blob.specs.Layout.{longest_text}
@@ -10,13 +10,15 @@ use Rattle.bi_fit.specs.declared.form.Form.TheVariants.{Embedded}
 use Rattle.bi_fit.specs.Names.{data_name}
 use Rattle.bi_fit.specs.ImageTree.{without_payload, without_payloads}
 use Rattle.bi_fit.specs.Text.{alignment_of, blob_alignment, with_payload, with_payloads, end_after}
-use Rattle.bi_fit.specs.TakenDigests.{algorithm_if_hashed, with_first_digest, images_with_digests_from}
-use Rattle.bi_fit.specs.NormalNodes.{HasCellSize, next_begin, next_end, AreWithin, properties_by_name, nodes_by_name, begin_events}
+use Rattle.bi_lay.specs.Contents.{Doc}
+use Rattle.bi_fit.specs.TakenDigests.{HaveImageDigests, algorithm_if_hashed, with_first_digest, images_with_digests_from}
+use Rattle.bi_fit.specs.NormalNodes.{HasCellSize, HasDistinctNames, next_begin, next_end, AreWithin, properties_by_name, nodes_by_name, begin_events}
 use Rattle.bi_fit.specs.NormalNodes.{image_properties}
 use Rattle.bi_fit.specs.NormalNodes.{sorted_image_children, sorted_images}
 use Rattle.bi_fit.proofs.FormAlignments.{form-positive}
 use Rattle.bi_fit.proofs.PayloadAreas.{payloads_end-le}
 use Rattle.bi_fit.proofs.AddedEvents.{begin_events-same}
+use Rattle.bi_fit.proofs.NodeEvents.{IsAdding}
 
 -- An image node of a file that is added to a document is that of the normal text, and its payload ends within the longest text.
 
@@ -113,3 +115,12 @@ added_is_sorted one form end payload digests s name own was hashed same_form sam
   where
     begin : ℕ
     begin = next_begin form end
+
+-- Image nodes are left to be added to a document, which is then another, and these are the payloads and the digests that are left.
+pub record AreImagesLeft (hashes : Bool) (form : Form) (document target : Doc) (end : ℕ) (payloads : List (Option (List ℕ)))
+    (digests : List ℕ) (nodes : Nodes FileNode) : Type 0 where
+  pub adding : IsAdding document target (sorted_images hashes form end payloads digests nodes)
+  pub distinct : EachOwn HasDistinctNames nodes
+  pub has_digests : HaveImageDigests hashes payloads digests (nodes_by_name nodes)
+  pub within : AreWithin form end payloads
+  pub small : end ≤ longest_text

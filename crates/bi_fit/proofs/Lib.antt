@@ -21,6 +21,7 @@ pub mod FaultFacts
 pub mod JudgementFacts
 pub mod BuildFacts
 pub mod UpdateFacts
+pub mod KeptFacts
 pub mod NameLists
 pub mod BuiltConfigurations
 pub mod ReadErrors

@@ -1,5 +1,4 @@
 use Rattle.std.proofs.Common.{◌≡◌, ℕ, true, List, [], ◌∷◌, ◌++◌, map, flat_map, Option, Some, None, option_and_then, refl, sym, ap, ◌∙◌}
-use Rattle.std.proofs.Common.{◌⊎◌, inl, inr, append-nil}
 use Rattle.bi_base.specs.Strings.{text_before_nul}
 use Rattle.bi_blob.specs.Tree.{Nodes, none, node, FileNode, properties_of}
 use Rattle.bi_blob.specs.Lookups.{Sibling, siblings, value_named}
@@ -12,7 +11,7 @@ use Rattle.bi_fit.specs.Names.{algo_name, is_hash_name}
 use Rattle.bi_fit.specs.ImageTree.{without_payloads}
 use Rattle.bi_fit.specs.Content.{FitModel, ImageModel, tree_of}
 use Rattle.bi_fit.specs.NewDigests.{hash_algorithm, digests_for, digests_of_image, digests_of_images, new_digests}
-use Rattle.bi_fit.specs.HashNodes.{file_images}
+use Rattle.bi_fit.specs.HashNodes.{file_images, flat_map_pairs}
 use Rattle.bi_fit.specs.NormalNodes.{properties_by_name, nodes_by_name}
 use Rattle.bi_fit.proofs.FileNodes.{get-by_name, image_nodes_named}
 
@@ -58,12 +57,13 @@ digests_are (Some payload) (node name own children later) = by_algorithm (hash_a
     by_algorithm None is rest = rw is rest
     by_algorithm (Some algo) is rest = rw is (ap (λ l. digest_or_nothing algo (Some payload) ++ l) rest)
 
--- The digests for the hash nodes of these image nodes, of images that were read.
+-- The digests for the hash nodes of an image node, of an image that was read.
+abbrev pub file_image_digests : Sibling FileNode → ImageModel → List ℕ
+file_image_digests entry image = digests_of_image image.payload (nodes_by_name entry.children)
+
+-- Those of these image nodes.
 abbrev pub file_new_digests : List (Sibling FileNode) → List ImageModel → List ℕ
-file_new_digests [] images = []
-file_new_digests (entry ∷ entries) [] = []
-file_new_digests (entry ∷ entries) (image ∷ images) =
-    digests_of_image image.payload (nodes_by_name entry.children) ++ file_new_digests entries images
+file_new_digests entries images = flat_map_pairs file_image_digests entries images
 
 -- They are those for the image nodes in the tree.
 images_are : (nodes : Nodes FileNode) (images : List ImageModel) →
@@ -82,13 +82,3 @@ new_digests_are content changes is =
     rw is
     (ap (digests_of_images (map (λ image. image.payload) content.images)) (image_nodes_named (root_of content.blob).children)
     ∙ images_are (file_images content.blob) content.images)
-
--- After the last image nothing is added.
-pub after_last_image : (entries : List (Sibling FileNode)) (images : List ImageModel) (done : List ℕ) → (entries ≡ []) ⊎ (images ≡ []) →
-    done ++ file_new_digests entries images ≡ done
-after_last_image entries images done (inl no_entries) = ap (λ l. done ++ file_new_digests l images) no_entries ∙ append-nil done
-after_last_image entries images done (inr no_images) = ap (λ l. done ++ file_new_digests entries l) no_images ∙ by_entries entries
-  where
-    by_entries : (entries : List (Sibling FileNode)) → done ++ file_new_digests entries [] ≡ done
-    by_entries [] = append-nil done
-    by_entries (entry ∷ entries) = append-nil done

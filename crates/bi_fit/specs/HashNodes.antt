@@ -44,12 +44,19 @@ abbrev pub file_hashes : List ℕ → Option (List ℕ) → List (Sibling FileNo
 file_hashes image payload children =
     map (file_hash image payload) (filter (λ child. is_hash_name child.name) children)
 
+-- What a function gives for the two items at each place of two lists, one after another.
+abbrev pub flat_map_pairs : {A B C : Type 0} → (A → B → List C) → List A → List B → List C
+flat_map_pairs f [] ys = []
+flat_map_pairs f (x ∷ xs) [] = []
+flat_map_pairs f (x ∷ xs) (y ∷ ys) = f x y ++ flat_map_pairs f xs ys
+
+-- The hash nodes of an image node, of an image that was read.
+abbrev pub file_image_hashes : Sibling FileNode → ImageModel → List CheckedHash
+file_image_hashes entry image = file_hashes entry.name image.payload (siblings entry.children)
+
 -- The hash nodes of these image nodes, of images that were read.
 abbrev pub file_verdicts : List (Sibling FileNode) → List ImageModel → List CheckedHash
-file_verdicts [] images = []
-file_verdicts (entry ∷ entries) [] = []
-file_verdicts (entry ∷ entries) (image ∷ images) =
-    file_hashes entry.name image.payload (siblings entry.children) ++ file_verdicts entries images
+file_verdicts entries images = flat_map_pairs file_image_hashes entries images
 
 -- The signature nodes among the children of a node.
 abbrev pub file_signatures : Sibling FileNode → List (Sibling FileNode)

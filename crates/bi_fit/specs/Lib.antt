@@ -22,6 +22,7 @@ pub mod RegionPairs
 pub mod HashNodes
 pub mod JudgementCalls
 pub mod Siblings
+pub mod ImagesWithNodes
 pub mod ChildNodes
 pub mod TakenDigests
 pub mod NormalNodes
@@ -44,3 +45,4 @@ pub mod KnownFaults
 pub mod KnownJudgements
 pub mod KnownBuilds
 pub mod KnownUpdates
+pub mod KnownKept

@@ -47,7 +47,7 @@ impl<'a> Fit<'a> {
     {
         let mut digests = self.region_digests(alloc);
         let mut checked = Vec::new(alloc);
-        for (node, image) in self.image_nodes().zip(self.images()) {
+        for (node, image) in self.images_with_nodes() {
             check_image(&mut checked, node, image.region(), &mut digests)?;
         }
         Ok(checked)

@@ -22,6 +22,16 @@ pub enum Key {
 }
 
 impl Key {
+    /// The keys, in the order in which configurations are shown.
+    pub const ALL: [Key; 6] = [
+        Key::Kernel,
+        Key::Fdt,
+        Key::Ramdisk,
+        Key::Firmware,
+        Key::Loadables,
+        Key::Script,
+    ];
+
     /// Returns the name of the property in a configuration node.
     pub fn name(self) -> &'static str
         ensures { result.now ≡ key_name self }

@@ -13,6 +13,7 @@ ghost use Rattle.bi_fit.specs.KnownJudgements.{ListsAreRead, HashesAreJudged};
 ghost use Rattle.bi_fit.specs.KnownBuilds.{BuiltIsKnown, EachKeyIsKnown, BoardsAreKnown};
 ghost use Rattle.bi_fit.specs.KnownBuilds.{HashNodesAreKnown};
 ghost use Rattle.bi_fit.specs.KnownUpdates.{UpdatesAreKnown};
+ghost use Rattle.bi_fit.specs.KnownKept.{KeptOfFilesIsKnown, KeptOfPayloadsIsKnown};
 
 /// A file of 88 bytes with a root and its child `images` is a flattened image tree, and is its own
 /// text in both forms.
@@ -141,4 +142,12 @@ pub fn hash_nodes_are_known()
 /// both.
 pub fn updates_are_known()
     ensures updates { UpdatesAreKnown }
+{}
+
+/// What texts in the form External keep of where the payloads of small files are is known: of a
+/// file whose payloads are at multiples of 4096, of one with a fixed position, and of one that loses
+/// nothing. So is what they keep of payloads at known offsets.
+pub fn kept_is_known()
+    ensures files { KeptOfFilesIsKnown }
+    ensures payloads { KeptOfPayloadsIsKnown }
 {}

@@ -34,7 +34,7 @@ impl<'a> Fit<'a> {
             return Ok(digests);
         }
         let mut region_digests = self.region_digests(alloc);
-        for (node, image) in self.image_nodes().zip(self.images()) {
+        for (node, image) in self.images_with_nodes() {
             append_digests(&mut digests, node, image.region(), &mut region_digests)?;
         }
         Ok(digests)

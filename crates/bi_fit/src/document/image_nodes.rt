@@ -19,6 +19,7 @@ use crate::document::image_node::{ImageChildren, ImageNode, NodeChildren, add_im
 use crate::document::nodes::begin_node;
 use crate::document::property_map::PropertyMap;
 use crate::document::text_parts::TextParts;
+use crate::nodes::ImagesWithNodes;
 use crate::payload_area::PayloadArea;
 use bi_fdt::NodeRef;
 use bi_lay::Doc;
@@ -68,13 +69,9 @@ fn add_image_nodes<'a>(
     ensures added { OnOk result (doc.new ≡ with_events doc.old
         (events (text_image_nodes parts.entry (node_of node.entry).children))) }
 {
-    let mut next = node.first_child();
     let mut area = PayloadArea::new(parts.form);
     let mut left = parts.digests;
-    for image in parts.images {
-        let Some(child) = next else {
-            unreachable!();
-        };
+    for (child, image) in ImagesWithNodes::children(node, parts.images) {
         let children = NodeChildren {
             node: child,
             order: parts.order,
@@ -88,7 +85,6 @@ fn add_image_nodes<'a>(
             children: ImageChildren::OfNode(children),
         };
         left = add_image_node(alloc, doc, &mut area, added)?;
-        next = child.next_sibling();
     }
     Ok(())
 }
