@@ -142,11 +142,6 @@ one_image_counted entry left later image images others payload counts next all i
     ∙ ap (plus_hashes counts) (sym (ap₂ file_verdicts is are))
     ∙ so_far
 
--- Nothing is left to count,
+-- Nothing is left to count.
 pub all_counted : (counts all : Counts) (left : List CheckedHash) → left ≡ [] → plus_hashes counts left ≡ all → counts ≡ all
 all_counted counts all left is so_far = sym (counted_none counts) ∙ ap (plus_hashes counts) (sym is) ∙ so_far
-
--- where no image is left, or no node.
-pub no_images_left : (entries : List (Sibling FileNode)) → file_verdicts entries [] ≡ []
-no_images_left [] = refl
-no_images_left (entry ∷ entries) = refl

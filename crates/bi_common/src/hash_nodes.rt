@@ -14,6 +14,7 @@ ghost use Rattle.bi_hash.specs.Regions.{IsRegionOf, bytes_of_region};
 
 use bi_base::text_before_nul;
 use bi_fdt::NodeRef;
+use bi_fit::nodes::Siblings;
 use bi_fit::{Checked, Fit, Image};
 use bi_hash::{Region, RegionDigests};
 use std::marker::Model;
@@ -196,7 +197,7 @@ impl<'a, 'b> PlacedImages<'a, 'b> {
 /// The images that are left of a flattened image tree, in their order in the file.
 #[derive(Drop)]
 pub struct HashedImages<'a, 'b> {
-    next: Option<NodeRef<'a, 'b>>,
+    nodes: Siblings<'a, 'b>,
     images: PlacedImages<'a, 'b>,
 }
 
@@ -210,7 +211,7 @@ impl<'a, 'b> HashedImages<'a, 'b> {
         ensures { hashed_left result ≡ images_of_blob fit.entry.now }
     {
         HashedImages {
-            next: fit.images_node().first_child(),
+            nodes: fit.image_nodes(),
             images: PlacedImages {
                 images: fit.images(),
                 digests,
@@ -230,8 +231,7 @@ impl<'a, 'b> Iterator for HashedImages<'a, 'b> {
     ghost remaining = { item_count hashed_left };
 
     fn next(&mut self) -> Option<HashedImage<'a, 'b>> {
-        let node = self.next?;
-        self.next = node.next_sibling();
+        let node = self.nodes.next()?;
         match self.images.next_at(node) {
             Some(image) => Some(image),
             None => None,

@@ -13,7 +13,8 @@ use bi_base::{Cause, Fault, Limits, refuse};
 use bi_fit::{Fit, Image};
 
 /// A flattened image tree whose payloads together are no longer than the limit for files. Only
-/// `new` makes one, so what takes it hashes no payload before their lengths are known.
+/// `new` makes one, so what takes it has the bound. That nothing is hashed before is tested
+/// (`tests/costs/fit_costs.sh`), and in no clause: the calls of `Fit` need no bound.
 #[derive(Clone, Copy)]
 pub struct BoundedFit<'b, 'a> {
     fit: &'b Fit<'a>,

@@ -62,34 +62,28 @@ pub fn digests_of_verdicts<'a>(
     ensures placed { IfOk result (λ digests.
         AreAtTheirPlaces digests bounded.entry.fit.now.images) }
 {
-    let fit = bounded.fit();
-    let mut digests = fit.region_digests(alloc);
-    let _ = count_verdicts(fit, &mut digests)?;
+    let (digests, _) = judge_hashes(alloc, bounded.fit())?;
     Ok(digests)
 }
 
-/// Judges each hash node of a flattened image tree, so that each digest that a verdict needs is
-/// kept, and returns how many of them have each verdict. Fails if memory runs out. Requires: the
-/// tree was read, and in the file of the digests, the payload of each image is at its place.
-pub fn count_verdicts<'a>(
+/// Judges each hash node of a flattened image tree. Returns the digests of the tree, of which each
+/// that a verdict needs is computed, and how many hash nodes have each verdict. Fails if memory
+/// runs out. Requires: the tree was read.
+pub fn judge_hashes<'a>(
+    alloc: Global,
     fit: &Fit<'a>,
-    digests: &mut RegionDigests<'a>,
-) -> Result<Counts, AllocError>
+) -> Result<(RegionDigests<'a>, Counts), AllocError>
     requires held { IsHeld fit.now }
-    requires placed { AreAtTheirPlaces digests.old fit.now.images }
-    ensures counts { IfOk result (λ counts. counts ≡ hash_counts (verdicts_of (tree_of fit.now))) }
-    ensures same { digests.new ≡ digests.old }
+    ensures placed { IfOk result (λ judged. AreAtTheirPlaces judged.0 fit.now.images) }
+    ensures counts { IfOk result (λ judged.
+        judged.1 ≡ hash_counts (verdicts_of (tree_of fit.now))) }
 {
+    let mut digests = fit.region_digests(alloc);
     let mut counts = Counts::default();
-    let mut next = fit.images_node().first_child();
-    for image in fit.images() {
-        let Some(node) = next else {
-            return Ok(counts);
-        };
-        count_image(&mut counts, node, image.region(), digests)?;
-        next = node.next_sibling();
+    for (node, image) in fit.images_with_nodes() {
+        count_image(&mut counts, node, image.region(), &mut digests)?;
     }
-    Ok(counts)
+    Ok((digests, counts))
 }
 
 /// Judges each hash node of an image with this payload, and counts the verdicts. Fails if memory
