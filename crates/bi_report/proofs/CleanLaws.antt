@@ -4,4 +4,5 @@ pub mod CleanImages
 pub mod CleanConfigurations
 pub mod ContentEnds
 pub mod EmptyIsClean
+pub mod CheckTellsClean
 pub mod BuiltIsClean

@@ -24,6 +24,7 @@ pub mod ScannedLines
 pub mod ScanLaws
 pub mod CutImages
 pub mod ScanFacts
+pub mod OutputFacts
 pub mod ScanCounts
 pub mod ShortValues
 pub mod HashCounts

@@ -17,7 +17,7 @@ use Rattle.bi_norm.specs.declared.kind.Kind.TheVariants as kind
 use Rattle.bi_norm.specs.Kinds.{BeginsAs, IsKindFault, TooShort, OfNoKind, magic_of}
 use Rattle.bi_common.specs.Offsets.{input_from}
 use Rattle.bi_report.specs.Scanning.{ClaimsNothing, HasBlobClaim, HasLegacyClaim, IsClaim, IsOverClaims, IsWithinClaims, OfBlob, OfData}
-use Rattle.bi_report.specs.Scanning.{OfNothing}
+use Rattle.bi_report.specs.Scanning.{OfNothing, IsAfterClaim}
 use Rattle.bi_report.specs.ImageStarts.{HasNoStart, IsNextStart, ImageStartsModel}
 use Rattle.bi_report.specs.ScanLaws.{ScanHasNoFault}
 use Rattle.bi_report.specs.Scanning.{blob_claim_checks, input_offsets, legacy_claim_checks}
@@ -129,6 +129,7 @@ no_start_claims_nothing input from end none offset after before =
 pub record HasCounted (input : List ℕ) (left : ImageStartsModel) (total end : ℕ) : Type 0 where
   pub counted : HasFirstClaims input left.from total
   pub nothing : ClaimsNothing input end left.from
+  pub last : IsAfterClaim input end
   pub is_input : left.input ≡ input
   pub is_end : left.end ≡ length input
   pub are_left : left.from ≤ left.end
@@ -141,6 +142,7 @@ before_claims input left is =
     (record {
       counted = ([], tt, refl);
       nothing = λ offset after before. absurd (omega (arith, before));
+      last = λ offset is_end. absurd (omega (arith, is_end));
       is_input = refl;
       is_end = refl;
       are_left = omega arith;
@@ -157,6 +159,7 @@ counted_next input image left after total end offset claim new_end old next is c
       counted = next_claim input image offset total claim (claims_to input left.from total offset next.is_left old.counted between) is
           claimed;
       nothing = nothing_from claim claimed with_claim without;
+      last = last_of claim claimed with_claim without;
       is_input = old.is_input;
       is_end = old.is_end;
       are_left = omega (arith, next.within);
@@ -171,6 +174,16 @@ counted_next input image left after total end offset claim new_end old next is c
     passed_by : (claim : ℕ) → (0 < claim → new_end ≡ offset + 1) → (claim ≡ 0 → new_end ≡ end) → new_end ≤ offset + 1
     passed_by zero with_claim without = omega (arith, without refl, old.passed, next.is_left)
     passed_by (suc more) with_claim without = omega (arith, with_claim (omega arith))
+
+    last_of : (claim : ℕ) → IsClaim image claim → (0 < claim → new_end ≡ offset + 1) → (claim ≡ 0 → new_end ≡ end) →
+        IsAfterClaim input new_end
+    last_of zero claimed with_claim without = subst (IsAfterClaim input) (sym (without refl)) old.last
+    last_of (suc more) claimed with_claim without = λ at ends. (
+      suc more,
+      subst (λ (image : List ℕ). IsClaim image (suc more))
+          (is ∙ ap (λ (at : ℕ). input_from at input) (let same : offset ≡ at = omega (arith, ends, with_claim (omega arith)) in same)) claimed,
+      omega arith,
+    )
 
     nothing_from : (claim : ℕ) → IsClaim image claim → (0 < claim → new_end ≡ offset + 1) → (claim ≡ 0 → new_end ≡ end) →
         ClaimsNothing input new_end (offset + 1)

@@ -37,7 +37,7 @@ use Rattle.bi_common.specs.Offsets.{input_from}
 use Rattle.bi_report.specs.KnownScans.{ClaimsAreKnown, ScansAreKnown, great_header, kernel_of_tree, nested_images, nested_lines}
 use Rattle.bi_report.specs.KnownScans.{scan_limits, three_magics, two_images, two_lines}
 use Rattle.bi_report.specs.Scanning.{HasBlobClaim, HasLegacyClaim, IsClaim, IsLineAt, OfBlob, OfData, OfNothing, WithImage, WithoutImage}
-use Rattle.bi_report.specs.Scanning.{HasExtent, IsScanFault, IsScanText, blob_claim_checks, input_offsets, scan_line}
+use Rattle.bi_report.specs.Scanning.{HasExtent, IsScanFault, IsScanOutput, IsScanText, blob_claim_checks, input_offsets, scan_line}
 use Rattle.bi_report.proofs.ScanClaims.{scan_has_no_fault}
 use Rattle.bi_report.proofs.ScannedLines.{means_kind}
 
@@ -459,22 +459,30 @@ magics_scan =
     ))
     (lit≤ tt) refl
 
+-- Whether there is a line.
+found_some : {limits : Limits} {input : List ℕ} {byte : ℕ} {later : List ℕ} → IsScanText limits input (byte ∷ later) →
+    IsScanOutput limits true input (byte ∷ later)
+found_some is = record { is_scan = is; is_found = (λ _ e. absurd cc, λ _. refl) }
+
+found_none : {limits : Limits} {input : List ℕ} → IsScanText limits input [] → IsScanOutput limits false input []
+found_none is = record { is_scan = is; is_found = (λ no. absurd (true≢false (sym no)), λ some. absurd (some refl)) }
+
 pub scans_are_known : ScansAreKnown
 unfolding u32_at cell digits
 scans_are_known = record {
-  two = known_scan (scan_limits 162) two_images two_lines two_items (lit≤ tt) two_are_known (lit≤ tt) refl;
-  nested = nested_scan;
-  external = external_scan;
-  great = great_scan;
-  magic = known_scan (scan_limits 162) (cell blob_magic) [] (nothing_at (range_with_len 0 4)) (lit≤ tt) (
+  two = found_some (known_scan (scan_limits 162) two_images two_lines two_items (lit≤ tt) two_are_known (lit≤ tt) refl);
+  nested = found_some nested_scan;
+  external = found_some external_scan;
+  great = found_none great_scan;
+  magic = found_none (known_scan (scan_limits 162) (cell blob_magic) [] (nothing_at (range_with_len 0 4)) (lit≤ tt) (
     (WithoutImage (blob_alone (scan_limits 162)) refl, claims_are_known.blob_alone),
     nothing_is_known (scan_limits 162) (cell blob_magic) (range_with_len 1 3) refl,
   )
-      (lit≤ tt) refl;
-  magics = magics_scan;
-  none = known_scan (scan_limits 162) (codes "hello") [] (nothing_at (range_with_len 0 5)) (lit≤ tt)
-      (nothing_is_known (scan_limits 162) (codes "hello") (range_with_len 0 5) refl) (lit≤ tt) refl;
-  empty = known_scan (scan_limits 64) [] [] [] (lit≤ tt) tt (lit≤ tt) refl;
+      (lit≤ tt) refl);
+  magics = found_none magics_scan;
+  none = found_none (known_scan (scan_limits 162) (codes "hello") [] (nothing_at (range_with_len 0 5)) (lit≤ tt)
+      (nothing_is_known (scan_limits 162) (codes "hello") (range_with_len 0 5) refl) (lit≤ tt) refl);
+  empty = found_none (known_scan (scan_limits 64) [] [] [] (lit≤ tt) tt (lit≤ tt) refl);
   longer = record { is_too_large = refl; cause = inl (lit< tt) };
   claims = nested_fault;
   not_over = λ fault. scan_has_no_fault (scan_limits 240) nested_images nested_lines (too_large 240) nested_scan fault;

@@ -1,5 +1,5 @@
-use Rattle.std.specs.Prelude.{ℕ, ◌+◌, ◌-◌, ◌≡◌, ◌≢◌, ◌≤◌, ◌↔◌, ◌⊎◌, IsFalse, IsSome, IfSome, Option}
-use Rattle.std.specs.Prelude.{Some, List, [], drop, length}
+use Rattle.std.specs.Prelude.{ℕ, ◌+◌, ◌-◌, ◌≡◌, ◌≢◌, ◌≤◌, ◌↔◌, ◌⊎◌, IsTrue, IsFalse, IsSome, IfSome}
+use Rattle.std.specs.Prelude.{Bool, Option, Some, List, [], drop, length}
 use Rattle.std.specs.List.{AllByRecursion, AllZip, Contains, slice_get}
 use Rattle.bi_base.specs.Limits.{Limits}
 use Rattle.bi_blob.specs.Blob.{totalsize}
@@ -16,9 +16,10 @@ use Rattle.bi_hash.specs.declared.algo.Algo.{Algo}
 use Rattle.bi_hash.specs.declared.verdicts.Verdict.TheVariants.{Good}
 use Rattle.bi_hash.specs.Algos.{algorithm_name}
 use Rattle.bi_legacy.specs.Reading.{LegacyModel, IsReadLegacy}
+use Rattle.bi_common.specs.declared.format.Format.{Format}
 use Rattle.bi_common.specs.declared.format.Format.TheVariants.{Lines}
 use Rattle.bi_report.specs.declared.check.Allowed.{Allowed}
-use Rattle.bi_report.specs.CheckedFiles.{IsChecked}
+use Rattle.bi_report.specs.CheckedFiles.{IsChecked, IsCheckOutput}
 use Rattle.bi_report.specs.Checking.{hashes_of_image, strong_algorithms}
 use Rattle.bi_report.specs.Reports.{AreGood}
 
@@ -123,6 +124,14 @@ EmptyIsClean =
     (allowed : Allowed) (limits : Limits) (file text : List ℕ)
     → IsChecked Lines allowed limits file text
     → (text ≡ []) ↔ IsClean allowed limits file
+
+-- The law that the value of `check`, in each form, is whether the file is clean. The exit status
+-- follows it.
+abbrev pub CheckTellsClean : Type 0
+CheckTellsClean =
+    (format : Format) (allowed : Allowed) (limits : Limits) (clean : Bool) (file text : List ℕ)
+    → IsCheckOutput format allowed limits clean file text
+    → IsTrue clean ↔ IsClean allowed limits file
 
 -- One of these algorithms is strong.
 pub record HasStrongAlgorithm (algorithms : List Algo) : Type 0 where

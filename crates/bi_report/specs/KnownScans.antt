@@ -1,4 +1,5 @@
-use Rattle.std.specs.Prelude.{ℕ, ◌≡◌, List, [], ◌∷◌, ◌++◌, length, replicate, take, codes}
+use Rattle.std.specs.Prelude.{ℕ, ◌≡◌, true, false, List, [], ◌∷◌, ◌++◌, length, replicate, take}
+use Rattle.std.specs.Prelude.{codes}
 use Rattle.bi_base.specs.Cells.{cell}
 use Rattle.bi_base.specs.Crc.{crc32}
 use Rattle.bi_base.specs.Limits.{Limits}
@@ -12,7 +13,7 @@ use Rattle.bi_legacy.specs.KnownImages.{kernel_image, kernel_file}
 use Rattle.bi_legacy.specs.Meaning.{LegacyImage}
 use Rattle.bi_legacy.specs.Text.{legacy_text}
 use Rattle.bi_common.specs.Offsets.{input_from}
-use Rattle.bi_report.specs.Scanning.{IsClaim, IsScanFault, IsScanText}
+use Rattle.bi_report.specs.Scanning.{IsClaim, IsScanFault, IsScanOutput}
 
 -- Small files with the images that are inside them, by which a reader can judge the definitions.
 
@@ -71,18 +72,18 @@ pub record ClaimsAreKnown : Type 0 where
   pub other : IsClaim (codes "hello") 0
   pub empty : IsClaim [] 0
 
--- The texts of scans: two images one after the other, one inside the other, external payloads, and
--- no image at all. The claims of the first are 161 together, and of the second 240: a lower limit
--- refuses the file.
+-- The texts of scans, and whether an image is found: two images one after the other, one inside the
+-- other, external payloads, and no image at all. The claims of the first are 161 together, and of
+-- the second 240: a lower limit refuses the file.
 pub record ScansAreKnown : Type 0 where
-  pub two : IsScanText (scan_limits 162) two_images two_lines
-  pub nested : IsScanText (scan_limits 240) nested_images nested_lines
-  pub external : IsScanText (scan_limits 253) three_external (codes "0 fit 253 3" ++ 10 ∷ [])
-  pub great : IsScanText (scan_limits 162) great_header []
-  pub magic : IsScanText (scan_limits 162) (cell blob_magic) []
-  pub magics : IsScanText (scan_limits 64) three_magics []
-  pub none : IsScanText (scan_limits 162) (codes "hello") []
-  pub empty : IsScanText (scan_limits 64) [] []
+  pub two : IsScanOutput (scan_limits 162) true two_images two_lines
+  pub nested : IsScanOutput (scan_limits 240) true nested_images nested_lines
+  pub external : IsScanOutput (scan_limits 253) true three_external (codes "0 fit 253 3" ++ 10 ∷ [])
+  pub great : IsScanOutput (scan_limits 162) false great_header []
+  pub magic : IsScanOutput (scan_limits 162) false (cell blob_magic) []
+  pub magics : IsScanOutput (scan_limits 64) false three_magics []
+  pub none : IsScanOutput (scan_limits 162) false (codes "hello") []
+  pub empty : IsScanOutput (scan_limits 64) false [] []
   pub longer : IsScanFault (scan_limits 161) two_images (too_large 161)
   pub claims : IsScanFault (scan_limits 239) nested_images (too_large 239)
   pub not_over : ¬ (IsScanFault (scan_limits 240) nested_images (too_large 240))

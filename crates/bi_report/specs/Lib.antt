@@ -25,3 +25,4 @@ pub mod ImageStarts
 pub mod Scanning
 pub mod ScanLaws
 pub mod KnownScans
+pub mod KnownOutputs

@@ -64,6 +64,14 @@ abbrev pub ClaimsNothing : (input : List ℕ) → (from end : ℕ) → Type 0
 ClaimsNothing input from end = (offset : ℕ) → from ≤ offset → offset < end
     → IsClaim (input_from offset input) 0
 
+-- The image at an offset claims bytes.
+abbrev pub ClaimsSomething : (input : List ℕ) → (offset : ℕ) → Type 0
+ClaimsSomething input offset = (claim : ℕ) × IsClaim (input_from offset input) claim × (0 < claim)
+
+-- An offset is 0, or the image just before it claims bytes.
+abbrev pub IsAfterClaim : (input : List ℕ) → (end : ℕ) → Type 0
+IsAfterClaim input end = (offset : ℕ) → end ≡ offset + 1 → ClaimsSomething input offset
+
 -- These are the claims of the images at all offsets of an input.
 abbrev pub AreClaims : (input : List ℕ) → (claims : List ℕ) → Type 0
 AreClaims input claims =

@@ -113,7 +113,7 @@ impl Allowed {
 /// payloads of a flattened image tree together are longer than that, each counted for each image
 /// that has it. OutOfMemory may come instead of any of these, but only after the checks of a
 /// legacy image, or of the header and the memory reservation block of a blob. No payload is hashed
-/// before the lengths of the payloads are checked.
+/// before the lengths of the payloads are checked: this is tested, and in no clause.
 pub fn check(alloc: Global, file: &[u8], allowed: Allowed, limits: Limits) -> Result<String, Error>
     ensures checked { IfOk result (λ text. IsChecked Lines allowed limits file.now
         (string_bytes text)) }

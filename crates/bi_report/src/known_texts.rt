@@ -1,10 +1,12 @@
 //! Small boot images with what is listed, reported, checked and found of them. Each function does
-//! nothing: what it ensures is a fact about the definitions. One of them calls the function of a
-//! law, from which its facts follow.
+//! nothing: what it ensures is a fact about the definitions. Some of them call the function of a
+//! law, from which their facts follow.
 
 ghost use Rattle.bi_report.specs.KnownConcerns.{ConcernsAreKnown, StrongAlgorithmsAreKnown};
 ghost use Rattle.bi_report.specs.KnownConcerns.{TrailingBytesAreKnown, LegacyConcernsAreKnown};
 ghost use Rattle.bi_report.specs.KnownConcerns.{AllowedKindsAreKnown};
+ghost use Rattle.bi_report.specs.KnownOutputs.{VerifyOutputsAreKnown, CheckOutputsAreKnown};
+ghost use Rattle.bi_report.specs.KnownOutputs.{JsonListingsAreKnown};
 ghost use Rattle.bi_report.specs.KnownScans.{ClaimsAreKnown, OffsetsAreKnown, ScansAreKnown};
 ghost use Rattle.bi_report.specs.KnownTexts.{ReportsAreKnown, LegacyListingsAreKnown};
 ghost use Rattle.bi_report.specs.KnownTexts.{FitListingIsKnown, EachSourceIsListed};
@@ -83,3 +85,28 @@ pub fn scans_are_known()
 pub fn offsets_are_known()
     ensures { OffsetsAreKnown }
 {}
+
+/// What `verify` writes of small files is known, as text and as JSON, and so is whether no verdict
+/// in it is other than Good: of a legacy image, of trees without hash nodes, with a good one and
+/// with a bad one.
+pub fn verify_outputs_are_known()
+    ensures { VerifyOutputsAreKnown }
+{
+    bi_legacy::laws::one_meaning();
+}
+
+/// What `check` writes of small files is known, as text and as JSON, and so is whether it leaves no
+/// concern: of a file without a concern, and of one with a concern that is allowed or not.
+pub fn check_outputs_are_known()
+    ensures { CheckOutputsAreKnown }
+{
+    bi_legacy::laws::one_meaning();
+}
+
+/// The listings of small files as JSON are known texts: of a kernel image, of three images whose
+/// payloads follow the blob, and of configurations.
+pub fn json_listings_are_known()
+    ensures { JsonListingsAreKnown }
+{
+    bi_legacy::laws::one_meaning();
+}

@@ -1,7 +1,7 @@
 //! Laws of what is listed, reported, checked and found. Their functions do nothing: what each of
 //! them ensures is the law.
 
-ghost use Rattle.bi_report.specs.CleanFiles.{BuiltIsClean, EmptyIsClean};
+ghost use Rattle.bi_report.specs.CleanFiles.{BuiltIsClean, CheckTellsClean, EmptyIsClean};
 ghost use Rattle.bi_report.specs.JsonLaws.{ConcernsAreJson, ListingsAreJson, ReportsAreJson};
 ghost use Rattle.bi_report.specs.ScanLaws.{EachImageHasItsLine, LinesAreFew, OneScan};
 ghost use Rattle.bi_report.specs.ScanLaws.{ScanHasNoFault, ScannedImagesAreWhole};
@@ -10,6 +10,12 @@ ghost use Rattle.bi_report.specs.ScanLaws.{ScanHasNoFault, ScannedImagesAreWhole
 /// protected, but for what is allowed.
 pub fn empty_is_clean()
     ensures { EmptyIsClean }
+{}
+
+/// The value of `check`, as text and as JSON, is whether the image is clean. So its exit status is
+/// 0 if and only if the image is clean.
+pub fn check_tells_clean()
+    ensures { CheckTellsClean }
 {}
 
 /// A built image tree has no concerns, if one of the algorithms of its hash nodes is strong or it

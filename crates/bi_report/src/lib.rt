@@ -1,5 +1,4 @@
-//! The commands that report on a boot image: list, verify, check and scan, over any reader and
-//! writer.
+//! The commands that report on a boot image, over any reader and writer.
 #![tactic(auto)]
 
 pub mod check;

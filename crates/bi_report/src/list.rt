@@ -14,7 +14,6 @@ ghost use Rattle.bi_report.specs.ListedFiles.{IsListing, list_promise, list_laws
 use bi_base::{Command, Error, Limits, Sink, VecSink, pipe_to};
 use bi_common::format::Format;
 use bi_norm::BootImage;
-pub use fit::KEYS;
 use fit::list_fit;
 use legacy::list_legacy;
 use std::alloc::Global;

@@ -28,7 +28,7 @@ use bi_base::{Command, Error, Limits, Sink, VecSink, pipe_to};
 use bi_common::format::Format;
 use bi_common::hash_nodes::{HashNodes, HashedImages};
 use bi_common::json::put_comma;
-use bi_common::verdict_counts::{Counts, count_verdicts};
+use bi_common::verdict_counts::{Counts, judge_hashes};
 use bi_fit::{Checked, Fit};
 use bi_hash::RegionDigests;
 use bi_norm::BootImage;
@@ -229,8 +229,7 @@ fn verify_fit<S: Sink>(
         (λ text. text ≡ report_text format (OfFit (tree_of fit.now)))
         (λ error. error ≡ OutOfMemory) sink.old sink.new) }
 {
-    let mut digests = fit.region_digests(alloc);
-    let counts = count_verdicts(fit, &mut digests)?;
+    let (digests, counts) = judge_hashes(alloc, fit)?;
     put_report(fit, &digests, counts, format, sink)?;
     Ok(counts.are_good())
 }

@@ -79,7 +79,7 @@ module _ (allowed : Allowed) (tree : ImageTree) where
             record { name = one.name; is_default = one.is_default; is_there = one.is_there };
       }
 
-  clean_tree_has_none : IsCleanTree allowed tree → HaveNoLine allowed (tree_concerns tree)
+  pub clean_tree_has_none : IsCleanTree allowed tree → HaveNoLine allowed (tree_concerns tree)
   clean_tree_has_none is =
       both_have_none allowed (flat_map image_concerns (images_of tree))
       (flat_map (configuration_concerns tree) configurations ++ default_concerns (default_of tree) configurations)
@@ -110,7 +110,7 @@ one_unused limits file one other means also =
     omega (arith, means.unused, also.unused, ends)
 
 -- A file without a line is clean.
-file_is_clean : (allowed : Allowed) (limits : Limits) (file : List ℕ) (concerns : List Concern) → AreConcerns limits file concerns →
+pub file_is_clean : (allowed : Allowed) (limits : Limits) (file : List ℕ) (concerns : List Concern) → AreConcerns limits file concerns →
     HaveNoLine allowed concerns → IsClean allowed limits file
 file_is_clean allowed limits file concerns (OfLegacyImage parsed opened is) none =
     CleanLegacyImage parsed opened (end_is_clean allowed (drop (length file - parsed.unused) file)
@@ -122,8 +122,8 @@ file_is_clean allowed limits file concerns (OfImageTree tree means is) none =
     (λ refused. zeros_after file means.is_file.images tree.payloads (end_is_clean allowed rest both.1 refused))
 
 -- A clean file has no line.
-clean_file_has_none : (allowed : Allowed) (limits : Limits) (file : List ℕ) (concerns : List Concern) → AreConcerns limits file concerns →
-    IsClean allowed limits file → HaveNoLine allowed concerns
+pub clean_file_has_none : (allowed : Allowed) (limits : Limits) (file : List ℕ) (concerns : List Concern) →
+    AreConcerns limits file concerns → IsClean allowed limits file → HaveNoLine allowed concerns
 clean_file_has_none allowed limits file concerns (OfLegacyImage parsed opened is) (CleanLegacyImage other also zeros) =
     ap (concern_lines allowed) is
     ∙ clean_end_has_none allowed (drop (length file - parsed.unused) file)

@@ -17,12 +17,12 @@ abbrev pub HaveNoLine : Allowed → List Concern → Type 0
 HaveNoLine allowed concerns = concern_lines allowed concerns ≡ []
 
 -- Two texts are empty if both together are.
-both_empty : (xs ys : List ℕ) → xs ++ ys ≡ [] → (xs ≡ []) × (ys ≡ [])
+pub both_empty : (xs ys : List ℕ) → xs ++ ys ≡ [] → (xs ≡ []) × (ys ≡ [])
 both_empty [] ys e = (refl, e)
 both_empty (x ∷ xs) ys e = absurd cc
 
 -- A line is not empty.
-line_is_not_empty : (words : List ℕ) → ¬ (words ++ 10 ∷ [] ≡ [])
+pub line_is_not_empty : (words : List ℕ) → ¬ (words ++ 10 ∷ [] ≡ [])
 line_is_not_empty [] e = absurd cc
 line_is_not_empty (x ∷ xs) e = absurd cc
 

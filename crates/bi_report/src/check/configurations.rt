@@ -18,7 +18,6 @@ ghost use Rattle.bi_report.specs.FoundConcerns.{found_in_configuration, found_in
 ghost use Rattle.bi_report.specs.FoundConcerns.{found_in_key};
 
 use super::concern::Concern;
-use crate::list::KEYS;
 use crate::listed::{KeyList, listed_under};
 use bi_fdt::{NodeRef, Property};
 use bi_fit::nodes::Siblings;
@@ -41,8 +40,8 @@ impl<'a, 'b> Iterator for ConfigurationConcerns<'a, 'b> {
     ghost remaining = { item_count configuration_left };
 
     fn next(&mut self) -> Option<Concern<'a, 'b>> {
-        while self.index < KEYS.len() {
-            let key = KEYS[self.index];
+        while self.index < Key::ALL.len() {
+            let key = Key::ALL[self.index];
             self.index += 1;
             if let Some(concern) = key_concern(self.fit, self.node, key) {
                 return Some(concern);

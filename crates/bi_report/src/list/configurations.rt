@@ -17,7 +17,6 @@ ghost use Rattle.bi_report.specs.ListingJson.{key_objects, listed_object};
 ghost use Rattle.bi_report.specs.ReadListing.{configuration_text, configuration_texts, key_texts};
 ghost use Rattle.bi_report.specs.ReadListing.{node_key_texts};
 
-use super::fit::KEYS;
 use crate::listed::{KeyList, listed_under};
 use bi_base::{Error, Sink};
 use bi_common::fields::{Field, put_fields, put_later_field, put_line};
@@ -105,7 +104,7 @@ fn put_keys<'a, S: Sink>(
         sink.new }
 {
     let mut is_later = false;
-    for key in KEYS {
+    for key in Key::ALL {
         is_later = put_key(fit, node, key, format, is_later, sink)?;
     }
     Ok(())

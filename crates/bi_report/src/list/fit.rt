@@ -21,17 +21,7 @@ use bi_common::fields::{Field, put_line, put_lines};
 use bi_common::format::Format;
 use bi_common::json::{JsonValue, put_comma, put_json, put_members, put_object, shown_or_null};
 use bi_fdt::Blob;
-use bi_fit::{Fit, Image, Key, Place};
-
-/// The keys of a configuration, in the order of their lines.
-pub const KEYS: [Key; 6] = [
-    Key::Kernel,
-    Key::Fdt,
-    Key::Ramdisk,
-    Key::Firmware,
-    Key::Loadables,
-    Key::Script,
-];
+use bi_fit::{Fit, Image, Place};
 
 /// Appends the listing of a flattened image tree, in a form. Fails as the sink does. Requires: the
 /// tree was read.

@@ -6,7 +6,7 @@ ghost use Rattle.bi_base.specs.Reading.{too_large};
 ghost use Rattle.bi_legacy.specs.Faults.{header_without_checksum};
 ghost use Rattle.bi_norm.specs.declared.kind.Kind.TheVariants as kind;
 ghost use Rattle.bi_norm.specs.Kinds.{BeginsAs};
-ghost use Rattle.bi_report.specs.Scanning.{ClaimsNothing, IsClaim, IsOverClaims};
+ghost use Rattle.bi_report.specs.Scanning.{ClaimsNothing, IsAfterClaim, IsClaim, IsOverClaims};
 ghost use Rattle.bi_report.specs.Scanning.{IsWithinClaims};
 
 use super::blob_claims::blob_claim;
@@ -18,14 +18,15 @@ use bi_legacy::offsets::{IH_HCRC, IH_SIZE, IH_TIME};
 use bi_norm::{Kind, kind_of};
 
 /// Checks that the images at all offsets of a file claim together no more bytes than the limit.
-/// Returns an offset, at most the length of the file: no image that begins there or later claims
-/// any bytes.
+/// Returns the least offset from which on no image claims any bytes: 0, or that after the last
+/// image that does.
 ///
 /// Error: TooLarge at the limit, if they claim more.
 pub(super) fn check_claims(file: &[u8], limits: Limits) -> Result<usize, Fault>
     ensures ok { OnOk result (IsWithinClaims limits file.now) }
     ensures within { IfOk result (λ end. end ≤ length file.now) }
     ensures nothing { IfOk result (λ end. ClaimsNothing file.now end (length file.now)) }
+    ensures last { IfOk result (IsAfterClaim file.now) }
     ensures fault { IfErr result (λ fault. (fault ≡ too_large limits.file)
         × IsOverClaims limits file.now) }
 {

@@ -12,5 +12,5 @@ returns-in_err-put_report-clause-failed g c =
     rw (p.1, p.2) (SinkFailed _ c.in_err-put_report.field-0.0 refl c.in_err-put_report.ensures refl)
 
 pub returns-clause-good : goal.returns-clause-good
-returns-clause-good g c = good_of_counts (verdicts_of (tree_of c.args.fit.now)) c.in_ok-counts.counts _ c.in_ok-counts.ensures.counts
+returns-clause-good g c = good_of_counts (verdicts_of (tree_of c.args.fit.now)) c.in_ok-digests.counts _ c.in_ok-digests.ensures.counts
     c.are_good.ensures

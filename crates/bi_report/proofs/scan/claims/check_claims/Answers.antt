@@ -48,3 +48,6 @@ pub returns-clause-nothing : goal.returns-clause-nothing
 returns-clause-nothing c =
     (all_claims_counted c.args.limits c.args.file.now c.loop-offset.offset-iterator c.loop-offset.total c.loop-offset.end
     c.loop-offset.invariant.counted c.in-None.ensures.steps c.loop-offset.invariant.within).1
+
+pub returns-clause-last : goal.returns-clause-last
+returns-clause-last c = c.loop-offset.invariant.counted.last
