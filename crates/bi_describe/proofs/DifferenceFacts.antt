@@ -47,7 +47,7 @@ written texts others one other =
     else differences texts others
 
 -- What differs between two trees whose descriptions have lines of these texts.
-written_as : (one other : ImageTree) {texts others : List (List ℕ)} →
+pub written_as : (one other : ImageTree) {texts others : List (List ℕ)} →
     description_texts (OfFit one) ≡ texts → description_texts (OfFit other) ≡ others →
     comparison (OfFit one) (OfFit other) ≡ written texts others (lines texts) (lines others)
 written_as one other has other_has =

@@ -8,6 +8,7 @@ pub mod DescriptionPieces
 pub mod FirstWords
 pub mod DescriptionFacts
 pub mod DifferenceFacts
+pub mod DescribedFileFacts
 pub mod DifferenceLines
 pub mod RefusalFacts
 pub mod LineSets

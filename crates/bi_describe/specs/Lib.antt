@@ -11,6 +11,7 @@ pub mod ReadDescription
 pub mod KnownDescriptions
 pub mod KnownDifferences
 pub mod KnownRefusals
+pub mod KnownDescribedFiles
 pub mod TreeEntries
 pub mod EntryJson
 pub mod DescriptionJson

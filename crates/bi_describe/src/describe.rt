@@ -37,7 +37,8 @@ use std::io::{Read, Write};
 /// payloads of a flattened image tree together are longer than that, each counted for each image
 /// that has it, or if the description is. OutOfMemory may come instead of any of these, but only
 /// after the checks of a legacy image, or of the header and the memory reservation block of a blob.
-/// No payload is hashed before the lengths of the payloads are checked.
+/// No payload is hashed before the lengths of the payloads are checked: this is tested, and in no
+/// clause.
 ///
 /// # Example
 ///

@@ -1,0 +1,186 @@
+use Rattle.std.proofs.Common.{◌≡◌, ◌++◌, ◌↔◌, ◌≤◌, ◌<◌, ℕ, Bool, true, false, IsTrue, List, [], ◌∷◌, codes, length, None, refl, sym, ap, subst}
+use Rattle.std.proofs.Common.{◌∙◌}
+use Rattle.std.proofs.Common.{lit≤, true≢false, arith}
+use Rattle.std.specs.Fmt.{digits}
+use Rattle.bi_base.specs.Limits.{Limits, widest}
+use Rattle.bi_blob.specs.KnownTexts.{smallest_text}
+use Rattle.bi_fit.specs.ImageTree.{ImageTree}
+use Rattle.bi_fit.specs.KnownFiles.{bare_file, plain_tree}
+use Rattle.bi_fit.proofs.FileFacts.{bare_means, no_entries, smallest_means}
+use Rattle.bi_legacy.specs.Laws.{OneLegacyMeaning}
+use Rattle.bi_norm.specs.Comparing.{AreCompared, MeansOnly}
+use Rattle.bi_norm.specs.Meaning.{Meaning, OfLegacy, OfFit}
+use Rattle.bi_norm.proofs.KindLaws.{one_file_meaning}
+use Rattle.bi_common.specs.declared.format.Format.{Format}
+use Rattle.bi_common.specs.declared.format.Format.TheVariants.{Lines}
+use Rattle.bi_common.specs.KnownWords.{lines}
+use Rattle.bi_describe.specs.Comparing.{AreDifferent, AreTheSame, IsComparison, comparison}
+use Rattle.bi_common.specs.PayloadBounds.{payloads_length}
+use Rattle.bi_describe.specs.DescriptionJson.{description_json}
+use Rattle.bi_describe.specs.Descriptions.{description, description_lines, description_texts}
+use Rattle.bi_describe.specs.Describing.{CanBeDescribed}
+use Rattle.bi_describe.specs.KnownDescribedFiles.{ComparedTextsAreKnown, DescribedFilesAreKnown}
+use Rattle.bi_describe.proofs.DifferenceFacts.{lines_of_texts, written_as}
+
+-- Whole descriptions and comparisons of small files.
+
+-- What the two files mean.
+abbrev smallest_tree : ImageTree
+smallest_tree = plain_tree [] []
+
+abbrev bare_tree : ImageTree
+bare_tree = plain_tree (codes "a" ∷ []) (None ∷ [])
+
+-- Their descriptions.
+abbrev smallest_lines : List (List ℕ)
+smallest_lines = codes "kind fit" ∷ codes "boot-cpu 0" ∷ codes "node /" ∷ codes "node /images" ∷ []
+
+abbrev bare_lines : List (List ℕ)
+bare_lines =
+    codes "kind fit" ∷ codes "boot-cpu 0" ∷ codes "node /" ∷ codes "node /images" ∷ codes "node /images/a"
+    ∷ codes "payload /images/a none" ∷ []
+
+smallest_texts : description_texts (OfFit smallest_tree) ≡ smallest_lines
+unfolding digits
+smallest_texts = rw no_entries refl
+
+bare_texts : description_texts (OfFit bare_tree) ≡ bare_lines
+unfolding digits
+bare_texts = rw no_entries refl
+
+description_of : (tree : ImageTree) (texts : List (List ℕ)) → description_texts (OfFit tree) ≡ texts →
+    description (OfFit tree) ≡ lines texts
+description_of tree texts are = lines_of_texts (description_lines (OfFit tree)) ∙ ap lines are
+
+-- They can be described.
+can_be : (tree : ImageTree) (texts : List (List ℕ)) → description_texts (OfFit tree) ≡ texts → length (lines texts) ≤ 0x7fffffff →
+    ¬ (0x7fffffff < payloads_length tree.payloads) → CanBeDescribed Lines widest (OfFit tree)
+can_be tree texts are short few = record {
+  payloads = few;
+  short = subst (λ text. length text ≤ 0x7fffffff) (sym (description_of tree texts are)) short;
+}
+
+-- How many images a meaning has.
+abbrev images_in : Meaning → ℕ
+images_in (OfLegacy image) = 0
+images_in (OfFit tree) = length tree.payloads
+
+-- What holds for the same is the same.
+equal_values : (one other : Bool) (P Q : Type 0) → (P → Q) → (Q → P) → (IsTrue one ↔ P) → (IsTrue other ↔ Q) → one ≡ other
+equal_values true true P Q there back is also = refl
+equal_values false false P Q there back is also = refl
+equal_values true false P Q there back is also = sym (also.1 (there (is.0 refl)))
+equal_values false true P Q there back is also = is.1 (back (also.0 refl))
+
+one_value : (format other_format : Format) (limits : Limits) (file other_file : List ℕ) (value other : Bool) (text other_text : List ℕ) →
+    IsComparison format limits file other_file value text → IsComparison other_format limits file other_file other other_text →
+    value ≡ other
+one_value format other_format limits file other_file value other text other_text is also =
+    let first : also.compared.meaning ≡ is.compared.meaning = is.compared.means.only also.compared.meaning also.compared.means.means in
+    let second : also.compared.other_meaning ≡ is.compared.other_meaning =
+    is.compared.other_means.only also.compared.other_meaning also.compared.other_means.means in
+    equal_values value other (is.compared.meaning ≡ is.compared.other_meaning) (also.compared.meaning ≡ also.compared.other_meaning)
+    (λ same. first ∙ same ∙ sym second) (λ same. sym first ∙ same ∙ second) is.compared.is_same also.compared.is_same
+
+module _ (one_legacy : OneLegacyMeaning) where
+  only_smallest : MeansOnly widest smallest_text (OfFit smallest_tree)
+  only_smallest = record {
+    means = smallest_means;
+    only = λ other means. one_file_meaning one_legacy widest widest smallest_text other (OfFit smallest_tree) means smallest_means;
+  }
+
+  only_bare : MeansOnly widest bare_file (OfFit bare_tree)
+  only_bare = record {
+    means = bare_means;
+    only = λ other means. one_file_meaning one_legacy widest widest bare_file other (OfFit bare_tree) means bare_means;
+  }
+
+  are_same : AreCompared widest smallest_text smallest_text true
+  are_same = record {
+    meaning = OfFit smallest_tree;
+    other_meaning = OfFit smallest_tree;
+    means = only_smallest;
+    other_means = only_smallest;
+    is_same = (λ _. refl, λ _. refl);
+  }
+
+  abbrev are_different : AreCompared widest smallest_text bare_file false
+  are_different = record {
+    meaning = OfFit smallest_tree;
+    other_meaning = OfFit bare_tree;
+    means = only_smallest;
+    other_means = only_bare;
+    is_same = (λ no. absurd (true≢false (sym no)), λ same. absurd (omega (arith, ap images_in same)));
+  }
+
+  abbrev new_lines : List ℕ
+  new_lines = lines (codes "+node /images/a" ∷ codes "+payload /images/a none" ∷ [])
+
+  both_differ : new_lines ≡ comparison (OfFit smallest_tree) (OfFit bare_tree)
+  both_differ = sym (written_as smallest_tree bare_tree smallest_texts bare_texts ∙ refl)
+
+  small : CanBeDescribed Lines widest (OfFit smallest_tree)
+  small = can_be smallest_tree smallest_lines smallest_texts (lit≤ tt) (λ over. omega (arith, over))
+
+  bare : CanBeDescribed Lines widest (OfFit bare_tree)
+  bare = can_be bare_tree bare_lines bare_texts (lit≤ tt) (λ over. omega (arith, over))
+
+  pub compared_texts_are_known : ComparedTextsAreKnown
+  compared_texts_are_known = record {
+    same = record {
+      compared = are_same;
+      lines = [];
+      differences = AreTheSame refl;
+      empty = (λ _. refl, λ _. refl);
+      is_text = refl;
+    };
+    same_json = record {
+      compared = are_same;
+      lines = [];
+      differences = AreTheSame refl;
+      empty = (λ _. refl, λ _. refl);
+      is_text = refl;
+    };
+    different = record {
+      compared = are_different;
+      lines = new_lines;
+      differences = AreDifferent small bare both_differ;
+      empty = (λ none. absurd cc, λ no. absurd (true≢false (sym no)));
+      is_text = refl;
+    };
+    different_json = record {
+      compared = are_different;
+      lines = new_lines;
+      differences = AreDifferent small bare both_differ;
+      empty = (λ none. absurd cc, λ no. absurd (true≢false (sym no)));
+      is_text = refl;
+    };
+    no_sign = refl;
+    signs = refl;
+    one = one_value;
+  }
+
+  json_is : description_json (OfFit smallest_tree) ≡
+      codes "{\"kind\":\"fit\",\"boot_cpu\":0,\"reservations\":[],\"root\":{\"properties\":[],"
+      ++ lines (codes "\"children\":[{\"name\":\"images\",\"properties\":[],\"children\":[]}]}}" ∷ [])
+  unfolding digits
+  json_is = rw no_entries refl
+
+  pub described_files_are_known : DescribedFilesAreKnown
+  described_files_are_known = record {
+    text = record {
+      meaning = OfFit smallest_tree;
+      means = only_smallest;
+      within = small;
+      is_text = sym (description_of smallest_tree smallest_lines smallest_texts);
+    };
+    json = record {
+      meaning = OfFit smallest_tree;
+      means = only_smallest;
+      within = record {
+        payloads = λ over. omega (arith, over);
+        short = subst (λ text. length text ≤ 0x7fffffff) (sym json_is) (lit≤ tt);
+      };
+      is_text = sym json_is;
+    };
+  }
