@@ -7,3 +7,5 @@ pub mod ShownPages
 pub mod LayoutFacts
 pub mod LayoutsOfFiles
 pub mod PageFacts
+pub mod ShownTrees
+pub mod TreePageFacts

@@ -20,7 +20,7 @@ use Rattle.bi_show.specs.ShownFiles.{AreConcernLines, OfLegacyImage as OfLegacyP
 
 -- Times, tables, cells and pages of small images are known.
 
-first_time : IsTimeText 0 (codes "1970-01-01 00:00:00 UTC")
+pub first_time : IsTimeText 0 (codes "1970-01-01 00:00:00 UTC")
 first_time =
     record {
       date = record { year = 1970; month = 1; day = 1 };
@@ -167,10 +167,10 @@ cells_are_known = record {
 -- ---- layouts
 
 -- If no region begins before the one before it, the regions are by their offsets.
-abbrev Rise : List LayoutRegion → Type 0
+abbrev pub Rise : List LayoutRegion → Type 0
 Rise regions = AllAdjacentBelow (λ (one next : LayoutRegion). one.begin ≤ next.begin) regions (length regions)
 
-by_offset : (regions : List LayoutRegion) → Rise regions → AreByOffset regions regions
+pub by_offset : (regions : List LayoutRegion) → Rise regions → AreByOffset regions regions
 by_offset regions rise = record {
   same = IsPermutation-refl regions;
   by_offset = IsNonDecreasingBy-from_all_adjacent (λ (region : LayoutRegion). region.begin) regions rise;

@@ -10,3 +10,5 @@ pub mod Layouts
 pub mod ReadPages
 pub mod ShownFiles
 pub mod KnownPages
+pub mod KnownTrees
+pub mod KnownTreePages

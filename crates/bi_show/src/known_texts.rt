@@ -1,8 +1,9 @@
 //! Small boot images with their pages. Each function does nothing: what it ensures is a fact about
-//! the definitions. One of them calls the function of a law, from which its facts follow.
+//! the definitions. Two of them call the function of a law, from which their facts follow.
 
 ghost use Rattle.bi_show.specs.KnownPages.{CellsAreKnown, PagesAreKnown, TablesAreKnown};
 ghost use Rattle.bi_show.specs.KnownPages.{TimesAreKnown};
+ghost use Rattle.bi_show.specs.KnownTreePages.{TreePagesAreKnown};
 
 /// Times have known texts: the first and the last time of 32 bits, and seconds before and after a
 /// day, a leap day and a year begin.
@@ -25,6 +26,14 @@ pub fn cells_are_known()
 /// without it.
 pub fn pages_are_known()
     ensures { PagesAreKnown }
+{
+    bi_legacy::laws::one_meaning();
+}
+
+/// The page of a flattened image tree with a hash node, a configuration and a signature node is a
+/// known text, with its layout and without it.
+pub fn tree_pages_are_known()
+    ensures { TreePagesAreKnown }
 {
     bi_legacy::laws::one_meaning();
 }

@@ -14,7 +14,6 @@ use super::cells::{CellForm, name_cell, property_cell};
 use super::tables::Row;
 use bi_fdt::NodeRef;
 use bi_fit::{Fit, Key};
-use bi_report::list::KEYS;
 use std::alloc::{AllocError, Global};
 
 /// Returns the table of the configurations.
@@ -50,7 +49,7 @@ fn used_keys(alloc: Global, fit: &Fit) -> Result<Vec<Key>, AllocError>
         ≡ used_keys_of (siblings (file_configurations fit.now.blob))) }
 {
     let mut keys = Vec::new(alloc);
-    for key in KEYS {
+    for key in Key::ALL {
         if is_used(fit, key) {
             keys.push(key)?;
         }
