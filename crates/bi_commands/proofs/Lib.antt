@@ -11,3 +11,5 @@ pub mod PayloadFiles
 pub mod PayloadFileFacts
 pub mod BoundFacts
 pub mod ChoiceFacts
+pub mod PartFacts
+pub mod ExtractFacts

@@ -10,3 +10,5 @@ pub mod ExtractingAll
 pub mod Payloads
 pub mod KnownPayloadFiles
 pub mod KnownChoices
+pub mod KnownParts
+pub mod KnownExtracts

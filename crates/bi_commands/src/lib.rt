@@ -1,6 +1,5 @@
-//! The commands of `bootimg` on boot images: show, list, describe, verify, check, scan, update,
-//! extract, convert and build, over any reader and writer, and compare, over two files in memory.
-//! Some of them have crates of their own, which this one exports.
+//! The commands of `bootimg` on boot images: those on one image over any reader and writer, and
+//! comparing over two files in memory. Some have crates of their own, which this one exports.
 #![tactic(auto)]
 
 pub mod build_fit;

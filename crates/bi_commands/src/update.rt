@@ -27,9 +27,9 @@ use std::io::{Read, Write};
 /// Errors, each `Error::Refused`, the first that applies: those of `BootImage::read`; TooLarge at
 /// the limit, if `changes.hashes` is set and the payloads of a flattened image tree together are
 /// longer than that, each counted for each image that has it; TooLarge at the limit, if the text of
-/// a flattened image tree is longer. No payload is hashed before the lengths of the payloads are
-/// checked. OutOfMemory occurs only after the checks of a legacy image, or of the header and the
-/// memory reservation block of a blob.
+/// a flattened image tree is longer. OutOfMemory occurs only after the checks of a legacy image, or
+/// of the header and the memory reservation block of a blob. No payload is hashed before the
+/// lengths of the payloads are checked: this is tested, and in no clause.
 ///
 /// # Example
 ///
