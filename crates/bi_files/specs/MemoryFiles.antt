@@ -1,4 +1,5 @@
 use Rattle.std.specs.Prelude.{◌≡◌, ℕ, Bool, true, false, List, map, Option, None, Some}
+use Rattle.bi_base.specs.CallTraces.{read_trace, write_trace}
 use Rattle.bi_base.specs.Traces.{ReadTrace, WriteTrace}
 use Rattle.bi_commands.specs.ExtractingAll.{PayloadFile}
 use Rattle.bi_files.specs.Files.{Entry, NoFile, RegularFile, Directory, FileStep, Names}
@@ -34,26 +35,11 @@ unread bytes = record {
 
 -- The reader of a file that was opened.
 abbrev pub reading_trace : ReadFile → ReadTrace
-reading_trace file = record {
-  reader = 0;
-  remaining = Some file.remaining.now;
-  taken = file.calls.taken;
-  failed = file.calls.outcome.failed;
-  interruptions = file.calls.outcome.interruptions;
-  stopped = file.calls.stopped;
-}
+reading_trace file = read_trace 0 (Some file.remaining.now) file.calls
 
 -- The writer of a new file.
 abbrev pub writing_trace : WrittenFile → WriteTrace
-writing_trace file = record {
-  writer = 0;
-  contents = Some file.bytes.now;
-  failed = file.calls.outcome.failed;
-  stalled = file.calls.stalled;
-  flushing = file.calls.flushing;
-  interruptions = file.calls.outcome.interruptions;
-  stopped = file.calls.stopped;
-}
+writing_trace file = write_trace 0 (Some file.bytes.now) file.calls
 
 -- The step with the file of this name.
 abbrev pub named_step : (name : List ℕ) → StepKind → FileStep

@@ -12,8 +12,9 @@ ghost use Rattle.bi_files.specs.MemoryFiles.{recorded_names, recorded_steps, rec
 ghost use Rattle.bi_files.specs.MemoryFiles.{named_step, AreLookedUp, IsOccupant};
 
 use crate::files::FileSystem;
-use crate::new_file::{NewFile, WriteCalls};
-use crate::opened_file::{OpenedFile, ReadCalls};
+use crate::new_file::NewFile;
+use crate::opened_file::OpenedFile;
+use bi_base::{ReadCalls, WriteCalls};
 use std::alloc::{AllocError, Global};
 use std::io::{self, ErrorKind};
 

@@ -1,28 +1,17 @@
 //! New files, which record the outcomes of the calls on them.
 
 ghost use Rattle.std.specs.Prelude.{◌≡◌, IsFalse};
+ghost use Rattle.bi_base.specs.CallTraces.{write_trace};
 ghost use Rattle.bi_base.specs.Traces.{WritesWell};
 
-use bi_base::{CallOutcome, TracedWrite};
+use bi_base::{TracedWrite, WriteCalls};
 use std::io::{self, Write};
-
-/// What is recorded of the calls on a writer.
-#[derive(Clone, Copy)]
-pub struct WriteCalls {
-    outcome: CallOutcome,
-    stalled: bool,
-    flushing: bool,
-    stopped: bool,
-}
 
 /// A new file, with its writer. It is closed when it is dropped.
 #[derive(Drop)]
 pub struct NewFile<W> {
     writer: W,
-    outcome: CallOutcome,
-    stalled: bool,
-    flushing: bool,
-    stopped: bool,
+    calls: WriteCalls,
 }
 
 impl<W: Write> NewFile<W> {
@@ -36,10 +25,7 @@ impl<W: Write> NewFile<W> {
     {
         NewFile {
             writer,
-            outcome: CallOutcome::new(),
-            stalled: false,
-            flushing: false,
-            stopped: false,
+            calls: WriteCalls::default(),
         }
     }
 
@@ -52,19 +38,9 @@ impl<W: Write> NewFile<W> {
 
     /// Returns what is recorded of the calls so far.
     pub fn calls(&self) -> WriteCalls
-        ensures { result ≡ record {
-          outcome = self.now.outcome;
-          stalled = self.now.stalled;
-          flushing = self.now.flushing;
-          stopped = self.now.stopped;
-        } }
+        ensures { result ≡ self.now.calls }
     {
-        WriteCalls {
-            outcome: self.outcome,
-            stalled: self.stalled,
-            flushing: self.flushing,
-            stopped: self.stopped,
-        }
+        self.calls
     }
 
     /// Returns the writer.
@@ -76,31 +52,13 @@ impl<W: Write> NewFile<W> {
 }
 
 impl<W: Write> TracedWrite for NewFile<W> {
-    ghost trace = { λ file. record {
-      writer = 0;
-      contents = W.contents file.writer;
-      failed = file.outcome.failed;
-      stalled = file.stalled;
-      flushing = file.flushing;
-      interruptions = file.outcome.interruptions;
-      stopped = file.stopped;
-    } };
+    ghost trace = { λ file. write_trace 0 (W.contents file.writer) file.calls };
 
     fn write_once(&mut self, bytes: &[u8]) -> io::Result<usize> {
-        let call = self.writer.write(bytes);
-        self.outcome = self.outcome.after(&call);
-        self.stalled = !bytes.is_empty() && matches!(call, Ok(0));
-        self.flushing = false;
-        self.stopped = self.stopped || self.stalled || self.outcome.must_stop();
-        call
+        self.calls.write(&mut self.writer, bytes)
     }
 
     fn flush_once(&mut self) -> io::Result<()> {
-        let call = self.writer.flush();
-        self.outcome = self.outcome.after(&call);
-        self.stalled = false;
-        self.flushing = true;
-        self.stopped = self.stopped || self.outcome.must_stop();
-        call
+        self.calls.flush(&mut self.writer)
     }
 }

@@ -1,26 +1,17 @@
 //! Files that are open for reading, which record the outcomes of the calls on them.
 
 ghost use Rattle.std.specs.Prelude.{◌≡◌, IsFalse};
+ghost use Rattle.bi_base.specs.CallTraces.{read_trace};
 ghost use Rattle.bi_base.specs.Traces.{ReadsWell};
 
-use bi_base::{CallOutcome, TracedRead};
+use bi_base::{ReadCalls, TracedRead};
 use std::io::{self, Read};
-
-/// What is recorded of the calls on a reader.
-#[derive(Clone, Copy)]
-pub struct ReadCalls {
-    taken: u64,
-    outcome: CallOutcome,
-    stopped: bool,
-}
 
 /// A file that is open for reading, with its reader. It is closed when it is dropped.
 #[derive(Drop)]
 pub struct OpenedFile<R> {
     reader: R,
-    taken: u64,
-    outcome: CallOutcome,
-    stopped: bool,
+    calls: ReadCalls,
 }
 
 impl<R: Read> OpenedFile<R> {
@@ -34,25 +25,15 @@ impl<R: Read> OpenedFile<R> {
     {
         OpenedFile {
             reader,
-            taken: 0,
-            outcome: CallOutcome::new(),
-            stopped: false,
+            calls: ReadCalls::default(),
         }
     }
 
     /// Returns what is recorded of the calls so far.
     pub fn calls(&self) -> ReadCalls
-        ensures { result ≡ record {
-          taken = self.now.taken;
-          outcome = self.now.outcome;
-          stopped = self.now.stopped;
-        } }
+        ensures { result ≡ self.now.calls }
     {
-        ReadCalls {
-            taken: self.taken,
-            outcome: self.outcome,
-            stopped: self.stopped,
-        }
+        self.calls
     }
 
     /// Returns the reader.
@@ -64,22 +45,9 @@ impl<R: Read> OpenedFile<R> {
 }
 
 impl<R: Read> TracedRead for OpenedFile<R> {
-    ghost trace = { λ file. record {
-      reader = 0;
-      remaining = R.remaining file.reader;
-      taken = file.taken;
-      failed = file.outcome.failed;
-      interruptions = file.outcome.interruptions;
-      stopped = file.stopped;
-    } };
+    ghost trace = { λ file. read_trace 0 (R.remaining file.reader) file.calls };
 
     fn read_once(&mut self, buffer: &mut [u8]) -> io::Result<usize> {
-        let call = self.reader.read(buffer);
-        if let Ok(count) = &call {
-            self.taken = self.taken.saturating_add(*count as u64);
-        }
-        self.outcome = self.outcome.after(&call);
-        self.stopped = self.stopped || self.outcome.must_stop();
-        call
+        self.calls.read(&mut self.reader, buffer)
     }
 }
