@@ -125,7 +125,7 @@ code_with_name field argument code is = (Named is, only) where
   only other (Numbered none number small) = absurd (let e : None ≡ Some code = sym none ∙ is in cc)
 
 -- A number that is not a name is this code and no other.
-numbered_code : (field : CodeField) (argument : List ℕ) (code : ℕ) → code_of_name (given_names_of field) argument ≡ None
+pub numbered_code : (field : CodeField) (argument : List ℕ) (code : ℕ) → code_of_name (given_names_of field) argument ≡ None
     → IsOnlyNumber argument code → code < 2 ^ 8 → IsOnlyCode field argument code
 numbered_code field argument code none number small = (Numbered none number.0 small, only) where
   only : (other : ℕ) → IsCode field argument other → other ≡ code
@@ -158,7 +158,7 @@ codes_are_known = record {
 -- ---- limits
 
 -- A number in range is this limit and no other.
-limit_in_range : (argument : List ℕ) (limit : ℕ) → IsOnlyNumber argument limit → 64 ≤ limit → limit ≤ 0x7fffffff
+pub limit_in_range : (argument : List ℕ) (limit : ℕ) → IsOnlyNumber argument limit → 64 ≤ limit → limit ≤ 0x7fffffff
     → IsOnlyLimit argument limit
 limit_in_range argument limit number least most = (
   record { file = number.0; least = least; most = most; depth = refl },

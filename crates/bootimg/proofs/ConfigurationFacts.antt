@@ -24,11 +24,11 @@ use Rattle.bootimg.proofs.ListedTexts.{distinct_here, values_around}
 
 -- A word is one configuration, and words are the configurations that are parsed from them one by one, up to the first that is none.
 
-abbrev model_of : (name : List ℕ) (lists : Key → List (List ℕ)) → ConfigurationSpecModel
+abbrev pub model_of : (name : List ℕ) (lists : Key → List (List ℕ)) → ConfigurationSpecModel
 model_of name lists = record { name = name; lists = lists }
 
 -- Configurations with the same name and the same lists.
-equal_models : (name other : List ℕ) (lists others : Key → List (List ℕ)) → name ≡ other → ((key : Key) → lists key ≡ others key) →
+pub equal_models : (name other : List ℕ) (lists others : Key → List (List ℕ)) → name ≡ other → ((key : Key) → lists key ≡ others key) →
     model_of name lists ≡ model_of other others
 equal_models name other lists others names same = λ i. record { name = names i; lists = λ key. same key i }
 

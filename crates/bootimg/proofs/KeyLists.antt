@@ -20,33 +20,33 @@ use Rattle.bootimg.proofs.ListedTexts.{among_names, distinct_here, values_around
 
 -- The text of a list has one key and one list of names, and texts are the lists that are parsed from them one by one.
 
-abbrev list_text : Key → (names : List ℕ) → List ℕ
+abbrev pub list_text : Key → (names : List ℕ) → List ℕ
 list_text key names = key_name key ++ (codes "=" ++ names)
 
 -- ---- the text of a list
 
-key_before : (key : Key) (names : List ℕ) → before_first (λ byte. byte == 61) (list_text key names) ≡ key_name key
-key_before Kernel names = refl
-key_before Fdt names = refl
-key_before Ramdisk names = refl
-key_before Firmware names = refl
-key_before Loadables names = refl
-key_before Script names = refl
+pub list_key_before : (key : Key) (names : List ℕ) → before_first (λ byte. byte == 61) (list_text key names) ≡ key_name key
+list_key_before Kernel names = refl
+list_key_before Fdt names = refl
+list_key_before Ramdisk names = refl
+list_key_before Firmware names = refl
+list_key_before Loadables names = refl
+list_key_before Script names = refl
 
-names_after : (key : Key) (names : List ℕ) → after_first (λ byte. byte == 61) (list_text key names) ≡ names
-names_after Kernel names = refl
-names_after Fdt names = refl
-names_after Ramdisk names = refl
-names_after Firmware names = refl
-names_after Loadables names = refl
-names_after Script names = refl
+pub list_names_after : (key : Key) (names : List ℕ) → after_first (λ byte. byte == 61) (list_text key names) ≡ names
+list_names_after Kernel names = refl
+list_names_after Fdt names = refl
+list_names_after Ramdisk names = refl
+list_names_after Firmware names = refl
+list_names_after Loadables names = refl
+list_names_after Script names = refl
 
 -- The texts of two lists are the same only if the keys and the names are.
 equal_texts : (one other : Key) (names others : List ℕ) → list_text one names ≡ list_text other others →
     (key_name one ≡ key_name other) × (names ≡ others)
 equal_texts one other names others same = (
-  sym (key_before one names) ∙ ap (before_first (λ byte. byte == 61)) same ∙ key_before other others,
-  sym (names_after one names) ∙ ap (after_first (λ byte. byte == 61)) same ∙ names_after other others,
+  sym (list_key_before one names) ∙ ap (before_first (λ byte. byte == 61)) same ∙ list_key_before other others,
+  sym (list_names_after one names) ∙ ap (after_first (λ byte. byte == 61)) same ∙ list_names_after other others,
 )
 
 -- A text without `=` is not a list.
@@ -70,7 +70,7 @@ pub no_key_list : (text before after : List ℕ) → text ≡ before ++ 61 ∷ a
     (key : Key) (names : List ℕ) → text ≢ list_text key names
 no_key_list text before after is free none key names same =
     none key (sym (before_first-at 61 before after free) ∙ ap (before_first (λ byte. byte == 61)) (sym is ∙ same)
-    ∙ key_before key names)
+    ∙ list_key_before key names)
 
 -- A text is one list.
 pub same_list : (text : List ℕ) (one other : KeyList) → IsListText text one → IsListText text other →

@@ -22,5 +22,9 @@ pub mod MemoryRuns
 pub mod ArgumentFacts
 pub mod OptionFacts
 pub mod RequestFacts
+pub mod BuildRequestFacts
+pub mod FirstFailureFacts
 pub mod RunEnds
+pub mod InputFacts
+pub mod OrderFacts
 pub mod AllRuns

@@ -16,7 +16,7 @@ use Rattle.bootimg.specs.Program.{program_app}
 -- Small command lines give the options of each command their values, or are rejected.
 
 -- The values that an option has in the rows of a command, by which clap defines what it gives.
-abbrev values_in : (id : Text) → Option (Text × List Row) → List Text
+abbrev pub values_in : (id : Text) → Option (Text × List Row) → List Text
 values_in id command = option_map_or (λ entered. unwrap_or (all_of id entered.1) []) command []
 
 unwrap_or-option_map : {X Y : Type 0} (f : X → Y) (option : Option X) (default : Y)
@@ -25,7 +25,7 @@ unwrap_or-option_map f None default = refl
 unwrap_or-option_map f (Some value) default = refl
 
 -- They are the values of the options that the command line gives.
-found_values : (line name : List ℕ) (options : ArgMatches) → Gives (words_of_line line) name options → (id : List ℕ)
+pub found_values : (line name : List ℕ) (options : ArgMatches) → Gives (words_of_line line) name options → (id : List ℕ)
     → values_of options id ≡ values_in id (subcommand_of program_app (words_of_line line))
 found_values line name options is id =
     unwrap_or-option_map raw_values (matched_of (found_of options) id) []

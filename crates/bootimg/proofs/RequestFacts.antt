@@ -61,25 +61,25 @@ use Rattle.bootimg.proofs.ArgumentFacts.{decimal_digits, hexadecimal_digits_afte
 -- ---- what a command line gives
 
 -- The rows of the command that it names.
-abbrev rows_given : (line : List ℕ) → List Row
+abbrev pub rows_given : (line : List ℕ) → List Row
 rows_given line = option_map_or (λ entered. entered.1) (subcommand_of program_app (words_of_line line)) []
 
 module _ (line name : List ℕ) (options : ArgMatches) (is : Gives (words_of_line line) name options) where
   rows_are : rows_of (found_of options) ≡ rows_given line
   rows_are = ap (λ (command : Option (Text × List Row)). option_map_or (λ entered. entered.1) command []) (sym is.given)
 
-  flag_is : (id : List ℕ) → one_text (found_of options) id ≡ one_of id (rows_given line)
+  pub flag_is : (id : List ℕ) → one_text (found_of options) id ≡ one_of id (rows_given line)
   flag_is id = one_text-rows (found_of options) id ∙ ap (one_of id) rows_are
 
-  option_is : (id : List ℕ) → option_of options id ≡ first_of id (rows_given line)
+  pub option_is : (id : List ℕ) → option_of options id ≡ first_of id (rows_given line)
   option_is id = first_value-rows (found_of options) id ∙ ap (first_of id) rows_are
 
-  value_is : (id default : List ℕ) → value_of options id default ≡ unwrap_or (first_of id (rows_given line)) default
+  pub value_is : (id default : List ℕ) → value_of options id default ≡ unwrap_or (first_of id (rows_given line)) default
   value_is id default = ap (λ (o : Option (List ℕ)). unwrap_or o default) (option_is id)
 
 -- An option that is there and is not.
-not_both : {T : Type 0} (option : Option T) (value : T) → option ≡ Some value → ¬ (option ≡ None)
-not_both option value there missing = let bad : None ≡ Some value = sym missing ∙ there in cc
+pub not_given_and_missing : {T : Type 0} (option : Option T) (value : T) → option ≡ Some value → ¬ (option ≡ None)
+not_given_and_missing option value there missing = let bad : None ≡ Some value = sym missing ∙ there in cc
 
 same_value : (option : Option (List ℕ)) (one other : List ℕ) → option ≡ Some one → option ≡ Some other → one ≡ other
 same_value option one other is also = let same : Some one ≡ Some other = sym is ∙ also in cc
@@ -92,7 +92,7 @@ aligned_4096 Embedded is = is
 aligned_4096 External is = is
 aligned_4096 (Aligned align) is = (decimal_digits (codes "4096") refl refl).1 (align_bytes align) is
 
-not_aligned_3 : (form : Form) → ¬ (IsFormWith true (Some (codes "3")) form)
+pub not_aligned_3 : (form : Form) → ¬ (IsFormWith true (Some (codes "3")) form)
 not_aligned_3 Embedded is = is
 not_aligned_3 External is = is
 not_aligned_3 (Aligned align) is =
@@ -171,7 +171,7 @@ source_is_input Standard is = refl
 source_is_input (File name) is = absurd (is.1 refl)
 
 -- The same of an option with this value.
-file_is_named : (option : Option (List ℕ)) (argument : List ℕ) (source : ImageSource) → option ≡ Some argument
+pub file_is_named : (option : Option (List ℕ)) (argument : List ℕ) (source : ImageSource) → option ≡ Some argument
     → bytes_eq argument (codes "-") ≡ false → IsImageSource option source → IsFileNamed argument source
 file_is_named option argument source given other is =
     source_is_file argument other source (subst (λ o. IsImageSource o source) given is)
@@ -202,25 +202,25 @@ sources_are_known = record {
 }
 
 -- A number that is given.
-number_given : (argument text : List ℕ) (wanted : ℕ) → argument ≡ text → IsOnlyNumber text wanted → (number : ℕ)
+pub number_of_argument : (argument text : List ℕ) (wanted : ℕ) → argument ≡ text → IsOnlyNumber text wanted → (number : ℕ)
     → IsNumber argument number → number ≡ wanted
-number_given argument text wanted same only number is = only.1 number (subst (λ a. IsNumber a number) same is)
+number_of_argument argument text wanted same only number is = only.1 number (subst (λ a. IsNumber a number) same is)
 
 pub image_offsets_are_known : ImageOffsetsAreKnown
 unfolding program_app clap_on_literals
 image_offsets_are_known = record {
   given = λ options is.
-      number_given _ (codes "74") 74
+      number_of_argument _ (codes "74") 74
       (value_is (codes "list --offset 74 in") (codes "list") options is (codes "offset") (codes "0") ∙ refl)
       (decimal_digits (codes "74") refl refl);
   not_given = λ options is.
-      number_given _ (codes "0") 0 (value_is (codes "list in") (codes "list") options is (codes "offset") (codes "0") ∙ refl)
+      number_of_argument _ (codes "0") 0 (value_is (codes "list in") (codes "list") options is (codes "offset") (codes "0") ∙ refl)
       (decimal_digits (codes "0") refl refl);
   of_show = λ options is.
-      number_given _ (codes "0") 0 (value_is (codes "show in") (codes "show") options is (codes "offset") (codes "0") ∙ refl)
+      number_of_argument _ (codes "0") 0 (value_is (codes "show in") (codes "show") options is (codes "offset") (codes "0") ∙ refl)
       (decimal_digits (codes "0") refl refl);
   of_scan = λ options is.
-      number_given _ (codes "0") 0 (value_is (codes "scan in") (codes "scan") options is (codes "offset") (codes "0") ∙ refl)
+      number_of_argument _ (codes "0") 0 (value_is (codes "scan in") (codes "scan") options is (codes "offset") (codes "0") ∙ refl)
       (decimal_digits (codes "0") refl refl);
   bad = λ options is number holds.
       is_no_number (codes "x") refl refl number
@@ -300,7 +300,7 @@ time_given option argument number given only time is = by time (subst (λ o. IsN
   by None is = absurd is
   by (Some other) is = ap Some (only.1 other is)
 
-no_time_given : (option : Option (List ℕ)) → option ≡ None → (time : Option ℕ) → IsNewTime option time → time ≡ None
+pub no_time_given : (option : Option (List ℕ)) → option ≡ None → (time : Option ℕ) → IsNewTime option time → time ≡ None
 no_time_given option missing time is = by time (subst (λ o. IsNewTime o time) missing is) where
   by : (time : Option ℕ) → IsNewTime None time → time ≡ None
   by None is = refl
@@ -314,14 +314,14 @@ bad_time_given option argument given not_number time is = by time (subst (λ o. 
   by (Some other) is = not_number other is
 
 -- The failure without a change, and with a bad time.
-no_change_fails : (options : ArgMatches) → option_of options (codes "time") ≡ None → IsOnlyOne (IsChangesFailure options) NoChange
+pub no_change_fails : (options : ArgMatches) → option_of options (codes "time") ≡ None → IsOnlyOne (IsChangesFailure options) NoChange
 no_change_fails options missing NoChange is = refl
-no_change_fails options missing BadValue is = absurd (not_both _ is.0 is.1 missing)
+no_change_fails options missing BadValue is = absurd (not_given_and_missing _ is.0 is.1 missing)
 no_change_fails options missing other is = absurd is
 
 bad_time_fails : (options : ArgMatches) (argument : List ℕ) → option_of options (codes "time") ≡ Some argument
     → IsOnlyOne (IsChangesFailure options) BadValue
-bad_time_fails options argument given NoChange is = absurd (not_both _ argument given is.0)
+bad_time_fails options argument given NoChange is = absurd (not_given_and_missing _ argument given is.0)
 bad_time_fails options argument given BadValue is = refl
 bad_time_fails options argument given other is = absurd is
 
@@ -404,29 +404,29 @@ module _ (options : ArgMatches) (escaped : Bool) where
   part_selected given (select.Part index) is =
       let argument = same_value _ is.0 (codes "1") is.1.part_is given in
       ap select.Part ((decimal_digits (codes "1") refl refl).1 index (subst (λ a. IsNumber a index) argument is.3))
-  part_selected given (select.Image name) is = absurd (not_both _ (codes "1") given is.1.part_is)
-  part_selected given (select.Config name key index) is = absurd (not_both _ (codes "1") given is.1.part_is)
-  part_selected given (select.Default key index) is = absurd (not_both _ (codes "1") given is.0.part_is)
+  part_selected given (select.Image name) is = absurd (not_given_and_missing _ (codes "1") given is.1.part_is)
+  part_selected given (select.Config name key index) is = absurd (not_given_and_missing _ (codes "1") given is.1.part_is)
+  part_selected given (select.Default key index) is = absurd (not_given_and_missing _ (codes "1") given is.0.part_is)
 
   image_selected : (argument wanted : List ℕ) → option_of options (codes "image") ≡ Some argument
       → ((name : List ℕ) → IsNameOf escaped argument name → name ≡ wanted) → (selection : Selected)
       → IsSelection options escaped selection → SelectsImage wanted selection
-  image_selected argument wanted given names (select.Part index) is = absurd (not_both _ argument given is.1.image_is)
+  image_selected argument wanted given names (select.Part index) is = absurd (not_given_and_missing _ argument given is.1.image_is)
   image_selected argument wanted given names (select.Image name) is =
       names name.items (subst (λ a. IsNameOf escaped a name.items) (same_value _ is.0 argument is.1.image_is given) is.3)
-  image_selected argument wanted given names (select.Config name key index) is = absurd (not_both _ argument given is.1.image_is)
-  image_selected argument wanted given names (select.Default key index) is = absurd (not_both _ argument given is.0.image_is)
+  image_selected argument wanted given names (select.Config name key index) is = absurd (not_given_and_missing _ argument given is.1.image_is)
+  image_selected argument wanted given names (select.Default key index) is = absurd (not_given_and_missing _ argument given is.0.image_is)
 
   entry_selected : option_of options (codes "config") ≡ Some (codes "c") → escaped ≡ false
       → value_of options (codes "key") (codes "kernel") ≡ codes "fdt" → value_of options (codes "index") (codes "0") ≡ codes "2"
       → (selection : Selected) → IsSelection options escaped selection → SelectsEntry (codes "c") Fdt 2 selection
-  entry_selected given plain key index (select.Part number) is = absurd (not_both _ (codes "c") given is.1.config_is)
-  entry_selected given plain key index (select.Image name) is = absurd (not_both _ (codes "c") given is.1.config_is)
+  entry_selected given plain key index (select.Part number) is = absurd (not_given_and_missing _ (codes "c") given is.1.config_is)
+  entry_selected given plain key index (select.Image name) is = absurd (not_given_and_missing _ (codes "c") given is.1.config_is)
   entry_selected given plain key index (select.Config name other other_index) is =
       let argument = same_value _ is.0 (codes "c") is.1.config_is given in
       let entry = entry_is key index (other, other_index) is.2 in
       (plain_name escaped plain is.0 name.items is.3 ∙ argument, entry.0, entry.1)
-  entry_selected given plain key index (select.Default other number) is = absurd (not_both _ (codes "c") given is.0.config_is)
+  entry_selected given plain key index (select.Default other number) is = absurd (not_given_and_missing _ (codes "c") given is.0.config_is)
 
   default_selected : default_flag options ≡ Some (codes "true")
       → value_of options (codes "key") (codes "kernel") ≡ codes "fdt" → value_of options (codes "index") (codes "0") ≡ codes "2"
@@ -441,17 +441,17 @@ module _ (options : ArgMatches) (escaped : Bool) where
   none_selected : option_of options (codes "part") ≡ None → option_of options (codes "image") ≡ None
       → option_of options (codes "config") ≡ None → default_flag options ≡ Some (codes "false") → (selection : Selected)
       → IsSelection options escaped selection → ⊥
-  none_selected part image config flag (select.Part index) is = not_both _ is.0 is.1.part_is part
-  none_selected part image config flag (select.Image name) is = not_both _ is.0 is.1.image_is image
-  none_selected part image config flag (select.Config name key index) is = not_both _ is.0 is.1.config_is config
+  none_selected part image config flag (select.Part index) is = not_given_and_missing _ is.0 is.1.part_is part
+  none_selected part image config flag (select.Image name) is = not_given_and_missing _ is.0 is.1.image_is image
+  none_selected part image config flag (select.Config name key index) is = not_given_and_missing _ is.0 is.1.config_is config
   none_selected part image config flag (select.Default key index) is = given_once flag is.0.default_is
 
   two_selected : option_of options (codes "part") ≡ Some (codes "0") → default_flag options ≡ Some (codes "true") → (selection : Selected)
       → IsSelection options escaped selection → ⊥
   two_selected part flag (select.Part index) is = not_given_twice flag is.1.default_is
-  two_selected part flag (select.Image name) is = not_both _ (codes "0") part is.1.part_is
-  two_selected part flag (select.Config name key index) is = not_both _ (codes "0") part is.1.part_is
-  two_selected part flag (select.Default key index) is = not_both _ (codes "0") part is.0.part_is
+  two_selected part flag (select.Image name) is = not_given_and_missing _ (codes "0") part is.1.part_is
+  two_selected part flag (select.Config name key index) is = not_given_and_missing _ (codes "0") part is.1.part_is
+  two_selected part flag (select.Default key index) is = not_given_and_missing _ (codes "0") part is.0.part_is
 
 -- How many selections are given.
 count_is : (options : ArgMatches) (part image config : Option (List ℕ)) (default wanted : Bool) → option_of options (codes "part") ≡ part
@@ -546,7 +546,7 @@ no_default_given options flag = record {
 }
 
 -- No key has this name.
-no_key_is : (key : Key) → ¬ (codes "dtb" ≡ key_name key)
+pub no_key_is : (key : Key) → ¬ (codes "dtb" ≡ key_name key)
 no_key_is Kernel same = other_bytes (codes "dtb") (codes "kernel") refl same
 no_key_is Fdt same = other_bytes (codes "dtb") (codes "fdt") refl same
 no_key_is Ramdisk same = other_bytes (codes "dtb") (codes "ramdisk") refl same
@@ -595,7 +595,7 @@ all_requests_are_known = record {
         },
         λ request holds. record {
           directory_is = same_value (option_of options (codes "output")) request.directory.now (codes "d") holds.directory directory;
-          offset_is = number_given _ (codes "7") 7 (value_is line name options is (codes "offset") (codes "0") ∙ refl)
+          offset_is = number_of_argument _ (codes "7") 7 (value_is line name options is (codes "offset") (codes "0") ∙ refl)
               (decimal_digits (codes "7") refl refl) request.offset holds.offset;
           source_is = file_is_named _ (codes "in") request.source (option_is line name options is (codes "file") ∙ refl) refl
               holds.source;
@@ -605,7 +605,7 @@ all_requests_are_known = record {
       let line = codes "extract --all in" in
       let name = codes "extract" in
       let none : option_of options (codes "output") ≡ None = option_is line name options is (codes "output") ∙ refl in (
-        λ request holds. not_both (option_of options (codes "output")) request.directory.now holds.directory none,
+        λ request holds. not_given_and_missing (option_of options (codes "output")) request.directory.now holds.directory none,
         bad_all_value options (option_is line name options is (codes "part") ∙ refl) (option_is line name options is (codes "image") ∙ refl)
             (option_is line name options is (codes "config") ∙ refl) (flag_is line name options is (codes "default") ∙ refl),
       );
@@ -630,7 +630,7 @@ all_requests_are_known = record {
 -- ---- building
 
 -- A name that is given.
-code_given : (field : CodeField) (argument text : List ℕ) (wanted : ℕ) → argument ≡ text → IsOnlyCode field text wanted → (code : ℕ)
+pub code_given : (field : CodeField) (argument text : List ℕ) (wanted : ℕ) → argument ≡ text → IsOnlyCode field text wanted → (code : ℕ)
     → IsCode field argument code → code ≡ wanted
 code_given field argument text wanted same only code is = only.1 code (subst (λ a. IsCode field a code) same is)
 
@@ -640,11 +640,11 @@ unfolding program_app clap_on_literals
 fields_of_line options is fields holds =
     let value = value_is line_of_fields (codes "build-legacy") options is in
     record {
-      time = number_given _ (codes "1") 1 (value (codes "time") (codes "0") ∙ refl) (decimal_digits (codes "1") refl refl) fields.time
+      time = number_of_argument _ (codes "1") 1 (value (codes "time") (codes "0") ∙ refl) (decimal_digits (codes "1") refl refl) fields.time
           holds.time;
-      load = number_given _ (codes "2") 2 (value (codes "load") (codes "0") ∙ refl) (decimal_digits (codes "2") refl refl) fields.load
+      load = number_of_argument _ (codes "2") 2 (value (codes "load") (codes "0") ∙ refl) (decimal_digits (codes "2") refl refl) fields.load
           holds.load;
-      entry = number_given _ (codes "3") 3 (value (codes "entry") (codes "0") ∙ refl) (decimal_digits (codes "3") refl refl)
+      entry = number_of_argument _ (codes "3") 3 (value (codes "entry") (codes "0") ∙ refl) (decimal_digits (codes "3") refl refl)
           fields.entry holds.entry;
       os = code_given Os _ (codes "linux") 5 (value (codes "os") [] ∙ refl) (code_with_name Os (codes "linux") 5 refl) fields.os
           holds.os;
@@ -671,7 +671,7 @@ length_of_payload (part.Input size) is = ap part.Input ((decimal_digits (codes "
 length_of_payload (part.File name) is = absurd (omega (arith, ap (λ l. get_or l 0 0) is))
 
 -- The field at an index of a list of fields.
-abbrev field_at : List (List ℕ) → ℕ → List ℕ
+abbrev pub field_at : List (List ℕ) → ℕ → List ℕ
 field_at fields index = unwrap_or (slice_get fields index) []
 
 image_of_word : (word : ImageWord) → IsImageText (codes "k:kernel:arm64:linux:gzip:0x8000:-:5") word

@@ -18,4 +18,7 @@ pub mod ErrorLines
 pub mod LeftFiles
 pub mod KnownArguments
 pub mod KnownRequests
+pub mod KnownBuildRequests
 pub mod KnownRuns
+pub mod KnownInputs
+pub mod KnownOrders

@@ -1,5 +1,4 @@
-//! `bootimg` normalises, shows, lists, describes, compares, verifies, checks, finds, updates,
-//! extracts from, converts and builds U-Boot's boot images.
+//! The program `bootimg`, for U-Boot's boot images.
 #![tactic(auto)]
 
 mod builds;
@@ -10,6 +9,7 @@ mod explanations;
 mod extractions;
 mod failure;
 mod jobs;
+mod known_requests;
 mod known_runs;
 mod no_input;
 mod numbers;

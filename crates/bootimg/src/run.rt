@@ -43,9 +43,7 @@ pub fn run<'a, R: Read, W: Write, E: Write>(
 }
 
 /// Runs the program with these arguments, without its own name, and returns the exit status: 0
-/// after success, 1 after `verify` wrote a verdict that is not good, `check` wrote a line,
-/// `compare` found that two images do not mean the same thing, or `scan` found no image, and 2
-/// after any failure.
+/// after success, 1 after an answer that is not good (`Done`), and 2 after any failure.
 ///
 /// An image is read from the file that the arguments name, or else from `reader`, once the
 /// arguments are parsed. So is each part of an image to be built. The output, help and the version

@@ -665,19 +665,6 @@ static CHANGING_COMMANDS: [CommandText; 3] = [
     },
 ];
 
-/// The command that needs no image.
-static EXPLAIN: CommandText = CommandText {
-    name: "explain",
-    aliases: &[],
-    about: "Say what the cause of an error means",
-    usage: "bootimg explain [OPTIONS] [CAUSE]",
-    after_help: "\
-             Writes to standard output what the cause of an error means, and what can be done.\n\
-             Without CAUSE, writes a line for each cause, with its name. Reads no image.\n\n\
-             Example: bootimg explain BadMagic",
-    options: &[OUTPUT, CAUSE],
-};
-
 /// The commands that build an image.
 static BUILDING_COMMANDS: [CommandText; 2] = [
     CommandText {
@@ -751,3 +738,16 @@ static BUILDING_COMMANDS: [CommandText; 2] = [
         ],
     },
 ];
+
+/// The command that needs no image.
+static EXPLAIN: CommandText = CommandText {
+    name: "explain",
+    aliases: &[],
+    about: "Say what the cause of an error means",
+    usage: "bootimg explain [OPTIONS] [CAUSE]",
+    after_help: "\
+             Writes to standard output what the cause of an error means, and what can be done.\n\
+             Without CAUSE, writes a line for each cause, with its name. Reads no image.\n\n\
+             Example: bootimg explain BadMagic",
+    options: &[OUTPUT, CAUSE],
+};

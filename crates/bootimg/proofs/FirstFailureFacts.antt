@@ -1,0 +1,477 @@
+use Rattle.std.proofs.Common.{◌≡◌, ◌∙◌, ◌<◌, ℕ, suc, zero, false, List, [], ◌∷◌, None, Some}
+use Rattle.std.proofs.Common.{codes, length, lit≤, ◌⊎◌, inl, inr, ap, refl, sym, subst, subst₂, arith, slice_get, true≢false}
+use Rattle.std.specs.List.{AllZip}
+use Rattle.bi_base.specs.Limits.{Limits, widest}
+use Rattle.bi_base.proofs.EqualBytes.{other_bytes}
+use Rattle.bi_commands.specs.KnownChoices.{lent}
+use Rattle.bi_fit.specs.declared.changes.Changes.{Changes}
+use Rattle.bi_fit.specs.declared.form.Form.TheVariants.{Embedded}
+use Rattle.bi_hash.specs.declared.algo.Algo.TheVariants.{Sha256}
+use Rattle.bi_norm.specs.FitBuilding.{names_of_specs}
+use Rattle.clap.specs.declared.parser.matches.ArgMatches.{ArgMatches}
+use Rattle.clap.proofs.OnLiterals.{clap_on_literals}
+use Rattle.bootimg.specs.CommandLine.{ChangesHashes, HasFitValues, HasNoForm, IsBadPlan, IsChanges, IsChangesFailure}
+use Rattle.bootimg.specs.CommandLine.{IsFirstBad, IsFitPlanFailure, IsForm, IsFormWith, IsImageText, IsLimits, IsNewTime}
+use Rattle.bootimg.specs.CommandLine.{IsTaskFailure, NoneIs, NotAllowed, NotChanged, NotCompared, NotExplained, NotFit, NotFormed}
+use Rattle.bootimg.specs.CommandLine.{NotFormedChanged, NotLegacy, NotLimited, NotPlaced, NotSelected, align_option, external_flag}
+use Rattle.bootimg.specs.CommandLine.{given_offset, hashes_flag, limit_of, name_of_task, option_of, value_of, values_of}
+use Rattle.bootimg.specs.ConfigurationWords.{AreHashes, IsDefault, IsFirstBadConfiguration}
+use Rattle.bootimg.specs.KnownBuildRequests.{FirstFailuresAreKnown, IsTheOne}
+use Rattle.bootimg.specs.Numbers.{IsNumber}
+use Rattle.bootimg.specs.Program.{program_app}
+use Rattle.bootimg.specs.Words.{parts_of}
+use Rattle.bootimg.specs.declared.codes.CodeField.TheVariants.{Os, Arch, ImageType, Compression}
+use Rattle.bootimg.specs.declared.command_line.Task.{Task}
+use Rattle.bootimg.specs.declared.command_line.Task.TheVariants as task
+use Rattle.bootimg.specs.declared.command_line.image.ImageWord.{ImageWord}
+use Rattle.bootimg.specs.declared.command_line.part.PartSource.TheVariants as part
+use Rattle.bootimg.specs.declared.failure.Failure.{Failure}
+use Rattle.bootimg.specs.declared.failure.Failure.TheVariants.{BadConfiguration, BadImage, BadValue, NoChange}
+use Rattle.bootimg.proofs.ArgumentFacts.{code_with_name, decimal_digits, is_no_number}
+use Rattle.bootimg.proofs.BuildRequestFacts.{first_is_bad, no_first_word, unknown_md4, without_list}
+use Rattle.bootimg.proofs.OptionFacts.{found_values}
+use Rattle.bootimg.proofs.RequestFacts.{flag_is, no_change_fails, no_time_given, not_given_and_missing, option_is, value_is}
+
+-- Which of two failures small command lines have is known.
+
+-- ---- words of images
+
+-- A word with fewer than eight fields is not an image.
+few_fields : (text : List ℕ) → length (parts_of text) ≡ 1 → NoneIs (IsImageText text)
+few_fields text one image is = omega (arith, one, ap (λ fields. length fields) is.1)
+
+-- The image `k`, a kernel for Linux on ARM with 5 bytes of the input.
+abbrev kernel_text : List ℕ
+kernel_text = codes "k:kernel:arm:linux:none:-:-:5"
+
+abbrev kernel_image : ImageWord
+kernel_image = record {
+  image = record {
+    name = lent (codes "k");
+    image_type = 2;
+    arch = 2;
+    os = 5;
+    compression = 0;
+    load = None;
+    entry = None;
+    payload = lent [];
+  };
+  texts = Some (record {
+    image_type = lent (codes "kernel");
+    arch = lent (codes "arm");
+    os = lent (codes "linux");
+    compression = lent (codes "none");
+  });
+  payload = part.Input 5;
+}
+
+kernel_is_image : IsImageText kernel_text kernel_image
+kernel_is_image = (
+  record {
+    name = lent (codes "k");
+    image_type = lent (codes "kernel");
+    arch = lent (codes "arm");
+    os = lent (codes "linux");
+    compression = lent (codes "none");
+    load = lent (codes "-");
+    entry = lent (codes "-");
+    length = lent (codes "5");
+  },
+  refl,
+  record {
+    name = refl;
+    image_type = (code_with_name ImageType (codes "kernel") 2 refl).0;
+    arch = (code_with_name Arch (codes "arm") 2 refl).0;
+    os = (code_with_name Os (codes "linux") 5 refl).0;
+    compression = (code_with_name Compression (codes "none") 0 refl).0;
+    texts = refl;
+    load = refl;
+    entry = refl;
+    payload = refl;
+    source = (decimal_digits (codes "5") refl refl).0;
+  },
+)
+
+-- If the first word is bad, it is the first bad one.
+first_image_is_bad : (word : List ℕ) (later : List (List ℕ)) → NoneIs (IsImageText word) → IsTheOne (IsFirstBad (word ∷ later)) 0
+first_image_is_bad word later none = (
+  record { argument = word; is = refl; bad = none; before = λ other text below. absurd (omega (arith, below)) },
+  only,
+) where
+  only : (index : ℕ) → IsFirstBad (word ∷ later) index → index ≡ 0
+  only zero is = refl
+  only (suc index) is = let good = is.before 0 word (omega arith) refl in absurd (none good.0 good.1)
+
+-- If the first one is good and the second one is bad, that is the first bad one.
+second_image_is_bad : (word other : List ℕ) (later : List (List ℕ)) (image : ImageWord) → IsImageText word image →
+    NoneIs (IsImageText other) → IsTheOne (IsFirstBad (word ∷ other ∷ later)) 1
+second_image_is_bad word other later image good none =
+    (record { argument = other; is = refl; bad = none; before = before }, only) where
+      before : (index : ℕ) (text : List ℕ) → index < 1 → slice_get (word ∷ other ∷ later) index ≡ Some text →
+          (image : ImageWord) × IsImageText text image
+      before zero text below is = let same : word ≡ text = cc in (image, subst (λ t. IsImageText t image) same good)
+      before (suc index) text below is = absurd (omega (arith, below))
+
+      only : (index : ℕ) → IsFirstBad (word ∷ other ∷ later) index → index ≡ 1
+      only zero is =
+          let given : slice_get (word ∷ other ∷ later) 0 ≡ Some is.argument = is.is in
+          let same : word ≡ is.argument = cc in absurd (is.bad image (subst (λ t. IsImageText t image) same good))
+      only (suc zero) is = refl
+      only (suc (suc index)) is = let also = is.before 1 other (omega arith) refl in absurd (none also.0 also.1)
+
+-- One good word is not bad.
+none_is_bad : (word : List ℕ) (image : ImageWord) → IsImageText word image → NoneIs (IsFirstBad (word ∷ []))
+none_is_bad word image good zero is =
+    let given : slice_get (word ∷ []) 0 ≡ Some is.argument = is.is in
+    let same : word ≡ is.argument = cc in
+    is.bad image (subst (λ t. IsImageText t image) same good)
+none_is_bad word image good (suc index) is =
+    let given : None ≡ Some is.argument = is.is in cc
+
+-- ---- options
+
+-- Without `--external` and `--align` the form is known.
+embedded_form : (options : ArgMatches) → external_flag options ≡ Some (codes "false") → align_option options ≡ None →
+    IsForm options Embedded
+embedded_form options flag align = record {
+  external = false;
+  is_external = record {
+    given = λ yes. absurd (other_flag flag yes);
+    not_given = λ no. refl;
+    unknown = λ none. refl;
+  };
+  is_form = subst (λ a. IsFormWith false a Embedded) (sym align) refl;
+} where
+  other_flag : external_flag options ≡ Some (codes "false") → external_flag options ≡ Some (codes "true") → ⊥
+  other_flag is also = let same : codes "true" ≡ codes "false" = cc in other_bytes (codes "true") (codes "false") refl same
+
+some_form : (options : ArgMatches) → external_flag options ≡ Some (codes "false") → align_option options ≡ None → ¬ HasNoForm options
+some_form options flag align none =
+    none.no_form Embedded
+    (subst₂ (λ e a. IsFormWith e a Embedded) (sym (none.is_external.not_given flag)) (sym align) refl)
+
+-- Without these options the values are good.
+module _ (options : ArgMatches) (time : value_of options (codes "time") (codes "0") ≡ codes "0")
+    (flag : external_flag options ≡ Some (codes "false")) (align : align_option options ≡ None)
+    (default : option_of options (codes "default") ≡ None) (hash : option_of options (codes "hash") ≡ None) where
+  good_values : HasFitValues options
+  good_values = record {
+    time = 0;
+    is_time = subst (λ a. IsNumber a 0) (sym time) (decimal_digits (codes "0") refl refl).0;
+    form = Embedded;
+    is_form = embedded_form options flag align;
+    default = None;
+    is_default = subst (λ o. IsDefault (values_of options (codes "config")) o None) (sym default) refl;
+    algorithms = Sha256 ∷ [];
+    are_algorithms = subst (λ o. AreHashes o (Sha256 ∷ [])) (sym hash) refl;
+  }
+
+  no_bad_value : ¬ (IsFitPlanFailure options BadValue)
+  no_bad_value (inl none) = none good_values
+  no_bad_value (inr none) = some_form options flag align none
+
+  -- A bad image is the failure then, and else a bad configuration.
+  image_fails : (words : List (List ℕ)) (index : ℕ) → values_of options (codes "images") ≡ words → IsTheOne (IsFirstBad words) index →
+      ((images : List ImageWord) → AllZip IsImageText words images → ⊥) → IsTheOne (IsFitPlanFailure options) (BadImage index)
+  image_fails words index given one none = ((good_values, subst (λ w. IsFirstBad w index) (sym given) one.0), only) where
+    only : (failure : Failure) → IsFitPlanFailure options failure → failure ≡ BadImage index
+    only BadValue is = absurd (no_bad_value is)
+    only (BadImage other) is = ap BadImage (one.1 other (subst (λ w. IsFirstBad w other) given is.1))
+    only (BadConfiguration other) is =
+        let images = is.1.are_images in
+        absurd (none images.words (subst (λ w. AllZip IsImageText w images.words) given images.each))
+    only other is = absurd is
+
+  configuration_fails : (word : List ℕ) (image : ImageWord) → IsImageText word image → (configurations : List (List ℕ)) (index : ℕ) →
+      values_of options (codes "images") ≡ word ∷ [] → values_of options (codes "config") ≡ configurations →
+      ((names : List (List ℕ)) → IsTheOne (IsFirstBadConfiguration names configurations) index) →
+      IsTheOne (IsFitPlanFailure options) (BadConfiguration index)
+  configuration_fails word image good configurations index given configured one = ((good_values, bad_plan), only) where
+    bad_plan : IsBadPlan options index
+    bad_plan = record {
+      images = image.image ∷ [];
+      texts = image.texts ∷ [];
+      payloads = image.payload ∷ [];
+      are_images = record {
+        words = image ∷ [];
+        each = subst (λ w. AllZip IsImageText w (image ∷ [])) (sym given) (good, tt);
+        images_are = refl;
+        texts_are = refl;
+        payloads_are = refl;
+      };
+      first_bad = subst (λ w. IsFirstBadConfiguration (names_of_specs (image.image ∷ [])) w index) (sym configured)
+          (one (names_of_specs (image.image ∷ []))).0;
+    }
+
+    only : (failure : Failure) → IsFitPlanFailure options failure → failure ≡ BadConfiguration index
+    only BadValue is = absurd (no_bad_value is)
+    only (BadImage other) is = absurd (none_is_bad word image good other (subst (λ w. IsFirstBad w other) given is.1))
+    only (BadConfiguration other) is =
+        let names = names_of_specs is.1.images in
+        ap BadConfiguration
+        ((one names).1 other (subst (λ w. IsFirstBadConfiguration names w other) configured is.1.first_bad))
+    only other is = absurd is
+
+-- A bad value is the failure.
+value_fails : (options : ArgMatches) → ¬ HasFitValues options → IsTheOne (IsFitPlanFailure options) BadValue
+value_fails options none = (inl none, only) where
+  only : (failure : Failure) → IsFitPlanFailure options failure → failure ≡ BadValue
+  only BadValue is = refl
+  only (BadImage index) is = absurd (none is.0)
+  only (BadConfiguration index) is = absurd (none is.0)
+  only other is = absurd is
+
+-- Words with one that is not an image are not images.
+no_first : (word : List ℕ) (later : List (List ℕ)) (images : List ImageWord) → NoneIs (IsImageText word) →
+    AllZip IsImageText (word ∷ later) images → ⊥
+no_first word later [] none are = are
+no_first word later (image ∷ images) none are = none image are.0
+
+second_of : (word other : List ℕ) (later : List (List ℕ)) (images : List ImageWord) → NoneIs (IsImageText other) →
+    AllZip IsImageText (word ∷ other ∷ later) images → ⊥
+second_of word other later [] none are = are
+second_of word other later (image ∷ images) none are = no_first other later images none are.1
+
+-- ---- tasks
+
+not_a_task : (given : Task) → ¬ (codes "build-fit" ≡ name_of_task given)
+not_a_task (task.Normalise form) = other_bytes (codes "build-fit") (codes "normalise") refl
+not_a_task (task.Show presenter) = other_bytes (codes "build-fit") (codes "show") refl
+not_a_task (task.List format) = other_bytes (codes "build-fit") (codes "list") refl
+not_a_task (task.Describe format) = other_bytes (codes "build-fit") (codes "describe") refl
+not_a_task (task.Verify format) = other_bytes (codes "build-fit") (codes "verify") refl
+not_a_task (task.Check allowed format) = other_bytes (codes "build-fit") (codes "check") refl
+not_a_task task.Scan = other_bytes (codes "build-fit") (codes "scan") refl
+not_a_task (task.Update changes form) = other_bytes (codes "build-fit") (codes "update") refl
+not_a_task (task.Extract selection) = other_bytes (codes "build-fit") (codes "extract") refl
+not_a_task task.Convert = other_bytes (codes "build-fit") (codes "convert") refl
+
+-- The failures of `build-fit` are those of its limit and of its plan.
+abbrev IsFitTaskFailure : ArgMatches → Failure → Type 0
+IsFitTaskFailure options failure =
+    ((failure ≡ BadValue) × NoneIs (IsLimits (limit_of options)))
+    ⊎ ((limits : Limits) × IsLimits (limit_of options) limits × IsFitPlanFailure options failure)
+
+fit_failure : (options : ArgMatches) (failure : Failure) → IsTaskFailure (codes "build-fit") options failure →
+    IsFitTaskFailure options failure
+fit_failure options failure (NotFormed name fails) = absurd (other_bytes (codes "build-fit") (codes "normalise") refl name)
+fit_failure options failure (NotAllowed name fails) = absurd (other_bytes (codes "build-fit") (codes "check") refl name)
+fit_failure options failure (NotChanged name fails) = absurd (other_bytes (codes "build-fit") (codes "update") refl name)
+fit_failure options failure (NotFormedChanged name changes are fails) =
+    absurd (other_bytes (codes "build-fit") (codes "update") refl name)
+fit_failure options failure (NotSelected name all fails) = absurd (other_bytes (codes "build-fit") (codes "extract") refl name)
+fit_failure options failure (NotPlaced given is fails) = absurd (not_a_task given is.0)
+fit_failure options failure (NotLegacy name fails) = absurd (other_bytes (codes "build-fit") (codes "build-legacy") refl name)
+fit_failure options failure (NotLimited name fails) = inl fails
+fit_failure options failure (NotFit name limits are fails) = inr (limits, are, fails)
+fit_failure options failure (NotCompared name fails) = absurd (other_bytes (codes "build-fit") (codes "compare") refl name)
+fit_failure options failure (NotExplained name fails) = absurd (other_bytes (codes "build-fit") (codes "explain") refl name)
+
+limit_fails : (options : ArgMatches) → NoneIs (IsLimits (limit_of options)) →
+    IsTheOne (IsTaskFailure (codes "build-fit") options) BadValue
+limit_fails options none = (NotLimited refl (refl, none), λ failure is. only failure (fit_failure options failure is)) where
+  only : (failure : Failure) → IsFitTaskFailure options failure → failure ≡ BadValue
+  only failure (inl fails) = fails.0
+  only failure (inr fails) = absurd (none fails.0 fails.1)
+
+plan_fails : (options : ArgMatches) (limits : Limits) (wanted : Failure) → IsLimits (limit_of options) limits →
+    IsTheOne (IsFitPlanFailure options) wanted → IsTheOne (IsTaskFailure (codes "build-fit") options) wanted
+plan_fails options limits wanted are one =
+    (NotFit refl limits are one.0, λ failure is. only failure (fit_failure options failure is)) where
+      only : (failure : Failure) → IsFitTaskFailure options failure → failure ≡ wanted
+      only failure (inl fails) = absurd (fails.1 limits are)
+      only failure (inr fails) = one.1 failure fails.2
+
+-- The failures of `update` are those of its changes, and then those of its form or its offset.
+abbrev IsUpdateTaskFailure : ArgMatches → Failure → Type 0
+IsUpdateTaskFailure options failure =
+    IsChangesFailure options failure ⊎ (((changes : Changes) × IsChanges options changes × (failure ≡ BadValue))
+    ⊎ ((failure ≡ BadValue) × NoneIs (IsNumber (given_offset options))))
+
+update_failure : (options : ArgMatches) (failure : Failure) → IsTaskFailure (codes "update") options failure →
+    IsUpdateTaskFailure options failure
+update_failure options failure (NotFormed name fails) = absurd (other_bytes (codes "update") (codes "normalise") refl name)
+update_failure options failure (NotAllowed name fails) = absurd (other_bytes (codes "update") (codes "check") refl name)
+update_failure options failure (NotChanged name fails) = inl fails
+update_failure options failure (NotFormedChanged name changes are fails) = inr (inl (changes, are, fails.0))
+update_failure options failure (NotSelected name all fails) = absurd (other_bytes (codes "update") (codes "extract") refl name)
+update_failure options failure (NotPlaced given is fails) = inr (inr fails)
+update_failure options failure (NotLegacy name fails) = absurd (other_bytes (codes "update") (codes "build-legacy") refl name)
+update_failure options failure (NotLimited name fails) = absurd (other_bytes (codes "update") (codes "build-fit") refl name)
+update_failure options failure (NotFit name limits are fails) = absurd (other_bytes (codes "update") (codes "build-fit") refl name)
+update_failure options failure (NotCompared name fails) = absurd (other_bytes (codes "update") (codes "compare") refl name)
+update_failure options failure (NotExplained name fails) = absurd (other_bytes (codes "update") (codes "explain") refl name)
+
+-- Digests do not change.
+no_hashes_change : (options : ArgMatches) → hashes_flag options ≡ Some (codes "false") → ChangesHashes options false
+no_hashes_change options flag = record {
+  given = λ yes. absurd (other flag yes);
+  not_given = λ no. refl;
+  unknown = λ none. refl;
+} where
+  other : hashes_flag options ≡ Some (codes "false") → hashes_flag options ≡ Some (codes "true") → ⊥
+  other is also = let same : codes "true" ≡ codes "false" = cc in other_bytes (codes "true") (codes "false") refl same
+
+pub change_fails : (options : ArgMatches) → option_of options (codes "time") ≡ None → hashes_flag options ≡ Some (codes "false") →
+    given_offset options ≡ codes "0" → IsTheOne (IsTaskFailure (codes "update") options) NoChange
+change_fails options time flag offset =
+    (NotChanged refl (time, no_hashes_change options flag), λ failure is. only failure (update_failure options failure is)) where
+      only : (failure : Failure) → IsUpdateTaskFailure options failure → failure ≡ NoChange
+      only failure (inl fails) = no_change_fails options time failure fails
+      only failure (inr (inl fails)) =
+          absurd (fails.1.some (no_time_given _ time fails.0.time fails.1.time, fails.1.hashes.not_given flag))
+      only failure (inr (inr fails)) =
+          absurd (fails.1 0 (subst (λ a. IsNumber a 0) (sym offset) (decimal_digits (codes "0") refl refl).0))
+
+changes_of_time : (options : ArgMatches) → option_of options (codes "time") ≡ Some (codes "1") →
+    hashes_flag options ≡ Some (codes "false") → IsChanges options (record { time = Some 1; hashes = false })
+changes_of_time options time flag = record {
+  time = subst (λ o. IsNewTime o (Some 1)) (sym time) (decimal_digits (codes "1") refl refl).0;
+  hashes = no_hashes_change options flag;
+  some = λ none. not_given_and_missing (Some 1) 1 refl none.0;
+}
+
+form_of_update_fails : (options : ArgMatches) → option_of options (codes "time") ≡ Some (codes "1") →
+    hashes_flag options ≡ Some (codes "false") → HasNoForm options → IsTheOne (IsTaskFailure (codes "update") options) BadValue
+form_of_update_fails options time flag none =
+    (NotFormedChanged refl _ (changes_of_time options time flag) (refl, none), λ failure is. only failure (update_failure options failure is))
+  where
+    change : (failure : Failure) → IsChangesFailure options failure → failure ≡ BadValue
+    change NoChange is = absurd (not_given_and_missing _ (codes "1") time is.0)
+    change BadValue is = refl
+    change other is = absurd is
+
+    only : (failure : Failure) → IsUpdateTaskFailure options failure → failure ≡ BadValue
+    only failure (inl fails) = change failure fails
+    only failure (inr (inl fails)) = fails.2
+    only failure (inr (inr fails)) = fails.0
+
+-- An alignment without `--external` gives no form.
+no_form_without_external : (options : ArgMatches) (argument : List ℕ) → external_flag options ≡ Some (codes "false") →
+    align_option options ≡ Some argument → HasNoForm options
+no_form_without_external options argument flag align = record {
+  external = false;
+  is_external = record {
+    given = λ yes. absurd (other flag yes);
+    not_given = λ no. refl;
+    unknown = λ none. refl;
+  };
+  no_form = λ form is. subst (λ a. IsFormWith false a form) align is;
+} where
+  other : external_flag options ≡ Some (codes "false") → external_flag options ≡ Some (codes "true") → ⊥
+  other is also = let same : codes "true" ≡ codes "false" = cc in other_bytes (codes "true") (codes "false") refl same
+
+-- ---- command lines
+
+widest_is_limit : (options : ArgMatches) → limit_of options ≡ codes "2147483647" → IsLimits (limit_of options) widest
+widest_is_limit options limit = record {
+  file = subst (λ a. IsNumber a 2147483647) (sym limit) (decimal_digits (codes "2147483647") refl refl).0;
+  least = lit≤ tt;
+  most = lit≤ tt;
+  depth = refl;
+}
+
+pub first_failures_are_known : FirstFailuresAreKnown
+unfolding program_app clap_on_literals
+first_failures_are_known = record {
+  time_before_image = λ options is.
+      let line = codes "build-fit --time x a" in
+      value_fails options
+      (λ has.
+      is_no_number (codes "x") refl refl has.time
+      (subst (λ a. IsNumber a has.time) (value_is line (codes "build-fit") options is (codes "time") (codes "0") ∙ refl) has.is_time));
+  hash_before_image = λ options is.
+      let line = codes "build-fit --hash md4 a" in
+      value_fails options
+      (λ has.
+      unknown_md4 has.algorithms
+      (subst (λ o. AreHashes o has.algorithms) (option_is line (codes "build-fit") options is (codes "hash") ∙ refl)
+      has.are_algorithms));
+  default_before_image = λ options is.
+      let line = codes "build-fit --default c a" in
+      let words : values_of options (codes "config") ≡ [] = found_values line (codes "build-fit") options is (codes "config") ∙ refl in
+      let value : option_of options (codes "default") ≡ Some (codes "c") =
+      option_is line (codes "build-fit") options is (codes "default") ∙ refl in
+      value_fails options
+      (λ has.
+      let bad = subst₂ (λ w v. IsDefault w v has.default) words value has.is_default in
+      true≢false (sym bad.1));
+  form_before_image = λ options is.
+      let line = codes "build-fit --align 4 a" in
+      let flag : external_flag options ≡ Some (codes "false") =
+      flag_is line (codes "build-fit") options is (codes "external") ∙ refl in
+      let align : align_option options ≡ Some (codes "4") = option_is line (codes "build-fit") options is (codes "align") ∙ refl in
+      value_fails options
+      (λ has.
+      subst₂ (λ e a. IsFormWith e a has.form) (has.is_form.is_external.not_given flag) align has.is_form.is_form);
+  image_before_configuration = λ options is.
+      let line = codes "build-fit --config c a" in
+      let name = codes "build-fit" in
+      image_fails options (value_is line name options is (codes "time") (codes "0") ∙ refl)
+      (flag_is line name options is (codes "external") ∙ refl) (option_is line name options is (codes "align") ∙ refl)
+      (option_is line name options is (codes "default") ∙ refl) (option_is line name options is (codes "hash") ∙ refl)
+      (codes "a" ∷ []) 0 (found_values line name options is (codes "images") ∙ refl)
+      (first_image_is_bad (codes "a") [] (few_fields (codes "a") refl))
+      (λ images. no_first (codes "a") [] images (few_fields (codes "a") refl));
+  first_image = λ options is.
+      let line = codes "build-fit a b" in
+      let name = codes "build-fit" in
+      image_fails options (value_is line name options is (codes "time") (codes "0") ∙ refl)
+      (flag_is line name options is (codes "external") ∙ refl) (option_is line name options is (codes "align") ∙ refl)
+      (option_is line name options is (codes "default") ∙ refl) (option_is line name options is (codes "hash") ∙ refl)
+      (codes "a" ∷ codes "b" ∷ []) 0 (found_values line name options is (codes "images") ∙ refl)
+      (first_image_is_bad (codes "a") (codes "b" ∷ []) (few_fields (codes "a") refl))
+      (λ images. no_first (codes "a") (codes "b" ∷ []) images (few_fields (codes "a") refl));
+  second_image = λ options is.
+      let line = codes "build-fit k:kernel:arm:linux:none:-:-:5 b a" in
+      let name = codes "build-fit" in
+      image_fails options (value_is line name options is (codes "time") (codes "0") ∙ refl)
+      (flag_is line name options is (codes "external") ∙ refl) (option_is line name options is (codes "align") ∙ refl)
+      (option_is line name options is (codes "default") ∙ refl) (option_is line name options is (codes "hash") ∙ refl)
+      (kernel_text ∷ codes "b" ∷ codes "a" ∷ []) 1 (found_values line name options is (codes "images") ∙ refl)
+      (second_image_is_bad kernel_text (codes "b") (codes "a" ∷ []) kernel_image kernel_is_image (few_fields (codes "b") refl))
+      (λ images. second_of kernel_text (codes "b") (codes "a" ∷ []) images (few_fields (codes "b") refl));
+  configuration = λ options is.
+      let line = codes "build-fit --config c k:kernel:arm:linux:none:-:-:5" in
+      let name = codes "build-fit" in
+      configuration_fails options (value_is line name options is (codes "time") (codes "0") ∙ refl)
+      (flag_is line name options is (codes "external") ∙ refl) (option_is line name options is (codes "align") ∙ refl)
+      (option_is line name options is (codes "default") ∙ refl) (option_is line name options is (codes "hash") ∙ refl)
+      kernel_text kernel_image kernel_is_image (codes "c" ∷ []) 0
+      (found_values line name options is (codes "images") ∙ refl) (found_values line name options is (codes "config") ∙ refl)
+      (λ names.
+      first_is_bad names (codes "c") [] (no_first_word names (codes "c") [] (without_list (codes "c") refl)));
+  limit_before_image = λ options is.
+      let limit : limit_of options ≡ codes "1" =
+      value_is (codes "build-fit --limit 1 a") (codes "build-fit") options is (codes "limit") (codes "2147483647") ∙ refl in
+      limit_fails options
+      (λ limits are.
+      omega (
+        arith,
+        are.least,
+        (decimal_digits (codes "1") refl refl).1 limits.file (subst (λ a. IsNumber a limits.file) limit are.file),
+      ));
+  image_of_task = λ options is.
+      let line = codes "build-fit a" in
+      let name = codes "build-fit" in
+      plan_fails options widest (BadImage 0)
+      (widest_is_limit options (value_is line name options is (codes "limit") (codes "2147483647") ∙ refl))
+      (image_fails options (value_is line name options is (codes "time") (codes "0") ∙ refl)
+      (flag_is line name options is (codes "external") ∙ refl) (option_is line name options is (codes "align") ∙ refl)
+      (option_is line name options is (codes "default") ∙ refl) (option_is line name options is (codes "hash") ∙ refl)
+      (codes "a" ∷ []) 0 (found_values line name options is (codes "images") ∙ refl)
+      (first_image_is_bad (codes "a") [] (few_fields (codes "a") refl))
+      (λ images. no_first (codes "a") [] images (few_fields (codes "a") refl)));
+  change_before_form = λ options is.
+      let line = codes "update --align 3" in
+      let name = codes "update" in
+      change_fails options (option_is line name options is (codes "time") ∙ refl) (flag_is line name options is (codes "hashes") ∙ refl)
+      (value_is line name options is (codes "offset") (codes "0") ∙ refl);
+  form_of_update = λ options is.
+      let line = codes "update --time 1 --align 3" in
+      let name = codes "update" in
+      form_of_update_fails options (option_is line name options is (codes "time") ∙ refl)
+      (flag_is line name options is (codes "hashes") ∙ refl)
+      (no_form_without_external options (codes "3") (flag_is line name options is (codes "external") ∙ refl)
+      (option_is line name options is (codes "align") ∙ refl));
+}

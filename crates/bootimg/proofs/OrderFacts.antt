@@ -1,0 +1,215 @@
+use Rattle.std.proofs.Common.{◌≡◌, ◌∙◌, ℕ, true≢false, List, None, Some, codes, inl, inr}
+use Rattle.std.proofs.Common.{ap, refl, sym, subst}
+use Rattle.std.specs.Prelude.{option_map}
+use Rattle.bi_base.proofs.EqualBytes.{other_bytes}
+use Rattle.bi_common.specs.declared.format.Format.TheVariants.{Json}
+use Rattle.bi_describe.specs.Differences.{words_of_line}
+use Rattle.clap.specs.Simple.{subcommand_of}
+use Rattle.clap.specs.Walk.{Row, Text}
+use Rattle.clap.specs.declared.parser.matches.ArgMatches.{ArgMatches}
+use Rattle.clap.proofs.OnLiterals.{clap_on_literals}
+use Rattle.bootimg.specs.CommandLine.{Gives, IsJob, IsLimits, IsTask, IsTaskFailure, NoJob, NoLimits, NoMemory}
+use Rattle.bootimg.specs.CommandLine.{NotAll, NotAllowed, NotChanged, NotCompared, NotExplained, NotFit, NotFormed, NotFormedChanged}
+use Rattle.bootimg.specs.CommandLine.{NotLegacy, NotLimited, NotPlaced, NotSelected, all_flag, hashes_flag, json_flag, limit_of}
+use Rattle.bootimg.specs.CommandLine.{option_of}
+use Rattle.bootimg.specs.KnownOrders.{IsListOfFile, IsRejectedFor, RejectionsAreKnown, RequestsAreKnown}
+use Rattle.bootimg.specs.Program.{program_app}
+use Rattle.bootimg.specs.declared.command_line.Job.{Job}
+use Rattle.bootimg.specs.declared.command_line.Job.TheVariants.{Run, Compare, Build, Explain}
+use Rattle.bootimg.specs.declared.command_line.Task.{Task}
+use Rattle.bootimg.specs.declared.command_line.Task.TheVariants as task
+use Rattle.bootimg.specs.declared.command_line.build.BuildPlan.TheVariants as build
+use Rattle.bootimg.specs.declared.failure.Failure.{Failure}
+use Rattle.bootimg.specs.declared.failure.Failure.TheVariants.{BadValue, NoChange}
+use Rattle.bootimg.proofs.ArgumentFacts.{decimal_digits, limits_are_known}
+use Rattle.bootimg.proofs.FirstFailureFacts.{change_fails}
+use Rattle.bootimg.proofs.RequestFacts.{all_requests_are_known, file_is_named, flag_is, no_time_given, number_of_argument, option_is, value_is}
+
+-- What whole command lines request, or why they request nothing, is known.
+
+-- The command that a command line names.
+named : (line name : List ℕ) (options : ArgMatches) → Gives (words_of_line line) name options → (wanted : List ℕ) →
+    option_map (λ (command : Text × List Row). command.0) (subcommand_of program_app (words_of_line line)) ≡ Some wanted → name ≡ wanted
+named line name options is wanted given =
+    let same : Some name ≡ Some wanted =
+    sym (ap (option_map (λ (command : Text × List Row). command.0)) is.given) ∙ given in
+    cc
+
+-- ---- requests
+
+list_task : (options : ArgMatches) → json_flag options ≡ Some (codes "true") → (given : Task) → IsTask (codes "list") options given →
+    given ≡ task.List Json
+list_task options flag (task.Normalise form) is = absurd (other_bytes (codes "list") (codes "normalise") refl is.0)
+list_task options flag (task.Show presenter) is = absurd (other_bytes (codes "list") (codes "show") refl is.0)
+list_task options flag (task.List format) is = ap task.List (is.1.given flag)
+list_task options flag (task.Describe format) is = absurd (other_bytes (codes "list") (codes "describe") refl is.0)
+list_task options flag (task.Verify format) is = absurd (other_bytes (codes "list") (codes "verify") refl is.0)
+list_task options flag (task.Check allowed format) is = absurd (other_bytes (codes "list") (codes "check") refl is.0)
+list_task options flag task.Scan is = absurd (other_bytes (codes "list") (codes "scan") refl is.0)
+list_task options flag (task.Update changes form) is = absurd (other_bytes (codes "list") (codes "update") refl is.0)
+list_task options flag (task.Extract selection) is = absurd (other_bytes (codes "list") (codes "extract") refl is.0)
+list_task options flag task.Convert is = absurd (other_bytes (codes "list") (codes "convert") refl is.0)
+
+abbrev list_line : List ℕ
+list_line = codes "list --json --offset 7 --limit 64 -o out in"
+
+list_job : (options : ArgMatches) → Gives (words_of_line list_line) (codes "list") options → (job : Job) →
+    IsJob (codes "list") options job → IsListOfFile job
+unfolding program_app clap_on_literals
+list_job options is (Run plan) holds = (
+  list_task options (flag_is list_line (codes "list") options is (codes "json") ∙ refl) plan.task holds.task,
+  number_of_argument _ (codes "7") 7 (value_is list_line (codes "list") options is (codes "offset") (codes "0") ∙ refl)
+      (decimal_digits (codes "7") refl refl) plan.offset holds.offset,
+  file_is_named _ (codes "in") plan.source (option_is list_line (codes "list") options is (codes "file") ∙ refl) refl holds.source,
+)
+list_job options is (Compare plan) holds = other_bytes (codes "list") (codes "compare") refl holds.0
+list_job options is (Explain cause) holds = other_bytes (codes "list") (codes "explain") refl holds.0
+list_job options is (Build (build.Legacy plan)) holds = other_bytes (codes "list") (codes "build-legacy") refl holds.0
+list_job options is (Build (build.Fit plan)) holds = other_bytes (codes "list") (codes "build-fit") refl holds.0
+
+pub requests_are_known : RequestsAreKnown
+unfolding program_app clap_on_literals
+requests_are_known = record {
+  list = λ request is.
+      let name = named list_line is.name is.options is.given (codes "list") refl in
+      let gives = subst (λ n. Gives (words_of_line list_line) n is.options) name is.given in
+      let limit : limit_of is.options ≡ codes "64" =
+      value_is list_line (codes "list") is.options gives (codes "limit") (codes "2147483647") ∙ refl in
+      record {
+        job = list_job is.options gives request.job (subst (λ n. IsJob n is.options request.job) name is.job);
+        limits = limits_are_known.least.1 request.limits (subst (λ a. IsLimits a request.limits) limit is.limits);
+        output = is.output ∙ option_is list_line (codes "list") is.options gives (codes "output") ∙ refl;
+      };
+  all = λ request is. (all_requests_are_known.given is.options is.given).1 request is.is;
+  not_all = λ request is.
+      true≢false (is.selects.not_given
+      (flag_is (codes "extract --part 0 in") (codes "extract") is.options is.given (codes "all") ∙ refl));
+}
+
+-- ---- rejections
+
+-- The failure of `update` without a change. The names of all commands but this one differ.
+update_rejected : (line : List ℕ) →
+    option_map (λ (command : Text × List Row). command.0) (subcommand_of program_app (words_of_line line)) ≡ Some (codes "update") →
+    ((options : ArgMatches) → Gives (words_of_line line) (codes "update") options →
+    (failure : Failure) → IsTaskFailure (codes "update") options failure → failure ≡ NoChange) →
+    ((options : ArgMatches) → Gives (words_of_line line) (codes "update") options → (job : Job) → ¬ (IsJob (codes "update") options job)) →
+    IsRejectedFor line NoChange
+update_rejected line name only none failure (NoJob other options is fails) =
+    let same = named line other options is (codes "update") name in
+    inl (only options (subst (λ n. Gives (words_of_line line) n options) same is) failure
+    (subst (λ n. IsTaskFailure n options failure) same fails))
+update_rejected line name only none failure (NoLimits other options job is is_job bad) =
+    let same = named line other options is (codes "update") name in
+    absurd (none options (subst (λ n. Gives (words_of_line line) n options) same is) job (subst (λ n. IsJob n options job) same is_job))
+update_rejected line name only none failure (NotAll options is all fails) =
+    absurd (other_bytes (codes "extract") (codes "update") refl (named line (codes "extract") options is (codes "update") name))
+update_rejected line name only none failure (NoMemory is) = inr is
+
+-- No job is an update without a change.
+no_update_task : (options : ArgMatches) → option_of options (codes "time") ≡ None → hashes_flag options ≡ Some (codes "false") →
+    (given : Task) → ¬ (IsTask (codes "update") options given)
+no_update_task options time flag (task.Normalise form) is = other_bytes (codes "update") (codes "normalise") refl is.0
+no_update_task options time flag (task.Show presenter) is = other_bytes (codes "update") (codes "show") refl is.0
+no_update_task options time flag (task.List format) is = other_bytes (codes "update") (codes "list") refl is.0
+no_update_task options time flag (task.Describe format) is = other_bytes (codes "update") (codes "describe") refl is.0
+no_update_task options time flag (task.Verify format) is = other_bytes (codes "update") (codes "verify") refl is.0
+no_update_task options time flag (task.Check allowed format) is = other_bytes (codes "update") (codes "check") refl is.0
+no_update_task options time flag task.Scan is = other_bytes (codes "update") (codes "scan") refl is.0
+no_update_task options time flag (task.Update changes form) is =
+    is.1.0.some (no_time_given _ time changes.time is.1.0.time, is.1.0.hashes.not_given flag)
+no_update_task options time flag (task.Extract selection) is = other_bytes (codes "update") (codes "extract") refl is.0
+no_update_task options time flag task.Convert is = other_bytes (codes "update") (codes "convert") refl is.0
+
+no_update_job : (options : ArgMatches) → option_of options (codes "time") ≡ None → hashes_flag options ≡ Some (codes "false") →
+    (job : Job) → ¬ (IsJob (codes "update") options job)
+no_update_job options time flag (Run plan) is = no_update_task options time flag plan.task is.task
+no_update_job options time flag (Compare plan) is = other_bytes (codes "update") (codes "compare") refl is.0
+no_update_job options time flag (Explain cause) is = other_bytes (codes "update") (codes "explain") refl is.0
+no_update_job options time flag (Build (build.Legacy plan)) is = other_bytes (codes "update") (codes "build-legacy") refl is.0
+no_update_job options time flag (Build (build.Fit plan)) is = other_bytes (codes "update") (codes "build-fit") refl is.0
+
+-- Each failure of `scan` is that of a bad value.
+scan_failure : (options : ArgMatches) (failure : Failure) → IsTaskFailure (codes "scan") options failure → failure ≡ BadValue
+scan_failure options failure (NotFormed name fails) = fails.0
+scan_failure options failure (NotAllowed name fails) = fails.0
+scan_failure options failure (NotChanged name fails) = absurd (other_bytes (codes "scan") (codes "update") refl name)
+scan_failure options failure (NotFormedChanged name changes are fails) = fails.0
+scan_failure options failure (NotSelected name all fails) = absurd (other_bytes (codes "scan") (codes "extract") refl name)
+scan_failure options failure (NotPlaced given is fails) = fails.0
+scan_failure options failure (NotLegacy name fails) = fails.0
+scan_failure options failure (NotLimited name fails) = fails.0
+scan_failure options failure (NotFit name limits are fails) = absurd (other_bytes (codes "scan") (codes "build-fit") refl name)
+scan_failure options failure (NotCompared name fails) = fails.0
+scan_failure options failure (NotExplained name fails) = fails.0
+
+scan_rejected : IsRejectedFor (codes "scan --limit 1") BadValue
+unfolding program_app clap_on_literals
+scan_rejected failure (NoJob name options is fails) =
+    inl (scan_failure options failure
+    (subst (λ n. IsTaskFailure n options failure) (named (codes "scan --limit 1") name options is (codes "scan") refl) fails))
+scan_rejected failure (NoLimits name options job is is_job bad) = inl bad.0
+scan_rejected failure (NotAll options is all fails) =
+    absurd (other_bytes (codes "extract") (codes "scan") refl
+    (named (codes "scan --limit 1") (codes "extract") options is (codes "scan") refl))
+scan_rejected failure (NoMemory is) = inr is
+
+-- Each failure of `extract --all` but that of its own options is that of a bad value.
+all_failure : (options : ArgMatches) → all_flag options ≡ Some (codes "true") → (failure : Failure) →
+    IsTaskFailure (codes "extract") options failure → failure ≡ BadValue
+all_failure options flag failure (NotFormed name fails) = fails.0
+all_failure options flag failure (NotAllowed name fails) = fails.0
+all_failure options flag failure (NotChanged name fails) = absurd (other_bytes (codes "extract") (codes "update") refl name)
+all_failure options flag failure (NotFormedChanged name changes are fails) = fails.0
+all_failure options flag failure (NotSelected name all fails) = absurd (true≢false (sym (all.given flag)))
+all_failure options flag failure (NotPlaced given is fails) = fails.0
+all_failure options flag failure (NotLegacy name fails) = fails.0
+all_failure options flag failure (NotLimited name fails) = fails.0
+all_failure options flag failure (NotFit name limits are fails) = absurd (other_bytes (codes "extract") (codes "build-fit") refl name)
+all_failure options flag failure (NotCompared name fails) = fails.0
+all_failure options flag failure (NotExplained name fails) = fails.0
+
+all_rejected : IsRejectedFor (codes "extract --all in") BadValue
+unfolding program_app clap_on_literals
+all_rejected failure (NoJob name options is fails) =
+    let line = codes "extract --all in" in
+    let same = named line name options is (codes "extract") refl in
+    let gives = subst (λ n. Gives (words_of_line line) n options) same is in
+    inl (all_failure options (flag_is line (codes "extract") options gives (codes "all") ∙ refl) failure
+    (subst (λ n. IsTaskFailure n options failure) same fails))
+all_rejected failure (NoLimits name options job is is_job bad) = inl bad.0
+all_rejected failure (NotAll options is all fails) = inl ((all_requests_are_known.no_directory options is).1 failure fails)
+all_rejected failure (NoMemory is) = inr is
+
+pub rejections_are_known : RejectionsAreKnown
+unfolding program_app clap_on_literals
+rejections_are_known = record {
+  no_change = update_rejected (codes "update") refl
+      (λ options is.
+      let line = codes "update" in
+      let name = codes "update" in
+      (change_fails options (option_is line name options is (codes "time") ∙ refl) (flag_is line name options is (codes "hashes") ∙ refl)
+      (value_is line name options is (codes "offset") (codes "0") ∙ refl)).1)
+      (λ options is.
+      let line = codes "update" in
+      let name = codes "update" in
+      no_update_job options (option_is line name options is (codes "time") ∙ refl)
+      (flag_is line name options is (codes "hashes") ∙ refl));
+  change_before_limit = update_rejected (codes "update --limit 1") refl
+      (λ options is.
+      let line = codes "update --limit 1" in
+      let name = codes "update" in
+      (change_fails options (option_is line name options is (codes "time") ∙ refl) (flag_is line name options is (codes "hashes") ∙ refl)
+      (value_is line name options is (codes "offset") (codes "0") ∙ refl)).1)
+      (λ options is.
+      let line = codes "update --limit 1" in
+      let name = codes "update" in
+      no_update_job options (option_is line name options is (codes "time") ∙ refl)
+      (flag_is line name options is (codes "hashes") ∙ refl));
+  bad_limit = scan_rejected;
+  no_directory = all_rejected;
+  version = record { is = inl refl; only = λ other is. elim is [ inl same ↦ same | inr none ↦ absurd none ] };
+  help = record { is = inl refl; only = λ other is. elim is [ inl same ↦ same | inr none ↦ absurd none ] };
+  help_of_command = record { is = inl refl; only = λ other is. elim is [ inl same ↦ same | inr none ↦ absurd none ] };
+  no_text = λ kind is. is;
+}

@@ -1,0 +1,62 @@
+//! Small command lines of `build-fit` with what they request, which inputs commands read, and
+//! what some write. Each function does nothing: what it ensures is a fact about the definitions. One
+//! of them calls the function of a law, from which its facts follow.
+
+ghost use Rattle.bootimg.specs.KnownBuildRequests.{HashOptionsAreKnown, ConfigurationsAreKnown};
+ghost use Rattle.bootimg.specs.KnownBuildRequests.{NodeTextsAreKnown, FirstFailuresAreKnown};
+ghost use Rattle.bootimg.specs.KnownOrders.{RequestsAreKnown, RejectionsAreKnown};
+ghost use Rattle.bootimg.specs.KnownInputs.{ComparedInputsAreKnown, ImagesAtAreKnown};
+ghost use Rattle.bootimg.specs.KnownInputs.{ComparedOutputsAreKnown, ExplanationsAreKnown};
+
+/// Small values of `--hash`, and its absence, give known algorithms, or none.
+pub fn hash_options_are_known()
+    ensures { HashOptionsAreKnown }
+{}
+
+/// Small values of `--config` and `--default` give known configurations, or are refused at a known
+/// index.
+pub fn configurations_are_known()
+    ensures { ConfigurationsAreKnown }
+{}
+
+/// Small images of `build-fit` have known texts in their nodes, or none.
+pub fn node_texts_are_known()
+    ensures { NodeTextsAreKnown }
+{}
+
+/// Command lines with two mistakes fail for the one that is known to come first.
+pub fn first_failures_are_known()
+    ensures { FirstFailuresAreKnown }
+{}
+
+/// Whole command lines have known requests.
+pub fn requests_are_known()
+    ensures { RequestsAreKnown }
+{}
+
+/// Command lines request nothing for known reasons, and clap has texts of known kinds for some.
+pub fn rejections_are_known()
+    ensures { RejectionsAreKnown }
+{}
+
+/// `compare` opens its first file before the second one, and no file over the limit is compared.
+pub fn compared_inputs_are_known()
+    ensures { ComparedInputsAreKnown }
+{}
+
+/// The outputs of `compare` for small files are known, and so are its errors.
+pub fn compared_outputs_are_known()
+    ensures { ComparedOutputsAreKnown }
+{
+    bi_legacy::laws::one_meaning();
+}
+
+/// The images at small offsets of an input are known.
+pub fn images_at_are_known()
+    ensures { ImagesAtAreKnown }
+{}
+
+/// Causes have known explanations.
+pub fn explanations_are_known()
+    ensures { ExplanationsAreKnown }
+{}
