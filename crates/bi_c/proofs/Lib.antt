@@ -3,6 +3,7 @@ pub mod CallAnswers
 pub mod CheckedFiles
 pub mod ComparedFiles
 pub mod ConcernFiles
+pub mod ElementFacts
 pub mod ExtractedFiles
 pub mod FitElements
 pub mod FitFiles

@@ -5,6 +5,7 @@ pub mod ConcernElements
 pub mod Extracting
 pub mod FitElements
 pub mod ImageElements
+pub mod KnownElements
 pub mod KnownNumbers
 pub mod KnownPaths
 pub mod LegacyElements
