@@ -2,6 +2,7 @@
 # Prints what a call of the program costs, by the launcher ./bootimg and without it: the least of five rounds of 200 calls each.
 set -u
 cd "$(dirname "$(readlink -f "$0")")/.." || exit 2
+export BOOTIMG_PROVED=1
 ./bootimg --version > /dev/null || exit
 
 # measure PROGRAM: prints the microseconds of a call.

@@ -1,8 +1,44 @@
 # Completion of bootimg for bash: commands, the options of each, the values and causes that have names, and files with images, parts or
-# payloads.
+# payloads. scripts/lists.py writes what is between its lines.
+
+# The options of each command, with a sign after those that take a value. The values of options and of arguments; a comma comes first if
+# a list of them may be given. The commands whose arguments are files.
+# lists.py: begin bash
+declare -gA _bootimg_options=(
+    [normalise]="--external --align= --offset= --limit= -o= --output="
+    [normalize]="--external --align= --offset= --limit= -o= --output="
+    [show]="--layout --limit= -o= --output="
+    [list]="--json --offset= --limit= -o= --output="
+    [describe]="--json --offset= --limit= -o= --output="
+    [compare]="--quiet --json --limit= -o= --output="
+    [diff]="--quiet --json --limit= -o= --output="
+    [verify]="--json --offset= --limit= -o= --output="
+    [check]="--allow= --json --offset= --limit= -o= --output="
+    [scan]="--limit= -o= --output="
+    [update]="--time= --hashes --external --align= --offset= --limit= -o= --output="
+    [extract]="--part= --image= --config= --default --all --key= --index= --escaped --offset= --limit= -o= --output="
+    [convert]="--offset= --limit= -o= --output="
+    [build-legacy]="--os= --arch= --type= --compression= --name= --time= --load= --entry= --limit= -o= --output="
+    [build-fit]="--config= --default= --hash= --external --align= --description= --time= --limit= -o= --output="
+    [explain]="-o= --output="
+    [help]=""
+)
+declare -gA _bootimg_values=(
+    [--allow]=",bad-hash unhashed weak-hash bad-list missing bad-default trailing"
+    [--key]="kernel fdt ramdisk firmware loadables script"
+    [--os]="netbsd linux vxworks u-boot"
+    [--arch]="arm x86 mips ppc arm64 x86_64 riscv"
+    [--type]="standalone kernel ramdisk multi firmware script flat_dt"
+    [--compression]="none gzip bzip2 lzma lzo lz4 zstd"
+    [--hash]=",crc32 md5 sha1 sha256 sha384 sha512 none"
+    [explain]="Truncated BadMagic BadHeaderCrc BadDataCrc BadPartTable BadPart BadTotalSize BadVersion BadOffset BadToken BadName BadNameOffset PropertyAfterChild DuplicateProperty DuplicateNode TooDeep NoImages BadCell NoSize OutsideFile TooLarge NoCodeName TooManyParts EmptyPart BadField Unsupported"
+    [help]="normalise show list describe compare verify check scan update extract convert build-legacy build-fit explain help"
+)
+_bootimg_files=" normalise normalize show list describe compare diff verify check scan update extract convert "
+# lists.py: end
 
 _bootimg() {
-    local word=${COMP_WORDS[COMP_CWORD]} before=${COMP_WORDS[COMP_CWORD - 1]} words= files= prefix=
+    local word=${COMP_WORDS[COMP_CWORD]} before=${COMP_WORDS[COMP_CWORD - 1]} command=${COMP_WORDS[1]} words= files= prefix=
     # In --os=arm, bash makes a word of the sign.
     if [[ $word == '=' ]]; then
         word=
@@ -10,54 +46,27 @@ _bootimg() {
         before=${COMP_WORDS[COMP_CWORD - 2]}
     fi
     # It may do the same in @FILE, the file of a part or a payload.
-    if [[ ${COMP_WORDS[1]} == build-* && $word == *@* ]]; then
+    if [[ $command == build-* && $word == *@* ]]; then
         [[ $COMP_WORDBREAKS == *@* ]] || prefix=${word%"${word##*@}"}
         word=${word##*@} before=@FILE
-    elif [[ ${COMP_WORDS[1]} == build-* && $before == *@ ]]; then
+    elif [[ $command == build-* && $before == *@ ]]; then
         before=@FILE
     fi
-    local commands="normalise show list describe compare verify check scan update extract convert build-legacy build-fit explain help"
     if ((COMP_CWORD == 1)); then
-        words="$commands --help --version -h -V"
+        words="${_bootimg_values[help]} --help --version -h -V"
+    elif [[ $before == @FILE || $before == -o || $before == --output ]]; then
+        files=yes
+    elif [[ " ${_bootimg_options[$command]} " == *" $before= "* ]]; then
+        words=${_bootimg_values[$before]}
+        if [[ $words == ,* ]]; then
+            words=${words#,}
+            # After a comma another value follows.
+            [[ $word != *,* || $word == *[^a-z0-9,-]* ]] || words="${word%,*},${words// / "${word%,*}",}"
+        fi
     else
-        case $before in
-        --os) words="netbsd linux vxworks u-boot" ;;
-        --arch) words="arm x86 mips ppc arm64 x86_64 riscv" ;;
-        --type) words="standalone kernel ramdisk multi firmware script flat_dt" ;;
-        --compression) words="none gzip bzip2 lzma lzo lz4 zstd" ;;
-        --key) words="kernel fdt ramdisk firmware loadables script" ;;
-        --allow)
-            words="bad-hash unhashed weak-hash bad-list missing bad-default trailing"
-            # After a comma another kind follows.
-            [[ $word != *,* || $word == *[^a-z,-]* ]] || words="${word%,*},${words// / "${word%,*}",}"
-            ;;
-        -o | --output | @FILE) files=yes ;;
-        --limit | --offset | --part | --image | --config | --index | --name | --time | --load | --entry | --description) ;;
-        *)
-            files=yes
-            case ${COMP_WORDS[1]} in
-            normalise | normalize) words="--external --align --offset --limit -o --output" ;;
-            show) words="--layout --limit -o --output" ;;
-            list | describe | verify) words="--json --offset --limit -o --output" ;;
-            scan) words="--limit -o --output" ;;
-            convert) words="--offset --limit -o --output" ;;
-            compare | diff) words="--quiet --json --limit -o --output" ;;
-            check) words="--allow --json --offset --limit -o --output" ;;
-            update) words="--time --hashes --external --align --offset --limit -o --output" ;;
-            extract) words="--part --image --config --default --all --key --index --escaped --offset --limit -o --output" ;;
-            build-legacy) files= words="--os --arch --type --compression --name --time --load --entry --limit -o --output" ;;
-            build-fit) files= words="--config --default --hash --external --align --description --time --limit -o --output" ;;
-            explain)
-                files= words="Truncated BadMagic BadHeaderCrc BadDataCrc BadPartTable BadPart BadTotalSize BadVersion BadOffset BadToken BadName"
-                words+=" BadNameOffset PropertyAfterChild DuplicateProperty DuplicateNode TooDeep NoImages BadCell NoSize OutsideFile TooLarge"
-                words+=" NoCodeName TooManyParts EmptyPart BadField Unsupported -o --output"
-                ;;
-            help) files= words=$commands ;;
-            *) files= ;;
-            esac
-            [[ ${COMP_WORDS[1]} == help ]] || words+=" --help -h"
-            ;;
-        esac
+        words="${_bootimg_values[$command]} ${_bootimg_options[$command]//=/}"
+        [[ $command == help ]] || words+=" --help -h"
+        [[ $_bootimg_files != *" $command "* ]] || files=yes
     fi
     COMPREPLY=($(compgen -W "$words" -- "$word"))
     if [[ $files ]]; then

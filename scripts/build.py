@@ -3,16 +3,18 @@
 
     scripts/build.py [--jobs NUMBER] [--library | --run -- ARGUMENT ..]
 
-With --run it ends as the program does with these arguments, and with --library it builds the library for C instead. A crate begins as soon as those that it uses
-are proved; of those that can begin, the one with the longest chain of crates above it is first. As many crates as --jobs, or as
-there are processors, are proved at once, and a crate that is proved alone gets all of them. Of each library the statements are
-kept, and not the proofs: that takes less time and memory. A crate is proved again only if it, or one that it uses, has changed.
-In a checkout in which rt has proved crates, rt builds, since it goes on from the proofs that it kept.
+With --run it ends as the program does with these arguments, and with --library it builds the library for C instead. A crate begins as
+soon as those that it uses are proved; of those that can begin, the one with the longest chain of crates above it is first. As many
+crates as --jobs, or as there are processors, are proved at once, and a crate that is proved alone gets all of them. Of each library the
+statements are kept, and not the proofs: that takes less time and memory. A crate is proved again only if it, or one that it uses, has
+changed. In a checkout in which rt has proved crates, rt builds, since it goes on from the proofs that it kept.
 
 The libraries go to crates/CRATE/out/built, the program to crates/bootimg/out/bootimg, and the library for C to
-crates/bi_c/out/libbi_c.a. What the compiler prints is in crates/CRATE/out/build.log. The program has the time at which its build
-began, so a source that is edited meanwhile is newer. One build works in a checkout at a time. The status is 2 if it fails.
+crates/bi_c/out/libbi_c.a. What the compiler prints is in crates/CRATE/out/build.log, and out/build.times beside the result has the
+processor seconds of each crate. The program has the time at which its build began, so a source that is edited meanwhile is newer. One
+build works in a checkout at a time. The status is 2 if it fails.
 """
+
 import argparse
 import fcntl
 import hashlib
@@ -26,10 +28,14 @@ import time
 from dataclasses import dataclass, field
 from pathlib import Path
 
+sys.dont_write_bytecode = True
+from estimate import CRATES, processor_seconds, seconds_left
+
 ROOT = Path(__file__).resolve().parent.parent
 KIT = Path(os.path.realpath(shutil.which("rt") or "/")).parent.parent
 TARGET = "x86_64-unknown-linux-gnu"
 SECONDS_BETWEEN_LINES = 20
+WHAT = {"bootimg": "the program", "bi_c": "the library for C"}
 
 
 @dataclass
@@ -41,8 +47,13 @@ class Crate:
     is_static: bool
     lines: int = 0
     inputs: str = ""
-    above: int = 0
+    above: float = 0
     below: list = field(default_factory=list)
+
+    @property
+    def seconds(self):
+        """The processor seconds that it took to prove where this was measured, or a guess."""
+        return CRATES.get(self.name, max(self.lines / 17, 1))
 
     @property
     def out(self):
@@ -91,7 +102,7 @@ def read_crates(wanted):
         measure(crate, ordered)
     for crate in reversed(ordered.values()):
         users = [other.above for other in ordered.values() if crate.name in other.uses]
-        crate.above = crate.lines + max(users, default=0)
+        crate.above = crate.seconds + max(users, default=0)
     return ordered
 
 
@@ -141,12 +152,14 @@ def link(crate):
 class Build:
     """A build: the crates that are not proved yet, and the processes that prove crates."""
 
-    def __init__(self, crates, jobs):
+    def __init__(self, crates, jobs, times):
         self.jobs = jobs
+        self.times = times
         self.waiting = [crate for crate in crates.values() if not crate.is_current()]
-        self.all_lines = sum(crate.lines for crate in self.waiting)
-        self.count = len(self.waiting)
+        self.measured = {crate.name: crate.seconds for crate in self.waiting}
         self.running = {}
+        # The processor seconds of each crate that is proved.
+        self.proved = {}
         self.start = time.monotonic()
 
     def can_begin(self, crate):
@@ -173,13 +186,19 @@ class Build:
 
     def finish_crates(self):
         """Takes the crates whose processes have ended."""
-        for process in [process for process in self.running if process.poll() is not None]:
+        for process in list(self.running):
+            ended, status, usage = os.wait4(process.pid, os.WNOHANG)
+            if not ended:
+                continue
+            process.returncode = os.waitstatus_to_exitcode(status)
             crate, _ = self.running.pop(process)
             if process.returncode != 0:
                 fail(f"{crate.name} is not proved: {crate.out / 'build.log'} has what rattle printed")
             if crate.is_program:
                 link(crate)
             crate.record.write_text(crate.inputs)
+            self.proved[crate.name] = usage.ru_utime + usage.ru_stime
+            self.note(crate.name, self.proved[crate.name], "proved")
 
     def stop(self):
         for process in self.running:
@@ -187,16 +206,24 @@ class Build:
         for process in self.running:
             process.wait()
 
-    def line(self):
-        """How far the build is. The time that is left is that of the lines so far."""
+    def report(self):
+        """Prints how far the build is."""
         seconds = time.monotonic() - self.start
-        names = ", ".join(sorted(crate.name for crate, _ in self.running.values()))
-        unproved = [*self.waiting, *(crate for crate, _ in self.running.values())]
-        share = 1 - sum(crate.lines for crate in unproved) / self.all_lines
-        left = f", about {seconds * (1 - share) / share / 60:.0f} minutes left" if share > 0.1 else ""
-        return f"{seconds:.0f} s: proving {names}; {self.count - len(unproved)} of {self.count} crates are proved{left}"
+        used = {crate.name: processor_seconds(process.pid) for process, (crate, _) in self.running.items()}
+        for name in used:
+            self.note(name, used[name])
+        left = seconds_left(seconds, self.measured, self.proved, used)
+        shown = f", about {left / 60:.0f} minutes left" if left is not None else ""
+        names = ", ".join(sorted(used))
+        say(f"{seconds:.0f} s: proving {names}; {len(self.proved)} of {len(self.measured)} crates are proved{shown}")
+
+    def note(self, *words):
+        """Adds a line to the file of times, which tests/fast/build_times.py reads."""
+        with open(self.times, "a") as file:
+            print(f"{time.monotonic() - self.start:.0f} {words[0]} {words[1]:.0f}", *words[2:], file=file)
 
     def run(self):
+        self.times.unlink(missing_ok=True)
         shown = self.start
         while self.waiting or self.running:
             self.begin_crates()
@@ -204,7 +231,7 @@ class Build:
             self.finish_crates()
             if self.running and time.monotonic() - shown >= SECONDS_BETWEEN_LINES:
                 shown = time.monotonic()
-                say(self.line())
+                self.report()
 
 
 def build_with_rt(crate):
@@ -242,9 +269,10 @@ def build(wanted, jobs):
     if any((crate.out / "incremental").exists() for crate in crates.values()):
         build_with_rt(crates[wanted])
     else:
-        steps = Build(crates, jobs)
+        steps = Build(crates, jobs, crates[wanted].out / "build.times")
         if steps.waiting:
-            say(f"proving and building {wanted}: once, in 20 to 40 minutes")
+            minutes = sum(steps.measured.values()) / 60
+            say(f"proving and building {WHAT[wanted]}: once, {minutes / 2:.0f} to {minutes:.0f} minutes of processor time")
         try:
             steps.run()
         finally:
@@ -281,6 +309,14 @@ def end(number, _):
     sys.exit(128 + number)
 
 
+def prepare():
+    """Fails if there is no kit, and ends a build that is interrupted with its processes."""
+    if shutil.which("rt") is None:
+        fail(f"rt, the command of the Rattle kit, is not in PATH: see 'Set-up' in {ROOT}/README.md")
+    for number in (signal.SIGTERM, signal.SIGHUP, signal.SIGINT):
+        signal.signal(number, end)
+
+
 def main():
     parser = argparse.ArgumentParser(usage=__doc__)
     parser.add_argument("--jobs", type=int, default=len(os.sched_getaffinity(0)))
@@ -288,14 +324,12 @@ def main():
     parser.add_argument("--run", action="store_true")
     parser.add_argument("arguments", nargs="*")
     options = parser.parse_args()
-    if shutil.which("rt") is None:
-        fail(f"rt, the command of the Rattle kit, is not in PATH: see 'Set-up' in {ROOT}/README.md")
-    for number in (signal.SIGTERM, signal.SIGHUP, signal.SIGINT):
-        signal.signal(number, end)
+    prepare()
     lock(ROOT / "crates/bootimg/out")
     result = build("bi_c" if options.library else "bootimg", max(1, options.jobs))
     if options.run:
         os.execv(result, [result, *options.arguments])
 
 
-main()
+if __name__ == "__main__":
+    main()

@@ -3,6 +3,7 @@
 assemble.py without-table IN OUT      writes a WebAssembly module without its table. The linker makes an empty one of 64 bits, which
                                       binaryen and older browsers do not read. Fails if the table has entries.
 assemble.py page MODULE EXAMPLE OUT   writes the page, with this module and this image. Fails if the module imports something.
+assemble.py quick MODULE EXAMPLE OUT  the same, for a module that is not proved, which the page says.
 assemble.py module PAGE OUT           writes the module of a page.
 """
 
@@ -15,6 +16,12 @@ from pathlib import Path
 HERE = Path(__file__).resolve().parent
 MAGIC = b"\0asm\1\0\0\0"
 IMPORTS, TABLES, ELEMENTS = 2, 4, 9
+# What the page says is proved, for a module that is and for one that is not.
+PROOFS = {
+    "page": "<b>Proved:</b> the code that reads an image, from its first byte to the last character of each report. It is the library of "
+    "bootimg, and every function of it is proved. <b>Not proved:</b> the compilation of this code to WebAssembly, its heap, and this page.",
+    "quick": "<b>Not proved:</b> this page was built without the proof of the code that reads an image. That code checks itself as it runs.",
+}
 SCRIPTS = ["library", "texts", "regions", "elements", "map", "page"]
 
 
@@ -58,12 +65,13 @@ def policy_of(scripts, style):
     )
 
 
-def page_of(module, example, name):
+def page_of(module, example, name, proof):
     if any(number == IMPORTS for number, _ in sections_of(module)):
         sys.exit("the module has imports")
     parts = {script: (HERE / f"{script}.js").read_text(encoding="utf-8") for script in SCRIPTS}
     parts["style"] = (HERE / "page.css").read_text(encoding="utf-8")
     parts["policy"] = policy_of([parts[script] for script in SCRIPTS], parts["style"])
+    parts["proof"] = proof
     parts["module"] = base64.b64encode(module).decode()
     parts["example"] = base64.b64encode(example).decode()
     parts["example_name"] = re.sub(r"[^A-Za-z0-9._+-]", "_", name)
@@ -83,7 +91,7 @@ def main(verb, *paths):
         out.write_bytes(module_of(inputs[0].read_text(encoding="utf-8")))
     else:
         module, example = inputs
-        out.write_text(page_of(module.read_bytes(), example.read_bytes(), example.name), encoding="utf-8")
+        out.write_text(page_of(module.read_bytes(), example.read_bytes(), example.name, PROOFS[verb]), encoding="utf-8")
 
 
 if __name__ == "__main__":

@@ -18,9 +18,8 @@ out of its range or a key or kind is unknown, NotFound if there is nothing to ex
 OutOfMemory if an allocation fails.
 
 `python3 -m bootimg COMMAND ..` writes what `bootimg COMMAND ..` writes, and ends with the same
-status, for the commands that read images, except `scan`. It has no `-o`, no `--escaped` and no
-`--offset`, and its message about wrong arguments is different. It also takes names that are not
-UTF-8.
+status. It has no `-o`, no `--escaped` and no `--offset`, and its message about wrong arguments is
+different. It also takes names that are not UTF-8. `python3 -m bootimg --help` lists its commands.
 
 The module loads the library that the environment variable BOOTIMG_LIBRARY names, if it is set, or
 else libbootimg.so next to this file, if it is there, or else libbootimg.so.0 of the system.
