@@ -9,5 +9,6 @@ root=$(cd "$(dirname "$0")/../.." && pwd)
 work_in_new_directory
 test_crate command_tests "bi_commands bi_norm bi_fit bi_legacy bi_hash bi_base scripted_io"
 link_tests commands
+test_modules
 run_tests
 finish

@@ -10,5 +10,6 @@ work_in_new_directory
 test_crate library_tests "bi_fit bi_fdt bi_lay bi_legacy bi_hash bi_base scripted_io md5 sha1 sha2"
 link_tests library
 link_tests commands images
+test_modules
 run_tests
 finish

@@ -8,9 +8,13 @@ root=$(cd "$(dirname "$0")/../.." && pwd)
 
 work_in_new_directory
 program_crate
-link_tests program tests tests/aligning tests/building tests/checking tests/explaining tests/extracting tests/files tests/json tests/memory \
-    tests/offsets tests/planning tests/parts tests/saving tests/scanning tests/showing tests/streams tests/unpacking tests/updating
+link_tests program
 link_tests commands images
+rm "$crate/src/tests.rt"
+{
+    cat "$root/tests/calls/program/tests.rt.source"
+    ls "$crate/src/tests" | sed 's/\(.*\)\.rt$/mod \1;/'
+} > "$crate/src/tests.rt"
 test_modules tests images
 run_tests
 finish

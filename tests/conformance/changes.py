@@ -8,14 +8,16 @@ import zlib
 import reference
 from vectors import LEGACY_MAGIC, Run
 
+# Each command that reads an image and needs no option, and some with options.
 COMMANDS = (
-    "list", "verify", "normalise", "normalise --external", "normalise --limit 200", "normalise --external --limit 300", "convert",
-    "extract --part 0", "extract --image a", "extract --config conf-1", "extract --default", "describe", "describe --limit 400",
-    "check", "check --limit 200", "check --allow unhashed,trailing", "update --time 5", "update --time 5 --limit 200",
+    *sorted(set(reference.COMMANDS) - {"compare", "update", "extract", "build-legacy", "build-fit"}),
+    "normalise --external", "normalise --limit 200", "normalise --external --limit 300",
+    "extract --part 0", "extract --image a", "extract --config conf-1", "extract --default", "describe --limit 400",
+    "check --limit 200", "check --allow unhashed,trailing", "update --time 5", "update --time 5 --limit 200",
     "update --hashes", "update --hashes --external --limit 400", "update --hashes --time 0x10 --external",
-    "scan", "scan --limit 200", "list --offset 1", "check --offset 64 --limit 500", "normalise --offset 0x40", "list --json --offset 73",
+    "scan --limit 200", "list --offset 1", "check --offset 64 --limit 500", "normalise --offset 0x40", "list --json --offset 73",
     "list --json", "verify --json", "describe --json", "describe --json --limit 400", "check --json", "check --json --allow unhashed",
-    "show", "show --layout", "show --layout --limit 200",
+    "show --layout", "show --layout --limit 200",
     "normalise --external --align 8", "normalise --external --align 64 --limit 500", "update --hashes --external --align 16",
     "update --time 5 --external --align 0x100 --limit 800",
 )

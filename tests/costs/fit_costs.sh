@@ -2,9 +2,10 @@
 # Measures what the program takes on large flattened image trees: time beside sha256sum of the same file, and memory beside the
 # length of the file. It fails if memory is more than the file and 8 MiB for a large payload, if 10,000 images take more than twenty
 # times what sha256sum takes, if ten times as many take more than forty times as long, if verify, check or describe of 1,100 images
-# that have one region as their payload takes more than ten times what sha256sum takes, if describe or check of a large payload takes
-# more than twice as long as verify, which computes the same digest, or if a command with --json takes more than five times as long as
-# without it. Each bound of time is about twice what was measured, or more, since other work on the machine disturbs it. Each time
+# that have one region as their payload takes more than ten times what sha256sum takes, if a command refuses payloads that are together
+# over the limit no sooner than in twenty times that time, as it would after it had hashed them, if describe or check of a large payload
+# takes more than twice as long as verify, which computes the same digest, or if a command with --json takes more than five times as
+# long as without it. Each bound of time is about twice what was measured, or more, since other work on the machine disturbs it. Each time
 # is the least of five rounds. How many times as long a file or a command takes as another is the median of the rounds. The script needs
 # python3 and coreutils.
 # With ten times as many images, n log n comparisons are 12.5 times as many, and the larger maps are more often outside the caches of
@@ -65,13 +66,26 @@ def make_shared(path, size, count):
         file.write(blob(begin, payload) + payload)
 
 
+def make_overlapping(path, size, count):
+    """Writes an image of this size. This many image nodes have payloads that end with the file, each one byte shorter than the one
+    before, with a hash node each."""
+    def blob(begin):
+        regions = [[(b"data-position", cells(begin + index)), (b"data-size", cells(size - begin - index))] for index in range(count)]
+        hashes = [node(b"hash-1", [(b"value", bytes(32)), (b"algo", b"sha256\0")])]
+        return blob_of(node(b"", (), [node(b"images", (), [node(b"image-%d" % at, region, hashes) for at, region in enumerate(regions)])]))
+
+    begin = len(blob(0))
+    with open(path, "wb") as file:
+        file.write(blob(begin) + os.urandom(size - begin))
+
+
 def run(path, command, wanted=0):
     """Returns the seconds and the bytes of memory of a command that reads this file and ends with this status. In the command, FILE
     is the path of the file."""
     command = [word.replace("FILE", path) for word in command]
     with open(path, "rb") as source, open("output", "wb") as target:
         begin = time.perf_counter()
-        process = subprocess.Popen(command, stdin=source, stdout=target)
+        process = subprocess.Popen(command, stdin=source, stdout=target, stderr=subprocess.DEVNULL if wanted == 2 else None)
         _, status, usage = os.wait4(process.pid, 0)
         seconds = time.perf_counter() - begin
     process.returncode = os.waitstatus_to_exitcode(status)
@@ -115,6 +129,16 @@ COMPARISONS = {
 
 # How many times as long as sha256sum 1,100 images may take that have one region as their payload, with six hash nodes each.
 SHARED = 10
+# How many times as long as sha256sum a command may take to refuse 1,100 payloads that are each nearly as long as the
+# file. To hash them takes a thousand times as long.
+REFUSED = 20
+REFUSING = {
+    "check": ["check"],
+    "describe": ["describe"],
+    "show": ["show"],
+    "update --hashes": ["update", "--hashes"],
+    "extract --all": ["extract", "--all", "-o", "extracted"],
+}
 # How many times as long as without --json a command may take with it.
 JSON = 5
 
@@ -135,6 +159,7 @@ if sys.argv[1] == "make":
     make("more.other", [b"%d" % (index + 1) for index in range(100_000)])
     make("configured", [b"%d" % index for index in range(10_000)], 10_000)
     make_shared("shared", MIB, 1_100)
+    make_overlapping("overlapping", 2 * MIB, 1_100)
     sys.exit()
 cat = measure(["cat"], FILES)
 sha256sum = measure(["sha256sum"], FILES)
@@ -160,6 +185,11 @@ for name in ("verify", "check", "describe"):
     runs, summed = zip(*([run("shared", command) for command in ([PROGRAM, *COMMANDS[name]], ["sha256sum"])] for _ in range(ROUNDS)))
     times = ratio(runs, summed)
     judge(f"shared, {name}", times <= SHARED, f"{least(runs)[0]:.3f} s, {times:.1f} times sha256sum")
+for name, arguments in REFUSING.items():
+    command = [PROGRAM, *arguments, "--limit", str(4 * MIB)]
+    runs, summed = zip(*([run("overlapping", command, 2), run("overlapping", ["sha256sum"])] for _ in range(ROUNDS)))
+    times = ratio(runs, summed)
+    judge(f"overlapping, {name}", times <= REFUSED, f"{least(runs)[0]:.3f} s, {times:.1f} times sha256sum")
 for command in ("describe", "check"):
     runs, verified = zip(*([run("large", [PROGRAM, each]) for each in (command, "verify")] for _ in range(ROUNDS)))
     times = ratio(runs, verified)
@@ -177,5 +207,5 @@ program=$root/crates/bootimg/out/bootimg
 python_with_blobs costs.py make
 python_with_blobs costs.py "$program" | tee costs
 add_counts "$(grep -c '^ok: ' costs)" "$(grep -c '^FAILED: ' costs)"
-[ "$(grep -c '^ok: \|^FAILED: ' costs)" = 43 ] || add_counts 0 1
+[ "$(grep -c '^ok: \|^FAILED: ' costs)" = 48 ] || add_counts 0 1
 finish

@@ -32,6 +32,22 @@ for edits in copy/tests/prover/wrong_bodies/*; do
     check "each wrong body of $crate can be made" can_be_made "$crate" "$edits"
     ! grep -q "^## \`$crate\`" "$shown" || check "each wrong body of $crate is in its table" is_in_table "$crate"
 done
+# never_cut: the pieces of the table of those that are never cut, each after its crate.
+never_cut() {
+    sed -n '/^## Never cut/,/^## `/s/^| .* | `\([a-z_]*\)` | \(.*\) |$/\1 \2/p' "$shown" | tr -d '`,' |
+        while read -r crate pieces; do
+            printf "$crate %s\n" $pieces
+        done
+}
+
+# are_there: that table has its pieces, and each is in the file of its crate.
+are_there() {
+    [ "$(never_cut | wc -l)" -ge 35 ] && never_cut | while read -r crate piece; do
+        grep -qx "## $piece" "copy/tests/prover/wrong_bodies/$crate.edits" || { echo "$crate/$piece"; exit 1; }
+    done
+}
+
+check "each piece that is never cut is there" are_there
 for edits in copy/crates/*/must-fail; do
     crate=${edits#copy/crates/}
     check "each edit that must fail of ${crate%%/*} can be made" can_be_made "${crate%%/*}" "$edits"
@@ -54,6 +70,19 @@ check "an edit whose text is not in the source is found" \
 check "an edit whose function is not in the source is found" \
     is_found bi_hash src/algo.rt 's/fn find_by_name/fn find_name/' algorithm_found_by_prefix
 
+# is_cut CRATE PIECE: without this piece are_there fails, and names it.
+is_cut() {
+    file=copy/tests/prover/wrong_bodies/$1.edits
+    cp "$file" original
+    sed -i "/^## $2$/d" "$file"
+    ! are_there > found
+    status=$?
+    cp original "$file"
+    [ "$status" = 0 ] && [ "$(cat found)" = "$1/$2" ]
+}
+
+check "a piece that is cut is found" is_cut bi_norm input_returned_as_its_normal_form
+check "another one too" is_cut bi_fit shared_region_refused
 # is_missed COMMAND LINE: with the tables edited by this command of sed, this line of diff is printed for bi_hash, and no other.
 is_missed() {
     cp "$shown" original

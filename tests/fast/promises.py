@@ -10,10 +10,11 @@ cells are the text of the item and the items below it, each of which may be wrap
 - the definitions are `Module.name`, or `crate/Module.name` for another crate, each perhaps followed by names of fields in round
   brackets. Each is in that module of specs/, and the clauses of the row cite it, or cite a definition that does, and so on.
 
-Each function that a library exports, and each of its labels, has to be in a row. A wrong definition has the item `Refused by:`, and
-each function that this names is a public one of the crate. Each item of both lists has these items and no other. In docs/PROMISES.md
-the reading order names the files of definitions that the contract of `normalise` leads to, and no other, and each line of the blocks
-of code with a contract or a definition is in the sources, and so is the one of README.md.
+Each function that a library exports, and each of its labels, has to be in a row, but for the facts in modules `known_..`, each of which has
+a docstring. A wrong definition has the item `Refused by:`, and each function that this names is a public one of the crate. Each item of
+both lists has these items and no other. In docs/PROMISES.md the reading order names the files of definitions that the contract of
+`normalise` leads to, and no other, and each line of the blocks of code with a contract or a definition is in the sources, and so is the one
+of README.md.
 
 promises.py ROOT --definitions: prints each definition of specs/, with the comment before it.
 """
@@ -102,6 +103,7 @@ class Crate:
         self.functions = {}  # (module, type or "", name): {label: (what names mean, text of the clause)}
         self.members = {}  # type or trait: [(what names mean, text of its ghost members)]
         self.exported = set()  # the keys of those functions that a library exports
+        self.documented = set()  # the keys of those functions that have a docstring
         self.definitions = {}  # (module, name): (what names mean, text, comment)
         self.read_exports()
         for path, module in files_of(root, name, "src"):
@@ -118,7 +120,8 @@ class Crate:
         self.public_names = {word for use in re.findall(r"^pub use ([^;]*);", root, re.M) for word in re.findall(r"\w+", use)}
 
     def read_functions(self, path, module):
-        source = re.sub(r"//[^\n]*", lambda match: " " * len(match[0]), read(path))
+        text = read(path)
+        source = re.sub(r"//[^\n]*", lambda match: " " * len(match[0]), text)
         uses = uses_of(source)
         blocks = list(blocks_of(source))
         for _, _, owner, members, _ in blocks:
@@ -132,6 +135,8 @@ class Crate:
             key = module, owner, match["name"]
             # A trait may be implemented twice for a type. A function of a trait may have the trait's clauses.
             self.functions.setdefault(key, {}).update(clauses)
+            if text[: match.start()].rstrip().rpartition("\n")[2].lstrip().startswith("///"):
+                self.documented.add(key)
             in_public_module = module.split(".")[0] in self.public_modules
             if clauses and (match["export"] or (owner or match["name"]) in self.public_names or in_public_module):
                 self.exported.add(key)
@@ -297,6 +302,9 @@ def check(root):
     wrong += [f"README.md: {reason}" for reason in check_quotes(crates, read(f"{root}/README.md"), 1)]
     for crate in crates.values():
         for key in sorted(crate.exported):
+            if key[0].split(".")[-1].startswith("known_"):
+                wrong += [] if key in crate.documented else [f"no docstring has `{key[2]}` of {crate.name}"]
+                continue
             for label in crate.functions[key]:
                 if (crate.name, key, label) not in named:
                     function = "::".join([key[1] or key[0].split(".")[-1], key[2]])

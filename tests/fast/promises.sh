@@ -62,6 +62,7 @@ check "a field that is not there is found" \
     '`NormalForm.IsNormalForm` has no field `distinguishes`'
 check "a missing row is found" \
     is_found docs/PROMISE_TABLES.md '`same_meaning`: `compared`, `failed`; ' '' 'no row has `comparing::same_meaning`: `compared` of bi_norm'
+check "a fact without a docstring is found" is_found crates/bi_hash/src/known_verdicts.rt '/// ' '// ' 'no docstring has `verdicts_are_known` of bi_hash'
 check "a wrong definition that no function refuses is found" \
     is_found docs/PROMISE_TABLES.md '  - Refused by: `firmware_text`
 ' '  - Refused by: `firmware`

@@ -1,8 +1,9 @@
 #!/bin/sh
-# Compares the manual page and the completions for bash, zsh and fish with the program: each command, each option and each value of an
-# option is in each of them, and nothing else; each command is in README.md; each cause of a refusal and each other line of a failure is
-# in the page. The completions have files for the commands that take one. The script needs Debian's mandoc, zsh and fish, and installs
-# those that are missing if it runs as root. Without zsh or fish it leaves out their completions.
+# Compares the manual page and the completions for bash, zsh and fish with the program: the page describes each command, each option,
+# each cause of a refusal and each other line of a failure, and nothing else. The completions offer each command, each option, each value
+# of an option that has names, and files for the commands that take one. (tests/fast/lists.sh compares the lists that are written by a
+# script.) The script needs Debian's mandoc, zsh and fish, and installs those that are missing if it runs as root. Without zsh or fish it
+# leaves out their completions.
 set -u
 
 root=$(cd "$(dirname "$0")/../.." && pwd)
@@ -22,11 +23,6 @@ same() {
 # A word for each option in the help of a command, which is standard input.
 options() {
     sed -n '/^Options:/,/^$/p' | grep -oE '^ *(-[a-zA-Z], )?--[a-z-]+' | grep -oE -e '--?[a-zA-Z-]+'
-}
-
-# The arguments that are no options in the help of a command, which is standard input, each as [x], <x> or [x]...
-arguments() {
-    sed -n '/^Arguments:/,/^$/p' | awk '/^  [[<]/ { print $1 }' | sed 's/[A-Z]\{1,\}/x/'
 }
 
 # complete WORD..: prints what the completion for bash offers for the last word.
@@ -81,11 +77,6 @@ check "the program names the logic of the kit" test "$(cat version)" = "bootimg 
 sed -n '/^Commands:/,/^$/p' help | awk '/^  [a-z]/ { print $1 }' > commands
 awk '/^\.Ss Commands/ { on = 1 } /^\.Ss Options/ { on = 0 } on && /^\.It Cm/ { print $3 }' "$page" > page.commands
 check "the page has the commands of the program" same commands page.commands
-awk '/^\.Sh SYNOPSIS/ { on = 1 } /^\.Sh DESCRIPTION/ { on = 0 } on && /^\.Cm/ { print $2 }' "$page" > synopsis.commands
-check "the synopsis has them" same commands synopsis.commands
-grep -v '^help$' commands > wanted
-sed -n '/^| Command | Writes |$/,/^$/p' "$root/README.md" | sed 1,2d | cut -d '|' -f 2 | grep -oE '`[a-z][a-z-]*' | tr -d '`' > readme.commands
-check "README.md has them" same wanted readme.commands
 complete bootimg "" | grep -v '^-' > completed
 check "the completion has them" same commands completed
 complete bootimg "" | grep '^-' > completed
@@ -95,14 +86,8 @@ complete bootimg help "" > completed
 check "help is completed by them" same commands completed
 cp wanted program.options
 
-# Options and arguments. The synopsis has a clause for each command; the help option and short options are not repeated there.
+# Options.
 cp wanted all.options
-awk '/^\.Sh SYNOPSIS/ { on = 1 } /^\.Sh DESCRIPTION/ { on = 0 } on' "$page" > clauses
-awk '/^\.Cm/ { command = $2 } { while (match($0, /Fl -[a-z-]+/)) {
-    print command, "-" substr($0, RSTART + 3, RLENGTH - 3); $0 = substr($0, RSTART + RLENGTH) } }' clauses > synopsis
-# A name after < or > is that of a stream.
-awk '/^\.Cm/ { command = $2 } /^\.Op Ar/ { print command, "[x]" $4 } /^\.Ar/ && before !~ /^[<>]/ { print command, "<x>" }
-    { before = $0 }' clauses > synopsis.arguments
 mkdir -p "a directory"
 : > kernel.itb
 while read -r command; do
@@ -113,14 +98,8 @@ while read -r command; do
     cp wanted "options.$command"
     complete bootimg "$command" - > completed
     check "the completion has the options of $command" same wanted completed
-    grep -v -e '^-.$' -e '^--help$' wanted > wanted.synopsis
-    sed -n "s/^$command //p" synopsis > got
-    check "the synopsis has the options of $command" same wanted.synopsis got
-    arguments < help > wanted
-    sed -n "s/^$command //p" synopsis.arguments > got
-    check "the synopsis has the arguments of $command" same wanted got
     files=
-    grep -Fqx '[x]...' wanted || [ "$command" = explain ] || files="kernel.itb a directory"
+    grep -q '^  \[.*\]\.\.\.' help || [ "$command" = explain ] || files="kernel.itb a directory"
     check "the completion has the files that $command reads" \
         test "$(complete bootimg "$command" k) $(complete bootimg "$command" "a ")" = "${files:- }"
 done < commands
@@ -139,21 +118,18 @@ codes "image type" > type
 codes compression > compression
 "$root/bootimg" extract --help | sed -n 's/.*--key.* one of \(.*\) \[.*/\1/p' | tr -s ', ' '\n\n' > key
 "$root/bootimg" check --help | awk '/its kind:$/ { on = 1 } /^A legacy/ { on = 0 } on && /^  [a-z]/ { print $1 }' > allow
-for option in os arch type compression key allow; do
+printf '%s\n' crc32 md5 sha1 sha256 sha384 sha512 none > hash
+for option in os arch type compression key allow hash; do
     command=build-legacy
-    value=$option
     case $option in
     key) command=extract ;;
-    allow) command=check value=kind ;;
+    allow) command=check ;;
+    hash) command=build-fit ;;
     esac
     complete bootimg "$command" "--$option" "" > completed
     check "the completion has the values of --$option" same "$option" completed
     complete bootimg "$command" "--$option" = "" > completed
     check "and after a sign (--$option)" same "$option" completed
-    awk -v value="$value" '/^\.S[hs]/ { on = $2 == "Values" }
-        on && /^\.It/ { mine = $3 == value } on && mine && /^\.Cm/' "$page" |
-        sed 's/^\.Cm//; s/ , /\n/g' | tr -d ' ' > got
-    check "the page has the values of --$option" same "$option" got
 done
 awk '/^\.It Cm check/ { on = 1 } /^\.It Cm extract/ { on = 0 } on && /^\.It Li/ { print $3 }' "$page" > got
 check "the page says what each kind of line of check is" same allow got
@@ -165,7 +141,8 @@ complete bootimg check --allow '$(touch made),' > completed
 check "nothing that is typed is run" test ! -e made
 check "a word that is begun is completed" test "$(complete bootimg build-legacy --os l)" = linux
 check "an option that is begun is completed" test "$(complete bootimg extract --conf)" = --config
-check "an option that takes any value has none" test -z "$(complete bootimg extract --part "")"
+check "an option that takes any value has none" test -z "$(complete bootimg extract --part "")$(complete bootimg build-fit --default "")"
+check "an algorithm is completed after a comma" test "$(complete bootimg build-fit --hash crc32,sha38)" = crc32,sha384
 check "a file is completed as the output" test "$(complete bootimg build-fit -o kern)$(complete bootimg list --output kern)" = \
     kernel.itbkernel.itb
 check "a file is completed after the value of an option" test "$(complete bootimg extract --part 1 kern)" = kernel.itb
@@ -215,7 +192,7 @@ echo missing,unhashed > kinds
         *) printf 'image\tbootimg %s kern\n' "$command" ;;
         esac
     done < commands
-    printf '%s\tbootimg %s\n' key "extract --key " allow "check --allow "
+    printf '%s\tbootimg %s\n' key "extract --key " allow "check --allow " hash "build-fit --hash " nothing "build-fit --align "
     for option in os arch type compression; do
         printf '%s\tbootimg build-legacy --%s \n' "$option" "$option"
     done

@@ -120,6 +120,36 @@ out" ]'
     cp ../old out
 done
 
+# Small pieces share a write: on average a write has at least 4 KiB. A line on standard error is one write, so the lines of two processes
+# do not mix.
+
+# writes NUMBER: prints how many bytes each write to the file with this number was given, in the last run of `counted`.
+writes() {
+    sed -n "s/^$1 //p" ../writes
+}
+
+# counted ARGUMENT..: runs the program, and keeps what each write was given.
+counted() {
+    rm -f ../writes
+    WRITES=../writes LD_PRELOAD=../failing_call.so "$program" "$@" > ../output 2> ../errors
+}
+
+# are_large: the writes to standard output have at least 4 KiB on average, but for the last one, and are those of the output.
+are_large() {
+    counted list ../parts && [ "$(writes 1 | awk '{ sum += $1 } END { print sum }')" = "$(wc -c < ../output)" ] &&
+        writes 1 | awk '{ sum += $1 } END { exit !(NR > 5 && sum >= 4096 * (NR - 1)) }'
+}
+
+# is_one_write NAME: the line about the file of this name, which is not there, is one write.
+is_one_write() {
+    ! counted list "$1" && [ "$(wc -c < ../errors)" -gt 900 ] && [ "$(writes 2)" = "$(wc -c < ../errors)" ]
+}
+
+# shellcheck disable=SC2046
+noise 7 3000 | "$bootimg" build-legacy --os linux --arch arm --type multi -o ../parts $(yes 1 | head -n 3000)
+check "small pieces share a write" are_large
+check "a long line on standard error is one write" is_one_write "$(head -c 950 /dev/zero | tr '\0' n)"
+
 # With --all a new directory has all files, or is not there.
 two_parts=$root/examples/two-parts.uimage
 for part in 0 1; do

@@ -1,7 +1,7 @@
 #!/bin/sh
 # Tries the page that contrib/page/build.sh makes. In node, the scripts of the page make the runs of tests/conformance that are of calls
 # which the page makes: status, bytes, cause and offset have to be those of the vectors (tests/tools/page/suite.js). In Chromium, the page
-# has to show what the program prints.
+# has to show what the program prints. The page that is built without a proof makes the same runs, and says what it is.
 #
 #   page.sh                     what needs wasm-opt, node or Chromium is left out if that is missing, unless CI=true: then Debian's
 #                               binaryen, nodejs and chromium are installed, as root, or the script fails
@@ -119,9 +119,14 @@ case ${1-} in
     check "it has the same bytes" cmp page.html again.html
     ;;
 esac
+check "the page is built without a proof" "$build" --quick "$work/quick.html"
+check "it says so, and claims no proof" sh -c 'grep -Fq "<b>Not proved:</b> this page" quick.html && ! grep -Fq "<b>Proved:</b>" quick.html'
+check "the other claims one" sh -c 'grep -Fq "<b>Proved:</b>" page.html && ! grep -Fq "this page was built without" page.html'
 if has nodejs node "the runs of tests/conformance"; then
     "$root/tests/conformance/run" --export runs > log
-    passes node "$root/tests/tools/page/suite.js" page.html runs "$examples"
+    for name in page quick; do
+        passes node "$root/tests/tools/page/suite.js" "$name.html" runs "$examples"
+    done
 fi
 if has chromium chromium "what the page shows"; then
     try_in_chromium

@@ -1,10 +1,12 @@
 /* Loaded before the C library: the call that the environment variable FAILING_CALL names fails, as on a file system that is full. With
- * SUCCEEDING_CALLS this many calls of the name succeed first, and one fails after them. With KILLED the program is killed there. */
+ * SUCCEEDING_CALLS this many calls of the name succeed first, and one fails after them. With KILLED the program is killed there. With
+ * WRITES a line is appended to the file of this name for each write: the number of the file, and how many bytes were given. */
 #define _GNU_SOURCE
 #include <dlfcn.h>
 #include <errno.h>
 #include <fcntl.h>
 #include <signal.h>
+#include <stdio.h>
 #include <stdlib.h>
 #include <string.h>
 #include <sys/stat.h>
@@ -37,10 +39,21 @@ static int fails(const char *name)
         return fails(#name) ? -1 : next arguments; \
     }
 
+static void record(int file, size_t size)
+{
+    const char *name = getenv("WRITES");
+    FILE *writes = name == NULL ? NULL : fopen(name, "a");
+    if (writes != NULL) {
+        fprintf(writes, "%d %zu\n", file, size);
+        fclose(writes);
+    }
+}
+
 /* Standard error can be written. */
 ssize_t write(int file, const void *bytes, size_t size)
 {
     ssize_t (*next)(int, const void *, size_t) = (ssize_t(*)(int, const void *, size_t))dlsym(RTLD_NEXT, "write");
+    record(file, size);
     return file > 2 && fails("write") ? -1 : next(file, bytes, size);
 }
 
