@@ -45,7 +45,10 @@ check "a refusal comes first" ends 2 "bootimg: ../old: BadMagic at 0" list -o ou
 check "the file is as it was" holds ../old out
 check "a directory that is not there" ends 2 "bootimg: none/out: write failed" list -o none/out "$kernel"
 check "an empty name" ends 2 "bootimg: -: write failed" list -o "" "$kernel"
-check "a device" ends 2 "bootimg: /dev/null: write failed" list -o /dev/null "$kernel"
+# Root makes a device of its own, since a wrong program that runs as root would replace /dev/null.
+device=../device
+mknod "$device" c 1 3 2> ../errors || device=/dev/null
+check "a device" ends 2 "bootimg: $device: write failed" list -o "$device" "$kernel"
 mkdir ../directory
 check "a directory" ends 2 "bootimg: ../directory: write failed" list -o ../directory "$kernel"
 check "with a slash after it" ends 2 "bootimg: ../directory/: write failed" list -o ../directory/ "$kernel"
