@@ -20,6 +20,9 @@ pub mod VecSinks
 pub mod SliceSinks
 pub mod WriteSinks
 pub mod BufferedSinks
+pub mod Pens
+pub mod SinkPens
+pub mod MemoryPens
 pub mod Crc
 pub mod Strings
 pub mod Slices
