@@ -18,3 +18,4 @@ pub mod ListMembers
 pub mod FileSlices
 pub mod Refusals
 pub mod PipeFacts
+pub mod PenFacts

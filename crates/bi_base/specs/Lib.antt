@@ -3,6 +3,7 @@ pub mod Alignments
 pub mod Aligns
 pub mod Causes
 pub mod KnownCauses
+pub mod KnownPens
 pub mod KnownPipes
 pub mod Errors
 pub mod Checks

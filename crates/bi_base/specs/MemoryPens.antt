@@ -1,4 +1,4 @@
-use Rattle.std.specs.Prelude.{◌≡◌, ⊤, ℕ, List, Option, Some, None}
+use Rattle.std.specs.Prelude.{⊤, ℕ, List, Option, Some, None}
 use Rattle.bi_base.specs.Sinks.{AppendsNothing, AppendsInTurn}
 use Rattle.bi_base.specs.VecSinks.{Grows, grows_nothing, grows_in_turn}
 

@@ -12,8 +12,8 @@ abbrev pub sink_of : {S : Type 0} → SinkPen S → MutBor S
 sink_of pen = pen.sink
 
 -- The first failure, if a call has failed.
-abbrev pub failure_of : {S : Type 0} → SinkPen S → Option Error
-failure_of pen = pen.failure
+abbrev pub kept_failure : {S : Type 0} → SinkPen S → Option Error
+kept_failure pen = pen.failure
 
 -- The result for a failure, or for none.
 abbrev pub result_for : Option Error → Result (Unit {0}) Error
@@ -34,8 +34,8 @@ pub record SinkPuts {S : Type 0} (appends : S → List ℕ → S → Type 0)
     (fails : S → List ℕ → S → Error → Type 0) (old : SinkPen S) (bytes : List ℕ) (new : SinkPen S)
     : Type 0 where
   pub same_borrow : (sink_of new).ghost_name ≡ (sink_of old).ghost_name
-  pub kept : KeptPuts appends fails (sink_of old).now (failure_of old) bytes (sink_of new).now
-      (failure_of new)
+  pub kept : KeptPuts appends fails (sink_of old).now (kept_failure old) bytes (sink_of new).now
+      (kept_failure new)
 
 -- Putting nothing changes nothing.
 pub kept_nothing : {S : Type 0} (appends : S → List ℕ → S → Type 0)
@@ -49,7 +49,7 @@ pub sink_puts_nothing : {S : Type 0} (appends : S → List ℕ → S → Type 0)
     → AppendsNothing (SinkPuts appends fails)
 sink_puts_nothing appends fails law a = record {
   same_borrow = refl;
-  kept = kept_nothing appends fails law (sink_of a).now (failure_of a);
+  kept = kept_nothing appends fails law (sink_of a).now (kept_failure a);
 }
 
 -- Putting two texts in turn is putting both as one: this follows from three laws of the sink.
@@ -75,5 +75,5 @@ pub sink_puts_in_turn : {S : Type 0} (appends : S → List ℕ → S → Type 0)
 sink_puts_in_turn appends fails law after before a b c xs ys first second = record {
   same_borrow = second.same_borrow ∙ first.same_borrow;
   kept = kept_in_turn appends fails law after before (sink_of a).now (sink_of b).now (sink_of c).now
-      (failure_of a) (failure_of b) (failure_of c) xs ys first.kept second.kept;
+      (kept_failure a) (kept_failure b) (kept_failure c) xs ys first.kept second.kept;
 }

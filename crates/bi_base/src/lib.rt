@@ -14,6 +14,7 @@ pub mod crc_laws;
 mod crc_tables;
 mod fault;
 pub mod known_causes;
+pub mod known_pens;
 pub mod known_pipes;
 mod limits;
 mod memory_pen;

@@ -16,13 +16,13 @@ pub struct SinkPen<'a, S> {
 }
 
 impl<'a, S: Sink> SinkPen<'a, S> {
-    ghost use Rattle.bi_base.specs.SinkPens.{SinkPuts, failure_of, sink_of};
+    ghost use Rattle.bi_base.specs.SinkPens.{SinkPuts, kept_failure, sink_of};
 
     /// Returns a pen over this sink. It has not failed.
     pub fn new(sink: &'a mut S) -> SinkPen<'a, S>
         ensures same_borrow { (sink_of result).ghost_name ≡ sink.entry.ghost_name }
         ensures same_sink { (sink_of result).now ≡ sink.old }
-        ensures not_failed { failure_of result ≡ None }
+        ensures not_failed { kept_failure result ≡ None }
     {
         SinkPen {
             sink,
@@ -33,7 +33,7 @@ impl<'a, S: Sink> SinkPen<'a, S> {
     /// Returns whether all that was put was appended to the sink, or else the error of the first
     /// call that failed. The sink is then as a failed `put` of the whole text leaves it.
     pub fn result(self) -> Result<(), Error>
-        ensures wrote { (begin : SinkPen S) (text : List ℕ) → failure_of begin ≡ None
+        ensures wrote { (begin : SinkPen S) (text : List ℕ) → kept_failure begin ≡ None
             → SinkPuts S.appends S.fails begin text self.entry
             → Wrote S.appends S.fails (sink_of begin).now text result self.exit.0.now }
         ensures same_sink { self.exit.0.now ≡ (sink_of self.entry).now }
