@@ -6,3 +6,6 @@ pub mod ContentEnds
 pub mod EmptyIsClean
 pub mod CheckTellsClean
 pub mod BuiltIsClean
+pub mod TextWidths
+pub mod TextEnds
+pub mod BuiltTextIsClean

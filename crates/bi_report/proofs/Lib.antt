@@ -32,3 +32,4 @@ pub mod JsonListings
 pub mod JsonReports
 pub mod FoundImages
 pub mod TreeMemory
+pub mod CheckFacts

@@ -1,9 +1,14 @@
 use Rattle.std.specs.Prelude.{ℕ, ◌+◌, ◌-◌, ◌≡◌, ◌≢◌, ◌≤◌, ◌↔◌, ◌⊎◌, IsTrue, IsFalse, IsSome, IfSome}
 use Rattle.std.specs.Prelude.{Bool, Option, Some, List, [], drop, length}
 use Rattle.std.specs.List.{AllByRecursion, AllZip, Contains, slice_get}
+use Rattle.bi_base.specs.declared.fault.Error.{Error}
+use Rattle.bi_base.specs.declared.fault.Error.TheVariants.{OutOfMemory}
 use Rattle.bi_base.specs.Limits.{Limits}
 use Rattle.bi_blob.specs.Blob.{totalsize}
+use Rattle.bi_blob.specs.Layout.{longest_text}
 use Rattle.bi_blob.specs.Tree.{Nodes, FileNode, names}
+use Rattle.bi_fit.specs.declared.building.Head.{Head}
+use Rattle.bi_fit.specs.declared.form.Form.{Form}
 use Rattle.bi_fit.specs.declared.key.Key.{Key}
 use Rattle.bi_fit.specs.Building.{HeadModel, PlanModel, ImageSpecModel, CanBeBuilt, IsPlanFor}
 use Rattle.bi_fit.specs.Building.{built_tree, names_of_images}
@@ -16,10 +21,12 @@ use Rattle.bi_hash.specs.declared.algo.Algo.{Algo}
 use Rattle.bi_hash.specs.declared.verdicts.Verdict.TheVariants.{Good}
 use Rattle.bi_hash.specs.Algos.{algorithm_name}
 use Rattle.bi_legacy.specs.Reading.{LegacyModel, IsReadLegacy}
+use Rattle.bi_norm.specs.declared.fit_building.ImageSpec.{ImageSpec}
+use Rattle.bi_norm.specs.FitBuilding.{PlanSpecModel, IsBuiltAs}
 use Rattle.bi_common.specs.declared.format.Format.{Format}
 use Rattle.bi_common.specs.declared.format.Format.TheVariants.{Lines}
 use Rattle.bi_report.specs.declared.check.Allowed.{Allowed}
-use Rattle.bi_report.specs.CheckedFiles.{IsChecked, IsCheckOutput}
+use Rattle.bi_report.specs.CheckedFiles.{IsChecked, IsCheckError, IsCheckOutput}
 use Rattle.bi_report.specs.Checking.{hashes_of_image, strong_algorithms}
 use Rattle.bi_report.specs.Reports.{AreGood}
 
@@ -139,11 +146,37 @@ pub record HasStrongAlgorithm (algorithms : List Algo) : Type 0 where
   pub is_there : Contains algorithms algo
   pub is_strong : Contains strong_algorithms (algorithm_name algo)
 
--- The law that a built image tree has no concerns, if one of the algorithms of its hash nodes is
--- strong or it has no images.
+-- Hash nodes with these algorithms protect an image, but for what is allowed: there is one, and one
+-- of them is strong.
+pub record ProtectImages (allowed : Allowed) (algorithms : List Algo) : Type 0 where
+  pub unhashed : IsFalse allowed.unhashed → algorithms ≢ []
+  pub weak_hash : IsFalse allowed.weak_hash → algorithms ≢ [] → HasStrongAlgorithm algorithms
+
+-- The law that a built image tree is clean if and only if it has no images or its hash nodes
+-- protect them. So nothing else in it is ever a concern.
 abbrev pub BuiltIsClean : Type 0
 BuiltIsClean =
     (allowed : Allowed) (head : HeadModel) (plan : PlanModel) (images : List ImageSpecModel)
     → CanBeBuilt head images → IsPlanFor (names_of_images images) plan
-    → HasStrongAlgorithm plan.algorithms ⊎ (images ≡ [])
     → IsCleanTree allowed (built_tree head plan images)
+    ↔ ((images ≡ []) ⊎ ProtectImages allowed plan.algorithms)
+
+-- What checking a text finds, if it is that of a tree that is built of these images with hash nodes
+-- of these algorithms: the only error is that memory runs out, and the text is clean if and only if
+-- there are no images or the hash nodes protect them. So its payloads are within the payload bound,
+-- and no byte that is not zero follows them.
+pub record IsBuiltClean (allowed : Allowed) (bounds : Limits) (images : List ImageSpec)
+    (algorithms : List Algo) (text : List ℕ) : Type 0 where
+  pub error : (error : Error) → IsCheckError bounds text error → error ≡ OutOfMemory
+  pub is_clean : IsClean allowed bounds text
+      ↔ ((images ≡ []) ⊎ ProtectImages allowed algorithms)
+
+-- The law that checking what is built, in any form, finds that, within limits that hold it, if at
+-- least four nodes may be open.
+abbrev pub BuiltTextIsClean : Type 0
+BuiltTextIsClean =
+    (allowed : Allowed) (limits bounds : Limits) (form : Form) (head : Head)
+    (plan : PlanSpecModel) (images : List ImageSpec) (text : List ℕ)
+    → IsBuiltAs limits form head plan images text
+    → 4 ≤ bounds.depth → length text ≤ bounds.file → bounds.file ≤ longest_text
+    → IsBuiltClean allowed bounds images plan.algorithms text

@@ -10,6 +10,7 @@ pub mod ConcernsLeft
 pub mod CheckedImages
 pub mod ReadListing
 pub mod Reports
+pub mod KnownChecks
 pub mod KnownConcerns
 pub mod KnownTexts
 pub mod LineValues

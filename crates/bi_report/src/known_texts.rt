@@ -2,6 +2,7 @@
 //! nothing: what it ensures is a fact about the definitions. Some of them call the function of a
 //! law, from which their facts follow.
 
+ghost use Rattle.bi_report.specs.KnownChecks.{BuiltTextIsKnown, PayloadBoundIsKnown, ProtectionIsKnown};
 ghost use Rattle.bi_report.specs.KnownConcerns.{ConcernsAreKnown, StrongAlgorithmsAreKnown};
 ghost use Rattle.bi_report.specs.KnownConcerns.{TrailingBytesAreKnown, LegacyConcernsAreKnown};
 ghost use Rattle.bi_report.specs.KnownConcerns.{AllowedKindsAreKnown};
@@ -68,6 +69,24 @@ pub fn legacy_concerns_are_known()
 /// Each kind of concerns is allowed by its own name.
 pub fn allowed_kinds_are_known()
     ensures { AllowedKindsAreKnown }
+{}
+
+/// A small image tree with SHA-256 is built, and its text is clean: checking it can only run out of
+/// memory.
+pub fn built_text_is_known()
+    ensures { BuiltTextIsKnown }
+{}
+
+/// Some algorithms of hash nodes protect images, and others do so only if what is missing is
+/// allowed.
+pub fn protection_is_known()
+    ensures { ProtectionIsKnown }
+{}
+
+/// Checking a file whose images share a region has the error `TooLarge` only under a limit that is
+/// lower than the length of its payloads together.
+pub fn payload_bound_is_known()
+    ensures { PayloadBoundIsKnown }
 {}
 
 /// Small images have known claims: those that are whole, and those whose header fails a check.

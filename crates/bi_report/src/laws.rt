@@ -1,7 +1,8 @@
 //! Laws of what is listed, reported, checked and found. Their functions do nothing: what each of
 //! them ensures is the law.
 
-ghost use Rattle.bi_report.specs.CleanFiles.{BuiltIsClean, CheckTellsClean, EmptyIsClean};
+ghost use Rattle.bi_report.specs.CleanFiles.{BuiltIsClean, BuiltTextIsClean, CheckTellsClean};
+ghost use Rattle.bi_report.specs.CleanFiles.{EmptyIsClean};
 ghost use Rattle.bi_report.specs.JsonLaws.{ConcernsAreJson, ListingsAreJson, ReportsAreJson};
 ghost use Rattle.bi_report.specs.ScanLaws.{EachImageHasItsLine, LinesAreFew, OneScan};
 ghost use Rattle.bi_report.specs.ScanLaws.{ScanHasNoFault, ScannedImagesAreWhole};
@@ -18,10 +19,18 @@ pub fn check_tells_clean()
     ensures { CheckTellsClean }
 {}
 
-/// A built image tree has no concerns, if one of the algorithms of its hash nodes is strong or it
-/// has no images.
+/// A built image tree is clean if and only if it has no images, or each of them has a hash node and
+/// one of a strong algorithm, but for what is allowed.
 pub fn built_is_clean()
     ensures { BuiltIsClean }
+{}
+
+/// The text of such a tree, in any form, is clean if and only if the tree is, and checking it has
+/// no error but `OutOfMemory`, within limits that hold the text and four open nodes. So nothing
+/// follows its payloads, and together they are within the limit. If one of the algorithms is
+/// strong, checking it writes nothing.
+pub fn built_text_is_clean()
+    ensures { BuiltTextIsClean }
 {}
 
 /// A boot image that is found inside a file, cut out at its offset and with its extent, is accepted

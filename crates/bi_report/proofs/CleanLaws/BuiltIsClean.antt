@@ -1,31 +1,34 @@
-use Rattle.std.proofs.Common.{◌≡◌, ◌≢◌, ◌⊎◌, inl, inr, ℕ, ◌+◌, Bool, true, ◌||◌, List, [], ◌∷◌, Some, flat_map, Contains}
-use Rattle.std.proofs.Common.{bytes_eq, refl, sym, ap, subst, ◌∙◌}
+use Rattle.std.proofs.Common.{◌≡◌, ◌≢◌, ◌⊎◌, inl, inr, ℕ, ◌+◌, Bool, true, ◌||◌, List, [], ◌∷◌, Some, flat_map, map, Contains, IsFalse, IsSome}
+use Rattle.std.proofs.Common.{IsTrue, bytes_eq, refl, sym, ap, subst, ◌∙◌, true≢false}
 use Rattle.std.specs.List.{AllByRecursion, list_any}
 use Rattle.std.proofs.lemmas.Slice.Eq.{bytes_eq-Decides}
 use Rattle.bi_base.proofs.ListMembers.{each-map, each-map_back, each-weaker}
-use Rattle.bi_blob.specs.Tree.{names}
+use Rattle.bi_blob.specs.Layout.{is_among}
+use Rattle.bi_blob.specs.Lookups.{Sibling, siblings}
+use Rattle.bi_blob.specs.Tree.{PropertyMap, names}
 use Rattle.bi_hash.specs.declared.algo.Algo.{Algo}
 use Rattle.bi_hash.specs.Algos.{algorithm_name}
-use Rattle.bi_fit.specs.Building.{HeadModel, PlanModel, ImageSpecModel, IsPlanFor, built_tree}
-use Rattle.bi_fit.specs.Building.{configuration_names, names_of_images}
-use Rattle.bi_fit.specs.Judgement.{CheckedHash, BadList, Missing, configuration_nodes, images_of}
-use Rattle.bi_fit.specs.Laws.{HasConfigurations, good_hashes, list_by_names}
+use Rattle.bi_fit.specs.Building.{HeadModel, PlanModel, ImageSpecModel, built_tree, configuration_names}
+use Rattle.bi_fit.specs.ImageTree.{ImageTree, image_nodes, nodes_or_none}
+use Rattle.bi_fit.specs.Judgement.{CheckedHash, BadList, Image, Missing, configuration_nodes, images_of, images_with}
+use Rattle.bi_fit.specs.Laws.{HasConfigurations, HasGoodPayloads, good_hashes, list_by_names}
 use Rattle.bi_fit.proofs.BuiltConfigurations.{built_has_configurations}
 use Rattle.bi_fit.proofs.BuiltVerdicts.{built_has_good_payloads}
-use Rattle.bi_report.specs.Checking.{hashes_of_image, is_strong, is_strong_algorithm, strong_algorithms}
-use Rattle.bi_report.specs.CleanFiles.{BuiltIsClean, HasNoBadList, HasNoMissingImage, HasStrongAlgorithm, IsHashed, IsNotWeak}
-use Rattle.bi_report.specs.CleanFiles.{NamesConfiguration}
+use Rattle.bi_report.specs.declared.check.Allowed.{Allowed}
+use Rattle.bi_report.specs.Checking.{hashes_of_image, is_good, is_strong, is_strong_algorithm, strong_algorithms}
+use Rattle.bi_report.specs.CleanFiles.{BuiltIsClean, HasGoodHash, HasNoBadList, HasNoMissingImage, HasStrongAlgorithm, HasStrongHash}
+use Rattle.bi_report.specs.CleanFiles.{IsCleanTree, IsHashed, IsNotWeak, NamesConfiguration, ProtectImages}
 use Rattle.bi_report.specs.Reports.{AreGood}
-use Rattle.bi_report.proofs.CleanLaws.CleanImages.{both_good, strong_of_test}
+use Rattle.bi_report.proofs.CleanLaws.CleanImages.{both_good, good_of_test, strong_of_test, test_of_good, test_of_strong}
 use Rattle.bi_report.proofs.CleanLaws.NoLines.{any_is_found, passes_any}
 
--- Nothing in an image tree that is built is a concern, if one of the algorithms of its hash nodes is strong, or if it has no image.
+-- An image tree that is built is clean if and only if it has no images, or its hash nodes protect them.
 
 -- The test for a strong algorithm.
-abbrev is_strong_one : Algo → Bool
+abbrev pub is_strong_one : Algo → Bool
 is_strong_one algo = is_strong_algorithm (Some (algorithm_name algo))
 
-strong_passes : (algorithms : List Algo) → HasStrongAlgorithm algorithms → list_any is_strong_one algorithms ≡ true
+pub strong_passes : (algorithms : List Algo) → HasStrongAlgorithm algorithms → list_any is_strong_one algorithms ≡ true
 strong_passes algorithms has =
     passes_any is_strong_one algorithms has.algo has.is_there
     (passes_any (bytes_eq (algorithm_name has.algo)) strong_algorithms (algorithm_name has.algo) has.is_strong
@@ -48,20 +51,60 @@ images_good algorithms (image ∷ later) =
     both_good (good_hashes 1 algorithms image) (flat_map (good_hashes 1 algorithms) later) (all_good 1 algorithms image)
     (images_good algorithms later)
 
--- Each image has a strong hash node.
-abbrev HasStrongOne : List CheckedHash → Type 0
-HasStrongOne hashes = list_any is_strong hashes ≡ true
+-- If there are algorithms, each image has a hash node, which is Good.
+some_good : (number : ℕ) (algorithms : List Algo) (image : ImageSpecModel) → algorithms ≢ [] →
+    list_any is_good (good_hashes number algorithms image) ≡ true
+some_good number [] image some = absurd (some refl)
+some_good number (algo ∷ later) image some = refl
 
-images_strong : (algorithms : List Algo) → list_any is_strong_one algorithms ≡ true → (images : List ImageSpecModel) →
-    AllByRecursion (λ image. HasStrongOne (good_hashes 1 algorithms image)) images
-images_strong algorithms is [] = tt
-images_strong algorithms is (image ∷ later) = (strong_as_algorithms 1 algorithms image ∙ is, images_strong algorithms is later)
+-- A list of algorithms with a strong one is found by the test for one.
+strong_found : (algorithms : List Algo) → list_any is_strong_one algorithms ≡ true → HasStrongAlgorithm algorithms
+strong_found algorithms is =
+    let one = any_is_found is_strong_one algorithms is in
+    let name = any_is_found (bytes_eq (algorithm_name one.0)) strong_algorithms one.2 in
+    record {
+      algo = one.0;
+      is_there = one.1;
+      is_strong = subst (Contains strong_algorithms) (sym ((bytes_eq-Decides (algorithm_name one.0) name.0).0 name.2)) name.1;
+    }
 
-all_strong : (algorithms : List Algo) (images : List ImageSpecModel) → HasStrongAlgorithm algorithms ⊎ (images ≡ []) →
-    AllByRecursion (λ image. HasStrongOne (good_hashes 1 algorithms image)) images
-all_strong algorithms images (inl has) = images_strong algorithms (strong_passes algorithms has) images
-all_strong algorithms images (inr none) =
-    subst (AllByRecursion (λ image. HasStrongOne (good_hashes 1 algorithms image))) (sym none) tt
+-- The hash nodes of an image are Good, and strong if one is Good.
+abbrev HasGoodOne : List CheckedHash → Type 0
+HasGoodOne hashes = list_any is_good hashes ≡ true
+
+abbrev HasStrongIfGood : List CheckedHash → Type 0
+HasStrongIfGood hashes = HasGoodOne hashes → list_any is_strong hashes ≡ true
+
+strong_if_good : (algorithms : List Algo) (image : ImageSpecModel) → (algorithms ≢ [] → HasStrongAlgorithm algorithms) →
+    HasStrongIfGood (good_hashes 1 algorithms image)
+strong_if_good algorithms image strong good =
+    let some : algorithms ≢ [] = λ none. true≢false (sym good ∙ ap (λ a. list_any is_good (good_hashes 1 a image)) none) in
+    strong_as_algorithms 1 algorithms image ∙ strong_passes algorithms (strong some)
+
+-- What holds of the hash nodes of each image with these algorithms, if there are images.
+each_image : (P : List CheckedHash → Type 0) (algorithms : List Algo) (images : List ImageSpecModel) →
+    ((image : ImageSpecModel) → P (good_hashes 1 algorithms image)) →
+    AllByRecursion (λ image. P (good_hashes 1 algorithms image)) images
+each_image P algorithms [] each = tt
+each_image P algorithms (image ∷ later) each = (each image, each_image P algorithms later each)
+
+-- Each image of a built tree has its payload.
+have_payloads : (entries : List (Sibling PropertyMap)) (images : List ImageSpecModel) →
+    AllByRecursion (λ image. IsSome image.payload) (images_with entries (map (λ image. Some image.payload) images))
+have_payloads [] [] = tt
+have_payloads [] (image ∷ images) = tt
+have_payloads (entry ∷ entries) [] = tt
+have_payloads (entry ∷ entries) (image ∷ images) = (refl, have_payloads entries images)
+
+-- What holds of each image with a payload holds of the first, and its hash nodes are these.
+first_image : (P : Image → Type 0) (images : List Image) (hashes : List CheckedHash) (later : List (List CheckedHash)) →
+    map hashes_of_image images ≡ hashes ∷ later → AllByRecursion (λ image. IsSome image.payload) images →
+    AllByRecursion (λ image. IsSome image.payload → P image) images → (image : Image) × P image × (hashes_of_image image ≡ hashes)
+first_image P [] hashes later same some each = absurd cc
+first_image P (image ∷ images) hashes later same some each = (image, each.0 some.0, same_first _ _ same)
+  where
+    same_first : (xs ys : List (List CheckedHash)) → hashes_of_image image ∷ xs ≡ hashes ∷ ys → hashes_of_image image ≡ hashes
+    same_first xs ys is = cc
 
 -- A configuration has no bad list, and none of the images that it lists is missing.
 no_bad_list : (images : List ImageSpecModel) (listed : List (List ℕ)) → list_by_names images listed ≢ BadList
@@ -71,6 +114,10 @@ no_bad_list images (name ∷ later) is = absurd cc
 no_missing : (images : List ImageSpecModel) (listed : List (List ℕ)) (index : ℕ) → list_by_names images listed ≢ Missing index
 no_missing images [] index is = absurd cc
 no_missing images (name ∷ later) index is = absurd cc
+
+-- The default of a plan is one of its configurations.
+abbrev pub IsDefaultOf : PlanModel → Type 0
+IsDefaultOf plan = IsTrue (is_among plan.default (configuration_names plan.configurations))
 
 module _ (head : HeadModel) (plan : PlanModel) (images : List ImageSpecModel) (has : HasConfigurations head plan images) where
   -- What holds of the name of each configuration of the plan holds of the name of each of the tree.
@@ -91,9 +138,9 @@ module _ (head : HeadModel) (plan : PlanModel) (images : List ImageSpecModel) (h
       (λ configuration listed key index missing. no_missing images (configuration.lists key) index (sym (listed key) ∙ missing))
       plan.configurations has.listed)
 
-  default_is_there : IsPlanFor (names_of_images images) plan → NamesConfiguration (built_tree head plan images)
+  default_is_there : IsDefaultOf plan → NamesConfiguration (built_tree head plan images)
   default_is_there is =
-      let found = any_is_found (λ other. bytes_eq other plan.default) (configuration_names plan.configurations) is.default in
+      let found = any_is_found (λ other. bytes_eq other plan.default) (configuration_names plan.configurations) is in
       let same = (bytes_eq-Decides found.0 plan.default).0 found.2 in
       record {
         name = plan.default;
@@ -102,22 +149,78 @@ module _ (head : HeadModel) (plan : PlanModel) (images : List ImageSpecModel) (h
             (subst (Contains (configuration_names plan.configurations)) same found.1);
       }
 
+module _ (allowed : Allowed) (head : HeadModel) (plan : PlanModel) (images : List ImageSpecModel) where
+  abbrev tree : ImageTree
+  tree = built_tree head plan images
+
+  good : HasGoodPayloads head plan images
+  good = built_has_good_payloads head plan images
+
+  -- What holds of the hash nodes with the algorithms holds of those of each image.
+  of_hashes : (P : List CheckedHash → Type 0) → AllByRecursion (λ image. P (good_hashes 1 plan.algorithms image)) images →
+      AllByRecursion (λ image. P (hashes_of_image image)) (images_of tree)
+  of_hashes P each = each-map_back P hashes_of_image (images_of tree)
+      (subst (AllByRecursion P) (sym good.each) (each-map P (good_hashes 1 plan.algorithms) images each))
+
+  -- If there are no images, nothing need hold of any.
+  of_images : (P : List CheckedHash → Type 0) (Protect : Type 0) →
+      (Protect → (image : ImageSpecModel) → P (good_hashes 1 plan.algorithms image)) →
+      (images ≡ []) ⊎ Protect → AllByRecursion (λ image. P (hashes_of_image image)) (images_of tree)
+  of_images P Protect each (inl empty) =
+      of_hashes P (subst (AllByRecursion (λ image. P (good_hashes 1 plan.algorithms image))) (sym empty) tt)
+  of_images P Protect each (inr protect) = of_hashes P (each_image P plan.algorithms images (each protect))
+
+  pub built_tree_is_clean : HasConfigurations head plan images → IsDefaultOf plan →
+      (images ≡ []) ⊎ ProtectImages allowed plan.algorithms → IsCleanTree allowed tree
+  built_tree_is_clean has default protected = record {
+    bad_hash = λ refused. subst AreGood (sym good.verdicts) (images_good plan.algorithms images);
+    unhashed = λ refused. each-weaker _ IsHashed (λ image is some. good_of_test image is) (images_of tree)
+        (of_images HasGoodOne (ProtectImages allowed plan.algorithms)
+        (λ protect image. some_good 1 plan.algorithms image (protect.unhashed refused)) protected);
+    weak_hash = λ refused. each-weaker _ IsNotWeak (λ image is some good. strong_of_test image (is (test_of_good image good))) (images_of tree)
+        (of_images HasStrongIfGood (ProtectImages allowed plan.algorithms)
+        (λ protect image. strong_if_good plan.algorithms image (protect.weak_hash refused)) protected);
+    bad_list = λ refused. lists_are_good head plan images has;
+    missing = λ refused. images_are_there head plan images has;
+    bad_default = λ refused some. default_is_there head plan images has default;
+  }
+
+-- Images that are clean are protected.
+module _ (allowed : Allowed) (head : HeadModel) (plan : PlanModel) (first : ImageSpecModel) (later : List ImageSpecModel)
+    (clean : IsCleanTree allowed (built_tree head plan (first ∷ later))) where
+  abbrev hashes : List CheckedHash
+  hashes = good_hashes 1 plan.algorithms first
+
+  first_is : (P : Image → Type 0) →
+      AllByRecursion (λ image. IsSome image.payload → P image) (images_of (built_tree head plan (first ∷ later))) →
+      (image : Image) × P image × (hashes_of_image image ≡ hashes)
+  first_is P each = first_image P (images_of (built_tree head plan (first ∷ later))) hashes (map (good_hashes 1 plan.algorithms) later)
+      (built_has_good_payloads head plan (first ∷ later)).each
+      (have_payloads (siblings (nodes_or_none (image_nodes (built_tree head plan (first ∷ later)).root))) (first ∷ later)) each
+
+  some_algorithm : IsFalse allowed.unhashed → plan.algorithms ≢ []
+  some_algorithm refused none =
+      let one = first_is HasGoodHash (clean.unhashed refused) in
+      true≢false
+      (sym (test_of_good one.0 one.1) ∙ ap (list_any is_good) one.2 ∙ ap (λ a. list_any is_good (good_hashes 1 a first)) none)
+
+  strong_algorithm : IsFalse allowed.weak_hash → plan.algorithms ≢ [] → HasStrongAlgorithm plan.algorithms
+  strong_algorithm refused some =
+      let one = first_is (λ image. HasGoodHash image → HasStrongHash image) (clean.weak_hash refused) in
+      let is_good = good_of_test one.0 (ap (list_any is_good) one.2 ∙ some_good 1 plan.algorithms first some) in
+      strong_found plan.algorithms
+      (sym (strong_as_algorithms 1 plan.algorithms first) ∙ ap (list_any is_strong) (sym one.2) ∙ test_of_strong one.0 (one.1 is_good))
+
+  images_are_protected : ProtectImages allowed plan.algorithms
+  images_are_protected = record { unhashed = some_algorithm; weak_hash = strong_algorithm }
+
+pub clean_is_protected : (allowed : Allowed) (head : HeadModel) (plan : PlanModel) (images : List ImageSpecModel) →
+    IsCleanTree allowed (built_tree head plan images) → (images ≡ []) ⊎ ProtectImages allowed plan.algorithms
+clean_is_protected allowed head plan [] clean = inl refl
+clean_is_protected allowed head plan (first ∷ later) clean = inr (images_are_protected allowed head plan first later clean)
+
 pub built_is_clean : BuiltIsClean
-built_is_clean allowed head plan images can is_plan strong =
-    let good = built_has_good_payloads head plan images in
-    let has = built_has_configurations head plan images can is_plan in
-    let each = each-map_back HasStrongOne hashes_of_image (images_of (built_tree head plan images))
-    (subst (AllByRecursion HasStrongOne) (sym good.each)
-    (each-map HasStrongOne (good_hashes 1 plan.algorithms) images (all_strong plan.algorithms images strong))) in
-    record {
-      bad_hash = λ refused. subst AreGood (sym good.verdicts) (images_good plan.algorithms images);
-      unhashed = λ refused. each-weaker _ IsHashed
-          (λ image is_strong some. let one = strong_of_test image is_strong in
-          record { hash = one.hash; is_there = one.is_there; is_good = one.is_good })
-          (images_of (built_tree head plan images)) each;
-      weak_hash = λ refused. each-weaker _ IsNotWeak (λ image is_strong some good. strong_of_test image is_strong)
-          (images_of (built_tree head plan images)) each;
-      bad_list = λ refused. lists_are_good head plan images has;
-      missing = λ refused. images_are_there head plan images has;
-      bad_default = λ refused some. default_is_there head plan images has is_plan;
-    }
+built_is_clean allowed head plan images can is_plan = (
+  clean_is_protected allowed head plan images,
+  built_tree_is_clean allowed head plan images (built_has_configurations head plan images can is_plan) is_plan.default,
+)

@@ -38,12 +38,12 @@ good_have_none allowed (hash ∷ later) good = (
 )
 
 -- A Good verdict, and the test for one.
-good_of_test : (image : Image) → list_any is_good (hashes_of_image image) ≡ true → HasGoodHash image
+pub good_of_test : (image : Image) → list_any is_good (hashes_of_image image) ≡ true → HasGoodHash image
 good_of_test image is =
     let one = any_is_found is_good (hashes_of_image image) is in
     record { hash = one.0; is_there = one.1; is_good = good_passes one.0.verdict one.2 }
 
-test_of_good : (image : Image) → HasGoodHash image → list_any is_good (hashes_of_image image) ≡ true
+pub test_of_good : (image : Image) → HasGoodHash image → list_any is_good (hashes_of_image image) ≡ true
 test_of_good image has = passes_any is_good (hashes_of_image image) has.hash has.is_there (ap (is_verdict Good) has.is_good)
 
 -- The name of a strong algorithm, and the test for one.
@@ -74,7 +74,7 @@ strong_of_test image is =
       is_strong = name.2;
     }
 
-test_of_strong : (image : Image) → HasStrongHash image → list_any is_strong (hashes_of_image image) ≡ true
+pub test_of_strong : (image : Image) → HasStrongHash image → list_any is_strong (hashes_of_image image) ≡ true
 test_of_strong image has =
     passes_any is_strong (hashes_of_image image) has.hash has.is_there
     (ap₂ (λ a b. a && b) (ap (is_verdict Good) has.is_good) (test_of_name has.hash.algo has.algorithm has.has_algorithm has.is_strong))

@@ -1,0 +1,64 @@
+use Rattle.std.specs.Prelude.{◌≡◌, ℕ, true, List, [], ◌∷◌, None, codes}
+use Rattle.std.specs.Borrow.{Bor}
+use Rattle.bi_base.specs.declared.fault.Error.{Error}
+use Rattle.bi_base.specs.declared.fault.Error.TheVariants.{OutOfMemory, Refused}
+use Rattle.bi_base.specs.Limits.{widest}
+use Rattle.bi_base.specs.Reading.{too_large}
+use Rattle.bi_hash.specs.declared.algo.Algo.TheVariants.{Crc32, Sha1, Sha256, Sha512}
+use Rattle.bi_fit.specs.declared.form.Form.TheVariants.{Embedded}
+use Rattle.bi_fit.specs.KnownBuilds.{known_text}
+use Rattle.bi_fit.specs.KnownFiles.{shared_file}
+use Rattle.bi_legacy.specs.KnownFaults.{limited_to}
+use Rattle.bi_norm.specs.declared.fit_building.ImageSpec.{ImageSpec}
+use Rattle.bi_norm.specs.FitBuilding.{IsBuilt}
+use Rattle.bi_norm.specs.KnownBuildFaults.{head_like, kernel_like, slice_like}
+use Rattle.bi_report.specs.CheckedFiles.{HoldsTooMuch, IsCheckError}
+use Rattle.bi_report.specs.Checking.{nothing_allowed}
+use Rattle.bi_report.specs.CleanFiles.{IsClean, ProtectImages}
+
+-- Small image trees with what checking them finds: one that is built, and one whose payloads are too
+-- long together, by which a reader can judge the definitions.
+
+-- The kernel `kernel-1` and the ramdisk `ramdisk-1`, wherever their slices are.
+abbrev pub kernel_and_ramdisk : Bor (List ℕ) → List ImageSpec
+kernel_and_ramdisk any =
+    record (kernel_like any (codes "kernel-1")) { payload = slice_like any (codes "hello") }
+    ∷ record (kernel_like any (codes "ramdisk-1")) {
+      image_type = 3;
+      load = None;
+      entry = None;
+      payload = slice_like any (codes "abc");
+    }
+    ∷ []
+
+-- A text of 824 bytes is built of these images. It is clean, and checking it has no error but that
+-- memory runs out.
+pub record IsBuiltText (any : Bor (List ℕ)) : Type 0 where
+  pub is_built :
+      IsBuilt widest Embedded (head_like any (codes "k")) (kernel_and_ramdisk any) known_text
+  pub is_clean : IsClean nothing_allowed widest known_text
+  pub error : (error : Error) → IsCheckError widest known_text error → error ≡ OutOfMemory
+
+-- It is built so, wherever the slices of the arguments are.
+abbrev pub BuiltTextIsKnown : Type 0
+BuiltTextIsKnown = (any : Bor (List ℕ)) → IsBuiltText any
+
+-- A strong algorithm protects images, alone or after a weak one. Weak algorithms alone, or none, do
+-- so only if that is allowed.
+pub record ProtectionIsKnown : Type 0 where
+  pub strong : ProtectImages nothing_allowed (Sha256 ∷ [])
+  pub strong_after_weak : ProtectImages nothing_allowed (Crc32 ∷ Sha512 ∷ [])
+  pub weak : ¬ (ProtectImages (record nothing_allowed { unhashed = true }) (Crc32 ∷ Sha1 ∷ []))
+  pub weak_is_allowed : ProtectImages (record nothing_allowed { weak_hash = true }) (Crc32 ∷ [])
+  pub none : ¬ (ProtectImages (record nothing_allowed { weak_hash = true }) [])
+  pub none_is_allowed : ProtectImages (record nothing_allowed { unhashed = true }) []
+
+-- The payloads of a file of 1244 bytes whose images share a region of 1000 bytes have 3000 bytes
+-- together. So checking the file has the error TooLarge under any lower limit.
+pub record PayloadBoundIsKnown : Type 0 where
+  pub is_over : HoldsTooMuch (limited_to 2999) (shared_file 0 1000)
+  pub error :
+      IsCheckError (limited_to 2999) (shared_file 0 1000) (Refused (too_large 2999))
+  pub is_within : ¬ (HoldsTooMuch (limited_to 3000) (shared_file 0 1000))
+  pub no_error :
+      ¬ (IsCheckError (limited_to 3000) (shared_file 0 1000) (Refused (too_large 3000)))
