@@ -15,5 +15,8 @@ pub mod BuildFaultFacts
 pub mod PlanFaultFacts
 pub mod ComparisonFacts
 pub mod TextBoundFacts
+pub mod NormalFormFacts
+pub mod ConvertFacts
+pub mod BuiltTextFacts
 pub mod BuiltChecks
 pub mod BuiltTexts

@@ -9,8 +9,9 @@ use Rattle.bi_blob.specs.Blob.{blob_magic}
 use Rattle.bi_blob.specs.BlobFaults.{HasNoFaultBeforeTree, IsFaultBeforeTree}
 use Rattle.bi_blob.specs.Layout.{longest_text, text_of_events, text_of_blocks}
 use Rattle.bi_blob.proofs.Blobs.BeforeTree.{fault_before_tree_comes_first}
-use Rattle.bi_legacy.specs.File.{legacy_magic, header}
+use Rattle.bi_legacy.specs.File.{legacy_magic, header, LegacyMeans}
 use Rattle.bi_legacy.specs.Meaning.{LegacyImage}
+use Rattle.bi_legacy.specs.NormalForm.{HasNormalForm}
 use Rattle.bi_legacy.specs.Reading.{LegacyModel, IsReadLegacy}
 use Rattle.bi_legacy.specs.Text.{legacy_text}
 use Rattle.bi_fit.specs.declared.form.Form.{Form}
@@ -19,12 +20,13 @@ use Rattle.bi_fit.specs.Kept.{IsKept, SaysNothing}
 use Rattle.bi_fit.specs.Content.{FitModel, tree_of}
 use Rattle.bi_fit.specs.Documents.{IsTextError}
 use Rattle.bi_fit.specs.Faults.{InBlob}
-use Rattle.bi_fit.specs.File.{IsFitFile}
+use Rattle.bi_fit.specs.File.{IsFitFile, FitMeans}
 use Rattle.bi_fit.specs.ImageTree.{ImageTree}
 use Rattle.bi_fit.specs.Judgement.{judgement, signature_count as signatures_of_tree}
 use Rattle.bi_fit.specs.Reading.{IsReadFit}
 use Rattle.bi_fit.specs.Text.{fit_text}
 use Rattle.bi_fit.proofs.Faults.{fit_has_no_fault}
+use Rattle.bi_fit.proofs.Meanings.{one_fit_meaning}
 use Rattle.bi_fit.proofs.TextLaws.{file_means_image_tree, normal_fit_text_is_accepted, same_text_same_tree, text_keeps_judgement}
 use Rattle.bi_norm.specs.Meaning.{Meaning, OfLegacy, OfFit, Means, normal_text}
 use Rattle.bi_norm.specs.NormalForm.{IsNormalForm, IsNormaliseError, IsNormaliseKept}
@@ -64,50 +66,61 @@ only_legacy limits file parsed opened (OfFit tree) means =
     absurd (means_tree limits file tree means (means_legacy limits file parsed.image opened.means))
 
 -- Files that mean something else have another normal text.
-distinguishes_legacy : (limits : Limits) (form : Form) (file : List ℕ) (parsed : LegacyModel) → IsReadLegacy limits file parsed →
+pub distinguishes_legacy : (limits : Limits) (form : Form) (image : LegacyImage) → HasNormalForm limits image →
     (other_file : List ℕ) (other : Meaning) → Means limits other_file other →
-    (normal_text form other ≡ legacy_text parsed.image) ↔ (other ≡ OfLegacy parsed.image)
-distinguishes_legacy limits form file parsed opened other_file (OfLegacy other) means = (
-  λ same. ap OfLegacy (opened.normal_form.only_image other_file other means.is_file same),
+    (normal_text form other ≡ legacy_text image) ↔ (other ≡ OfLegacy image)
+distinguishes_legacy limits form image normal other_file (OfLegacy other) means = (
+  λ same. ap OfLegacy (normal.only_image other_file other means.is_file same),
   λ same. ap (normal_text form) same,
 )
-distinguishes_legacy limits form file parsed opened other_file (OfFit tree) means = (
-  λ same. absurd (texts_differ form parsed.image tree (sym same)),
+distinguishes_legacy limits form image normal other_file (OfFit tree) means = (
+  λ same. absurd (texts_differ form image tree (sym same)),
   λ same. ap (normal_text form) same,
 )
+
+-- The normal text of a legacy image is the normal form of a file that means it and nothing else.
+unfoldable pub normal_form_of_image : (limits : Limits) (form : Form) (file : List ℕ) (image : LegacyImage) →
+    LegacyMeans limits file image → ((other : Meaning) → Means limits file other → other ≡ OfLegacy image) → HasNormalForm limits image →
+    IsNormalForm limits form file (legacy_text image)
+normal_form_of_image limits form file image means only normal = record {
+  meaning = OfLegacy image;
+  means = means;
+  only = only;
+  is_text = refl;
+  distinguishes = distinguishes_legacy limits form image normal;
+  is_own = normal.text_means_image;
+  keeps_judgement = λ tree other of_tree text_means. absurd (means_tree limits file tree of_tree (means_legacy limits file image means));
+}
 
 -- The normal text of a legacy image that was read from a file is the normal form of the file.
 pub legacy_normal_form : (limits : Limits) (form : Form) (file : List ℕ) (parsed : LegacyModel) → IsReadLegacy limits file parsed →
     IsNormalForm limits form file (legacy_text parsed.image)
-legacy_normal_form limits form file parsed opened = record {
-  meaning = OfLegacy parsed.image;
-  means = opened.means;
-  only = only_legacy limits file parsed opened;
-  is_text = refl;
-  distinguishes = distinguishes_legacy limits form file parsed opened;
-  is_own = opened.normal_form.text_means_image;
-  keeps_judgement = λ tree other means text_means. absurd
-      (means_tree limits file tree means (means_legacy limits file parsed.image opened.means));
-}
+legacy_normal_form limits form file parsed opened =
+    normal_form_of_image limits form file parsed.image opened.means (only_legacy limits file parsed opened) opened.normal_form
 
 -- Nothing is said of it.
 pub legacy_kept : (limits : Limits) (form : Form) (file : List ℕ) (parsed : LegacyModel) (kept : Kept) → IsReadLegacy limits file parsed →
     kept.signatures ≡ 0 → SaysNothing kept → IsNormaliseKept limits form kept file (legacy_text parsed.image)
-unfolding legacy_normal_form
+unfolding legacy_normal_form normal_form_of_image
 legacy_kept limits form file parsed kept opened none says = record {
   output = record { normal = legacy_normal_form limits form file parsed opened; signatures = none };
   is_kept = says;
 }
 
 -- A file that means a flattened image tree means nothing else.
+pub tree_alone : (limits : Limits) (file : List ℕ) (tree : ImageTree) → FitMeans limits file tree → (other : Meaning) →
+    Means limits file other → other ≡ OfFit tree
+tree_alone limits file tree means (OfFit other) other_means =
+    ap OfFit (one_fit_meaning file other tree other_means.is_file means.is_file)
+tree_alone limits file tree means (OfLegacy image) other_means =
+    absurd (means_tree limits file tree means (means_legacy limits file image other_means))
+
 pub only_tree : (limits : Limits) (file : List ℕ) (content : FitModel) → IsReadFit limits file content → (other : Meaning) →
     Means limits file other → other ≡ OfFit (tree_of content)
-only_tree limits file content opened (OfFit other) means = ap OfFit (opened.only other means)
-only_tree limits file content opened (OfLegacy image) means =
-    absurd (means_tree limits file (tree_of content) opened.means (means_legacy limits file image means))
+only_tree limits file content opened = tree_alone limits file (tree_of content) opened.means
 
 -- Files that mean something else have another normal text.
-distinguishes_tree : (limits : Limits) (form : Form) (file : List ℕ) (tree : ImageTree) → IsFitFile file tree →
+pub distinguishes_tree : (limits : Limits) (form : Form) (file : List ℕ) (tree : ImageTree) → IsFitFile file tree →
     length (fit_text form tree) ≤ longest_text → (other_file : List ℕ) (other : Meaning) → Means limits other_file other →
     (normal_text form other ≡ fit_text form tree) ↔ (other ≡ OfFit tree)
 distinguishes_tree limits form file tree is short other_file (OfFit other) means = (
@@ -121,24 +134,29 @@ distinguishes_tree limits form file tree is short other_file (OfLegacy image) me
   λ same. ap (normal_text form) same,
 )
 
--- The normal text of a flattened image tree that was read from a file is the normal form of the file, if it is no longer than the limit.
+-- The normal text of a flattened image tree is the normal form of a file that means it, if it is no longer than the limit.
+unfoldable pub normal_form_of_tree : (limits : Limits) (form : Form) (file : List ℕ) (tree : ImageTree) → FitMeans limits file tree →
+    length (fit_text form tree) ≤ limits.file → limits.file ≤ longest_text → IsNormalForm limits form file (fit_text form tree)
+normal_form_of_tree limits form file tree means fits most =
+    let short : length (fit_text form tree) ≤ longest_text = omega (arith, fits, most) in
+    record {
+      meaning = OfFit tree;
+      means = means;
+      only = tree_alone limits file tree means;
+      is_text = refl;
+      distinguishes = distinguishes_tree limits form file tree means.is_file short;
+      is_own = (normal_fit_text_is_accepted limits form file tree means fits most).means;
+      keeps_judgement = λ one other of_file of_text.
+          text_keeps_judgement form file tree other means.is_file short of_text.is_file
+          ∙ ap judgement (one_fit_meaning file tree one means.is_file of_file.is_file);
+    }
+
+-- So is that of a tree that was read from the file.
 pub tree_normal_form : (limits : Limits) (form : Form) (file : List ℕ) (content : FitModel) → IsReadFit limits file content →
     length (fit_text form (tree_of content)) ≤ limits.file → limits.file ≤ longest_text →
     IsNormalForm limits form file (fit_text form (tree_of content))
 tree_normal_form limits form file content opened fits most =
-    let tree = tree_of content in
-    let short : length (fit_text form (tree_of content)) ≤ longest_text = omega (arith, fits, most) in
-    record {
-      meaning = OfFit tree;
-      means = opened.means;
-      only = only_tree limits file content opened;
-      is_text = refl;
-      distinguishes = distinguishes_tree limits form file tree opened.means.is_file short;
-      is_own = (normal_fit_text_is_accepted limits form file tree opened.means fits most).means;
-      keeps_judgement = λ one other means text_means.
-          text_keeps_judgement form file tree other opened.means.is_file short text_means.is_file
-          ∙ ap judgement (sym (opened.only one means));
-    }
+    normal_form_of_tree limits form file (tree_of content) opened.means fits most
 
 -- It keeps what the text of its tree does.
 pub tree_kept : (limits : Limits) (form : Form) (file : List ℕ) (content : FitModel) (kept : Kept) → IsReadFit limits file content →
@@ -146,7 +164,7 @@ pub tree_kept : (limits : Limits) (form : Form) (file : List ℕ) (content : Fit
     kept.signatures ≡ signatures_of_tree (tree_of content) →
     IsKept form content.blob.file (tree_of content) (tree_of content) kept →
     IsNormaliseKept limits form kept file (fit_text form (tree_of content))
-unfolding tree_normal_form
+unfolding tree_normal_form normal_form_of_tree
 tree_kept limits form file content kept opened fits most is says = record {
   output = record { normal = tree_normal_form limits form file content opened fits most; signatures = is };
   is_kept = subst (λ file. IsKept form file (tree_of content) (tree_of content) kept) opened.is_file says;

@@ -1,6 +1,8 @@
-use Rattle.std.specs.Prelude.{ℕ, List, [], ◌∷◌, codes}
+use Rattle.std.specs.Prelude.{ℕ, ◌≡◌, ◌↔◌, List, [], ◌∷◌, codes}
 use Rattle.bi_base.specs.declared.fault.Cause.TheVariants.{BadPart}
-use Rattle.bi_norm.specs.Cutting.{IsCut, IsCutFault}
+use Rattle.bi_base.specs.declared.fault.Error.{Error}
+use Rattle.bi_base.specs.declared.fault.Error.TheVariants.{Refused, OutOfMemory}
+use Rattle.bi_norm.specs.Cutting.{IsCut, IsCutFault, IsCutError}
 
 -- Small inputs with their pieces, or with the fault of those that cannot be cut, by which a reader
 -- can judge the definitions.
@@ -24,3 +26,14 @@ pub record CutFaultsAreKnown : Type 0 where
   pub at_end : HasCutFault (codes "helloabc") (8 ∷ 0 ∷ 1 ∷ 0 ∷ []) 8
   pub left : HasCutFault (codes "helloabc") (5 ∷ 2 ∷ []) 7
   pub no_pieces : HasCutFault (codes "x") [] 0
+
+-- Cutting the input into pieces of these lengths fails with these errors, and with no others.
+abbrev pub FailsCutting : List ℕ → List ℕ → (Error → Type 0) → Type 0
+FailsCutting input lengths IsOne = (error : Error) → IsCutError input lengths error ↔ IsOne error
+
+-- Memory never runs out for an input that cannot be cut.
+pub record CutErrorsAreKnown : Type 0 where
+  pub cut : FailsCutting (codes "helloabc") (5 ∷ 3 ∷ []) (λ error. error ≡ OutOfMemory)
+  pub left :
+      FailsCutting (codes "helloabc") (5 ∷ [])
+      (λ error. error ≡ Refused (record { cause = BadPart; offset = 5 }))

@@ -16,4 +16,7 @@ pub mod KnownBuildFaults
 pub mod KnownPlans
 pub mod KnownBounds
 pub mod KnownComparisons
+pub mod KnownNormalForms
+pub mod KnownConvertedFiles
+pub mod KnownBuiltTexts
 pub mod Laws

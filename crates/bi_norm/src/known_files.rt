@@ -1,13 +1,18 @@
 //! Small files and plans, and what is made of them: legacy images that are converted, inputs with
-//! their pieces, plans, trees that cannot be built, files that are compared, and files whose normal
-//! texts are too long. Each function does nothing: what it ensures is a fact about the definitions.
-//! One of them calls the function of a law, from which its fact follows.
+//! their pieces, plans, trees that cannot be built, files that are compared, and normal forms. Each
+//! function does nothing: what it ensures is a fact about the definitions. Some of them call the
+//! function of a law, from which the fact follows.
 
 ghost use Rattle.bi_norm.specs.KnownConversions.{ConversionsAreKnown, ConvertFaultsAreKnown};
 ghost use Rattle.bi_norm.specs.KnownConversions.{TypesHaveTheirKeys};
 ghost use Rattle.bi_norm.specs.KnownBounds.{TextBoundsAreKnown};
 ghost use Rattle.bi_norm.specs.KnownComparisons.{ComparedFilesAreKnown, CompareErrorsAreKnown};
-ghost use Rattle.bi_norm.specs.KnownPieces.{CutsAreKnown, CutFaultsAreKnown};
+ghost use Rattle.bi_norm.specs.KnownPieces.{CutsAreKnown, CutFaultsAreKnown, CutErrorsAreKnown};
+ghost use Rattle.bi_norm.specs.KnownNormalForms.{NormalFormsAreKnown, NormaliseErrorsAreKnown};
+ghost use Rattle.bi_norm.specs.KnownNormalForms.{KeptOfNormalFormsIsKnown};
+ghost use Rattle.bi_norm.specs.KnownConvertedFiles.{ConvertedFilesAreKnown, ConvertErrorsAreKnown};
+ghost use Rattle.bi_norm.specs.KnownBuiltTexts.{BuiltTextIsKnown, PlanFieldsAreKnown};
+ghost use Rattle.bi_norm.specs.KnownBuiltTexts.{LegacyBuildErrorsAreKnown};
 ghost use Rattle.bi_norm.specs.KnownBuildFaults.{BuildFaultsAreKnown, RefusalsAreKnown};
 ghost use Rattle.bi_norm.specs.KnownPlans.{BuildPlansAreKnown, PlanFaultsAreKnown};
 ghost use Rattle.bi_norm.specs.KnownPlans.{PlanRefusalsAreKnown};
@@ -85,4 +90,56 @@ pub fn compare_errors_are_known()
 /// as that.
 pub fn text_bounds_are_known()
     ensures { TextBoundsAreKnown }
+{}
+
+/// Small files of both kinds have known normal forms, and no others. A signature node is counted.
+/// What the normal forms do not keep of where payloads are is known.
+pub fn normal_forms_are_known()
+    ensures forms { NormalFormsAreKnown }
+    ensures kept { KeptOfNormalFormsIsKnown }
+{
+    bi_legacy::laws::one_meaning();
+}
+
+/// Normalising small files fails with known errors, and with no others: with one for a file that is
+/// refused, by running out of memory for one that is accepted, and with either if the normal text is
+/// longer than the limit.
+pub fn normalise_errors_are_known()
+    ensures { NormaliseErrorsAreKnown }
+{}
+
+/// The file of a legacy image with two parts is converted to a known text of 824 bytes, and to no
+/// other. That of one without parts is not converted.
+pub fn converted_files_are_known()
+    ensures { ConvertedFilesAreKnown }
+{
+    bi_legacy::laws::one_meaning();
+}
+
+/// Converting small files fails with known errors, and with no others.
+pub fn convert_errors_are_known()
+    ensures { ConvertErrorsAreKnown }
+{
+    bi_legacy::laws::one_meaning();
+}
+
+/// Cutting small inputs fails with known errors, and with no others.
+pub fn cut_errors_are_known()
+    ensures { CutErrorsAreKnown }
+{}
+
+/// A kernel and a ramdisk are built as a known text of 824 bytes, and as no other.
+pub fn built_text_is_known()
+    ensures { BuiltTextIsKnown }
+{}
+
+/// Each field of a plan, as a call takes it, is that of what is planned.
+pub fn plan_fields_are_known()
+    ensures { PlanFieldsAreKnown }
+{}
+
+/// Building a small legacy image fails with a known error under a limit that is too low, and runs
+/// out of memory only under a higher one.
+pub fn legacy_build_errors_are_known()
+    ensures { LegacyBuildErrorsAreKnown }
 {}
