@@ -1,14 +1,15 @@
 use Rattle.std.proofs.Common.{◌≡◌, ℕ, List, [], ◌∷◌, ◌++◌, fold, sym, ap, subst, ◌∙◌, append_assoc, append-nil, Option, None, Some, IfSome}
+use Rattle.std.proofs.Common.{rules}
 use Rattle.std.proofs.lemmas.List.Sums.{fold-append}
 use Rattle.bi_blob.specs.Tree.{PropertyMap}
 use Rattle.bi_blob.specs.Events.{Event, NodeEnd}
-use Rattle.bi_blob.specs.Stages.{Stage, BeforeRoot, next_stage}
+use Rattle.bi_blob.specs.Stages.{Stage, next_stage}
 use Rattle.bi_blob.specs.Following.{AllFollow, MayFollowInText, stage_of_events, MayEnd}
 use Rattle.bi_lay.specs.Contents.{Doc, with_event}
 use Rattle.bi_fdt.specs.Views.{table_of_node}
 use Rattle.bi_fdt.specs.declared.node.NodeRef.{NodeRef}
 use Rattle.bi_fit.specs.declared.name_order.NameOrder.{NameOrder}
-use Rattle.bi_fit.specs.NameOrders.{IsNameOrder, HasOrder}
+use Rattle.bi_fit.specs.NameOrders.{HasOrder}
 use Rattle.bi_fit.specs.NormalNodes.{with_events, MayAdd, begin_events}
 
 -- Events that are added to a document in turn are added together, may be added in two parts, and keep its names and an order by these.
@@ -44,10 +45,7 @@ HasNextTable node next = IfSome next (λ other. table_of_node other ≡ table_of
 pub ordered_next : (names : List (List ℕ)) (order : NameOrder) (node : NodeRef) (next : Option NodeRef) → HasNextTable node next →
     HasOrder names order node → HasNextOrder names order next
 ordered_next names order node None same has = tt
-ordered_next names order node (Some other) same has = record {
-  same_names = has.same_names;
-  is_order = subst (λ table. IsNameOrder table order) (sym same) has.is_order;
-}
+ordered_next names order node (Some other) same has = search rules
 
 -- also once events were added.
 pub still_ordered_next : (order : NameOrder) (node : NodeRef) (next : Option NodeRef) (document more : Doc) (events : List Event) →
@@ -74,9 +72,7 @@ MayAdd-front document events later may = follow-front (stage_of_events document.
 -- and the others after them.
 pub MayAdd-back : (document : Doc) (events later : List Event) → MayAdd document (events ++ later) →
     MayAdd (with_events document events) later
-MayAdd-back document events later may =
-    subst (λ stage. AllFollow MayFollowInText stage later) (sym (fold-append next_stage BeforeRoot document.events events))
-    (follow-back (stage_of_events document.events) events later may)
+MayAdd-back document events later may = search (rules, fold-append, follow-back)
 
 -- Nodes with the same name and the same properties begin in the same way.
 pub begin_events-same : (name other : List ℕ) (properties others : PropertyMap) → name ≡ other → properties ≡ others →
@@ -96,21 +92,14 @@ module _ (document : Doc) (begin children : List Event) where
 
   -- its children may follow,
   pub may_have_children : (begun : Doc) → begun ≡ with_events document begin → MayAdd document whole → MayAdd begun children
-  may_have_children begun is may =
-      subst (λ document. MayAdd document children) (sym is)
-      (MayAdd-front (with_events document begin) children (NodeEnd ∷ []) (MayAdd-back document begin (children ++ (NodeEnd ∷ [])) may))
+  may_have_children begun is may = search (rules, MayAdd-front, MayAdd-back)
 
   -- it may end,
   pub may_end : (begun filled : Doc) → begun ≡ with_events document begin → filled ≡ with_events begun children → MayAdd document whole →
       MayEnd (stage_of_events filled.events)
-  may_end begun filled is is_filled may =
-      subst (λ document. MayEnd (stage_of_events document.events)) (sym (is_filled ∙ ap (λ document. with_events document children) is))
-      (MayAdd-back (with_events document begin) children (NodeEnd ∷ []) (MayAdd-back document begin (children ++ (NodeEnd ∷ [])) may)).0
+  may_end begun filled is is_filled may = search (rules, MayAdd-back)
 
   -- and then all of it was added.
   pub whole_added : (begun filled : Doc) → begun ≡ with_events document begin → filled ≡ with_events begun children →
       with_event filled NodeEnd ≡ with_events document whole
-  whole_added begun filled is is_filled =
-      ap (λ document. with_event document NodeEnd) (is_filled ∙ ap (λ document. with_events document children) is)
-      ∙ with_events-append (with_events document begin) children (NodeEnd ∷ [])
-      ∙ with_events-append document begin (children ++ (NodeEnd ∷ []))
+  whole_added begun filled is is_filled = search (rules, with_events-append)

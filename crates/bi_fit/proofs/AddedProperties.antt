@@ -1,4 +1,4 @@
-use Rattle.std.proofs.Common.{◌≡◌, ℕ, List, [], ◌∷◌, map, sym, subst, ◌∙◌}
+use Rattle.std.proofs.Common.{◌≡◌, ℕ, List, [], ◌∷◌, map, rules}
 use Rattle.bi_blob.specs.Events.{NodeProperty}
 use Rattle.bi_blob.specs.Following.{stage_of_events, MayHaveNextProperty}
 use Rattle.bi_lay.specs.declared.items.Value.{Value}
@@ -29,9 +29,4 @@ module _ (document target : Doc) (entry : ℕ × Value) (later : List (ℕ × Va
   -- and then the others are left.
   pub adding_more : (more : Doc) → more ≡ with_event document (NodeProperty (name_numbered document.names entry.0, value_bytes entry.1)) →
       IsAddingEntries more target later
-  adding_more more is =
-      let property = NodeProperty (name_numbered document.names entry.0, value_bytes entry.1) in
-      subst (λ document. IsAddingEntries document target later) (sym is) (record {
-        added = with_events-append document (property ∷ []) (map NodeProperty (named_values document.names later)) ∙ adding.added;
-        may = MayAdd-back document (property ∷ []) (map NodeProperty (named_values document.names later)) adding.may;
-      })
+  adding_more more is = search (rules, with_events-append, MayAdd-back)

@@ -1,4 +1,4 @@
-use Rattle.std.proofs.Common.{◌≡◌, ℕ, ◌+◌, ◌<◌, ◌≤◌, List, [], ◌∷◌, ◌++◌, length, take, drop, get_or, Option, Some}
+use Rattle.std.proofs.Common.{◌≡◌, ℕ, ◌+◌, ◌<◌, ◌≤◌, List, [], ◌∷◌, ◌++◌, length, take, drop, get_or, Option, Some, rules}
 use Rattle.std.proofs.Common.{None, Bor, refl, sym, ap, ◌∙◌, arith, append-nil, append_assoc}
 use Rattle.std.proofs.lemmas.List.{take-append-drop, take_more}
 use Rattle.std.specs.Prelude.{option_map}
@@ -82,17 +82,11 @@ nothing_more images i d within is =
 
 pub area_without_payload : (align : ℕ) (images : List Image) (i : ℕ) (d : Image) → i < length images →
     (get_or images i d).payload ≡ None → area_before align images (i + 1) ≡ area_before align images i
-area_without_payload align images i d within is =
-    let first = payloads_of (take i images) in
-    ap (payload_area align 0) (nothing_more images i d within is)
-    ∙ payload_area-append align 0 first (None ∷ [])
-    ∙ append-nil (payload_area align 0 first)
+area_without_payload align images i d within is = search (rules, nothing_more, payload_area-append, append-nil)
 
 pub end_without_payload : (align : ℕ) (images : List Image) (i : ℕ) (d : Image) → i < length images →
     (get_or images i d).payload ≡ None → end_before align images (i + 1) ≡ end_before align images i
-end_without_payload align images i d within is =
-    ap (payloads_end align 0) (nothing_more images i d within is)
-    ∙ payloads_end-append align 0 (payloads_of (take i images)) (None ∷ [])
+end_without_payload align images i d within is = search (rules, nothing_more, payloads_end-append)
 
 -- What comes after the payloads before an image.
 abbrev pub area_from : (align : ℕ) → List Image → ℕ → List ℕ

@@ -1,4 +1,4 @@
-use Rattle.std.proofs.Common.{◌≡◌, ℕ, List, Result, Ok, Err, OnOk, IfErr, refl, subst, sym}
+use Rattle.std.proofs.Common.{◌≡◌, ℕ, List, Result, Ok, Err, OnOk, IfErr, refl, subst, sym, rules}
 use Rattle.bi_base.specs.declared.fault.Error.{Error}
 use Rattle.bi_base.specs.declared.fault.Error.TheVariants.{OutOfMemory}
 use Rattle.bi_base.specs.Commands.{Appended, AppendFailed, WasRefused, SinkFailed}
@@ -9,11 +9,7 @@ use Rattle.bi_base.specs.Sinks.{Wrote}
 -- A text was appended, and what it is implies more.
 pub appended_as : {S : Type 0} (appends : S → List ℕ → S → Type 0) (IsText IsOther : List ℕ → Type 0) (old new : S) →
     ((text : List ℕ) → IsText text → IsOther text) → Appended appends IsText old new → Appended appends IsOther old new
-appended_as appends IsText IsOther old new implies appended = record {
-  text = appended.text;
-  is_text = implies appended.text appended.is_text;
-  appended = appended.appended;
-}
+appended_as appends IsText IsOther old new implies appended = search rules
 
 -- Appending a text failed, and what the text and the errors are implies more.
 pub failed_as : {S : Type 0} (fails : S → List ℕ → S → Error → Type 0) (IsText IsOther : List ℕ → Type 0)

@@ -1,4 +1,4 @@
-use Rattle.std.proofs.Common.{◌≡◌, ℕ, zero, suc, List, [], ◌∷◌, ◌++◌, length, get_or, codes, refl, sym, ap, ap₂, ◌∙◌, nat_cmp, arith}
+use Rattle.std.proofs.Common.{◌≡◌, ℕ, zero, suc, List, [], ◌∷◌, ◌++◌, length, get_or, codes, refl, sym, ap, ap₂, ◌∙◌, nat_cmp, arith, rules}
 use Rattle.std.proofs.Common.{option_and_then}
 use Rattle.std.specs.Fmt.{digits}
 use Rattle.std.specs.Cmp.Lexicographic.{slice_cmp}
@@ -7,7 +7,6 @@ use Rattle.std.proofs.lemmas.Cmp.{nat_list_cmp_total}
 use Rattle.bi_base.specs.Cells.{cell, cell8, u32_at}
 use Rattle.bi_base.specs.Strings.{text_before_nul}
 use Rattle.bi_blob.specs.Tree.{Nodes, none, node, Property, with_each}
-use Rattle.bi_blob.specs.Blob.{off_dt_strings, size_dt_struct, size_dt_strings}
 use Rattle.bi_blob.specs.Layout.{text_of_tree, text_of_events, text_of_blocks}
 use Rattle.bi_hash.specs.Digests.{digest_of}
 use Rattle.bi_hash.specs.declared.algo.Algo.TheVariants.{Crc32, Sha256}
@@ -95,13 +94,7 @@ known_is_text =
 
 pub built_is_known : BuiltIsKnown
 unfolding text_of_events text_of_blocks cell cell8 u32_at
-built_is_known = record {
-  is_tree = known_is_tree;
-  is_length = ap length known_is_text;
-  structure_size = ap size_dt_struct known_is_text;
-  strings_begin = ap off_dt_strings known_is_text;
-  strings_size = ap size_dt_strings known_is_text;
-}
+built_is_known = search (rules, known_is_tree, known_is_text)
 
 pub each_key_is_known : EachKeyIsKnown
 each_key_is_known = record { names = refl; types = refl; lists = refl }
@@ -114,11 +107,7 @@ devicetree_node : (name payload : List ℕ) (later : Nodes (List Property)) →
     (with_each (entries {R = slice_cmp nat_cmp}) (built_hash_nodes 1 (Crc32 ∷ Sha256 ∷ []) payload)) later
     ≡ node name (properties_of_devicetree payload) (hashes_of_board payload) later
 unfolding digits
-devicetree_node name payload later =
-    λ i. node name (entries_in_order ((data_name, payload) ∷ built_image_properties known_head (board_devicetree name payload)) i)
-    (node (codes "hash-1") (entries_in_order (built_hash_properties Crc32 (digest_of Crc32 payload)) i) none
-    (node (codes "hash-2") (entries_in_order (built_hash_properties Sha256 (digest_of Sha256 payload)) i) none none))
-    later
+devicetree_node name payload later = search (rules, entries_in_order)
 
 boards_are_tree : normal_tree Embedded tree_of_boards ≡ known_tree_of_boards
 unfolding digits

@@ -1,5 +1,5 @@
 use Rattle.std.proofs.Common.{◌≡◌, ℕ, ◌+◌, ◌<◌, ◌^◌, Bool, true, false, not, List, [], ◌∷◌, ◌++◌, map, flat_map, filter, length, Option}
-use Rattle.std.proofs.Common.{Some, None}
+use Rattle.std.proofs.Common.{Some, None, rules}
 use Rattle.std.proofs.Common.{bytes_eq, codes, refl, sym, ap, ap₂, ◌∙◌, nat_cmp, option_and_then, append-nil}
 use Rattle.std.specs.Prelude.{nat_eq, ◌||◌, IsTrue}
 use Rattle.std.specs.List.{AllByRecursion, list_all, ends_with}
@@ -98,33 +98,11 @@ module _ (configuration : ConfigurationSpecModel) where
   found_key : (key : Key) → find (slice_cmp nat_cmp) (key_name key) (lists_of all_keys) ≡ list_value (configuration.lists key)
   found_key Kernel = hit Kernel (configuration.lists Kernel) (lists_of (Fdt ∷ Ramdisk ∷ Firmware ∷ Loadables ∷ Script ∷ []))
       (none_of Kernel (Fdt ∷ Ramdisk ∷ Firmware ∷ Loadables ∷ Script ∷ []) refl)
-  found_key Fdt =
-      skip Fdt Kernel refl (configuration.lists Kernel) (lists_of (Fdt ∷ Ramdisk ∷ Firmware ∷ Loadables ∷ Script ∷ []))
-      ∙ hit Fdt (configuration.lists Fdt) (lists_of (Ramdisk ∷ Firmware ∷ Loadables ∷ Script ∷ []))
-      (none_of Fdt (Ramdisk ∷ Firmware ∷ Loadables ∷ Script ∷ []) refl)
-  found_key Ramdisk =
-      skip Ramdisk Kernel refl (configuration.lists Kernel) (lists_of (Fdt ∷ Ramdisk ∷ Firmware ∷ Loadables ∷ Script ∷ []))
-      ∙ skip Ramdisk Fdt refl (configuration.lists Fdt) (lists_of (Ramdisk ∷ Firmware ∷ Loadables ∷ Script ∷ []))
-      ∙ hit Ramdisk (configuration.lists Ramdisk) (lists_of (Firmware ∷ Loadables ∷ Script ∷ []))
-      (none_of Ramdisk (Firmware ∷ Loadables ∷ Script ∷ []) refl)
-  found_key Firmware =
-      skip Firmware Kernel refl (configuration.lists Kernel) (lists_of (Fdt ∷ Ramdisk ∷ Firmware ∷ Loadables ∷ Script ∷ []))
-      ∙ skip Firmware Fdt refl (configuration.lists Fdt) (lists_of (Ramdisk ∷ Firmware ∷ Loadables ∷ Script ∷ []))
-      ∙ skip Firmware Ramdisk refl (configuration.lists Ramdisk) (lists_of (Firmware ∷ Loadables ∷ Script ∷ []))
-      ∙ hit Firmware (configuration.lists Firmware) (lists_of (Loadables ∷ Script ∷ [])) (none_of Firmware (Loadables ∷ Script ∷ []) refl)
-  found_key Loadables =
-      skip Loadables Kernel refl (configuration.lists Kernel) (lists_of (Fdt ∷ Ramdisk ∷ Firmware ∷ Loadables ∷ Script ∷ []))
-      ∙ skip Loadables Fdt refl (configuration.lists Fdt) (lists_of (Ramdisk ∷ Firmware ∷ Loadables ∷ Script ∷ []))
-      ∙ skip Loadables Ramdisk refl (configuration.lists Ramdisk) (lists_of (Firmware ∷ Loadables ∷ Script ∷ []))
-      ∙ skip Loadables Firmware refl (configuration.lists Firmware) (lists_of (Loadables ∷ Script ∷ []))
-      ∙ hit Loadables (configuration.lists Loadables) (lists_of (Script ∷ [])) (none_of Loadables (Script ∷ []) refl)
-  found_key Script =
-      skip Script Kernel refl (configuration.lists Kernel) (lists_of (Fdt ∷ Ramdisk ∷ Firmware ∷ Loadables ∷ Script ∷ []))
-      ∙ skip Script Fdt refl (configuration.lists Fdt) (lists_of (Ramdisk ∷ Firmware ∷ Loadables ∷ Script ∷ []))
-      ∙ skip Script Ramdisk refl (configuration.lists Ramdisk) (lists_of (Firmware ∷ Loadables ∷ Script ∷ []))
-      ∙ skip Script Firmware refl (configuration.lists Firmware) (lists_of (Loadables ∷ Script ∷ []))
-      ∙ skip Script Loadables refl (configuration.lists Loadables) (lists_of (Script ∷ []))
-      ∙ hit Script (configuration.lists Script) (lists_of []) refl
+  found_key Fdt = search (rules, skip, hit, none_of)
+  found_key Ramdisk = search (rules, skip, hit, none_of)
+  found_key Firmware = search (rules, skip, hit, none_of)
+  found_key Loadables = search (rules, skip, hit, none_of)
+  found_key Script = search (rules, skip, hit)
 
 -- The properties of a configuration by name.
 abbrev configuration_by_name : HeadModel → ConfigurationSpecModel → PropertyMap
@@ -189,9 +167,7 @@ name_found head algorithms (image ∷ later) name among =
 images_listed : (images : List Image) (specs : List ImageSpecModel) (index : ℕ) (names : List (List ℕ)) →
     AllByRecursion (IsFoundIn images specs) names → list_images images index names ≡ ListedImages (map (listed_by_name specs) names)
 images_listed images specs index [] found = refl
-images_listed images specs index (name ∷ later) found =
-    rw (found.0.1, images_listed images specs (index + 1) later found.1)
-    (ap (λ payload. ListedImages (record { name = name; payload = payload } ∷ map (listed_by_name specs) later)) found.0.2)
+images_listed images specs index (name ∷ later) found = search (rules, images_listed images specs (index + 1) later found.1)
 
 -- What the value of a key lists.
 value_lists : (images : List Image) (specs : List ImageSpecModel) (names : List (List ℕ)) → AllByRecursion (IsFoundIn images specs) names →
@@ -243,10 +219,7 @@ nodes_found head (configuration ∷ later) distinct = (
 node_lists : (head : HeadModel) (images : List Image) (configuration : ConfigurationSpecModel) (nodes : Nodes PropertyMap) (key : Key) →
     IsNodeIn head nodes configuration →
     listed_under images (node_named nodes configuration.name) key ≡ listed_at images (list_value (configuration.lists key))
-node_lists head images configuration nodes key found =
-    ap (λ node. listed_under images node key) found.1
-    ∙ ap (λ own. listed_at images (get own (key_name key))) found.2
-    ∙ ap (listed_at images) (has_under head configuration key)
+node_lists head images configuration nodes key found = search (rules, has_under)
 
 module _ (head : HeadModel) (plan : PlanModel) (images : List ImageSpecModel) (can : CanBeBuilt head images)
     (each : AllByRecursion (IsConfigurationSpec (names_of_images images)) plan.configurations) where
@@ -309,21 +282,12 @@ built_has_configurations head plan images can is = has_configurations head plan 
 
 -- What is among later names is among all.
 among_later : (first name : List ℕ) (names : List (List ℕ)) → is_among name names ≡ true → is_among name (first ∷ names) ≡ true
-among_later first name names among = ap (λ b. bytes_eq first name || b) among ∙ or_true (bytes_eq first name)
-  where
-    or_true : (b : Bool) → (b || true) ≡ true
-    or_true true = refl
-    or_true false = refl
+among_later first name names among = search rules
 
 -- The name of each image is among the names.
 each_among : (images : List ImageSpecModel) → AllByRecursion (λ image. IsTrue (is_among image.name (names_of_images images))) images
 each_among [] = tt
-each_among (image ∷ later) = (
-  ap (λ b. b || is_among image.name (names_of_images later)) ((bytes_eq-Decides image.name image.name).1 refl),
-  each-weaker (λ other. IsTrue (is_among other.name (names_of_images later)))
-      (λ other. IsTrue (is_among other.name (names_of_images (image ∷ later))))
-      (λ other among. among_later image.name other.name (names_of_images later) among) later (each_among later),
-)
+each_among (image ∷ later) = search (rules, bytes_eq-Decides, each-weaker, among_later, each_among later)
 
 -- The configuration that lists images by their types lists only these.
 by_types_is : (images : List ImageSpecModel) → IsConfigurationSpec (names_of_images images) (configuration_by_types images)
@@ -351,18 +315,12 @@ HasOwnPayload images image = (listed_by_name images image.name).payload ≡ Some
 own_payload_later : (image : ImageSpecModel) (later some : List ImageSpecModel) → AllByRecursion (HasOwnPayload later) some →
     IsNew image.name (names_of_images some) → AllByRecursion (HasOwnPayload (image ∷ later)) some
 own_payload_later image later [] have new = tt
-own_payload_later image later (other ∷ some) have new = (
-  rw (other_name image.name other.name new.0) have.0,
-  own_payload_later image later some have.1 new.1,
-)
+own_payload_later image later (other ∷ some) have new = search (rules, other_name, own_payload_later image later some have.1 new.1)
 
 -- Images with distinct names have their payloads under their names.
 own_payloads : (images : List ImageSpecModel) → AreDistinct (names_of_images images) → AllByRecursion (HasOwnPayload images) images
 own_payloads [] distinct = tt
-own_payloads (image ∷ later) distinct = (
-  rw ((bytes_eq-Decides image.name image.name).1 refl) refl,
-  own_payload_later image later later (own_payloads later distinct.1) distinct.0,
-)
+own_payloads (image ∷ later) distinct = search (rules, bytes_eq-Decides, own_payload_later, own_payloads later distinct.1)
 
 -- Images are listed by their names as they are.
 listed_as_they_are : (images some : List ImageSpecModel) → AllByRecursion (HasOwnPayload images) some →

@@ -1,5 +1,5 @@
 use Rattle.std.proofs.Common.{◌≡◌, ℕ, ◌+◌, ◌<◌, false, List, [], ◌∷◌, drop, get_or, length, codes, Some, nat_cmp, refl, sym, ap, subst, ◌∙◌}
-use Rattle.std.proofs.Common.{arith}
+use Rattle.std.proofs.Common.{arith, rules}
 use Rattle.std.specs.Cmp.Lexicographic.{slice_cmp}
 use Rattle.std.specs.FinMap.{from_entries, entries, get-from_entries}
 use Rattle.std.proofs.lemmas.Cmp.{nat_list_cmp_total}
@@ -11,15 +11,14 @@ use Rattle.bi_blob.proofs.Blobs.EventTrees.{same_events}
 use Rattle.bi_blob.proofs.Texts.NormalOrder.{has_one_order}
 use Rattle.bi_blob.proofs.Texts.NormalEvents.{normal_events_have_one_tree}
 use Rattle.bi_hash.specs.declared.algo.Algo.{Algo}
-use Rattle.bi_hash.specs.Digests.{digest_of}
 use Rattle.bi_lay.specs.Contents.{Doc, empty_with_names, with_event, HaveSameContent}
 use Rattle.bi_fit.specs.declared.form.Form.{Form}
 use Rattle.bi_fit.specs.declared.form.Form.TheVariants.{Embedded}
 use Rattle.bi_fit.specs.NormalNodes.{MayAdd, with_events, begin_events, next_begin, next_end, leaf_nodes}
 use Rattle.bi_fit.specs.PropertyMapModels.{PropertyMapModel, among}
 use Rattle.bi_fit.specs.Building.{HeadModel, ImageSpecModel, ConfigurationSpecModel, PlanModel, CanBeBuilt, IsPlanFor, names_of_images}
-use Rattle.bi_fit.specs.Building.{built_tree, cell_property, built_image_properties, built_root_properties, built_hash_properties}
-use Rattle.bi_fit.specs.Building.{hash_node_name, built_hash_nodes, built_configuration_properties}
+use Rattle.bi_fit.specs.Building.{built_tree, cell_property, built_image_properties, built_root_properties}
+use Rattle.bi_fit.specs.Building.{built_hash_nodes}
 use Rattle.bi_fit.specs.Documents.{document_of}
 use Rattle.bi_fit.specs.ImageTree.{with_image_nodes, without_payload}
 use Rattle.bi_fit.specs.Names.{is_payload_name}
@@ -35,7 +34,7 @@ use Rattle.bi_base.proofs.ListMembers.{each-append}
 use Rattle.bi_fit.specs.declared.building.NamedImage.{NamedImage}
 use Rattle.bi_fit.specs.BuiltNames.{built_names}
 use Rattle.bi_fit.specs.NamedImages.{named_model, named_models}
-use Rattle.bi_fit.specs.BuiltNodes.{in_order, built_payloads, built_hash_leaves, built_configuration_leaves, built_image_children}
+use Rattle.bi_fit.specs.BuiltNodes.{built_payloads, built_hash_leaves, built_configuration_leaves, built_image_children}
 use Rattle.bi_fit.specs.BuiltNodes.{built_image_nodes, built_images_node, built_configuration_nodes, built_configurations_node}
 
 -- The nodes of a tree to be built may be added to a document one after the other, and the document is then that of the tree.
@@ -44,17 +43,13 @@ use Rattle.bi_fit.specs.BuiltNodes.{built_image_nodes, built_images_node, built_
 leaf_nodes-built_hash_leaves : (number : ℕ) (algorithms : List Algo) (payload : List ℕ) →
     leaf_nodes (built_hash_leaves number algorithms payload) ≡ with_each entries (built_hash_nodes number algorithms payload)
 leaf_nodes-built_hash_leaves number [] payload = refl
-leaf_nodes-built_hash_leaves number (algo ∷ later) payload =
-    ap (node (hash_node_name number) (in_order (built_hash_properties algo (digest_of algo payload))) none)
-    (leaf_nodes-built_hash_leaves (number + 1) later payload)
+leaf_nodes-built_hash_leaves number (algo ∷ later) payload = search (rules, leaf_nodes-built_hash_leaves (number + 1) later payload)
 
 -- So are configurations.
 pub leaf_nodes-built_configuration_leaves : (head : HeadModel) (configurations : List ConfigurationSpecModel) →
     leaf_nodes (built_configuration_leaves head configurations) ≡ built_configuration_nodes head configurations
 leaf_nodes-built_configuration_leaves head [] = refl
-leaf_nodes-built_configuration_leaves head (configuration ∷ later) =
-    ap (node configuration.name (in_order (built_configuration_properties head configuration)) none)
-    (leaf_nodes-built_configuration_leaves head later)
+leaf_nodes-built_configuration_leaves head (configuration ∷ later) = search (rules, leaf_nodes-built_configuration_leaves head later)
 
 -- The properties of an image node, with those that give its payload.
 abbrev pub placed_properties : Form → (begin : ℕ) → HeadModel → ImageSpecModel → PropertyMap
@@ -105,10 +100,7 @@ pub properties_placed : (form : Form) (begin : ℕ) (head : HeadModel) (image : 
     made ≡ from_entries (built_image_properties head image) →
     set ≡ with_payload (alignment_of form) begin (Some image.payload) (without_payload made) →
     set ≡ placed_properties form begin head image
-properties_placed form begin head image made set is_made is_set =
-    is_set
-    ∙ ap (λ properties. with_payload (alignment_of form) begin (Some image.payload) (without_payload properties)) is_made
-    ∙ ap (with_payload (alignment_of form) begin (Some image.payload)) (properties_apart head image)
+properties_placed form begin head image made set is_made is_set = search (rules, properties_apart)
 
 -- An image node of a specification that is added is that of the text.
 pub same_built_image : (one form : Form) (end : ℕ) (head : HeadModel) (algorithms : List Algo) (image : ImageSpecModel)

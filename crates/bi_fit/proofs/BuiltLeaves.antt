@@ -1,5 +1,5 @@
 use Rattle.std.proofs.Common.{◌≡◌, ℕ, zero, suc, ◌+◌, ◌<◌, ◌≤◌, List, [], ◌∷◌, ◌++◌, map, take, drop, get_or, length, refl, sym, ap, ap₂}
-use Rattle.std.proofs.Common.{◌∙◌}
+use Rattle.std.proofs.Common.{◌∙◌, rules}
 use Rattle.std.proofs.Common.{append_assoc, arith}
 use Rattle.std.specs.FinMap.{from_entries}
 use Rattle.std.proofs.Math.Seq.{take-append_seam, drop-append_seam}
@@ -21,13 +21,8 @@ use Rattle.bi_fit.specs.NamedImages.{configuration_spec_model, configuration_spe
 names_one_more : (number : ℕ) (algorithms : List Algo) (algo : Algo) →
     hash_node_names number (algorithms ++ algo ∷ [])
     ≡ hash_node_names number algorithms ++ hash_node_name (length algorithms + number) ∷ []
-names_one_more number [] algo =
-    let same : number ≡ 0 + number = omega arith in
-    ap (λ n. hash_node_name n ∷ []) same
-names_one_more number (first ∷ later) algo =
-    let same : length later + (number + 1) ≡ length (first ∷ later) + number = omega arith in
-    ap (λ l. hash_node_name number ∷ l)
-    (names_one_more (number + 1) later algo ∙ ap (λ n. hash_node_names (number + 1) later ++ hash_node_name n ∷ []) same)
+names_one_more number [] algo = search rules
+names_one_more number (first ∷ later) algo = search (rules, names_one_more (number + 1) later algo)
 
 pub hash_node_names_more : (algorithms : List Algo) (index : ℕ) (d : Algo) → index < length algorithms →
     hash_node_names 1 (take (index + 1) algorithms) ≡ hash_node_names 1 (take index algorithms) ++ hash_node_name (index + 1) ∷ []
@@ -47,9 +42,7 @@ name_at : (number : ℕ) (algorithms : List Algo) (index : ℕ) → index < leng
     get_or (hash_node_names number algorithms) index [] ≡ hash_node_name (index + number)
 name_at number [] index within = absurd (omega (arith, within))
 name_at number (algo ∷ later) zero within = let same : number ≡ 0 + number = omega arith in ap hash_node_name same
-name_at number (algo ∷ later) (suc index) within =
-    let same : index + (number + 1) ≡ suc index + number = omega arith in
-    name_at (number + 1) later index (omega (arith, within)) ∙ ap hash_node_name same
+name_at number (algo ∷ later) (suc index) within = search (rules, name_at (number + 1) later index (omega (arith, within)))
 
 -- The same where the names are the bytes of texts.
 pub hash_names_within : {S : Type 0} (bytes : S → List ℕ) (texts : List S) (algorithms : List Algo) (index : ℕ) →

@@ -1,4 +1,5 @@
 use Rattle.std.proofs.Common.{◌≡◌, ℕ, Bool, true, List, [], ◌∷◌, Ordering, Less, Equal, Greater, is_lt, nat_cmp, refl, sym, true≢false}
+use Rattle.std.proofs.Common.{rules}
 use Rattle.std.specs.Prelude.{◌&&◌}
 use Rattle.std.specs.Cmp.Lexicographic.{slice_cmp}
 use Rattle.std.specs.List.{AllByRecursion}
@@ -40,7 +41,4 @@ names_in_order (name ∷ names) are =
 
 -- These are the ranks of those that a text changes.
 pub built_ranked : AreRankedNames built_names (record { payload = 4; offset = 5; position = 6; size = 7; time = 19; digest = 21 })
-built_ranked = record {
-  in_order = names_in_order built_names refl;
-  numbers = record { payload = refl; offset = refl; position = refl; size = refl; time = refl; digest = refl };
-}
+built_ranked = search (rules, names_in_order)

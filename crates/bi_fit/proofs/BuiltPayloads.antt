@@ -1,5 +1,5 @@
 use Rattle.std.proofs.Common.{◌≡◌, ℕ, ◌+◌, ◌<◌, ◌≤◌, List, ◌∷◌, [], map, drop, get_or, length, Option, Some, None, refl, sym, ap, ◌∙◌}
-use Rattle.std.proofs.Common.{arith}
+use Rattle.std.proofs.Common.{rules}
 use Rattle.std.proofs.lemmas.List.{at_drop_more, length-map, get_or-map}
 use Rattle.bi_blob.specs.Layout.{longest_text}
 use Rattle.bi_hash.specs.declared.algo.Algo.{Algo}
@@ -63,14 +63,7 @@ payloads_to_place list images is = ap payloads_of is ∙ placed_payloads images
 -- There are as many digests as images, and those at the index of an image are those of its payload.
 pub digests_within : {V : Type 0} (bytes : V → List ℕ) (all : List V) (algorithms : List Algo) (images : List NamedImage) (index : ℕ) →
     map bytes all ≡ map (λ image. built_digests algorithms image.payload.now) images → index < length images → index < length all
-digests_within bytes all algorithms images index same within =
-    omega (
-      arith,
-      within,
-      ap length same,
-      length-map all bytes,
-      length-map images (λ (image : NamedImage). built_digests algorithms image.payload.now),
-    )
+digests_within bytes all algorithms images index same within = search (rules, length-map)
 
 pub digests_at : {V : Type 0} (bytes : V → List ℕ) (all : List V) (algorithms : List Algo) (images : List NamedImage) (index : ℕ)
     (one : V) → map bytes all ≡ map (λ image. built_digests algorithms image.payload.now) images → index < length images →

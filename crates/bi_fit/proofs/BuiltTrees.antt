@@ -1,8 +1,8 @@
-use Rattle.std.proofs.Common.{◌≡◌, ◌≢◌, ℕ, ◌+◌, ◌<◌, ◌≤◌, ◌^◌, Bool, true, false, not, List, [], ◌∷◌, ◌++◌, map, flat_map, codes, bytes_eq}
+use Rattle.std.proofs.Common.{◌≡◌, ◌≢◌, ℕ, ◌+◌, ◌<◌, ◌≤◌, ◌^◌, Bool, true, false, not, List, [], ◌∷◌, map, flat_map, codes, bytes_eq, rules}
 use Rattle.std.proofs.Common.{length}
 use Rattle.std.proofs.Common.{Option, Some, None, refl, sym, ap, subst, ◌∙◌, arith, true≢false, nat_cmp}
-use Rattle.std.specs.Prelude.{◌==◌, ◌||◌, IsTrue}
-use Rattle.std.specs.List.{AllByRecursion, AllZip, list_all, list_any}
+use Rattle.std.specs.Prelude.{◌==◌, IsTrue}
+use Rattle.std.specs.List.{AllByRecursion, AllZip, list_all}
 use Rattle.std.specs.Cmp.Lexicographic.{slice_cmp}
 use Rattle.std.specs.FinMap.{find, get-from_entries}
 use Rattle.std.proofs.lemmas.Cmp.{nat_list_cmp_total}
@@ -59,14 +59,7 @@ bytes-text_value text bytes = AreBytes-append text (0 ∷ []) bytes (AreBytes-co
 -- The text of such a value is the text.
 pub text_before_nul-text_value : (text : List ℕ) → HasNoZero text → text_before_nul (text_value text) ≡ Some text
 unfolding text_before_nul
-text_before_nul-text_value text no_zero =
-    let zero_is_there : list_any (λ byte. byte == 0) (text ++ 0 ∷ []) ≡ true =
-    list_any-append (λ byte. byte == 0) text (0 ∷ []) ∙ or_true (list_any (λ byte. byte == 0) text) in
-    rw (zero_is_there, before_nul-append text (0 ∷ []) no_zero refl) refl
-  where
-    or_true : (b : Bool) → (b || true) ≡ true
-    or_true true = refl
-    or_true false = refl
+text_before_nul-text_value text no_zero = search (rules, list_any-append, before_nul-append)
 
 -- A name that passes the test is bytes.
 tested_bytes : (name : List ℕ) → list_all may_be_in_name name ≡ true → AreBytes name
@@ -74,13 +67,7 @@ tested_bytes name passes = (tested_name name passes).0
 
 -- The properties of the root are good.
 good_root : (head : HeadModel) → IsText head.description → AreBlobProperties (built_root_properties head)
-good_root head is = (
-  tested_property _ _ (cell 1) refl (AreBytes-cell 1),
-  (
-    tested_property _ _ (text_value head.description) refl (bytes-text_value head.description is.bytes),
-    (tested_property _ _ (cell head.time) refl (AreBytes-cell head.time), tt),
-  ),
-)
+good_root head is = search (rules, tested_property, AreBytes-cell, bytes-text_value)
 
 -- So is a property of one cell, where there is one.
 good_load : (number : Option ℕ) → AreBlobProperties (cell_property (codes "load") number)
@@ -124,10 +111,7 @@ algorithm_text Sha512 = tested_name _ refl
 
 -- The properties of a hash node are good.
 good_hash_properties : (algo : Algo) (payload : List ℕ) → AreBlobProperties (built_hash_properties algo (digest_of algo payload))
-good_hash_properties algo payload = (
-  tested_property _ _ (text_value (algorithm_name algo)) refl (bytes-text_value (algorithm_name algo) (algorithm_text algo).0),
-  (tested_property _ _ (digest_of algo payload) refl (AreBytes-digest_of algo payload), tt),
-)
+good_hash_properties algo payload = search (rules, tested_property, bytes-text_value, algorithm_text, AreBytes-digest_of)
 
 -- Hash nodes are nodes.
 hash_nodes_are : (number : ℕ) (algorithms : List Algo) (payload : List ℕ) → number + length algorithms ≤ 2 ^ 64 →
@@ -367,10 +351,7 @@ depth-built_hash_nodes number (algo ∷ later) payload = let rest : depth (built
 depth-built_images : (head : HeadModel) (algorithms : List Algo) (images : List ImageSpecModel) →
     depth (built_images head algorithms images) ≤ 2
 depth-built_images head algorithms [] = omega arith
-depth-built_images head algorithms (image ∷ later) =
-    let first : depth (built_hash_nodes 1 algorithms image.payload) ≤ 1 = depth-built_hash_nodes 1 algorithms image.payload in
-    let rest : depth (built_images head algorithms later) ≤ 2 = depth-built_images head algorithms later in
-    omega (arith, first, rest)
+depth-built_images head algorithms (image ∷ later) = search (rules, depth-built_hash_nodes, depth-built_images head algorithms later)
 
 -- Configuration nodes are one deep.
 depth-built_configurations : (head : HeadModel) (configurations : List ConfigurationSpecModel) →

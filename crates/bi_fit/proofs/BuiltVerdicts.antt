@@ -1,4 +1,4 @@
-use Rattle.std.proofs.Common.{◌≡◌, ℕ, ◌+◌, List, [], ◌∷◌, ◌++◌, map, filter, flat_map, Some, refl, sym, ap, ap₂, ◌∙◌, arith}
+use Rattle.std.proofs.Common.{◌≡◌, ℕ, ◌+◌, List, [], ◌∷◌, ◌++◌, map, filter, flat_map, Some, refl, ap, arith, rules}
 use Rattle.std.specs.FinMap.{get, from_entries, get-from_entries}
 use Rattle.std.proofs.lemmas.Cmp.{nat_list_cmp_total}
 use Rattle.bi_base.specs.Strings.{text_before_nul}
@@ -11,8 +11,8 @@ use Rattle.bi_hash.specs.Digests.{digest_of}
 use Rattle.bi_hash.specs.Verdicts.{verdict_of}
 use Rattle.bi_hash.proofs.GoodValues.{good-from_digest}
 use Rattle.bi_fit.specs.Names.{algo_name, value_name, is_hash_name}
-use Rattle.bi_fit.specs.Judgement.{Image, CheckedHash, images_of, images_with, checked_hash, hash_nodes}
-use Rattle.bi_fit.specs.Building.{HeadModel, ImageSpecModel, text_value, built_image_properties, built_hash_properties, hash_node_name}
+use Rattle.bi_fit.specs.Judgement.{Image, CheckedHash, images_with, checked_hash, hash_nodes}
+use Rattle.bi_fit.specs.Building.{HeadModel, ImageSpecModel, text_value, built_hash_properties, hash_node_name}
 use Rattle.bi_fit.specs.Building.{built_hash_nodes, built_images, built_tree}
 use Rattle.bi_fit.specs.Laws.{BuiltIsAccepted, good_hashes, BuiltHasGoodPayloads}
 use Rattle.bi_fit.proofs.TextLaws.{fit_text_is_accepted}
@@ -42,9 +42,7 @@ named algo = text_before_nul-text_value (algorithm_name algo) (algorithm_text al
 -- The verdict on it is Good.
 verdict_is : (algo : Algo) (payload : List ℕ) →
     verdict_of (Some (text_value (algorithm_name algo))) (Some (digest_of algo payload)) (Some payload) ≡ Good
-verdict_is algo payload =
-    good-from_digest _ _ _
-    (record { algorithm = algo; rest = []; bytes = payload; algo_is = refl; value_is = refl; payload_is = refl })
+verdict_is algo payload = search (rules, good-from_digest, algo_is, value_is)
 
 -- An image of a built tree.
 abbrev built_image : ImageSpecModel → PropertyMap → (children later : Nodes PropertyMap) → Image
@@ -76,11 +74,7 @@ hashes_each : (head : HeadModel) (algorithms : List Algo) (images : List ImageSp
     (images_with (siblings (built_images head algorithms images)) (map (λ image. Some image.payload) images))
     ≡ map (good_hashes 1 algorithms) images
 hashes_each head algorithms [] = refl
-hashes_each head algorithms (image ∷ later) =
-    ap₂ ◌∷◌
-    (hashes_of image (from_entries (built_image_properties head image)) (built_hash_nodes 1 algorithms image.payload)
-    (built_images head algorithms later) 1 algorithms)
-    (hashes_each head algorithms later)
+hashes_each head algorithms (image ∷ later) = search (rules, hashes_of, hashes_each head algorithms later)
 
 -- Lists one after the other, with each made by another function.
 flat_map-map : {X : Type 0} (f : X → List CheckedHash) (xs : List X) → flat_map f xs ≡ flat_map (λ l. l) (map f xs)
@@ -88,11 +82,4 @@ flat_map-map f [] = refl
 flat_map-map f (x ∷ later) = ap (λ l. f x ++ l) (flat_map-map f later)
 
 pub built_has_good_payloads : BuiltHasGoodPayloads
-built_has_good_payloads head plan images =
-    let each = hashes_each head plan.algorithms images in
-    record {
-      payloads = refl;
-      each = each;
-      verdicts = flat_map-map (λ image. map (checked_hash image) (hash_nodes image)) (images_of (built_tree head plan images))
-          ∙ ap (flat_map (λ l. l)) each ∙ sym (flat_map-map (good_hashes 1 plan.algorithms) images);
-    }
+built_has_good_payloads head plan images = search (rules, hashes_each, flat_map-map)

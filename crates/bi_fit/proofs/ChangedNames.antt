@@ -1,7 +1,7 @@
-use Rattle.std.proofs.Common.{◌≡◌, ◌⊎◌, ℕ, zero, suc, Bool, true, false, inl, inr, List, [], ◌∷◌, ◌++◌, length, fold, bytes_eq, All}
+use Rattle.std.proofs.Common.{◌≡◌, ◌⊎◌, ℕ, zero, suc, Bool, true, false, inl, inr, List, [], ◌∷◌, ◌++◌, length, fold, All, rules}
 use Rattle.std.proofs.Common.{Contains, IsPermutation, get_or}
-use Rattle.std.proofs.Common.{refl, sym, ap, subst, ◌∙◌, append_assoc, append-nil, true≢false}
-use Rattle.std.specs.Prelude.{◌||◌, if◌then◌else◌, slice_index_or}
+use Rattle.std.proofs.Common.{refl, sym, ap, subst, ◌∙◌, append_assoc, append-nil}
+use Rattle.std.specs.Prelude.{if◌then◌else◌, slice_index_or}
 use Rattle.std.specs.Borrow.{Bor}
 use Rattle.bi_base.specs.Slices.{bytes_of}
 use Rattle.std.specs.List.{AllByRecursion, AllZip}
@@ -71,47 +71,23 @@ pub rank_numbers : (names sorted : List (List ℕ)) (ranks : List ℕ) → AllZi
       time = slice_index_or ranks numbers.time 0;
       digest = slice_index_or ranks numbers.digest 0;
     })
-rank_numbers names sorted ranks zipped numbers are = record {
-  payload = rank_number names sorted ranks zipped _ numbers.payload are.payload;
-  offset = rank_number names sorted ranks zipped _ numbers.offset are.offset;
-  position = rank_number names sorted ranks zipped _ numbers.position are.position;
-  size = rank_number names sorted ranks zipped _ numbers.size are.size;
-  time = rank_number names sorted ranks zipped _ numbers.time are.time;
-  digest = rank_number names sorted ranks zipped _ numbers.digest are.digest;
-}
+rank_numbers names sorted ranks zipped numbers are = search (rules, rank_number)
 
 -- A name that has a number is among the names.
 pub among_numbered : (names : List (List ℕ)) (name : List ℕ) (number : ℕ) → IsNumberOf names name number → is_among name names ≡ true
 among_numbered [] name number is = absurd cc
-among_numbered (first ∷ names) name zero is =
-    let same : first ≡ name = cc in
-    ap (λ b. b || is_among name names) ((bytes_eq-Decides first name).1 same)
-among_numbered (first ∷ names) name (suc number) is = by_test (bytes_eq first name) (among_numbered names name number is)
-  where
-    by_test : (b : Bool) → is_among name names ≡ true → (b || is_among name names) ≡ true
-    by_test true rest = refl
-    by_test false rest = rest
+among_numbered (first ∷ names) name zero is = search (rules, bytes_eq-Decides)
+among_numbered (first ∷ names) name (suc number) is = search (rules, among_numbered names name number is)
 
 -- A new name is not among them,
 pub not_among : (names : List (List ℕ)) (name : List ℕ) → IsNew name names → is_among name names ≡ false
 not_among [] name new = refl
-not_among (first ∷ names) name new = by_test (bytes_eq first name) refl (not_among names name new.1)
-  where
-    by_test : (b : Bool) → bytes_eq first name ≡ b → is_among name names ≡ false → (bytes_eq first name || is_among name names) ≡ false
-    by_test true is rest = absurd (new.0 ((bytes_eq-Decides first name).0 is))
-    by_test false is rest = ap (λ b. b || is_among name names) is ∙ rest
+not_among (first ∷ names) name new = search (rules, bytes_eq-Decides, not_among names name new.1)
 
 -- and one that is not among them is new.
 new_among : (names : List (List ℕ)) (name : List ℕ) → is_among name names ≡ false → IsNew name names
 new_among [] name is = tt
-new_among (first ∷ names) name is = by_test (bytes_eq first name) refl (new_among names name)
-  where
-    by_test : (b : Bool) → bytes_eq first name ≡ b → (is_among name names ≡ false → IsNew name names) → IsNew name (first ∷ names)
-    by_test true same rest = absurd (true≢false (sym (ap (λ b. b || is_among name names) same) ∙ is))
-    by_test false differ rest = (
-      (λ same. true≢false (sym ((bytes_eq-Decides first name).1 same) ∙ differ)),
-      rest (sym (ap (λ b. b || is_among name names) differ) ∙ is),
-    )
+new_among (first ∷ names) name is = search (rules, bytes_eq-Decides, new_among names name)
 
 -- What holds by index holds by recursion,
 each_from_all : (P : List ℕ → Type 0) (names : List (List ℕ)) → All P names → AllByRecursion P names
@@ -137,11 +113,7 @@ module _ (base : List (List ℕ)) where
   -- and their numbers, when one more is added.
   number_kept : (names : List (List ℕ)) (name other : List ℕ) (number : ℕ) → IsNumberOf names other number →
       IsNumberOf (with_missing base names name) other number
-  number_kept names name other number is = by_test (is_among name base)
-    where
-      by_test : (b : Bool) → IsNumberOf (if b then names else names ++ name ∷ []) other number
-      by_test true = is
-      by_test false = number_append names (name ∷ []) other number is
+  number_kept names name other number is = search (rules, number_append)
 
   pub number_stays : (names more : List (List ℕ)) (name other : List ℕ) (number : ℕ) → more ≡ with_missing base names name →
       IsNumberOf names other number → IsNumberOf more other number
@@ -153,10 +125,7 @@ module _ (base : List (List ℕ)) where
       AllByRecursion (λ other. IsNew other base → IsNew other names) added →
       AllByRecursion (λ other. IsNew other base → IsNew other (names ++ name ∷ [])) added
   still_new names [] name differ new = tt
-  still_new names (first ∷ added) name differ new = (
-    (λ fresh. each-append (λ other. other ≡ first → ⊥) names (name ∷ []) (new.0 fresh) ((λ same. differ.0 (sym same)), tt)),
-    still_new names added name differ.1 new.1,
-  )
+  still_new names (first ∷ added) name differ new = search (rules, each-append, still_new names added name differ.1 new.1)
 
   -- Distinct names are distinct with others, if each of the others is new or one of the base.
   distinct_all : (names added : List (List ℕ)) → AreDistinct added → AreDistinct names →
@@ -199,9 +168,7 @@ module _ (base : List (List ℕ)) where
 
   -- The names are distinct,
   pub changed_distinct : AreDistinct base → AreDistinct (with_changed_names base)
-  changed_distinct distinct =
-      distinct_all base changed_names
-      (distinct_in_order changed_names (names_in_order changed_names refl)) distinct (each_itself changed_names)
+  changed_distinct distinct = search (rules, distinct_all, distinct_in_order, names_in_order, each_itself)
 
   -- and begin with those of the file.
   pub changed_begin : BeginsWith (with_changed_names base) base

@@ -1,12 +1,11 @@
-use Rattle.std.proofs.Common.{◌≡◌, ◌↔◌, Bool, true, false, [], Some, bytes_eq, refl, sym, ap, ap₂, subst, ◌∙◌}
+use Rattle.std.proofs.Common.{◌≡◌, ◌↔◌, Bool, true, false, Some, bytes_eq, refl, ap₂, subst, rules}
 use Rattle.std.proofs.lemmas.Slice.Eq.{bytes_eq-Decides}
 use Rattle.bi_blob.specs.Tree.{Nodes, none, node, FileNode, names, as_nodes, IsNew, AreNodes}
 use Rattle.bi_blob.specs.Lookups.{Sibling}
-use Rattle.bi_fdt.specs.Content.{root_of}
 use Rattle.bi_fit.specs.declared.comparing.role.Role.{Role}
 use Rattle.bi_fit.specs.declared.comparing.role.Role.TheVariants.{RootChild, ImageNode, OtherNode}
 use Rattle.bi_fit.specs.Names.{images_name}
-use Rattle.bi_fit.specs.ImageTree.{ImageTree, with_children_of, without_payload, without_payloads}
+use Rattle.bi_fit.specs.ImageTree.{with_children_of, without_payload, without_payloads}
 use Rattle.bi_fit.specs.Content.{FitModel, tree_of, IsHeld}
 use Rattle.bi_fit.specs.NormalNodes.{alone, properties_by_name, nodes_by_name}
 use Rattle.bi_fit.specs.ComparedNodes.{compared_nodes, compared_tree, AreSameBlobs}
@@ -59,31 +58,13 @@ compared_root_children IsOwn (node name own children later) are =
 
 -- What is compared of a file is the root of its tree.
 compared_root : (content : FitModel) → IsHeld content → compared_tree content.blob ≡ as_nodes (tree_of content).root
-compared_root content held =
-    ap (λ children. node [] (properties_by_name (root_of content.blob).own) children none)
-    (compared_root_children _ (root_of content.blob).children (held_nodes content held))
+compared_root content held = search (rules, compared_root_children, held_nodes)
 
 module _ (one other : FitModel) (held : IsHeld one) (held_other : IsHeld other) where
   -- Trees of the same blobs and payloads are the same,
   pub one_compared_tree : AreSameBlobs one.blob other.blob → (tree_of one).payloads ≡ (tree_of other).payloads → tree_of one ≡ tree_of other
-  one_compared_tree are payloads =
-      let cpu = are.same_cpu in
-      let reservations = are.same_reservations in
-      let roots : as_nodes (tree_of one).root ≡ as_nodes (tree_of other).root = sym (compared_root one held) ∙ are.same_tree
-      ∙ compared_root other held_other in
-      let own : (tree_of one).root.own ≡ (tree_of other).root.own = cc in
-      let children : (tree_of one).root.children ≡ (tree_of other).root.children = cc in
-      λ i. record {
-        cpu = cpu i;
-        reservations = reservations i;
-        root = record { own = own i; children = children i };
-        payloads = payloads i;
-      }
+  one_compared_tree are payloads = search (rules, compared_root)
 
   -- and one tree is of the same blobs.
   pub same_blobs : tree_of one ≡ tree_of other → AreSameBlobs one.blob other.blob
-  same_blobs same = record {
-    same_cpu = ap (λ (tree : ImageTree). tree.cpu) same;
-    same_reservations = ap (λ (tree : ImageTree). tree.reservations) same;
-    same_tree = compared_root one held ∙ ap (λ (tree : ImageTree). as_nodes tree.root) same ∙ sym (compared_root other held_other);
-  }
+  same_blobs same = search (rules, compared_root)

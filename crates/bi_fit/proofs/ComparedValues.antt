@@ -1,6 +1,6 @@
 use Rattle.std.proofs.Common.{◌≡◌, ℕ, zero, suc, Bool, true, false, cond, ◌==◌, ◌⊎◌, inl, inr, true≢false, T, List, [], ◌∷◌, map, Option}
-use Rattle.std.proofs.Common.{Some, None}
-use Rattle.std.proofs.Common.{slice_get, bytes_eq, IsPermutation, Less, refl, sym, ap, subst, ◌∙◌, nat_cmp, is_lt}
+use Rattle.std.proofs.Common.{Some, None, rules}
+use Rattle.std.proofs.Common.{slice_get, bytes_eq, IsPermutation, Less, refl, sym, ap, ◌∙◌, nat_cmp, is_lt}
 use Rattle.std.specs.Cmp.{unsigned_tied}
 use Rattle.std.specs.FinMap.{get, nat_cmp-IsAntisymmetric}
 use Rattle.std.specs.FinMap.Entries.{below_all, find, is_sorted, same_entries}
@@ -8,7 +8,7 @@ use Rattle.std.specs.List.{AllByRecursion}
 use Rattle.std.specs.List.Sorted.{IsStrictlySortedBy}
 use Rattle.std.specs.Map.{keys_of, lookup}
 use Rattle.std.specs.Ordering.{eq_by_cmp}
-use Rattle.std.proofs.lemmas.Bool.Decides.{Decides-eqb, same_from_decides}
+use Rattle.std.proofs.lemmas.Bool.Decides.{Decides-eqb}
 use Rattle.std.proofs.lemmas.Cmp.{nat_cmp_total}
 use Rattle.std.proofs.lemmas.Map.Keys.{sorted_head, sorted_tail}
 use Rattle.std.proofs.lemmas.Map.Text.{is_eq-slice_cmp}
@@ -69,10 +69,7 @@ get-compared OtherNode own name = refl
 named_is : (name : List ℕ) (keyed : List KeyedProperty) →
     lookup (one_name_each name) (map (λ one. property_of one.1) keyed) ≡ value_named name keyed
 named_is name [] = refl
-named_is name (one ∷ keyed) =
-    ap (λ b. cond b (Some one.1.value) (lookup (one_name_each name) (map (λ one. property_of one.1) keyed)))
-    (is_eq-slice_cmp name one.1.name)
-    ∙ ap (cond (bytes_eq name one.1.name) (Some one.1.value)) (named_is name keyed)
+named_is name (one ∷ keyed) = search (rules, is_eq-slice_cmp, named_is name keyed)
 
 got : (role : Role) (own : FileNode) (keyed : List KeyedProperty) → HasDistinctNames own →
     IsPermutation own.properties (map (λ one. one.1) keyed) →
@@ -88,13 +85,7 @@ below_values : (role : Role) (number : ℕ) (keyed : List KeyedProperty) → All
     (keys_of keyed) →
     T (below_all nat_cmp number (compared_values role keyed))
 below_values role number [] below = tt
-below_values role number (one ∷ keyed) below =
-    elim (is_compared role one.1.name) as (λ b. T (below_all nat_cmp number (cond b ((one.0, one.1.value) ∷ compared_values role keyed)
-    (compared_values role keyed)))) [
-      | true ↦ both_hold (is_lt (nat_cmp number one.0)) (below_all nat_cmp number (compared_values role keyed))
-          (subst (λ o. T (is_lt o)) (sym below.0) tt) (below_values role number keyed below.1)
-      | false ↦ below_values role number keyed below.1
-    ]
+below_values role number (one ∷ keyed) below = search (rules, both_hold, is_lt, below_values role number keyed below.1)
 
 -- The values are in the order of their numbers.
 sorted_values : (role : Role) (keyed : List KeyedProperty) → IsStrictlySortedBy nat_cmp (keys_of keyed) →
@@ -113,14 +104,7 @@ module _ (names : List (List ℕ)) (distinct : AreDistinct names) (role : Role) 
   -- Numbers are equal if and only if the names are.
   same_test : (number wanted : ℕ) (property_name name : List ℕ) → slice_get names number ≡ Some property_name →
       slice_get names wanted ≡ Some name → (wanted == number) ≡ bytes_eq name property_name
-  same_test number wanted property_name name is wanted_is = same_from_decides (wanted == number) (bytes_eq name property_name)
-      (Decides-eqb wanted number) (
-        (λ true. one_number_of_name names distinct wanted number name wanted_is (is
-            ∙ ap (λ n. Some n) (sym ((bytes_eq-Decides name property_name).0 true)))),
-        (λ equal.
-            (bytes_eq-Decides name property_name).1
-            (same_Some name property_name (sym wanted_is ∙ ap (slice_get names) equal ∙ is))),
-      )
+  same_test number wanted property_name name is wanted_is = search (rules, one_number_of_name)
 
   abbrev AreNumbered : List KeyedProperty → Type 0
   AreNumbered keyed = AllByRecursion (λ (one : KeyedProperty). HasNumber names one.1 one.0) keyed
@@ -128,11 +112,7 @@ module _ (names : List (List ℕ)) (distinct : AreDistinct names) (role : Role) 
   -- The value by the number of a name is the value of the name, if the name is compared.
   value-named : (keyed : List KeyedProperty) (wanted : ℕ) (name : List ℕ) → AreNumbered keyed → slice_get names wanted ≡ Some name →
       find nat_cmp wanted (compared_values role keyed) ≡ cond (is_compared role name) (value_named name keyed) None
-  value-named [] wanted name numbered is = where_compared (is_compared role name)
-    where
-      where_compared : (b : Bool) → ◌≡◌ {A = Option (List ℕ)} None (cond b None None)
-      where_compared true = refl
-      where_compared false = refl
+  value-named [] wanted name numbered is = search rules
   value-named (one ∷ keyed) wanted name numbered is =
       where_same (bytes_eq name one.1.name) refl (is_compared role one.1.name) refl (value-named keyed wanted name numbered.1 is)
     where
@@ -157,31 +137,13 @@ module _ (names : List (List ℕ)) (distinct : AreDistinct names) (role : Role) 
   value-no_name : (keyed : List KeyedProperty) (wanted : ℕ) → AreNumbered keyed → slice_get names wanted ≡ None →
       find nat_cmp wanted (compared_values role keyed) ≡ None
   value-no_name [] wanted numbered is = refl
-  value-no_name (one ∷ keyed) wanted numbered is =
-      where_same (wanted == one.0) refl (is_compared role one.1.name) refl (value-no_name keyed wanted numbered.1 is)
-    where
-      where_same : (b : Bool) → (wanted == one.0) ≡ b → (c : Bool) → is_compared role one.1.name ≡ c →
-          find nat_cmp wanted (compared_values role keyed) ≡ None →
-          find nat_cmp wanted (cond (is_compared role one.1.name) ((one.0, one.1.value) ∷ compared_values role keyed)
-          (compared_values role keyed))
-          ≡ None
-      where_same true equal c compared rest =
-          let nothing : None ≡ Some one.1.name = sym is ∙ ap (slice_get names) ((Decides-eqb wanted one.0).0 equal) ∙ numbered.0 in
-          absurd cc
-      where_same false equal true compared rest = rw (compared, unsigned_tied wanted one.0 ∙ equal) rest
-      where_same false equal false compared rest = rw compared rest
+  value-no_name (one ∷ keyed) wanted numbered is = search (rules, Decides-eqb, value-no_name keyed wanted numbered.1 is)
 
   -- nor a name that has no number.
   value-no_number : (keyed : List KeyedProperty) (name : List ℕ) → AreNumbered keyed →
       ((number : ℕ) → slice_get names number ≡ Some name → ⊥) → value_named name keyed ≡ None
   value-no_number [] name numbered none = refl
-  value-no_number (one ∷ keyed) name numbered none =
-      where_same (bytes_eq name one.1.name) refl (value-no_number keyed name numbered.1 none)
-    where
-      where_same : (b : Bool) → bytes_eq name one.1.name ≡ b → value_named name keyed ≡ None →
-          cond (bytes_eq name one.1.name) (Some one.1.value) (value_named name keyed) ≡ None
-      where_same true equal rest = absurd (none one.0 (numbered.0 ∙ ap (λ n. Some n) (sym ((bytes_eq-Decides name one.1.name).0 equal))))
-      where_same false equal rest = rw equal rest
+  value-no_number (one ∷ keyed) name numbered none = search (rules, bytes_eq-Decides, value-no_number keyed name numbered.1 none)
 
   module _ (own other : FileNode) (keyed other_keyed : List KeyedProperty) (distinct_own : HasDistinctNames own)
       (distinct_other : HasDistinctNames other) (are : AreByNumber names own.properties keyed)

@@ -1,9 +1,8 @@
-use Rattle.std.proofs.Common.{◌≡◌, ◌⊎◌, ℕ, ◌+◌, List, [], ◌∷◌, length, Option, Some, None, inl, inr, refl, sym, subst}
+use Rattle.std.proofs.Common.{◌≡◌, ◌⊎◌, ℕ, List, [], ◌∷◌, length, Option, Some, None, inl, inr, refl, sym, subst, rules}
 use Rattle.std.specs.Prelude.{IsSome}
 use Rattle.std.specs.List.{AllZip}
 use Rattle.std.proofs.lemmas.Bool.{cases_eq, false≢true}
 use Rattle.bi_base.specs.declared.fault.Fault.{Fault}
-use Rattle.bi_base.specs.Cells.{slice}
 use Rattle.bi_base.specs.Checks.{IsFirstFault, HasNoFault}
 use Rattle.bi_base.specs.Limits.{Limits}
 use Rattle.bi_base.proofs.FirstFault as first
@@ -15,7 +14,7 @@ use Rattle.bi_blob.proofs.Blobs.TestedChecks.{le_decided}
 use Rattle.bi_blob.proofs.Blobs.OneBlob.{one_blob}
 use Rattle.bi_blob.proofs.Blobs.Faults.{blob_has_no_fault, one_blob_fault, blob_or_fault}
 use Rattle.bi_fit.specs.ImageTree.{ImageTree, image_nodes, each_own, tree_without_payloads}
-use Rattle.bi_fit.specs.Payloads.{PayloadSource, NoSource, Data, DataOffset, DataPosition, source_of, cell_number, external_base}
+use Rattle.bi_fit.specs.Payloads.{PayloadSource, NoSource, Data, DataOffset, DataPosition, source_of, external_base}
 use Rattle.bi_fit.specs.Payloads.{IsSizedRegion, IsPayload, HasPayload}
 use Rattle.bi_fit.specs.File.{IsFitFile, FitMeans}
 use Rattle.bi_fit.specs.Faults.{FitCheck, HasImages, HasBeginCell, HasSize, HasSizeCell, IsInFile, FitPasses, fit_fault, region_checks}
@@ -65,10 +64,7 @@ module _ (file : List ℕ) where
   region_has_payload : (base : ℕ) (begin : FileProperty) (size : Option FileProperty) →
       HasNoFault (FitPasses file) (region_checks base begin size) → (payload : Option (List ℕ)) × IsSizedRegion file base begin size payload
   region_has_payload base begin None fine = absurd (false≢true fine.1.0)
-  region_has_payload base begin (Some size) fine = (
-    Some (slice file (base + cell_number begin) (cell_number size)),
-    record { begin_cell = fine.0; size_cell = fine.1.1.0; in_file = fine.1.1.1.0; is_slice = refl },
-  )
+  region_has_payload base begin (Some size) fine = search rules
 
   -- A source has a payload, or none, if its checks pass.
   source_has_payload : (source : PayloadSource) → HasNoFault (FitPasses file) (source_checks file source) →
@@ -112,16 +108,7 @@ module _ (file : List ℕ) where
       )
 
 pub fit_has_no_fault : FitHasNoFault
-fit_has_no_fault bounds file tree fault means (InBlob faulty) =
-    blob_has_no_fault bounds file fault
-    (record {
-      cpu = tree.cpu;
-      reservations = tree.reservations;
-      root = means.is_file.root;
-      blob = means.is_file.blob;
-      within = means.within;
-    })
-    faulty
+fit_has_no_fault bounds file tree fault means (InBlob faulty) = search (rules, blob_has_no_fault)
 fit_has_no_fault bounds file tree fault means (InTree cpu reservations root blob within faulty) =
     let same = one_blob file tree.cpu cpu tree.reservations reservations means.is_file.root root means.is_file.blob blob in
     first.not_both (FitPasses file) fit_fault (fit_checks file root) fault

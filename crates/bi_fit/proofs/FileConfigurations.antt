@@ -1,12 +1,11 @@
 use Rattle.std.proofs.Common.{◌≡◌, ℕ, suc, List, [], ◌∷◌, length, map, Option, Some, None, option_and_then, slice_get, refl, sym, ap, subst}
-use Rattle.std.proofs.Common.{◌∙◌}
+use Rattle.std.proofs.Common.{◌∙◌, rules}
 use Rattle.std.specs.List.{AllByRecursion}
 use Rattle.std.specs.Option.{option_map}
 use Rattle.std.proofs.lemmas.List.{length-map}
 use Rattle.std.proofs.lemmas.Option.{slice_get-map}
-use Rattle.std.specs.FinMap.{get}
 use Rattle.bi_base.specs.Strings.{text_before_nul}
-use Rattle.bi_blob.specs.Tree.{Nodes, none, node, FileNode, PropertyMap, AreDistinct, AreNodes, AreProperties, IsTree, names, properties_of}
+use Rattle.bi_blob.specs.Tree.{Nodes, none, node, FileNode, AreDistinct, AreNodes, AreProperties, IsTree, names, properties_of}
 use Rattle.bi_blob.specs.Tree.{with_each, tree_without_places}
 use Rattle.bi_blob.specs.BlobLaws.{FindsNodes}
 use Rattle.bi_blob.specs.Lookups.{Sibling, siblings, node_at, node_named, value_named}
@@ -21,7 +20,7 @@ use Rattle.bi_blob.proofs.Blobs.Lookups.{nodes_are_found}
 use Rattle.bi_fit.proofs.Trees.{children_of-with_each}
 use Rattle.bi_fit.proofs.TreeShapes.{AreNodes-children_of}
 use Rattle.bi_blob.proofs.Blobs.Lookups.{names-with_each}
-use Rattle.bi_fit.proofs.FileNodes.{names-by_name, get-by_name, own_and_children, sibling_by_name, configuration_nodes_are}
+use Rattle.bi_fit.proofs.FileNodes.{names-by_name, get-by_name, configuration_nodes_are}
 use Rattle.bi_fit.proofs.FileNodes.{configurations_parts}
 
 -- The names, the number and the default of the configurations of an image tree that was read are those in its blob, and each is found by
@@ -47,37 +46,13 @@ configuration_count_is content = ap length (names_are content) ∙ simp length-m
 pub name_at : (content : FitModel) (index : ℕ) →
     slice_get (names (configuration_nodes (tree_of content))) index
     ≡ option_map (λ sibling. sibling.name) (option_and_then (λ found. node_at found.children index) (configurations_in content.blob))
-name_at content index =
-    ap (λ (l : List (List ℕ)). slice_get l index) (names_are content) ∙ below (configurations_in content.blob)
-  where
-    below : (found : Option (Sibling FileNode)) →
-        slice_get (map (λ sibling. sibling.name) (siblings (nodes_or_none (option_map (λ found. found.children) found)))) index ≡
-        option_map (λ sibling. sibling.name) (option_and_then (λ found. node_at found.children index) found)
-    below None = refl
-    below (Some found) = slice_get-map (λ sibling. sibling.name) (siblings found.children) index
+name_at content index = search (rules, names_are, option_and_then, slice_get-map)
 
 -- The default.
 pub default_is : (content : FitModel) →
     default_of (tree_of content) ≡ option_and_then
     (λ found. option_and_then text_before_nul (value_named (properties_of found.own) default_name)) (configurations_in content.blob)
-default_is content =
-    of_parts (node_named (tree_of content).root.children configurations_name)
-    ∙ ap (λ (o : Option (PropertyMap × Nodes PropertyMap)). option_and_then
-    (λ parts. option_and_then text_before_nul (get parts.0 default_name)) o) (configurations_parts content)
-    ∙ of_file (configurations_in content.blob)
-  where
-    of_parts : (found : Option (Sibling PropertyMap)) →
-        option_and_then (λ found. option_and_then text_before_nul (get found.own default_name)) found ≡
-        option_and_then (λ parts. option_and_then text_before_nul (get parts.0 default_name)) (option_map own_and_children found)
-    of_parts None = refl
-    of_parts (Some found) = refl
-
-    of_file : (found : Option (Sibling FileNode)) →
-        option_and_then (λ parts. option_and_then text_before_nul (get parts.0 default_name))
-        (option_map (λ sibling. own_and_children (sibling_by_name sibling)) found) ≡
-        option_and_then (λ found. option_and_then text_before_nul (value_named (properties_of found.own) default_name)) found
-    of_file None = refl
-    of_file (Some found) = ap (option_and_then text_before_nul) (get-by_name (properties_of found.own) default_name)
+default_is content = search (rules, option_and_then, configurations_parts, get-by_name)
 
 -- Nodes that a tree may have have distinct names.
 pub names_are_distinct : {Own : Type 0} (IsOwn : Own → Type 0) (nodes : Nodes Own) → AreNodes IsOwn nodes → AreDistinct (names nodes)

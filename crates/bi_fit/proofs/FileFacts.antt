@@ -1,5 +1,5 @@
 use Rattle.std.proofs.Common.{◌≡◌, ℕ, ◌≤◌, true, false, not, List, [], ◌∷◌, ◌++◌, length, codes, Option, Some, None, refl, sym, ap, ap₂}
-use Rattle.std.proofs.Common.{◌∙◌, nat_cmp, lit≤, arith}
+use Rattle.std.proofs.Common.{◌∙◌, nat_cmp, lit≤, arith, rules}
 use Rattle.std.specs.Prelude.{ltb}
 use Rattle.std.specs.List.{AllByRecursion, list_all}
 use Rattle.std.specs.Cmp.Lexicographic.{slice_cmp}
@@ -107,10 +107,7 @@ images_listed alignment end (payload ∷ payloads) (name ∷ names) =
 pub plain_blob : (form : Form) (names : List (List ℕ)) (payloads : List (Option (List ℕ))) →
     blob_of form (plain_tree names payloads)
     ≡ text_of_tree (blob_alignment (alignment_of form)) 0 [] (tree_with_images (listed_images (alignment_of form) 0 payloads names))
-plain_blob form names payloads =
-    ap₂ (λ own images. text_of_tree (blob_alignment (alignment_of form)) 0 []
-    (record { own = own; children = node images_name own images none }))
-    no_entries (images_listed (alignment_of form) 0 payloads names)
+plain_blob form names payloads = search (rules, no_entries, images_listed)
 
 -- The text of image nodes that have no other properties.
 plain_text : (form : Form) (names : List (List ℕ)) (payloads : List (Option (List ℕ))) →
@@ -177,11 +174,7 @@ pub three_plain : (a b c : List Property) → AllByRecursion (λ property. not (
     AllByRecursion (λ property. not (is_payload_name property.0) ≡ false) c →
     root_of_images (plain_images (codes "a" ∷ codes "b" ∷ codes "c" ∷ []))
     ≡ root_of_images (without_payloads (with_each from_entries (three_nodes a b c)))
-three_plain a b c are_a are_b are_c =
-    λ i. root_of_images
-    (node (codes "a") (sym (all_taken_out a are_a) i) none
-    (node (codes "b") (sym (all_taken_out b are_b) i) none
-    (node (codes "c") (sym (all_taken_out c are_c) i) none none)))
+three_plain a b c are_a are_b are_c = search (rules, all_taken_out)
 
 pub three_images_have_texts : ThreeImagesHaveTexts
 unfolding text_of_events text_of_blocks cell cell8 u32_at
@@ -271,9 +264,7 @@ two_plain : (first second : List ℕ) (a b : List Property) → AllByRecursion (
     AllByRecursion (λ property. not (is_payload_name property.0) ≡ false) b →
     root_of_images (plain_images (first ∷ second ∷ []))
     ≡ root_of_images (without_payloads (with_each from_entries (node first a none (node second b none none))))
-two_plain first second a b are_a are_b =
-    λ i. root_of_images
-    (node first (sym (all_taken_out a are_a) i) none (node second (sym (all_taken_out b are_b) i) none none))
+two_plain first second a b are_a are_b = search (rules, all_taken_out)
 
 -- One image node without the properties that give its payload is a plain one.
 pub one_plain : (name : List ℕ) (a : List Property) → AllByRecursion (λ property. not (is_payload_name property.0) ≡ false) a →
@@ -475,15 +466,7 @@ entries_data value = entries_listed None 0 (Some value)
 
 -- The tree of the text is that of the file.
 nested_normal : normal_tree Embedded nested_image_tree ≡ nested_tree
-nested_normal =
-    λ i. record {
-      own = entries_data (codes "r") i;
-      children = node (codes "other") (no_entries i)
-          (node images_name (no_entries i) (node (codes "n") (entries_data (codes "o") i) none none) none)
-          (node images_name (entries_data (codes "p") i)
-          (node (codes "a") (entries_data (codes "q") i) (node (codes "hash-1") (entries_data (codes "s") i) none none) none)
-          none);
-    }
+nested_normal = search (rules, entries_data, no_entries)
 
 pub only_images_have_payloads : OnlyImagesHavePayloads
 unfolding text_of_events text_of_blocks cell cell8 u32_at

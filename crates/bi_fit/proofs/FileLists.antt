@@ -1,5 +1,5 @@
-use Rattle.std.proofs.Common.{◌≡◌, ℕ, suc, ◌+◌, ◌≤◌, Bool, true, false, cond, ◌==◌, List, [], ◌∷◌, ◌++◌, length, drop, map, Option, Some}
-use Rattle.std.proofs.Common.{None, option_and_then, slice_get, bytes_eq, nat_eq, refl, sym, ap, ap₂, subst, ◌∙◌, arith, one-add}
+use Rattle.std.proofs.Common.{◌≡◌, ℕ, suc, ◌+◌, ◌≤◌, Bool, true, false, ◌==◌, List, [], ◌∷◌, ◌++◌, length, drop, map, Option, Some, rules}
+use Rattle.std.proofs.Common.{None, option_and_then, slice_get, bytes_eq, nat_eq, refl, sym, ap, subst, ◌∙◌, arith, one-add}
 use Rattle.std.proofs.Common.{if◌then◌else◌, take, ◌-◌}
 use Rattle.std.proofs.lemmas.Bool.{eqb-true}
 use Rattle.std.proofs.lemmas.List.{length-drop, take_rest}
@@ -9,18 +9,17 @@ use Rattle.std.specs.Option.{option_map}
 use Rattle.std.specs.List.{AllZip, list_any, before_first, ends_with}
 use Rattle.std.proofs.lemmas.Option.{cond_some, same_Some}
 use Rattle.bi_base.specs.Strings.{text_before_nul}
-use Rattle.bi_blob.specs.Tree.{Nodes, FileNode, PropertyMap, properties_of}
-use Rattle.bi_blob.specs.Lookups.{Sibling, siblings, node_named, value_named}
+use Rattle.bi_blob.specs.Tree.{FileNode}
+use Rattle.bi_blob.specs.Lookups.{Sibling, node_named}
 use Rattle.bi_fit.specs.declared.key.Key.{Key}
-use Rattle.bi_fit.specs.Names.{key_name}
 use Rattle.bi_fit.specs.Content.{FitModel, ImageModel, IsReadImage, IsHeld, tree_of, index_from, index_of}
-use Rattle.bi_fit.specs.Judgement.{Image, images_with, images_of, image_named, ListedImage, ListResult, NoConfig, NoKey, BadList, Missing}
-use Rattle.bi_fit.specs.Judgement.{ListedImages, with_byte, with_image, listed_names, listed_from, list_images, listed_at, listed_under}
+use Rattle.bi_fit.specs.Judgement.{images_with, images_of, image_named, ListedImage, ListResult, NoConfig, BadList, Missing}
+use Rattle.bi_fit.specs.Judgement.{ListedImages, with_byte, with_image, listed_names, list_images, listed_at, listed_under}
 use Rattle.bi_fit.specs.Judgement.{listed_of, configuration_nodes, BeginsWithName}
 use Rattle.bi_fit.specs.declared.configurations.ConfigError.{ConfigError}
 use Rattle.bi_fit.specs.declared.configurations.ConfigError.TheVariants.{OutOfMemory}
 use Rattle.bi_fit.specs.JudgementCalls.{ListNeedsMemory, IsListError}
-use Rattle.bi_fit.specs.HashNodes.{file_images, file_configurations, payload_named, listed_payload, file_list}
+use Rattle.bi_fit.specs.HashNodes.{file_configurations, payload_named, file_list}
 use Rattle.bi_fit.specs.HashNodes.{file_listed_at, file_listed, with_images}
 use Rattle.bi_fit.proofs.FileNodes.{bare_image, sibling_by_name, get-by_name, named-by_name, image_siblings, configuration_nodes_are}
 
@@ -82,13 +81,7 @@ name_and_rest (byte ∷ later) some = where_first (is_zero byte) refl some (λ s
 
 pub name_then_rest : (value name : List ℕ) → text_before_nul value ≡ Some name → value ≡ name ++ 0 ∷ drop (length name + 1) value
 unfolding text_before_nul
-name_then_rest value name is =
-    let there = cond_some (list_any is_zero value) (before_first is_zero value) name is in
-    subst (λ (text : List ℕ). value ≡ text ++ 0 ∷ drop (length text + 1) value) there.1
-    (name_and_rest value there.0 ∙ ap (λ n. before_first is_zero value ++ 0 ∷ drop n value) (one (length (before_first is_zero value))))
-  where
-    one : (n : ℕ) → suc n ≡ n + 1
-    one n = omega arith
+name_then_rest value name is = search (rules, cond_some, name_and_rest)
 
 pub next_name : (value name : List ℕ) → text_before_nul value ≡ Some name →
     listed_names value ≡ name ∷ listed_names (drop (length name + 1) value)
@@ -104,18 +97,11 @@ next_name value name is =
 
 pub no_listed_name : (value : List ℕ) → text_before_nul value ≡ None → listed_names value ≡ []
 unfolding text_before_nul
-no_listed_name value is = by_test (list_any is_zero value) refl
-  where
-    by_test : (b : Bool) → list_any is_zero value ≡ b → listed_names value ≡ []
-    by_test true some = absurd (let e : Some (before_first is_zero value)
-        ≡ None = sym (ap (λ b. cond b (Some (before_first is_zero value)) None) some) ∙ is in cc)
-    by_test false none = without_zero value none
+no_listed_name value is = search (rules, without_zero)
 
 pub name_is_shorter : (value name : List ℕ) → text_before_nul value ≡ Some name → length name + 1 ≤ length value
 unfolding text_before_nul
-name_is_shorter value name is =
-    let there = cond_some (list_any is_zero value) (before_first is_zero value) name is in
-    subst (λ (text : List ℕ). length text + 1 ≤ length value) there.1 (shorter value there.0)
+name_is_shorter value name is = search (rules, cond_some, shorter)
 
 -- A value begins with its first name.
 pub begins_with_name : (value name : List ℕ) → text_before_nul value ≡ Some name →
@@ -161,10 +147,7 @@ module _ (name : List ℕ) where
 
 pub payload_found : (name : List ℕ) (images : List ImageModel) (index : ℕ) → index_of name images ≡ Some index →
     payload_named name images ≡ Some (payload_at images index)
-payload_found name images index is =
-    let found = found_from name 0 images index is in
-    let at : found.0 ≡ index = (let e : index ≡ 0 + found.0 = found.1 in omega arith) in
-    found.2 ∙ ap (λ k. Some (payload_at images k)) at
+payload_found name images index is = search (rules, found_from)
 
 pub payload_named-missing : (name : List ℕ) (images : List ImageModel) → index_of name images ≡ None → payload_named name images ≡ None
 payload_named-missing name images is = missing_from name 0 images is
@@ -188,19 +171,7 @@ listed_all (first ∷ later) = ap (with_image first) (listed_all later)
 -- A list of names is found in memory.
 pub list_needs_memory : (images : List ImageModel) (index : ℕ) (names : List (List ℕ)) → ListNeedsMemory (file_list images index names)
 list_needs_memory images index [] = tt
-list_needs_memory images index (name ∷ later) = by_payload (payload_named name images) (list_needs_memory images (index + 1) later)
-  where
-    by_listed : (image : ListedImage) (listed : ListResult) → ListNeedsMemory listed → ListNeedsMemory (with_image image listed)
-    by_listed image NoConfig needs = needs
-    by_listed image NoKey needs = needs
-    by_listed image BadList needs = needs
-    by_listed image (Missing index) needs = needs
-    by_listed image (ListedImages images) needs = tt
-
-    by_payload : (found : Option (Option (List ℕ))) → ListNeedsMemory (file_list images (index + 1) later) →
-        ListNeedsMemory (listed_payload index name found (file_list images (index + 1) later))
-    by_payload None needs = tt
-    by_payload (Some payload) needs = by_listed (record { name = name; payload = payload }) (file_list images (index + 1) later) needs
+list_needs_memory images index (name ∷ later) = search (rules, list_needs_memory images (index + 1) later)
 
 -- What a value lists where these images were found, and the names in `rest` are left.
 module _ (images : List ImageModel) (value rest : List ℕ) (done : List ListedImage) (index : ℕ)
@@ -208,24 +179,14 @@ module _ (images : List ImageModel) (value rest : List ℕ) (done : List ListedI
   -- The next name is one that no image has.
   pub next_is_missing : (name later : List ℕ) → BeginsWithName rest name later → index_of name images ≡ None →
       file_list images 0 (listed_names value) ≡ Missing index
-  next_is_missing name later begins none =
-      so_far
-      ∙ ap (λ names. with_images done (file_list images index names)) begins.listed
-      ∙ ap (λ found. with_images done (listed_payload index name found (file_list images (index + 1) (listed_names later))))
-      (payload_named-missing name images none)
-      ∙ missing_after done index
+  next_is_missing name later begins none = search (rules, payload_named-missing, missing_after)
 
   -- The next image is found.
   pub next_is_found : (name later : List ℕ) (found : ℕ) (payload : Option (List ℕ)) → BeginsWithName rest name later →
       index_of name images ≡ Some found → payload ≡ payload_at images found →
       file_list images 0 (listed_names value)
       ≡ with_images (done ++ record { name = name; payload = payload } ∷ []) (file_list images (index + 1) (listed_names later))
-  next_is_found name later found payload begins there is =
-      so_far
-      ∙ ap (λ names. with_images done (file_list images index names)) begins.listed
-      ∙ ap (λ found. with_images done (listed_payload index name found (file_list images (index + 1) (listed_names later))))
-      (payload_found name images found there ∙ ap Some (sym is))
-      ∙ sym (with_one_more done (record { name = name; payload = payload }) (file_list images (index + 1) (listed_names later)))
+  next_is_found name later found payload begins there is = search (rules, payload_found, with_one_more)
 
   -- No name is left.
   pub none_is_left : listed_names rest ≡ [] → file_list images 0 (listed_names value) ≡ ListedImages done
@@ -247,40 +208,18 @@ payload_same : (name file : List ℕ) (entries : List (Sibling FileNode)) (image
 payload_same name file [] [] read = refl
 payload_same name file [] (image ∷ images) read = absurd read
 payload_same name file (entry ∷ entries) [] read = absurd read
-payload_same name file (entry ∷ entries) (image ∷ images) read =
-    where_first (bytes_eq entry.name name) refl (payload_same name file entries images read.1)
-  where
-    where_first : (b : Bool) → bytes_eq entry.name name ≡ b →
-        option_map (λ image. image.payload)
-        (image_named name (images_with (map bare_image entries) (map (λ image. image.payload) images))) ≡ payload_named name images →
-        option_map (λ image. image.payload)
-        (image_named name (images_with (map bare_image (entry ∷ entries)) (map (λ image. image.payload) (image ∷ images)))) ≡
-        payload_named name (image ∷ images)
-    where_first true same rest = rw (read.0.name, same) refl
-    where_first false other rest = rw (read.0.name, other) rest
+payload_same name file (entry ∷ entries) (image ∷ images) read = search (rules, payload_same name file entries images read.1)
 
 module _ (content : FitModel) (held : IsHeld content) where
   payload_in_tree : (name : List ℕ) →
       option_map (λ image. image.payload) (image_named name (images_of (tree_of content))) ≡ payload_named name content.images
-  payload_in_tree name =
-      ap (λ (entries : List (Sibling PropertyMap)). option_map (λ image. image.payload)
-      (image_named name (images_with entries (map (λ image. image.payload) content.images)))) (image_siblings content)
-      ∙ payload_same name content.blob.file (siblings (file_images content.blob)) content.images held.images
+  payload_in_tree name = search (rules, image_siblings, payload_same)
 
   -- So names list the same images.
   list_in_tree : (index : ℕ) (names : List (List ℕ)) →
       list_images (images_of (tree_of content)) index names ≡ file_list content.images index names
   list_in_tree index [] = refl
-  list_in_tree index (name ∷ later) =
-      by_image (image_named name (images_of (tree_of content)))
-      ∙ ap₂ (listed_payload index name) (payload_in_tree name) (list_in_tree (index + 1) later)
-    where
-      by_image : (found : Option Image) →
-          listed_from index name found (list_images (images_of (tree_of content)) (index + 1) later) ≡
-          listed_payload index name (option_map (λ image. image.payload) found)
-          (list_images (images_of (tree_of content)) (index + 1) later)
-      by_image None = refl
-      by_image (Some image) = refl
+  list_in_tree index (name ∷ later) = search (rules, payload_in_tree, list_in_tree (index + 1) later)
 
   -- And so does the value of a key.
   value_in_tree : (value : Option (List ℕ)) → listed_at (images_of (tree_of content)) value ≡ file_listed_at content.images value
@@ -292,17 +231,12 @@ module _ (content : FitModel) (held : IsHeld content) where
   named_in_tree : (name : List ℕ) →
       node_named (configuration_nodes (tree_of content)) name
       ≡ option_map sibling_by_name (node_named (file_configurations content.blob) name)
-  named_in_tree name =
-      ap (λ (nodes : Nodes PropertyMap). node_named nodes name) (configuration_nodes_are content)
-      ∙ named-by_name (file_configurations content.blob) name
+  named_in_tree name = search (rules, configuration_nodes_are, named-by_name)
 
   -- What a configuration lists under a key.
   pub listed_is : (name : List ℕ) (entry : Sibling FileNode) (key : Key) → node_named (file_configurations content.blob) name ≡ Some entry →
       listed_of (tree_of content) name key ≡ file_listed content.images entry key
-  listed_is name entry key there =
-      ap (λ found. listed_under (images_of (tree_of content)) found key) (named_in_tree name ∙ ap (option_map sibling_by_name) there)
-      ∙ ap (listed_at (images_of (tree_of content))) (get-by_name (properties_of entry.own) (key_name key))
-      ∙ value_in_tree (value_named (properties_of entry.own) (key_name key))
+  listed_is name entry key there = search (rules, named_in_tree, get-by_name, value_in_tree)
 
   -- No configuration has another name.
   pub nothing_listed : (name : List ℕ) (key : Key) → node_named (file_configurations content.blob) name ≡ None →

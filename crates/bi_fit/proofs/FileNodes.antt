@@ -1,4 +1,5 @@
 use Rattle.std.proofs.Common.{◌≡◌, ℕ, Bool, true, false, List, [], ◌∷◌, map, Option, Some, None, bytes_eq, nat_cmp, refl, sym, ap, ◌∙◌}
+use Rattle.std.proofs.Common.{rules}
 use Rattle.std.specs.Prelude.{option_map}
 use Rattle.std.specs.Cmp.Lexicographic.{slice_cmp}
 use Rattle.std.specs.FinMap.{get, from_entries, find, get-from_entries}
@@ -70,14 +71,7 @@ names-by_name (node name own children later) = ap (λ l. name ∷ l) (names-by_n
 pub named-by_name : (nodes : Nodes FileNode) (wanted : List ℕ) →
     node_named (nodes_by_name nodes) wanted ≡ option_map sibling_by_name (node_named nodes wanted)
 named-by_name none wanted = refl
-named-by_name (node name own children later) wanted = where_first (bytes_eq name wanted) refl (named-by_name later wanted)
-  where
-    where_first : (b : Bool) → bytes_eq name wanted ≡ b →
-        node_named (nodes_by_name later) wanted ≡ option_map sibling_by_name (node_named later wanted) →
-        node_named (nodes_by_name (node name own children later)) wanted ≡
-        option_map sibling_by_name (node_named (node name own children later) wanted)
-    where_first true is rest = rw is refl
-    where_first false is rest = rw is rest
+named-by_name (node name own children later) wanted = search (rules, named-by_name later wanted)
 
 -- What a node has itself, and its children.
 abbrev pub own_and_children : {Own : Type 0} → Sibling Own → Own × Nodes Own
@@ -120,16 +114,7 @@ pub image_nodes_named : (nodes : Nodes FileNode) →
     nodes_or_none (children_of images_name (with_children_of images_name without_payloads (nodes_by_name nodes)))
     ≡ without_payloads (nodes_by_name (nodes_or_none (children_of images_name nodes)))
 image_nodes_named none = refl
-image_nodes_named (node name own children later) = where_first (bytes_eq name images_name) refl (image_nodes_named later)
-  where
-    where_first : (b : Bool) → bytes_eq name images_name ≡ b →
-        nodes_or_none (children_of images_name (with_children_of images_name without_payloads (nodes_by_name later))) ≡
-        without_payloads (nodes_by_name (nodes_or_none (children_of images_name later))) →
-        nodes_or_none (children_of images_name
-        (with_children_of images_name without_payloads (nodes_by_name (node name own children later)))) ≡
-        without_payloads (nodes_by_name (nodes_or_none (children_of images_name (node name own children later))))
-    where_first true is rest = rw (is, is) refl
-    where_first false is rest = rw (is, is) rest
+image_nodes_named (node name own children later) = search (rules, image_nodes_named later)
 
 pub image_siblings : (content : FitModel) →
     siblings (nodes_or_none (image_nodes (tree_of content).root)) ≡ map bare_image (siblings (file_images content.blob))
@@ -157,19 +142,4 @@ configurations_parts content =
 -- The configuration nodes of the tree.
 pub configuration_nodes_are : (content : FitModel) →
     configuration_nodes (tree_of content) ≡ nodes_by_name (file_configurations content.blob)
-configuration_nodes_are content =
-    of_parts (node_named (tree_of content).root.children configurations_name)
-    ∙ ap (λ (o : Option (PropertyMap × Nodes PropertyMap)). nodes_or_none (option_map (λ parts. parts.1) o)) (configurations_parts content)
-    ∙ of_file (node_named (root_of content.blob).children configurations_name)
-  where
-    of_parts : (found : Option (Sibling PropertyMap)) →
-        nodes_or_none (option_map (λ sibling. sibling.children) found) ≡
-        nodes_or_none (option_map (λ parts. parts.1) (option_map own_and_children found))
-    of_parts None = refl
-    of_parts (Some sibling) = refl
-
-    of_file : (found : Option (Sibling FileNode)) →
-        nodes_or_none (option_map (λ parts. parts.1) (option_map (λ sibling. own_and_children (sibling_by_name sibling)) found)) ≡
-        nodes_by_name (nodes_or_none (option_map (λ sibling. sibling.children) found))
-    of_file None = refl
-    of_file (Some sibling) = refl
+configuration_nodes_are content = search (rules, configurations_parts)

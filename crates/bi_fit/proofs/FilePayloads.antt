@@ -1,8 +1,8 @@
-use Rattle.std.proofs.Common.{◌≡◌, ℕ, ◌+◌, Bool, true, false, List, [], ◌∷◌, ◌++◌, map, length, bytes_eq, Option, Some, None, refl, sym, ap}
-use Rattle.std.proofs.Common.{subst, arith, length-append}
+use Rattle.std.proofs.Common.{◌≡◌, ℕ, ◌+◌, Bool, true, false, List, [], ◌∷◌, ◌++◌, map, length, bytes_eq, Option, Some, None, refl, sym}
+use Rattle.std.proofs.Common.{subst, arith, length-append, rules}
 use Rattle.std.specs.Prelude.{⊤}
 use Rattle.std.specs.List.{AllByRecursion, AllZip}
-use Rattle.bi_base.specs.Cells.{cell, slice}
+use Rattle.bi_base.specs.Cells.{cell}
 use Rattle.bi_base.proofs.CellLaws.{length-cell, length-slice}
 use Rattle.bi_base.proofs.ListMembers.{each-front, each-back, each-map_back}
 use Rattle.bi_blob.specs.Tokens.{Token, BeginNode, EndNode, Prop, Nop, End, token_bytes, width, IsTokenAt}
@@ -110,28 +110,13 @@ found_values file wanted (node name own children later) inner has have =
 pub named_value : (file name : List ℕ) (properties : List FileProperty) (property : FileProperty) →
     AllByRecursion (HasValue file) properties → property_named properties name ≡ Some property → HasValue file property
 named_value file name [] property have found = absurd cc
-named_value file name (first ∷ later) property have found =
-    where_first (bytes_eq first.name name) refl found (named_value file name later property have.1)
-  where
-    where_first : (b : Bool) → bytes_eq first.name name ≡ b → property_named (first ∷ later) name ≡ Some property →
-        (property_named later name ≡ Some property → HasValue file property) → HasValue file property
-    where_first true is found rest =
-        let same : first ≡ property = same_in_some first property (rw is at found) in
-        subst (HasValue file) same have.0
-    where_first false is found rest = rest (rw is at found)
+named_value file name (first ∷ later) property have found = search (rules, same_in_some, named_value file name later property have.1)
 
 -- A region is where its properties name it.
 region_place : (file : List ℕ) (base : ℕ) (begin : FileProperty) (size : Option FileProperty) (payload : Option (List ℕ)) →
     IsSizedRegion file base begin size payload → IsAtPlace file (Some (base + cell_number begin)) payload
 region_place file base begin None payload is = absurd is
-region_place file base begin (Some size) payload is =
-    subst (IsAtPlace file (Some (base + cell_number begin))) (sym is.is_slice) (record {
-      in_file = omega (arith, long, is.in_file);
-      is_slice = ap (slice file (base + cell_number begin)) long;
-    })
-  where
-    long : length (slice file (base + cell_number begin) (cell_number size)) ≡ cell_number size
-    long = length-slice file (base + cell_number begin) (cell_number size) is.in_file
+region_place file base begin (Some size) payload is = search (rules, length-slice)
 
 -- The payload of a source is at its place.
 source_place : (file : List ℕ) (source : PayloadSource) (payload : Option (List ℕ)) →
@@ -141,11 +126,7 @@ source_place file NoSource payload has_value is = subst (IsAtPlace file None) (s
 source_place file (Data property) payload has_value is =
     subst (IsAtPlace file (Some (property.place + 12))) (sym is) (has_value property refl)
 source_place file (DataOffset offset size) payload has_value is = region_place file (external_base file) offset size payload is
-source_place file (DataPosition position size) payload has_value is =
-    subst (λ n. IsAtPlace file (Some n) payload) counted (region_place file 0 position size payload is)
-  where
-    counted : 0 + cell_number position ≡ cell_number position
-    counted = omega arith
+source_place file (DataPosition position size) payload has_value is = search (rules, region_place)
 
 -- So are those of image nodes.
 pub images_places : (file : List ℕ) (nodes : Nodes FileNode) (payloads : List (Option (List ℕ))) → HaveValues file nodes →

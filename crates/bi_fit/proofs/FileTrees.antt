@@ -1,9 +1,9 @@
-use Rattle.std.proofs.Common.{◌≡◌, ℕ, ◌+◌, Bool, true, false, cond, not, List, [], ◌∷◌, ◌++◌, map, max, Option, Some, None, bytes_eq, refl}
+use Rattle.std.proofs.Common.{◌≡◌, ℕ, ◌+◌, List, [], ◌∷◌, ◌++◌, map, Option, Some, None, refl, rules}
 use Rattle.std.proofs.Common.{sym, ap, subst, ◌∙◌}
 use Rattle.std.specs.Prelude.{IfSome}
 use Rattle.std.specs.Option.{option_map}
 use Rattle.std.specs.List.{AllByRecursion, AllZip}
-use Rattle.std.specs.FinMap.{get, from_entries}
+use Rattle.std.specs.FinMap.{from_entries}
 use Rattle.bi_base.specs.Cells.{AreBytes}
 use Rattle.bi_base.proofs.CellLaws.{AreBytes-slice}
 use Rattle.bi_base.proofs.ListMembers.{each-front, each-back}
@@ -14,10 +14,10 @@ use Rattle.bi_blob.specs.Layout.{AreEventBytes, IsContent}
 use Rattle.bi_blob.proofs.Blobs.BlockEnds.{depth-with_each}
 use Rattle.bi_blob.proofs.Texts.TextContent.{blob_has_content}
 use Rattle.bi_blob.specs.Lookups.{property_named}
-use Rattle.bi_fit.specs.Names.{data_name, images_name}
+use Rattle.bi_fit.specs.Names.{images_name}
 use Rattle.bi_fit.specs.ImageTree.{ImageTree, each_own, image_nodes, children_of, without_payload, without_payloads, ArePropertiesByName}
 use Rattle.bi_fit.specs.ImageTree.{HaveByteNames, IsApart, IsImageTree}
-use Rattle.bi_fit.specs.Payloads.{PayloadSource, NoSource, Data, DataOffset, DataPosition, first_source, source_of, cell_number}
+use Rattle.bi_fit.specs.Payloads.{PayloadSource, NoSource, Data, DataOffset, DataPosition, first_source, cell_number}
 use Rattle.bi_fit.specs.Payloads.{external_base, IsSizedRegion, IsPayload, HasPayload}
 use Rattle.bi_fit.specs.File.{IsFitFile}
 use Rattle.bi_fit.proofs.Meanings.{same_in_some}
@@ -33,10 +33,7 @@ use Rattle.bi_fit.proofs.TreeContents.{AreBlobProperties, properties-from_entrie
 good_properties : (properties : List Property) → AllByRecursion (λ property. IsPropertyName property.0) properties →
     AllByRecursion AreEventBytes (map NodeProperty properties) → AreBlobProperties properties
 good_properties [] named bytes = tt
-good_properties (property ∷ later) named bytes = (
-  record { is_name = named.0; name_bytes = bytes.0.0; value_bytes = bytes.0.1 },
-  good_properties later named.1 bytes.1,
-)
+good_properties (property ∷ later) named bytes = search (rules, good_properties later named.1 bytes.1)
 
 -- So are those of nodes whose events are bytes.
 good_nodes : (nodes : Nodes (List Property)) → AreNodes AreProperties nodes → AllByRecursion AreEventBytes (events nodes) →
@@ -59,15 +56,7 @@ good_nodes (node name properties children later) are bytes =
 found_good : (name : List ℕ) (properties : List FileProperty) (property : FileProperty) → AreBlobProperties (map property_of properties) →
     property_named properties name ≡ Some property → AreBytes property.value
 found_good name [] property good found = absurd cc
-found_good name (first ∷ later) property good found =
-    where_first (bytes_eq first.name name) refl found (found_good name later property good.1)
-  where
-    where_first : (b : Bool) → bytes_eq first.name name ≡ b → property_named (first ∷ later) name ≡ Some property →
-        (property_named later name ≡ Some property → AreBytes property.value) → AreBytes property.value
-    where_first true is found rest =
-        let same : first ≡ property = same_in_some first property (rw is at found) in
-        subst (λ property. AreBytes property.value) same good.0.value_bytes
-    where_first false is found rest = rest (rw is at found)
+found_good name (first ∷ later) property good found = search (rules, same_in_some, found_good name later property good.1)
 
 -- A region of a file of bytes is bytes.
 region_bytes : (file : List ℕ) (base : ℕ) (begin : FileProperty) (size : Option FileProperty) (payload : Option (List ℕ)) → AreBytes file →
@@ -98,16 +87,7 @@ source_is_data None None size None property is = absurd cc
 -- An image node of a file and its payload are apart.
 node_apart : (file : List ℕ) (own : FileNode) (payload : Option (List ℕ)) → AreBytes file → AreBlobProperties (properties_of own) →
     HasPayload file own payload → IsApart (without_payload (from_entries (properties_of own))) payload
-node_apart file own payload bytes good has = record {
-  no_payload_name = λ name is.
-      get-without by_name name ∙ ap (λ b. cond (not b) (get by_name name) None) is;
-  bytes = source_bytes file (source_of own) payload bytes
-      (λ property is. found_good data_name own.properties property good (source_is_data _ _ _ _ property is))
-      has;
-}
-  where
-    by_name : PropertyMap
-    by_name = from_entries (properties_of own)
+node_apart file own payload bytes good has = search (rules, get-without, source_bytes, found_good, source_is_data)
 
 -- So are image nodes and their payloads.
 nodes_apart : (file : List ℕ) (nodes : Nodes FileNode) (payloads : List (Option (List ℕ))) → AreBytes file →
@@ -170,9 +150,4 @@ is_image_tree file tree is = record {
 
 -- Its tree is as deep as that of the file.
 pub depth-image_tree : (file : List ℕ) (tree : ImageTree) (is : IsFitFile file tree) → depth_of tree.root ≡ depth_of is.root
-depth-image_tree file tree is =
-    ap depth_of is.is_root
-    ∙ ap (λ n. max (n + 1) 0)
-    (depth-with_children_of images_name without_payloads depth-without_payloads
-    (with_each from_entries (with_each properties_of is.root.children))
-    ∙ sym (depth-with_each properties_of is.root.children ∙ depth-with_each from_entries (with_each properties_of is.root.children)))
+depth-image_tree file tree is = search (rules, depth-with_children_of, depth-without_payloads, depth-with_each)

@@ -1,4 +1,4 @@
-use Rattle.std.proofs.Common.{◌≡◌, ◌≢◌, ℕ, ◌+◌, ◌<◌, ◌≤◌, ◌^◌, ◌%◌, List, [], ◌∷◌, length, codes, arith, refl}
+use Rattle.std.proofs.Common.{◌≡◌, ℕ, ◌+◌, ◌<◌, ◌≤◌, ◌^◌, ◌%◌, List, [], ◌∷◌, length, codes, arith, rules}
 use Rattle.std.specs.Fmt.{decimal}
 use Rattle.std.specs.List.{AllByRecursion}
 use Rattle.std.proofs.lemmas.Fmt.{decimal_injective, decimal_by_steps}
@@ -28,33 +28,15 @@ decimal_digits number fits =
 -- Digits are bytes.
 digits_are_bytes : (digits : List ℕ) → AllByRecursion IsDecimalDigit digits → AreBytes digits
 digits_are_bytes [] are = AreBytes-none
-digits_are_bytes (digit ∷ later) are =
-    let low = are.0.1 in
-    AreBytes-cons digit later (omega (arith, low)) (digits_are_bytes later are.1)
+digits_are_bytes (digit ∷ later) are = search (rules, AreBytes-cons, digits_are_bytes later are.1)
 
 -- The name of a hash node is bytes,
 pub bytes-hash_node_name : (number : ℕ) → number < 2 ^ 64 → AreBytes (hash_node_name number)
-bytes-hash_node_name number fits =
-    AreBytes-append (codes "hash-") (decimal number) (tested_name (codes "hash-") refl).0
-    (digits_are_bytes (decimal number) (decimal_digits number fits))
+bytes-hash_node_name number fits = search (rules, AreBytes-append, tested_name, digits_are_bytes, decimal_digits)
 
 -- and may be that of a child.
 pub hash_node_name_is_child : (number : ℕ) → number < 2 ^ 64 → IsChildName (hash_node_name number)
-hash_node_name_is_child number fits = record {
-  some = λ is. absurd cc;
-  no_zero = each-append (λ byte. byte ≢ 0) (codes "hash-") (decimal number) (tested_name (codes "hash-") refl).1
-      (each-weaker IsDecimalDigit (λ byte. byte ≢ 0) (λ byte digit is. omega (arith, digit.0, is)) (decimal number)
-      (decimal_digits number fits));
-  no_slash = each-append (λ byte. byte ≢ 47) (codes "hash-") (decimal number) no_slash
-      (each-weaker IsDecimalDigit (λ byte. byte ≢ 47) (λ byte digit is. omega (arith, digit.0, is)) (decimal number)
-      (decimal_digits number fits));
-}
-  where
-    no_slash : AllByRecursion (λ byte. byte ≢ 47) (codes "hash-")
-    no_slash = (
-      λ is. omega (arith, is),
-      (λ is. omega (arith, is), (λ is. omega (arith, is), (λ is. omega (arith, is), (λ is. omega (arith, is), tt)))),
-    )
+hash_node_name_is_child number fits = search (rules, each-append, tested_name, each-weaker, decimal_digits)
 
 -- Hash nodes with the same name have the same number.
 same_number : (one other : ℕ) → one < 2 ^ 64 → other < 2 ^ 64 → hash_node_name one ≡ hash_node_name other → one ≡ other

@@ -1,6 +1,6 @@
-use Rattle.std.proofs.Common.{◌≡◌, ℕ, ◌+◌, ◌≤◌, Bool, List, [], ◌∷◌, length, Option, Some, None, refl, ap, ◌∙◌, arith}
+use Rattle.std.proofs.Common.{◌≡◌, ℕ, ◌+◌, ◌≤◌, Bool, List, [], ◌∷◌, length, Option, Some, None, refl, ap, arith, rules}
 use Rattle.std.specs.FinMap.{insert, entries}
-use Rattle.bi_blob.specs.Tree.{Nodes, none, node, Property, PropertyMap, FileNode, EachOwn, with_each}
+use Rattle.bi_blob.specs.Tree.{Nodes, none, node, Property, PropertyMap, FileNode, EachOwn}
 use Rattle.bi_blob.specs.Lookups.{Sibling}
 use Rattle.bi_blob.specs.Events.{Event}
 use Rattle.bi_blob.specs.Layout.{longest_text}
@@ -8,10 +8,10 @@ use Rattle.bi_hash.specs.declared.algo.Algo.{Algo}
 use Rattle.bi_fit.specs.declared.form.Form.{Form}
 use Rattle.bi_fit.specs.declared.form.Form.TheVariants.{Embedded}
 use Rattle.bi_fit.specs.Names.{data_name}
-use Rattle.bi_fit.specs.ImageTree.{without_payload, without_payloads}
+use Rattle.bi_fit.specs.ImageTree.{without_payload}
 use Rattle.bi_fit.specs.Text.{alignment_of, blob_alignment, with_payload, with_payloads, end_after}
 use Rattle.bi_lay.specs.Contents.{Doc}
-use Rattle.bi_fit.specs.TakenDigests.{HaveImageDigests, algorithm_if_hashed, with_first_digest, images_with_digests_from}
+use Rattle.bi_fit.specs.TakenDigests.{HaveImageDigests, algorithm_if_hashed, with_first_digest}
 use Rattle.bi_fit.specs.NormalNodes.{HasCellSize, HasDistinctNames, next_begin, next_end, AreWithin, properties_by_name, nodes_by_name, begin_events}
 use Rattle.bi_fit.specs.NormalNodes.{image_properties}
 use Rattle.bi_fit.specs.NormalNodes.{sorted_image_children, sorted_images}
@@ -42,11 +42,7 @@ child_begin hashed digests s = begin_events s.name (child_properties hashed dige
 pub child_begins : (hashed : Bool) (digests : List ℕ) (s : Sibling FileNode) (algo : Option Algo) (name : List ℕ) (read set : PropertyMap) →
     algo ≡ algorithm_if_hashed hashed s.name (properties_by_name s.own) → name ≡ s.name → read ≡ properties_by_name s.own →
     set ≡ with_first_digest algo digests read → begin_events name set ≡ child_begin hashed digests s
-child_begins hashed digests s algo name read set same_algo same_name is_read is_set =
-    begin_events-same name s.name set (child_properties hashed digests s) same_name
-    (is_set
-    ∙ ap (λ algo. with_first_digest algo digests read) same_algo
-    ∙ ap (with_first_digest (algorithm_if_hashed hashed s.name (properties_by_name s.own)) digests) is_read)
+child_begins hashed digests s algo name read set same_algo same_name is_read is_set = search (rules, begin_events-same)
 
 -- Embedded payloads have no offsets.
 embedded_anywhere : (one other : ℕ) (payloads : List (Option (List ℕ))) (nodes : Nodes PropertyMap) →
@@ -64,10 +60,7 @@ pub images-later : (hashes : Bool) (form : Form) (end : ℕ) (payload : Option (
     (digests : List ℕ) (nodes : Nodes FileNode) →
     sorted_images hashes form (end_after (blob_alignment (alignment_of form)) end payload) payloads digests nodes
     ≡ sorted_images hashes form (next_end form end payload) payloads digests nodes
-images-later hashes Embedded end payload payloads digests nodes =
-    ap (with_each entries)
-    (embedded_anywhere (end_after 4 end payload) end payloads
-    (images_with_digests_from hashes payloads digests (without_payloads (nodes_by_name nodes))))
+images-later hashes Embedded end payload payloads digests nodes = search (rules, embedded_anywhere)
 images-later hashes form end payload payloads digests nodes = refl
 
 -- Where payloads are within the longest text, the size of the first fits a cell,
@@ -103,18 +96,7 @@ pub added_is_sorted : (one form : Form) (end : ℕ) (payload : Option (List ℕ)
     node name (entries (with_payload (alignment_of one) (next_begin one end) payload (without_payload own)))
     (sorted_image_children was digests s.children) none
     ≡ sorted_image (image_properties form (next_begin form end) payload s.own) hashed digests s
-added_is_sorted one form end payload digests s name own was hashed same_form same_name same_own same_hashed =
-    ap (λ one. node name (entries (with_payload (alignment_of one) (next_begin one end) payload (without_payload own)))
-    (sorted_image_children was digests s.children) none) same_form
-    ∙ ap (λ name. node name (entries (with_payload (alignment_of form) begin payload (without_payload own)))
-    (sorted_image_children was digests s.children) none) same_name
-    ∙ ap (λ own. node s.name (entries (with_payload (alignment_of form) begin payload (without_payload own)))
-    (sorted_image_children was digests s.children) none) same_own
-    ∙ ap (λ was. node s.name (entries (image_properties form begin payload s.own))
-    (sorted_image_children was digests s.children) none) same_hashed
-  where
-    begin : ℕ
-    begin = next_begin form end
+added_is_sorted one form end payload digests s name own was hashed same_form same_name same_own same_hashed = search rules
 
 -- Image nodes are left to be added to a document, which is then another, and these are the payloads and the digests that are left.
 pub record AreImagesLeft (hashes : Bool) (form : Form) (document target : Doc) (end : ℕ) (payloads : List (Option (List ℕ)))

@@ -1,4 +1,4 @@
-use Rattle.std.proofs.Common.{◌≡◌, ℕ, ◌-◌, zero, suc, false, Option, Some, None, refl, sym, ap, subst, ◌∙◌, arith, true≢false}
+use Rattle.std.proofs.Common.{◌≡◌, ℕ, ◌-◌, zero, suc, false, Option, Some, None, refl, sym, subst, ◌∙◌, arith, true≢false, rules}
 use Rattle.std.specs.Prelude.{IsSome, eqb, if◌then◌else◌}
 use Rattle.std.specs.Option.{option_map, option_eq}
 use Rattle.std.proofs.lemmas.Bool.{ne_eqb}
@@ -24,9 +24,7 @@ is_none_before (Some count) = refl
 not_among : (nodes : Nodes FileNode) (position : ℕ) (found : Sibling FileNode) → node_at nodes position ≡ Some found →
     IsNew found.name (names nodes) → ⊥
 not_among none position found there new = absurd cc
-not_among (node name own children later) zero found there new =
-    let same : ◌≡◌ {A = Sibling FileNode} (record { name = name; own = own; children = children; later = later }) found = cc in
-    new.0 (ap (λ (sibling : Sibling FileNode). sibling.name) same)
+not_among (node name own children later) zero found there new = search rules
 not_among (node name own children later) (suc position) found there new = not_among later position found there new.1
 
 -- Nodes to which the name is new.
@@ -38,10 +36,7 @@ without_images (node name own children later) new = (other_name name new.0, with
 images_after : (IsOwn : FileNode → Type 0) (nodes : Nodes FileNode) (position : ℕ) (found : Sibling FileNode) →
     AreNodes IsOwn nodes → node_at nodes position ≡ Some found → found.name ≡ images_name → HaveImagesAfter (Some position) nodes
 images_after IsOwn none position found are there named = tt
-images_after IsOwn (node name own children later) zero found are there named =
-    let same : ◌≡◌ {A = Sibling FileNode} (record { name = name; own = own; children = children; later = later }) found = cc in
-    let is : name ≡ images_name = ap (λ (sibling : Sibling FileNode). sibling.name) same ∙ named in
-    ((bytes_eq-Decides name images_name).1 is, without_images later (subst (λ name. IsNew name (names later)) is are.0.is_new))
+images_after IsOwn (node name own children later) zero found are there named = search (rules, bytes_eq-Decides, without_images)
 images_after IsOwn (node name own children later) (suc position) found are there named =
     let some : eqb (suc position) 0 ≡ false = ne_eqb (suc position) 0 (λ is. absurd (omega (arith, is))) in
     let fewer : suc position - 1 ≡ position = omega arith in (

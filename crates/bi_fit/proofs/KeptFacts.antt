@@ -1,5 +1,5 @@
-use Rattle.std.proofs.Common.{◌≡◌, ◌≢◌, ◌⊎◌, ◌↔◌, ℕ, ◌/◌, ◌%◌, ◌<◌, ◌≤◌, true, false, List, [], ◌∷◌, ◌++◌, codes, Option, Some, None}
-use Rattle.std.proofs.Common.{replicate, length, refl, sym, ap, subst, ◌∙◌, lit≤, inl, inr, true≢false, arith}
+use Rattle.std.proofs.Common.{◌≡◌, ◌≢◌, ◌↔◌, ℕ, ◌/◌, ◌%◌, ◌≤◌, true, false, List, [], ◌∷◌, ◌++◌, codes, Option, Some, None, rules}
+use Rattle.std.proofs.Common.{replicate, length, refl, sym, ap, subst, ◌∙◌, lit≤, true≢false, arith}
 use Rattle.std.specs.List.{AllZip}
 use Rattle.std.proofs.lemmas.Bool.{cases_lt}
 use Rattle.bi_base.specs.Cells.{cell, cell8, u32_at}
@@ -30,11 +30,7 @@ use Rattle.bi_fit.proofs.TestedTrees.{content_by_test}
 
 -- A power that divides a number is at most the half of one that does not.
 at_most_half : (twice other n : ℕ) → IsPower twice → n % twice ≢ 0 → IsPower other → n % other ≡ 0 → other ≤ twice / 2
-at_most_half twice other n is_twice odd power whole = by (cases_lt twice other)
-  where
-    by : (twice < other) ⊎ (other ≤ twice) → other ≤ twice / 2
-    by (inl less) = absurd (odd (smaller_divides twice other n is_twice power (omega (arith, less)) whole))
-    by (inr le) = le-half other twice n power is_twice odd le whole
+at_most_half twice other n is_twice odd power whole = search (rules, cases_lt, smaller_divides, le-half)
 
 -- What is said of payloads that lose an alignment, or that lose none.
 abbrev lost : {placed : List PlacedPayload} {bytes : ℕ} → LosesAlignment placed bytes →
@@ -194,10 +190,7 @@ position_kept = record {
 }
 
 external_kept : IsKeptOf (moved_payload 244 244 false ∷ moved_payload 252 252 false ∷ []) (kept None 0)
-external_kept = record {
-  alignment = not_lost (λ bytes loses. loses.is_lost (loses.is_alignment.divides.0, (loses.is_alignment.divides.1.0, tt)));
-  positions = refl;
-}
+external_kept = search rules
 
 pub kept_of_files_is_known : KeptOfFilesIsKnown
 unfolding text_of_events text_of_blocks cell cell8 u32_at

@@ -1,5 +1,5 @@
 use Rattle.std.proofs.Common.{◌≡◌, ◌⊎◌, ◌↔◌, ℕ, suc, ◌+◌, ◌-◌, ◌%◌, Bool, true, false, List, [], ◌∷◌, ◌++◌, map, filter, length, Option}
-use Rattle.std.proofs.Common.{Some, None}
+use Rattle.std.proofs.Common.{Some, None, rules}
 use Rattle.std.proofs.Common.{◌<◌, ◌≤◌, drop, get_or, IfSome, inl, inr, refl, sym, ap, subst, ◌∙◌, add-one, is_some, true≢false, arith}
 use Rattle.std.proofs.Math.Seq.{drop-cons}
 use Rattle.std.proofs.lemmas.List.{drop_all}
@@ -129,28 +129,7 @@ pub stay_aligned-cons : (bytes base end : ℕ) (image : Image) (later : List Ima
     AreAlignedInText bytes (placed_images base end (image ∷ later))
     ↔ (IsPlacedAligned bytes (base + up_to 4 end) image
     × AreAlignedInText bytes (placed_images base (end_after 4 end (image_model image).payload) later))
-stay_aligned-cons bytes base end image later =
-    let new = base + up_to 4 end in
-    let payload = (image_model image).payload in
-    let rest = placed_images base (end_after 4 end payload) later in
-    elim (placed_cases image.place payload new) [
-      | inl left_out ↦ (
-        λ all. (
-          subst (λ offset. IfSome offset (λ offset. new % bytes ≡ 0)) (sym left_out.no_offset) tt,
-          subst (λ first. AreAlignedInText bytes (first ++ rest)) left_out.no_payload all,
-        ),
-        λ all. subst (λ first. AreAlignedInText bytes (first ++ rest)) (sym left_out.no_payload) all.1,
-      )
-      | inr is ↦ (
-        λ all.
-            let each : AreAlignedInText bytes (offsets_of_payload is.old new (is_at_position image.place payload) ∷ rest) =
-            subst (λ first. AreAlignedInText bytes (first ++ rest)) is.one all in
-            (subst (λ offset. IfSome offset (λ offset. new % bytes ≡ 0)) (sym is.offset) each.0, each.1),
-        λ all.
-            subst (λ first. AreAlignedInText bytes (first ++ rest)) (sym is.one)
-            (subst (λ offset. IfSome offset (λ offset. new % bytes ≡ 0)) is.offset all.0, all.1),
-      )
-    ]
+stay_aligned-cons bytes base end image later = search (rules, placed_cases)
 
 -- It is aligned where it begins, or it does not count.
 pub placed_whole : (bytes new : ℕ) (offset : Option ℕ) → new % bytes ≡ 0 → IfSome offset (λ offset. new % bytes ≡ 0)
@@ -176,36 +155,18 @@ module _ (images : List Image) (i : ℕ) (d : Image) (within : i < length images
   -- Those of them that are aligned in the file, if its payload counts, and if it does not.
   pub aligned_some : (bytes offset : ℕ) → placed_offset (image_model (get_or images i d)) ≡ Some offset →
       AreAlignedImages bytes (drop i images) ↔ ((offset % bytes ≡ 0) × AreAlignedImages bytes (drop (i + 1) images))
-  aligned_some bytes offset is = (
-    λ all.
-        let each : AreAlignedImages bytes (get_or images i d ∷ drop (i + 1) images) = subst (AreAlignedImages bytes) images_from all in
-        (subst (λ found. IfSome found (λ offset. offset % bytes ≡ 0)) is each.0, each.1),
-    λ both.
-        subst (AreAlignedImages bytes) (sym images_from)
-        (subst (λ found. IfSome found (λ offset. offset % bytes ≡ 0)) (sym is) both.0, both.1),
-  )
+  aligned_some bytes offset is = search (rules, images_from)
 
   pub aligned_none : (bytes : ℕ) → placed_offset (image_model (get_or images i d)) ≡ None →
       AreAlignedImages bytes (drop i images) ↔ AreAlignedImages bytes (drop (i + 1) images)
-  aligned_none bytes is = (
-    λ all.
-        let each : AreAlignedImages bytes (get_or images i d ∷ drop (i + 1) images) = subst (AreAlignedImages bytes) images_from all in
-        each.1,
-    λ all.
-        subst (AreAlignedImages bytes) (sym images_from)
-        (subst (λ found. IfSome found (λ offset. offset % bytes ≡ 0)) (sym is) tt, all),
-  )
+  aligned_none bytes is = search (rules, images_from)
 
   -- Those that stay aligned in the text.
   pub stay_from : (bytes base end : ℕ) →
       AreAlignedInText bytes (placed_images base end (drop i images))
       ↔ (IsPlacedAligned bytes (base + up_to 4 end) (get_or images i d)
       × AreAlignedInText bytes (placed_images base (end_after 4 end (image_model (get_or images i d)).payload) (drop (i + 1) images)))
-  stay_from bytes base end =
-      let step = stay_aligned-cons bytes base end (get_or images i d) (drop (i + 1) images) in (
-        λ all. step.0 (subst (λ images. AreAlignedInText bytes (placed_images base end images)) images_from all),
-        λ both. subst (λ images. AreAlignedInText bytes (placed_images base end images)) (sym images_from) (step.1 both),
-      )
+  stay_from bytes base end = search (rules, stay_aligned-cons, images_from)
 
   -- Where the payloads end.
   pub area_ends_from : (end : ℕ) → payloads_end 4 end (payloads_of (drop i images))
@@ -228,20 +189,14 @@ alignment_of_placed images base end bytes is = record {
 
 -- There is one.
 pub same_alignment : (placed : List PlacedPayload) (one other : ℕ) → IsAlignmentOf placed one → IsAlignmentOf placed other → one ≡ other
-same_alignment placed one other is_one is_other =
-    let le = is_other.greatest one is_one.is_power is_one.divides in
-    let ge = is_one.greatest other is_other.is_power is_other.divides in
-    omega (arith, le, ge)
+same_alignment placed one other is_one is_other = search rules
 
 -- An alignment that is lost, or none.
 pub alignment_lost : (placed : List PlacedPayload) (lost : Option ℕ) → IfSome lost (LosesAlignment placed) →
     (IsNone lost → (bytes : ℕ) → ¬ (LosesAlignment placed bytes)) → (bytes : ℕ) → (lost ≡ Some bytes) ↔ LosesAlignment placed bytes
 alignment_lost placed None is without bytes =
     ((λ same. absurd (true≢false (sym (ap is_some same)))), λ loses. absurd (without refl bytes loses))
-alignment_lost placed (Some one) is without bytes = (
-  λ same. subst (LosesAlignment placed) (same_in_some one bytes same) is,
-  λ loses. ap Some (same_alignment placed one bytes is.is_alignment loses.is_alignment),
-)
+alignment_lost placed (Some one) is without bytes = search (rules, placed, same_in_some, same_alignment)
 
 -- ---- the payloads that `data-position` gives
 
@@ -279,9 +234,7 @@ pub read_places : (file : List ℕ) (nodes : Nodes FileNode) (images : List Imag
 read_places file none [] are = refl
 read_places file none (image ∷ images) are = absurd are
 read_places file (node name own children later) [] are = absurd are
-read_places file (node name own children later) (image ∷ images) are =
-    ap (λ place. place ∷ places_of_nodes file later) (sym are.0.place) ∙ ap (λ places. image.place ∷ places)
-    (read_places file later images are.1)
+read_places file (node name own children later) (image ∷ images) are = search (rules, read_places file later images are.1)
 
 module _ (content : FitModel) (held : IsHeld content) (images : List Image) (are : map image_model images ≡ content.images) where
   -- Its image nodes.

@@ -1,4 +1,4 @@
-use Rattle.std.proofs.Common.{◌≡◌, ℕ, ◌<◌, T, List, [], ◌∷◌, length, map, Less, is_lt, refl, sym, ap, ap₂, subst, ◌∙◌, nat_cmp}
+use Rattle.std.proofs.Common.{◌≡◌, ℕ, T, List, [], ◌∷◌, map, Less, is_lt, refl, sym, ap, ap₂, subst, ◌∙◌, nat_cmp, rules}
 use Rattle.std.specs.Cmp.Lexicographic.{slice_cmp}
 use Rattle.std.specs.FinMap.{from_sorted, from_entries, is_sorted, same_entries_map, entries-from_sorted}
 use Rattle.std.specs.FinMap.Entries.{below_all}
@@ -24,10 +24,7 @@ below_entries : (rank : ℕ) (keyed : List KeyedProperty) (items : List (ℕ × 
 below_entries rank [] [] are below = tt
 below_entries rank [] (item ∷ items) are below = absurd are
 below_entries rank (one ∷ keyed) [] are below = absurd are
-below_entries rank (one ∷ keyed) (item ∷ items) are below =
-    both_hold (is_lt (nat_cmp rank item.0)) (below_all nat_cmp rank items)
-    (subst (λ o. T (is_lt o)) (sym (sym (ap (nat_cmp rank) are.0.0) ∙ below.0)) tt)
-    (below_entries rank keyed items are.1 below.1)
+below_entries rank (one ∷ keyed) (item ∷ items) are below = search (rules, both_hold, is_lt, below_entries rank keyed items are.1 below.1)
 
 -- Entries of properties in the order of their keys are in order.
 pub entries_ascend : (keyed : List KeyedProperty) (items : List (ℕ × Value)) → AllZip IsEntryOf keyed items →
@@ -49,10 +46,7 @@ module _ (names : List (List ℕ)) where
   entries_within [] [] are numbered = tt
   entries_within [] (item ∷ items) are numbered = absurd are
   entries_within (one ∷ keyed) [] are numbered = absurd are
-  entries_within (one ∷ keyed) (item ∷ items) are numbered = (
-    subst (λ rank. rank < length names) are.0.0 (slice_get_within names one.0 one.1.name numbered.0),
-    entries_within keyed items are.1 numbered.1,
-  )
+  entries_within (one ∷ keyed) (item ∷ items) are numbered = search (rules, slice_get_within, entries_within keyed items are.1 numbered.1)
 
   -- They have the names and the values of the properties.
   entries_named : (keyed : List KeyedProperty) (items : List (ℕ × Value)) → AllZip IsEntryOf keyed items →

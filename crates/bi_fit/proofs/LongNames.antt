@@ -1,17 +1,16 @@
-use Rattle.std.proofs.Common.{◌≡◌, ◌⊎◌, ℕ, ◌+◌, ◌≤◌, ◌||◌, Bool, true, false, cond, not, nat_le, inl, inr, List, [], ◌∷◌, ◌++◌, Option}
+use Rattle.std.proofs.Common.{◌≡◌, ◌⊎◌, ℕ, ◌+◌, ◌≤◌, Bool, true, false, cond, not, nat_le, inl, inr, List, [], ◌∷◌, ◌++◌, Option, rules}
 use Rattle.std.proofs.Common.{Some, None, length, map}
 use Rattle.std.proofs.Common.{Contains, filter, flat_map, bytes_eq, nat_cmp, refl, sym, ap, subst, ◌∙◌, arith}
 use Rattle.std.specs.Prelude.{if◌then◌else◌}
-use Rattle.std.proofs.Common.{Less, Equal, true≢false}
+use Rattle.std.proofs.Common.{Less}
 use Rattle.std.specs.List.Sorted.{IsStrictlySortedBy}
-use Rattle.std.specs.Cmp.{tied_itself}
 use Rattle.std.proofs.lemmas.Map.Keys.{sorted_head, sorted_tail}
 use Rattle.std.specs.Cmp.Lexicographic.{slice_cmp}
 use Rattle.std.specs.FinMap.{get, insert, entries, from_entries, get-insert, get-entries, get-from_entries}
 use Rattle.std.specs.FinMap.Entries.{is_some-find}
 use Rattle.std.specs.List.{AllByRecursion, list_any, sum_by}
 use Rattle.std.specs.Option.{is_some}
-use Rattle.std.specs.Ordering.{eq_by_cmp, is_lt}
+use Rattle.std.specs.Ordering.{eq_by_cmp}
 use Rattle.std.proofs.lemmas.Cmp.{eq_by_cmp_equiv, nat_list_cmp_total}
 use Rattle.std.proofs.lemmas.List.Concat.{flat_map-append, length-flat_map}
 use Rattle.std.proofs.lemmas.List.Elements.{Contains-append_left, Contains-append_right, Contains-append_cases}
@@ -23,7 +22,7 @@ use Rattle.std.proofs.lemmas.Slice.Eq.{bytes_eq-Decides}
 use Rattle.bi_base.proofs.ListMembers.{Contains-none, Contains-cases, Contains-first, Contains-others, Contains-filter}
 use Rattle.bi_blob.specs.Tree.{Nodes, none, node, with_each, as_nodes, IsNew, AreDistinct, FileProperty, FileNode, Property, PropertyMap}
 use Rattle.bi_blob.specs.Tree.{property_of, properties_of}
-use Rattle.bi_blob.specs.Events.{Event, NodeProperty, NodeEnd, events, events_of}
+use Rattle.bi_blob.specs.Events.{Event, NodeProperty, events, events_of}
 use Rattle.bi_blob.specs.Events.{FileEvent, FileNodeStart, FileNodeProperty, FileNodeEnd, file_events}
 use Rattle.bi_blob.specs.Blob.{reservation_block}
 use Rattle.bi_blob.specs.Layout.{event_names, used_names, distinct_names, structure_block, strings_block, length_before_padding}
@@ -39,9 +38,9 @@ use Rattle.bi_fit.specs.Content.{FitModel, tree_of}
 use Rattle.bi_fit.specs.ImageTree.{with_children_of, without_payload, without_payloads}
 use Rattle.bi_fit.specs.Documents.{IsTextFault}
 use Rattle.bi_fit.specs.LongNames.{name_if_long, HasLongerNames}
-use Rattle.bi_fit.specs.Names.{images_name, timestamp_name, value_name, is_hash_name, is_payload_name, payload_names}
+use Rattle.bi_fit.specs.Names.{images_name, timestamp_name, value_name, is_payload_name, payload_names}
 use Rattle.bi_fit.specs.Text.{alignment_of, blob_alignment, with_payload, with_payloads, end_after, normal_tree, fit_text}
-use Rattle.bi_fit.specs.Updating.{with_time, known_algorithm, with_digest_by, with_digest, with_digests, with_digests_of}
+use Rattle.bi_fit.specs.Updating.{with_time, with_digest_by, with_digest, with_digests, with_digests_of}
 use Rattle.bi_fit.specs.Updating.{images_with_digests, with_new_digests, with_changes}
 use Rattle.bi_fit.proofs.NormalTrees.{length-fit_text}
 use Rattle.bi_fit.proofs.FormAlignments.{form-aligned, form-positive}
@@ -56,22 +55,13 @@ use Rattle.bi_base.specs.Reading.{too_large}
 
 -- What stands for a name is no longer than the name.
 pub length-name_if_long : (name : List ℕ) → length (name_if_long name) ≤ length name
-length-name_if_long name = where_long (nat_le 64 (length name))
-  where
-    where_long : (b : Bool) → length (if b then name else []) ≤ length name
-    where_long true = omega arith
-    where_long false = omega arith
+length-name_if_long name = search (rules, nat_le)
 
 -- The name of a property that holds a payload or names its region is not long.
 one_of_short : (name : List ℕ) (others : List (List ℕ)) → AllByRecursion (λ other. name_if_long other ≡ []) others →
     list_any (bytes_eq name) others ≡ true → name_if_long name ≡ []
 one_of_short name [] short is = absurd cc
-one_of_short name (other ∷ others) short is = where_first (bytes_eq name other) refl is (one_of_short name others short.1)
-  where
-    where_first : (b : Bool) → bytes_eq name other ≡ b → (b || list_any (bytes_eq name) others) ≡ true →
-        (list_any (bytes_eq name) others ≡ true → name_if_long name ≡ []) → name_if_long name ≡ []
-    where_first true same is rest = ap name_if_long ((bytes_eq-Decides name other).0 same) ∙ short.0
-    where_first false same is rest = rest is
+one_of_short name (other ∷ others) short is = search (rules, bytes_eq-Decides, one_of_short name others short.1)
 
 pub payload_name_short : (name : List ℕ) → is_payload_name name ≡ true → name_if_long name ≡ []
 payload_name_short name is = one_of_short name payload_names (refl, (refl, (refl, (refl, tt)))) is
@@ -133,13 +123,7 @@ no_longer_than_others (name ∷ later) others distinct are =
 new_before : (name : List ℕ) (names : List (List ℕ)) → AllByRecursion (λ other. slice_cmp nat_cmp name other ≡ Less) names →
     IsNew name names
 new_before name [] before = tt
-new_before name (other ∷ later) before = (differs, new_before name later before.1)
-  where
-    differs : other ≡ name → ⊥
-    differs same =
-        let tied : slice_cmp nat_cmp name other ≡ Equal =
-        subst (λ other. slice_cmp nat_cmp name other ≡ Equal) (sym same) (tied_itself nat_list_cmp_total name) in
-        true≢false (ap is_lt (sym before.0 ∙ tied))
+new_before name (other ∷ later) before = search (rules, nat_list_cmp_total, new_before name later before.1)
 
 -- so names in byte order are distinct.
 pub distinct_in_order : (names : List (List ℕ)) → IsStrictlySortedBy (slice_cmp nat_cmp) names → AreDistinct names
@@ -152,9 +136,7 @@ distinct_in_order (name ∷ later) ordered = (
 -- Long names in byte order, if each is short or among others, are together no longer than those.
 pub long_names_in_order : (sorted names : List (List ℕ)) → IsStrictlySortedBy (slice_cmp nat_cmp) sorted → AreShortOrAmong names sorted →
     length (flat_map name_if_long sorted) ≤ length (flat_map name_if_long names)
-long_names_in_order sorted names ordered among =
-    let no_longer = no_longer_than_others sorted names (distinct_in_order sorted ordered) among in
-    omega (arith, length-flat_map name_if_long sorted, length-flat_map name_if_long names, no_longer)
+long_names_in_order sorted names ordered among = search (rules, no_longer_than_others, distinct_in_order, length-flat_map)
 
 -- One of these nodes or of all nodes below them has what meets a condition.
 abbrev SomeOwn : {Own : Type 0} → (Own → Type 0) → Nodes Own → Type 0
@@ -252,11 +234,7 @@ key_with_digest_by name (Some algo) payload properties has = key_put name value_
 
 key_with_digest : (name payload node_name : List ℕ) (properties : PropertyMap) → HasKey name properties →
     HasKey name (with_digest payload node_name properties)
-key_with_digest name payload node_name properties has = where_hash (is_hash_name node_name)
-  where
-    where_hash : (b : Bool) → HasKey name (if b then with_digest_by (known_algorithm properties) payload properties else properties)
-    where_hash true = key_with_digest_by name (known_algorithm properties) payload properties has
-    where_hash false = has
+key_with_digest name payload node_name properties has = search (rules, key_with_digest_by)
 
 some_with_digests : (name payload : List ℕ) (nodes : Nodes PropertyMap) → SomeOwn (HasKey name) nodes →
     SomeOwn (HasKey name) (with_digests payload nodes)
@@ -409,24 +387,13 @@ some_used : (name : List ℕ) (nodes : Nodes (List Property)) → SomeOwn (HasNa
 some_used name none some = absurd some
 some_used name (node n properties children later) (inl here) =
     used_first name (map NodeProperty properties) _ (subst (λ names. Contains names name) (sym (names_of_properties properties)) here)
-some_used name (node n properties children later) (inr (inl below)) =
-    used_later name (map NodeProperty properties) _
-    (used_first name (events children) (NodeEnd ∷ events later) (some_used name children below))
-some_used name (node n properties children later) (inr (inr after)) =
-    used_later name (map NodeProperty properties) _
-    (used_later name (events children) (NodeEnd ∷ events later) (some_used name later after))
+some_used name (node n properties children later) (inr (inl below)) = search (rules, used_later, used_first, some_used name children below)
+some_used name (node n properties children later) (inr (inr after)) = search (rules, used_later, some_used name later after)
 
 -- Long names together are no longer than all names with a zero byte after each.
 no_longer_than_all : (names : List (List ℕ)) → sum_by long_length names ≤ sum_by (λ name. length name + 1) names
 no_longer_than_all [] = omega arith
-no_longer_than_all (name ∷ later) =
-    omega (
-      arith,
-      length-name_if_long name,
-      no_longer_than_all later,
-      sum_by-cons long_length name later,
-      sum_by-cons (λ name. length name + 1) name later,
-    )
+no_longer_than_all (name ∷ later) = search (rules, length-name_if_long, sum_by-cons, no_longer_than_all later)
 
 -- The names of the properties of nodes, in their order.
 abbrev pub names_of_nodes : Nodes PropertyMap → List (List ℕ)
@@ -436,12 +403,7 @@ names_of_nodes nodes = used_names (events (with_each entries nodes))
 pub names_of_nodes-first : (name : List ℕ) (own : PropertyMap) (children later : Nodes PropertyMap) →
     names_of_nodes (node name own children later)
     ≡ map (λ property. property.0) (entries own) ++ (names_of_nodes children ++ names_of_nodes later)
-names_of_nodes-first name own children later =
-    let below : List Event = events (with_each entries children) in
-    let after : List Event = NodeEnd ∷ events (with_each entries later) in
-    flat_map-append event_names (map NodeProperty (entries own)) (below ++ after)
-    ∙ ap (λ names. names ++ used_names (below ++ after)) (names_of_properties (entries own))
-    ∙ ap (λ names. map (λ property. property.0) (entries own) ++ names) (flat_map-append event_names below after)
+names_of_nodes-first name own children later = search (rules, flat_map-append, names_of_properties)
 
 module _ (content : FitModel) where
   -- Names of properties of the file are short or among others, if those of the tree that it means are among these.
@@ -481,9 +443,7 @@ module _ (content : FitModel) (form : Form) (changes : Changes) where
 
   -- The names of the properties of the tree are in the text.
   in_text : (name : List ℕ) → SomeOwn (HasKey name) (as_nodes (tree_of content).root) → Contains text_names name
-  in_text name some =
-      distinct_names-all (used_names text_events) name
-      (some_used name (as_nodes (normal_tree form (with_changes changes (tree_of content)))) (some_in_text form changes content name some))
+  in_text name some = search (rules, distinct_names-all, some_used, some_in_text)
 
   -- The text of the tree of a file, with these changes, is at least as long as different long names of properties of the file together.
   pub long_names_within : (names : List (List ℕ)) → AreDistinct names → AreNamesIn names (root_of content.blob) →
@@ -510,8 +470,4 @@ module _ (content : FitModel) (form : Form) (changes : Changes) where
       (blob : Blob) → blob ≡ content.blob → (fault : Fault) →
       (fault ≡ too_large limit) × HasLongerNames limit (root_of blob) →
       IsTextFault limits form (with_changes changes (tree_of content)) fault
-  too_long_names limits limit is_limit blob is_blob fault (is, (names, distinct, are, longer)) =
-      let there = subst (λ blob. AreNamesIn names (root_of blob)) is_blob are in (
-        is ∙ ap too_large is_limit,
-        omega (arith, is_limit, longer, long_names_within names distinct there),
-      )
+  too_long_names limits limit is_limit blob is_blob fault (is, (names, distinct, are, longer)) = search (rules, long_names_within)

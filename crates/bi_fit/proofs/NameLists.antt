@@ -1,7 +1,6 @@
-use Rattle.std.proofs.Common.{◌≡◌, ◌≢◌, ℕ, suc, ◌-◌, Bool, true, false, List, [], ◌∷◌, ◌++◌, length, drop, refl, sym, ap, ap₂, ◌∙◌, arith}
+use Rattle.std.proofs.Common.{◌≡◌, ◌≢◌, ℕ, ◌-◌, Bool, true, false, List, [], ◌∷◌, ◌++◌, refl, sym, ap, ap₂, ◌∙◌, rules}
 use Rattle.std.specs.Prelude.{IsTrue, ◌==◌, nat_eq}
 use Rattle.std.specs.List.{AllByRecursion, ends_with}
-use Rattle.std.specs.Cmp.Lexicographic.{pointwise}
 use Rattle.std.proofs.lemmas.Bool.{and_parts, eqb-true, eqb-false, ne_eqb, false≢true}
 use Rattle.bi_blob.specs.Tree.{HasNoZero}
 use Rattle.bi_blob.specs.Layout.{strings_of}
@@ -31,23 +30,12 @@ byte_before byte (name ∷ later) value same some = ap (λ l. byte ∷ l) same
 -- A value of two bytes or more ends as it does without the first.
 pub ends_later : (byte next : ℕ) (later : List ℕ) →
     ends_with nat_eq (byte ∷ next ∷ later) (0 ∷ []) ≡ ends_with nat_eq (next ∷ later) (0 ∷ [])
-ends_later byte next later =
-    ap (λ n. pointwise nat_eq (0 ∷ []) (drop n (byte ∷ next ∷ later))) shorter
-  where
-    shorter : length (byte ∷ next ∷ later) - 1 ≡ suc (length (next ∷ later) - 1)
-    shorter = omega arith
+ends_later byte next later = search rules
 
 -- A value whose last byte is a zero is all names.
 whole_listed : (value : List ℕ) → IsTrue (ends_with nat_eq value (0 ∷ [])) → strings_of (listed_names value) ≡ value
 whole_listed [] ends = absurd (false≢true ends)
-whole_listed (byte ∷ []) ends = where_first (byte == 0) refl
-  where
-    is_zero : 0 ≡ byte
-    is_zero = eqb-true 0 byte (and_parts (0 == byte) true ends).0
-
-    where_first : (b : Bool) → (byte == 0) ≡ b → strings_of (listed_names (byte ∷ [])) ≡ byte ∷ []
-    where_first true is = rw is (ap (λ n. n ∷ []) is_zero)
-    where_first false is = absurd (eqb-false byte 0 is (sym is_zero))
+whole_listed (byte ∷ []) ends = search (rules, eqb-true, and_parts, eqb-false)
 whole_listed (byte ∷ next ∷ later) ends = where_first (byte == 0) refl
     (whole_listed (next ∷ later) (sym (ends_later byte next later) ∙ ends))
   where
@@ -60,16 +48,7 @@ whole_listed (byte ∷ next ∷ later) ends = where_first (byte == 0) refl
 -- The names of a list have no zeros.
 listed_no_zero : (value : List ℕ) → AllByRecursion HasNoZero (listed_names value)
 listed_no_zero [] = tt
-listed_no_zero (byte ∷ later) = where_first (byte == 0) refl (listed_no_zero later)
-  where
-    before : (names : List (List ℕ)) → byte ≢ 0 → AllByRecursion HasNoZero names → AllByRecursion HasNoZero (with_byte byte names)
-    before [] other no_zero = tt
-    before (name ∷ later) other no_zero = ((other, no_zero.0), no_zero.1)
-
-    where_first : (b : Bool) → (byte == 0) ≡ b → AllByRecursion HasNoZero (listed_names later) →
-        AllByRecursion HasNoZero (listed_names (byte ∷ later))
-    where_first true is rest = rw is (tt, rest)
-    where_first false is rest = rw is (before (listed_names later) (eqb-false byte 0 is) rest)
+listed_no_zero (byte ∷ later) = search (rules, eqb-false, listed_no_zero later)
 
 pub reads_names : ReadsNames
 reads_names = record { listed = list_of_names; whole = whole_listed; no_zero = listed_no_zero }

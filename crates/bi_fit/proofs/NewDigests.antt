@@ -1,8 +1,7 @@
-use Rattle.std.proofs.Common.{◌≡◌, ℕ, true, List, [], ◌∷◌, ◌++◌, map, flat_map, Option, Some, None, option_and_then, refl, sym, ap, ◌∙◌}
+use Rattle.std.proofs.Common.{◌≡◌, ℕ, true, List, [], ◌∷◌, ◌++◌, map, flat_map, Option, Some, None, option_and_then, refl, ap, rules}
 use Rattle.bi_base.specs.Strings.{text_before_nul}
 use Rattle.bi_blob.specs.Tree.{Nodes, none, node, FileNode, properties_of}
 use Rattle.bi_blob.specs.Lookups.{Sibling, siblings, value_named}
-use Rattle.bi_fdt.specs.Content.{root_of}
 use Rattle.bi_hash.specs.declared.algo.Algo.{Algo}
 use Rattle.bi_hash.specs.Algos.{find_algorithm}
 use Rattle.bi_hash.specs.Digests.{digest_or_nothing}
@@ -10,7 +9,7 @@ use Rattle.bi_fit.specs.declared.changes.Changes.{Changes}
 use Rattle.bi_fit.specs.Names.{algo_name, is_hash_name}
 use Rattle.bi_fit.specs.ImageTree.{without_payloads}
 use Rattle.bi_fit.specs.Content.{FitModel, ImageModel, tree_of}
-use Rattle.bi_fit.specs.NewDigests.{hash_algorithm, digests_for, digests_of_image, digests_of_images, new_digests}
+use Rattle.bi_fit.specs.NewDigests.{hash_algorithm, digests_of_image, digests_of_images, new_digests}
 use Rattle.bi_fit.specs.HashNodes.{file_images, flat_map_pairs}
 use Rattle.bi_fit.specs.NormalNodes.{properties_by_name, nodes_by_name}
 use Rattle.bi_fit.proofs.FileNodes.{get-by_name, image_nodes_named}
@@ -21,10 +20,7 @@ use Rattle.bi_fit.proofs.FileNodes.{get-by_name, image_nodes_named}
 pub algorithm_named : (name read : List ℕ) (own : FileNode) → read ≡ name → is_hash_name read ≡ true →
     hash_algorithm name (properties_by_name own)
     ≡ option_and_then find_algorithm (option_and_then text_before_nul (value_named (properties_of own) algo_name))
-algorithm_named name read own same is =
-    let here : is_hash_name name ≡ true = ap is_hash_name (sym same) ∙ is in
-    rw here (ap (λ value. option_and_then find_algorithm (option_and_then text_before_nul value))
-    (get-by_name (properties_of own) algo_name))
+algorithm_named name read own same is = search (rules, option_and_then, get-by_name)
 
 -- The digest of a payload by this algorithm, if there are both.
 abbrev pub digest_if_both : Option (List ℕ) → Option Algo → List ℕ
@@ -40,22 +36,9 @@ file_digests payload children =
 pub digests_are : (payload : Option (List ℕ)) (nodes : Nodes FileNode) →
     file_digests payload (siblings nodes) ≡ digests_of_image payload (nodes_by_name nodes)
 digests_are None none = refl
-digests_are None (node name own children later) = by_algorithm (hash_algorithm name (properties_by_name own)) (digests_are None later)
-  where
-    by_algorithm : (algo : Option Algo) → file_digests None (siblings later) ≡ [] →
-        digest_if_both None algo ++ file_digests None (siblings later) ≡ []
-    by_algorithm None rest = rest
-    by_algorithm (Some algo) rest = rest
+digests_are None (node name own children later) = search (rules, digests_are None later)
 digests_are (Some payload) none = refl
-digests_are (Some payload) (node name own children later) = by_algorithm (hash_algorithm name (properties_by_name own)) refl
-    (digests_are (Some payload) later)
-  where
-    by_algorithm : (algo : Option Algo) → hash_algorithm name (properties_by_name own) ≡ algo →
-        file_digests (Some payload) (siblings later) ≡ digests_for payload (nodes_by_name later) →
-        file_digests (Some payload) (siblings (node name own children later)) ≡
-        digests_for payload (nodes_by_name (node name own children later))
-    by_algorithm None is rest = rw is rest
-    by_algorithm (Some algo) is rest = rw is (ap (λ l. digest_or_nothing algo (Some payload) ++ l) rest)
+digests_are (Some payload) (node name own children later) = search (rules, digests_are (Some payload) later)
 
 -- The digests for the hash nodes of an image node, of an image that was read.
 abbrev pub file_image_digests : Sibling FileNode → ImageModel → List ℕ
@@ -78,7 +61,4 @@ images_are (node name own children later) (image ∷ images) =
 -- The digests are those of the tree.
 pub new_digests_are : (content : FitModel) (changes : Changes) → changes.hashes ≡ true →
     new_digests changes (tree_of content) ≡ file_new_digests (siblings (file_images content.blob)) content.images
-new_digests_are content changes is =
-    rw is
-    (ap (digests_of_images (map (λ image. image.payload) content.images)) (image_nodes_named (root_of content.blob).children)
-    ∙ images_are (file_images content.blob) content.images)
+new_digests_are content changes is = search (rules, image_nodes_named, images_are)

@@ -1,4 +1,4 @@
-use Rattle.std.proofs.Common.{◌≡◌, ℕ, List, map, Some, sym, ap, subst, ◌∙◌}
+use Rattle.std.proofs.Common.{◌≡◌, ℕ, List, map, Some, sym, ap, subst, ◌∙◌, rules}
 use Rattle.bi_blob.specs.Tree.{FileNode, EachOwn}
 use Rattle.bi_blob.specs.Lookups.{Sibling, root_node}
 use Rattle.bi_blob.specs.Events.{Event, events, events_of}
@@ -32,9 +32,7 @@ module _ (content : FitModel) (held : IsHeld content) (changes : Changes) (form 
 
   -- The image nodes are those of the images, and the bytes hold their digests.
   pub images_there : HaveImageNodes (AreImageNodes changes.hashes images digests) root.children
-  images_there =
-      subst (λ root. HaveImageNodes (AreImageNodes changes.hashes images digests) root.children) (sym same_root)
-      (held_images content held changes digests is_digests images is_images)
+  images_there = search (rules, same_root, held_images)
 
   -- One child of the root, and no other, has the name `images`.
   pub images_position_there : (position : ℕ) → IsImagesPosition content.blob position → HaveImagesAfter (Some position) root.children
@@ -50,10 +48,7 @@ module _ (content : FitModel) (held : IsHeld content) (changes : Changes) (form 
   tree_events = events (sorted_root changes form (payloads_of images) digests root)
 
   same_events : tree_events ≡ events_of (normal_tree form (with_changes changes (tree_of content)))
-  same_events =
-      ap (λ payloads. events (sorted_root changes form payloads digests root)) (ap (map (λ image. image.payload)) is_images)
-      ∙ ap (λ root. events (sorted_root changes form (tree_of content).payloads digests root)) same_root
-      ∙ held_events content held changes digests is_digests form
+  same_events = search (rules, same_root, held_events)
 
   module _ (cpu : ℕ) (is_cpu : cpu ≡ blob.cpu) (names : List (List ℕ))
       (started reserved : Doc) (is_started : started ≡ empty_with_names cpu names)
@@ -71,13 +66,7 @@ module _ (content : FitModel) (held : IsHeld content) (changes : Changes) (form 
     -- Then the document is the one of the normal text.
     pub is_document_of : (filled : Doc) → filled ≡ with_events reserved tree_events →
         HaveSameContent filled (document_of form (with_changes changes (tree_of content)))
-    is_document_of filled is_filled =
-        let is : filled ≡ with_events (with_reservations (empty_with_names cpu names) blob.reservations) tree_events =
-        is_filled ∙ ap (λ document. with_events document tree_events) same_reserved in (
-          ap (λ document. document.boot_cpu) is ∙ is_cpu ∙ ap (λ blob. blob.cpu) is_blob,
-          ap (λ document. document.reservations) is ∙ ap (λ blob. blob.reservations) is_blob,
-          ap (λ document. document.events) is ∙ same_events,
-        )
+    is_document_of filled is_filled = search (rules, same_reserved, same_events)
 
 -- The root of the document has ended.
 pub document_closed : (content : FitModel) → IsHeld content → (changes : Changes) (form : Form) (digests : List ℕ) →

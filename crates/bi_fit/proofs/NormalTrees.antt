@@ -1,5 +1,5 @@
 use Rattle.std.proofs.Common.{◌≡◌, ℕ, ◌+◌, ◌≤◌, Bool, true, false, List, [], map, length, bytes_eq, Option, Some, None, refl, sym, ap, ap₂}
-use Rattle.std.proofs.Common.{subst, ◌∙◌, true≢false, arith, length-append}
+use Rattle.std.proofs.Common.{subst, ◌∙◌, true≢false, arith, length-append, rules}
 use Rattle.std.proofs.lemmas.List.{length-map}
 use Rattle.std.specs.Prelude.{IsSome}
 use Rattle.std.specs.FinMap.{entries}
@@ -26,7 +26,7 @@ use Rattle.bi_fit.specs.Documents.{length_after_blob}
 use Rattle.bi_fit.specs.Text.{alignment_of, blob_alignment, with_payloads, normal_tree, blob_of, after_blob, fit_text}
 use Rattle.bi_fit.proofs.FormAlignments.{form-positive}
 use Rattle.bi_fit.specs.Content.{FitModel, image_model, tree_of, IsReadImage, IsHeld}
-use Rattle.bi_fit.specs.Updating.{with_time, with_new_digests, with_changes}
+use Rattle.bi_fit.specs.Updating.{with_new_digests, with_changes}
 use Rattle.bi_fit.specs.NewDigests.{digests_if_changed, new_digests}
 use Rattle.bi_fit.specs.TakenDigests.{HaveImageDigests, images_with_digests_from}
 use Rattle.bi_fit.specs.HashNodes.{file_images}
@@ -47,11 +47,7 @@ use Rattle.bi_fit.proofs.ReadBlobs.{read_payloads}
 
 -- A name that is not `images` fails the test.
 pub other_name : (name : List ℕ) → (name ≡ images_name → ⊥) → bytes_eq name images_name ≡ false
-other_name name differs = where_same (bytes_eq name images_name) refl
-  where
-    where_same : (b : Bool) → bytes_eq name images_name ≡ b → bytes_eq name images_name ≡ false
-    where_same true is = absurd (differs ((bytes_eq-Decides name images_name).0 is))
-    where_same false is = is
+other_name name differs = search (rules, bytes_eq-Decides)
 
 -- Nodes, none of them with the name `images`.
 others_sorted : (hashes : Bool) (form : Form) (payloads : List (Option (List ℕ))) (digests : List ℕ) (nodes : Nodes FileNode) →
@@ -103,12 +99,7 @@ module _ (hashes : Bool) (form : Form) (payloads : List (Option (List ℕ))) (di
 -- Other children that are the same change nothing.
 same_children : (nodes : Nodes PropertyMap) → with_children_of images_name (λ images. images) nodes ≡ nodes
 same_children none = refl
-same_children (node name own children later) = where_first (bytes_eq name images_name) refl (same_children later)
-  where
-    where_first : (b : Bool) → bytes_eq name images_name ≡ b → with_children_of images_name (λ images. images) later ≡ later →
-        with_children_of images_name (λ images. images) (node name own children later) ≡ node name own children later
-    where_first true is rest = rw is refl
-    where_first false is rest = rw is (ap (node name own children) rest)
+same_children (node name own children later) = search (rules, same_children later)
 
 -- New digests are new children of the node `images`.
 with_new_images : (hashes : Bool) (payloads : List (Option (List ℕ))) (nodes : Nodes PropertyMap) →
@@ -165,14 +156,7 @@ some_nodes (Some nodes) is = refl
 module _ (content : FitModel) (held : IsHeld content) where
   -- Its file means its image tree.
   pub held_means : IsFitFile content.blob.file (tree_of content)
-  held_means = record {
-    root = root_of content.blob;
-    blob = held.is_blob;
-    images = nodes_or_none (image_nodes (root_of content.blob));
-    has_images = some_nodes (image_nodes (root_of content.blob)) held.has_images;
-    payloads = read_payloads content.blob.file (nodes_or_none (image_nodes (root_of content.blob))) content.images held.images;
-    is_root = refl;
-  }
+  held_means = search (rules, some_nodes, read_payloads)
 
   -- The nodes of its file are nodes that a tree can have.
   pub held_nodes : AreNodes (λ own. AreProperties (properties_of own)) (root_of content.blob).children
@@ -181,13 +165,7 @@ module _ (content : FitModel) (held : IsHeld content) where
 
   -- The names of each node's properties are distinct.
   pub held_distinct : EachOwn HasDistinctNames (alone (root_node (root_of content.blob)))
-  held_distinct = (
-    (blob_has_content content.blob.file content.blob.cpu content.blob.reservations
-        (root_of content.blob) held.is_blob).is_tree.is_own.distinct,
-    each_own_from (λ own. AreProperties (properties_of own)) HasDistinctNames (λ own are. are.distinct)
-        (root_of content.blob).children held_nodes,
-    tt,
-  )
+  held_distinct = search (rules, blob_has_content, each_own_from, held_nodes)
 
   module _ (changes : Changes) (digests : List ℕ) (is_digests : digests ≡ new_digests changes (tree_of content)) where
     -- The image nodes are those of the images, and the bytes hold their digests.
@@ -213,13 +191,7 @@ module _ (content : FitModel) (held : IsHeld content) where
       pub held_events : events (sorted_root changes form (tree_of content).payloads digests (root_node (root_of content.blob))) ≡
           events_of (normal_tree form (with_changes changes (tree_of content)))
       unfolding changed
-      held_events =
-          ap (λ children. events (node [] (entries (with_time changes.time (properties_by_name (root_of content.blob).own))) children none))
-          (sym (root_children changes.hashes form (tree_of content).payloads digests (λ own. AreProperties (properties_of own))
-          (root_of content.blob).children held_nodes is_digests)
-          ∙ ap (λ nodes. with_each entries
-          (with_children_of images_name (with_payloads (alignment_of form) 0 (tree_of content).payloads) nodes))
-          (sym (with_new_images changes.hashes (tree_of content).payloads (tree_of content).root.children)))
+      held_events = search (rules, root_children, held_nodes, with_new_images)
 
       -- They may follow one another, and they end the root.
       pub held_closed : AreClosedEvents MayFollowInText (events_of (normal_tree form (with_changes changes (tree_of content))))

@@ -1,4 +1,4 @@
-use Rattle.std.proofs.Common.{◌≡◌, ◌↔◌, ℕ, List, [], ◌∷◌, ◌++◌, length, drop, get_or, ap, ◌∙◌, arith}
+use Rattle.std.proofs.Common.{◌≡◌, ◌↔◌, ℕ, List, [], ◌∷◌, ◌++◌, length, rules}
 use Rattle.std.specs.List.{All, AllByRecursion}
 use Rattle.std.specs.List.Sorted.{IsPermutation}
 use Rattle.std.proofs.lemmas.List.Elements.{All-nil, All-cons, All-head, All-tail}
@@ -25,26 +25,7 @@ pub pairing_next : (file other : List ℕ) (pairs : List RegionPair) (pair : Reg
     → IsPairing file other pairs (image ∷ images) (other_image ∷ others) AllSame
     → IsPairOfPayloads file other image.payload other_image.payload pair
     → IsPairing file other (pairs ++ pair ∷ []) images others AllSame
-pairing_next file other pairs pair image other_image images others AllSame is is_pair = (
-  (let both : length (image ∷ images) ≡ length (other_image ∷ others) = is.0 in omega arith),
-  is.1.1,
-  is.2.1,
-  each-append (AreInFiles file other) pairs (pair ∷ []) is.3 (is_pair.within, tt),
-  (
-    (λ same.
-        is.4.0 (
-          each-front (HasSameBytes file other) pairs (pair ∷ []) same.0,
-          ap (λ payload. payload ∷ payloads_of_models images)
-              (is_pair.same.0 (each-back (HasSameBytes file other) pairs (pair ∷ []) same.0).0)
-              ∙ ap (λ payloads. other_image.payload ∷ payloads) same.1,
-        )),
-    (λ all. (
-      each-append (HasSameBytes file other) pairs (pair ∷ []) (is.4.1 all).0
-          (is_pair.same.1 (ap (λ payloads. get_or payloads 0 image.payload) (is.4.1 all).1), tt),
-      ap (drop 1) (is.4.1 all).1,
-    )),
-  ),
-)
+pairing_next file other pairs pair image other_image images others AllSame is is_pair = search (rules, each-append, each-front, each-back)
 
 -- What holds of each pair holds of each in another order.
 pub each_moved : (P : RegionPair → Type 0) (pairs moved : List RegionPair) → IsPermutation pairs moved →

@@ -1,4 +1,4 @@
-use Rattle.std.proofs.Common.{◌≡◌, ℕ, ◌+◌, ◌<◌, ◌≤◌, List, [], ◌∷◌, drop, get_or, length, None, sym, ap, subst, add-one}
+use Rattle.std.proofs.Common.{◌≡◌, ℕ, ◌+◌, ◌<◌, ◌≤◌, List, [], ◌∷◌, drop, get_or, length, None, add-one, rules}
 use Rattle.std.proofs.Math.Seq.{drop-cons}
 use Rattle.bi_fit.specs.declared.image.Image.{Image}
 use Rattle.bi_fit.specs.declared.image.Place.TheVariants.{Absent}
@@ -17,15 +17,9 @@ module _ (images : List Image) (index : ℕ) (within : index < length images) wh
   -- The payloads from an image on are its payload and those after it.
   pub payloads_from : payloads_of (drop index images)
       ≡ (image_model (get_or images index no_image)).payload ∷ payloads_of (drop (index + 1) images)
-  payloads_from =
-      let cons : drop index images ≡ get_or images index no_image
-      ∷ drop (index + 1) images = rw add-one (drop-cons images index no_image within) in
-      ap payloads_of cons
+  payloads_from = search (rules, add-one, drop-cons)
 
   -- Where they end is not before the end of this payload.
   pub one_end-le : (align end : ℕ) → 0 < align → end_after align end (image_model (get_or images index no_image)).payload
       ≤ payloads_end align end (payloads_of (drop index images))
-  one_end-le align end positive =
-      let payload = (image_model (get_or images index no_image)).payload in
-      subst (λ payloads. end_after align end payload ≤ payloads_end align end payloads) (sym payloads_from)
-      (payloads_end-le align (end_after align end payload) (payloads_of (drop (index + 1) images)) positive)
+  one_end-le align end positive = search (rules, payloads_from, payloads_end-le)

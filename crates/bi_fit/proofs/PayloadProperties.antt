@@ -1,4 +1,4 @@
-use Rattle.std.proofs.Common.{◌≡◌, ℕ, Bool, true, false, cond, not, List, Option, Some, None, bytes_eq, refl, sym, ap, ◌∙◌, true≢false}
+use Rattle.std.proofs.Common.{◌≡◌, ℕ, Bool, true, false, cond, not, List, Option, Some, None, bytes_eq, refl, sym, ap, ◌∙◌, rules}
 use Rattle.std.specs.FinMap.{get, insert, same_map, get-insert, get-retain_keys}
 use Rattle.std.proofs.lemmas.Cmp.{nat_list_cmp_total}
 use Rattle.std.proofs.lemmas.Slice.Eq.{bytes_eq-Decides}
@@ -30,11 +30,7 @@ get-put_other properties name value other is =
 
 -- A name that passes a test is not one that fails it.
 pub tests_differ : (test : List ℕ → Bool) (name other : List ℕ) → test name ≡ true → test other ≡ false → bytes_eq other name ≡ false
-tests_differ test name other passes fails = where_same (bytes_eq other name) refl
-  where
-    where_same : (b : Bool) → bytes_eq other name ≡ b → bytes_eq other name ≡ false
-    where_same true is = absurd (true≢false (sym passes ∙ ap test (sym ((bytes_eq-Decides other name).0 is)) ∙ fails))
-    where_same false is = is
+tests_differ test name other passes fails = search (rules, bytes_eq-Decides)
 
 -- What is left without the four properties.
 pub get-without : (properties : PropertyMap) (name : List ℕ) →
@@ -46,14 +42,7 @@ get-without properties name =
 -- Without the four properties, properties that differ only in these from ones without them are the latter.
 pub taken_out : (properties bare : PropertyMap) → ((name : List ℕ) → is_payload_name name ≡ true → get bare name ≡ None) →
     ((name : List ℕ) → is_payload_name name ≡ false → get properties name ≡ get bare name) → without_payload properties ≡ bare
-taken_out properties bare no_name others =
-    same (without_payload properties) bare (λ name. by_name name (is_payload_name name) refl)
-  where
-    by_name : (name : List ℕ) → (b : Bool) → is_payload_name name ≡ b → get (without_payload properties) name ≡ get bare name
-    by_name name true is =
-        get-without properties name ∙ ap (λ b. cond (not b) (get properties name) None) is ∙ sym (no_name name is)
-    by_name name false is =
-        get-without properties name ∙ ap (λ b. cond (not b) (get properties name) None) is ∙ others name is
+taken_out properties bare no_name others = search (rules, same, get-without)
 
 -- One of the four properties changes no other.
 pub get-put_payload : (properties : PropertyMap) (payload_name value name : List ℕ) → is_payload_name payload_name ≡ true →
@@ -72,6 +61,4 @@ get-with_payload (Some align) begin (Some payload) properties name is =
 -- Put in and taken out again, they leave the properties as they were.
 pub without-with_payload : (alignment : Option ℕ) (begin : ℕ) (payload : Option (List ℕ)) (properties : PropertyMap) →
     IsApart properties payload → without_payload (with_payload alignment begin payload properties) ≡ properties
-without-with_payload alignment begin payload properties apart =
-    taken_out (with_payload alignment begin payload properties) properties apart.no_payload_name
-    (λ name is. get-with_payload alignment begin payload properties name is)
+without-with_payload alignment begin payload properties apart = search (rules, taken_out, get-with_payload)

@@ -1,4 +1,4 @@
-use Rattle.std.proofs.Common.{◌≡◌, ℕ, ◌+◌, ◌^◌, ◌<◌, ◌≤◌, Bool, true, false, List, [], ◌∷◌, length, Option, Some, None, bytes_eq, refl, sym}
+use Rattle.std.proofs.Common.{◌≡◌, ℕ, ◌+◌, ◌^◌, ◌<◌, ◌≤◌, List, [], ◌∷◌, length, Option, Some, None, refl, sym, rules}
 use Rattle.std.proofs.Common.{ap, ap₂, subst, ◌∙◌, nat_cmp}
 use Rattle.std.specs.Prelude.{⊤}
 use Rattle.std.specs.Option.{option_map}
@@ -6,7 +6,6 @@ use Rattle.std.specs.Int.{from_be_bytes, w32}
 use Rattle.std.specs.Cmp.Lexicographic.{slice_cmp}
 use Rattle.std.specs.FinMap.{get, entries, find, get-entries}
 use Rattle.std.proofs.lemmas.Nat.{from_be_bytes-to_be_bytes_4}
-use Rattle.std.proofs.lemmas.Cmp.{nat_list_eq_equiv}
 use Rattle.std.proofs.lemmas.Map.Text.{is_eq-slice_cmp}
 use Rattle.bi_base.specs.Cells.{cell, slice}
 use Rattle.bi_base.proofs.CellLaws.{length-cell}
@@ -31,17 +30,7 @@ value_named : (name : List ℕ) (at : ℕ) (properties : List Property) →
     option_map (λ property. property.value) (property_named (properties_with_places at properties) name)
     ≡ find (slice_cmp nat_cmp) name properties
 value_named name at [] = refl
-value_named name at (property ∷ later) =
-    where_first (bytes_eq property.0 name) refl (value_named name (at + event_width (NodeProperty property)) later)
-  where
-    where_first : (b : Bool) → bytes_eq property.0 name ≡ b →
-        option_map (λ property. property.value)
-        (property_named (properties_with_places (at + event_width (NodeProperty property)) later) name) ≡
-        find (slice_cmp nat_cmp) name later →
-        option_map (λ property. property.value) (property_named (properties_with_places at (property ∷ later)) name) ≡
-        find (slice_cmp nat_cmp) name (property ∷ later)
-    where_first true is rest = rw (is, is_eq-slice_cmp name property.0, nat_list_eq_equiv.symm name property.0, is) refl
-    where_first false is rest = rw (is, is_eq-slice_cmp name property.0, nat_list_eq_equiv.symm name property.0, is) rest
+value_named name at (property ∷ later) = search (rules, is_eq-slice_cmp, value_named name (at + event_width (NodeProperty property)) later)
 
 -- The same for properties by name.
 pub value_placed : (name : List ℕ) (at : ℕ) (properties : PropertyMap) →
@@ -97,12 +86,7 @@ module _ (file : List ℕ) (place at begin : ℕ) where
 
   -- Without the four properties there is no payload.
   no_payload : (properties : PropertyMap) → IsApart properties None → HasPayload file (node_with properties) None
-  no_payload properties apart =
-      rw (
-        not_placed data_position_name at properties (apart.no_payload_name data_position_name refl),
-        not_placed data_offset_name at properties (apart.no_payload_name data_offset_name refl),
-        not_placed data_name at properties (apart.no_payload_name data_name refl),
-      ) refl
+  no_payload properties apart = search (rules, not_placed)
 
   -- The payload is the value of `data`.
   embedded_payload : (properties : PropertyMap) (payload : List ℕ) → IsApart properties (Some payload) →
@@ -157,12 +141,7 @@ module _ (file : List ℕ) (place at begin : ℕ) where
       IsThere (Some align) file begin payload →
       payload_place file (source_of (node_with (with_payload (Some align) begin payload properties)))
       ≡ option_map (λ payload. external_base file + begin) payload
-  external_place align properties None apart there =
-      rw (
-        not_placed data_position_name at properties (apart.no_payload_name data_position_name refl),
-        not_placed data_offset_name at properties (apart.no_payload_name data_offset_name refl),
-        not_placed data_name at properties (apart.no_payload_name data_name refl),
-      ) refl
+  external_place align properties None apart there = search (rules, not_placed)
   external_place align properties (Some payload) apart there =
       let new = with_payload (Some align) begin (Some payload) properties in
       let offset = is_placed data_offset_name at new (cell begin)

@@ -1,4 +1,4 @@
-use Rattle.std.proofs.Common.{◌≡◌, ◌≢◌, ℕ, ◌+◌, ◌-◌, ◌*◌, ◌/◌, ◌%◌, ◌^◌, ◌<◌, ◌≤◌, zero, suc, sym, ap, subst, ◌∙◌, add-one, arith}
+use Rattle.std.proofs.Common.{◌≡◌, ◌≢◌, ℕ, ◌+◌, ◌-◌, ◌*◌, ◌/◌, ◌%◌, ◌^◌, ◌<◌, ◌≤◌, zero, suc, sym, ap, ◌∙◌, add-one, arith, rules}
 use Rattle.std.proofs.Math.Nat.{mul-mod_left, mod-one}
 use Rattle.std.proofs.Math.Pow.{pow_mono}
 use Rattle.std.proofs.lemmas.Nat.{div-add-mod', pow-add, pow_below, pow_pos}
@@ -31,11 +31,7 @@ power-divides i j n le whole = ap (λ n. n % 2 ^ i) by_smaller ∙ mul-mod_left 
     by_smaller = times ∙ ap (λ m. n / 2 ^ j * m) split ∙ omega arith
 
 pub smaller_divides : (a b n : ℕ) → IsPower a → IsPower b → a ≤ b → n % b ≡ 0 → n % a ≡ 0
-smaller_divides a b n one other le whole =
-    subst (λ a. n % a ≡ 0) (sym one.is_power)
-    (power-divides one.exponent other.exponent n
-    (exponent-le one.exponent other.exponent (omega (arith, one.is_power, other.is_power, le)))
-    (subst (λ b. n % b ≡ 0) other.is_power whole))
+smaller_divides a b n one other le whole = search (rules, power-divides, exponent-le)
 
 -- The half of a power other than 1 is one.
 half : (k : ℕ) → 2 ^ (k + 1) / 2 ≡ 2 ^ k
@@ -54,19 +50,11 @@ half-power a n is not_whole = by is.exponent is.is_power is.most
 -- A smaller power is at most the half.
 half-le : (i j : ℕ) → 2 ^ i < 2 ^ j → 2 ^ i ≤ 2 ^ j / 2
 half-le i zero less = absurd (omega (arith, less, pow_pos i))
-half-le i (suc k) less =
-    let i_k : i ≤ k = grind (arith, pow_mono) in
-    let le : 2 ^ i ≤ 2 ^ k = pow_mono i_k in
-    omega (arith, half-suc k, le)
+half-le i (suc k) less = search (rules, pow_mono, half-suc)
 
 pub less-half : (a b : ℕ) → IsPower a → IsPower b → a < b → a ≤ b / 2
-less-half a b one other less =
-    let le : 2 ^ one.exponent ≤ 2 ^ other.exponent / 2 =
-    half-le one.exponent other.exponent (omega (arith, one.is_power, other.is_power, less)) in
-    omega (arith, one.is_power, other.is_power, le)
+less-half a b one other less = search (rules, half-le)
 
 -- A power that divides a number is at most the half of one that does not, if it is at most that.
 pub le-half : (a b n : ℕ) → IsPower a → IsPower b → n % b ≢ 0 → a ≤ b → n % a ≡ 0 → a ≤ b / 2
-le-half a b n one other not_whole le whole =
-    let differ : a ≢ b = λ same. not_whole (subst (λ a. n % a ≡ 0) same whole) in
-    less-half a b one other (omega (arith, differ, le))
+le-half a b n one other not_whole le whole = search (rules, less-half)

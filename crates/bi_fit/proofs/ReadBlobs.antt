@@ -1,4 +1,5 @@
 use Rattle.std.proofs.Common.{◌≡◌, ℕ, ◌+◌, ◌≤◌, List, [], ◌∷◌, map, length, Option, Some, None, refl, sym, ap, subst, ◌∙◌, inl, inr, arith}
+use Rattle.std.proofs.Common.{rules}
 use Rattle.std.specs.Prelude.{IfSome, IsSome}
 use Rattle.std.specs.List.{AllByRecursion, AllZip}
 use Rattle.std.specs.Option.{option_map}
@@ -10,7 +11,7 @@ use Rattle.bi_base.specs.Checks.{IsFirstFault}
 use Rattle.bi_base.specs.Limits.{Limits}
 use Rattle.bi_base.specs.Errors.{IsFaultOrNoMemory}
 use Rattle.bi_blob.specs.Tree.{Nodes, none, node, FileProperty, FileNode}
-use Rattle.bi_blob.specs.Lookups.{Sibling, siblings, root_node, node_at, node_named, property_named}
+use Rattle.bi_blob.specs.Lookups.{siblings, root_node, node_at, node_named, property_named}
 use Rattle.bi_blob.specs.Blob.{IsBlob, IsWithin, IsBlobWithin, totalsize}
 use Rattle.bi_blob.specs.Layout.{longest_text}
 use Rattle.bi_blob.specs.Following.{most_open_nodes}
@@ -38,17 +39,7 @@ use Rattle.bi_fit.proofs.ReadErrors.{only_fit_fault, none_before_tree}
 pub found_images : (root : NodeRef) (blob : Blob) (found : Option (ℕ × NodeRef)) → node_of root ≡ root_node (root_of blob) →
     option_map (λ found. node_of found.1) found ≡ node_named (node_of root).children images_name →
     image_nodes (root_of blob) ≡ option_map (λ found. (node_of found.1).children) found
-found_images root blob found is_root is_child =
-    ap (λ (node : Sibling FileNode). option_map (λ (images : Sibling FileNode). images.children)
-    (node_named node.children images_name)) (sym is_root)
-    ∙ ap (option_map (λ (images : Sibling FileNode). images.children)) (sym is_child)
-    ∙ by found
-  where
-    by : (found : Option (ℕ × NodeRef)) →
-        option_map (λ (images : Sibling FileNode). images.children) (option_map (λ found. node_of found.1) found) ≡
-        option_map (λ found. (node_of found.1).children) found
-    by None = refl
-    by (Some found) = refl
+found_images root blob found is_root is_child = search rules
 
 -- The node `images`, which was found at a position among the children of the root.
 module _ (blob : Blob) (root : NodeRef) (found : Option (ℕ × NodeRef)) (position : ℕ) (images : NodeRef)
@@ -57,33 +48,18 @@ module _ (blob : Blob) (root : NodeRef) (found : Option (ℕ × NodeRef)) (posit
     (is_found : found ≡ Some (position, images)) where
   -- The child of the root.
   named_images : Some (node_of images) ≡ node_named (root_of blob).children images_name
-  named_images =
-      sym (ap (option_map (λ found. node_of found.1)) is_found)
-      ∙ is_child
-      ∙ ap (λ (node : Sibling FileNode). node_named node.children images_name) is_root
+  named_images = search rules
 
   -- Its index is that of the child of the root.
   pub images_at : (index : ℕ) → table_of_node root ≡ blob.table →
       IfSome found (λ found. table_of_node found.1 ≡ table_of_node root) →
       HasNodeAt (table_of_node images) index → node_in (table_of_node images) index ≡ node_of images → HasImagesAt blob index
-  images_at index root_table child_table there is_node =
-      let same : table_of_node images ≡ blob.table =
-      subst (λ o. IfSome o (λ found. table_of_node found.1 ≡ table_of_node root)) is_found child_table ∙ root_table in
-      record {
-        there = subst (λ table. HasNodeAt table index) same there;
-        is_images =
-            ap (λ table. Some (node_in table index)) (sym same)
-            ∙ ap (λ (node : Sibling FileNode). Some node) is_node
-            ∙ named_images;
-      }
+  images_at index root_table child_table there is_node = search (rules, named_images)
 
   -- Its position is that of the child of the root.
   pub is_images_position : IfSome found (λ found. node_at (node_of root).children found.0 ≡ Some (node_of found.1)) →
       IsImagesPosition blob position
-  is_images_position at =
-      ap (λ (node : Sibling FileNode). node_at node.children position) (sym is_root)
-      ∙ subst (λ o. IfSome o (λ found. node_at (node_of root).children found.0 ≡ Some (node_of found.1))) is_found at
-      ∙ named_images
+  is_images_position at = search (rules, named_images)
 
 -- Nodes that have the values of their properties in the file begin their `data` there.
 have_data : (file : List ℕ) (nodes : Nodes FileNode) → HaveValues file nodes →

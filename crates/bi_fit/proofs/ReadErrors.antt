@@ -1,4 +1,4 @@
-use Rattle.std.proofs.Common.{◌⊎◌, ℕ, List, inl, inr}
+use Rattle.std.proofs.Common.{◌⊎◌, ℕ, List, inl, inr, rules}
 use Rattle.bi_base.specs.declared.fault.Error.{Error}
 use Rattle.bi_base.specs.declared.fault.Error.TheVariants.{Refused, OutOfMemory, ReadFailed, WriteFailed}
 use Rattle.bi_base.specs.declared.fault.Fault.{Fault}
@@ -14,11 +14,7 @@ use Rattle.bi_fit.proofs.Faults.{one_fit_fault, fit_has_no_fault}
 
 -- A fault of a file is its only one.
 pub only_fit_fault : (limits : Limits) (file : List ℕ) (fault : Fault) → IsFitFault limits file fault → IsOnlyFitFault limits file fault
-only_fit_fault limits file fault is = record {
-  is_fault = is;
-  only = λ other too. one_fit_fault limits file other fault too is;
-  means_nothing = λ tree means. fit_has_no_fault limits file tree fault means is;
-}
+only_fit_fault limits file fault is = search (rules, one_fit_fault, fit_has_no_fault)
 
 -- An error of reading the blob is one of reading the flattened image tree.
 pub blob_error : (limits : Limits) (file : List ℕ) (error : Error) → IsBlobReadError limits file error → IsFitReadError limits file error

@@ -1,4 +1,4 @@
-use Rattle.std.proofs.Common.{◌≡◌, ℕ, List, [], ◌∷◌, ◌++◌, refl, sym, ap, subst, append_assoc, append-nil}
+use Rattle.std.proofs.Common.{◌≡◌, ℕ, List, [], ◌∷◌, ◌++◌, refl, sym, ap, subst, append_assoc, append-nil, rules}
 use Rattle.std.specs.List.{AllByRecursion, AllZip}
 use Rattle.bi_base.specs.declared.fault.Fault.{Fault}
 use Rattle.bi_base.specs.Checks.{IsFirstFault}
@@ -34,23 +34,14 @@ pub record AreReadTo (file : List ℕ) (nodes : Nodes FileNode) (images : List I
 -- All are left at first.
 pub none_read : (file : List ℕ) (nodes : Nodes FileNode) (left : List (Sibling FileNode)) → left ≡ siblings nodes →
     AllByRecursion (λ sibling. HasDataInFile file sibling.own) (siblings nodes) → AreReadTo file nodes [] left
-none_read file nodes left same have_data = record {
-  have_data = subst (AllByRecursion (λ sibling. HasDataInFile file sibling.own)) (sym same) have_data;
-  read = λ later read. subst (λ siblings. AllZip (IsReadImage file) siblings later) same read;
-  fault = λ fault first.
-      subst (λ checks. IsFirstFault (FitPasses file) fit_fault checks fault) (siblings_have_checks file nodes)
-      (subst (λ siblings. IsFirstFault (FitPasses file) fit_fault (sibling_checks file siblings) fault) same first);
-}
+none_read file nodes left same have_data = search (rules, siblings_have_checks)
 
 module _ (file : List ℕ) (nodes : Nodes FileNode) (images : List ImageModel) (all left : List (Sibling FileNode)) (child : Sibling FileNode)
     (is_first : all ≡ child ∷ left) (are : AreReadTo file nodes images all) where
   -- A fault of the first of them is that of all.
   pub child_fault : (fault : Fault) → IsFirstFault (FitPasses file) fit_fault (source_checks file (source_of child.own)) fault →
       IsFirstFault (FitPasses file) fit_fault (image_checks file nodes) fault
-  child_fault fault first =
-      are.fault fault
-      (subst (λ siblings. IsFirstFault (FitPasses file) fit_fault (sibling_checks file siblings) fault) (sym is_first)
-      (IsFirstFault-front (FitPasses file) fit_fault (source_checks file (source_of child.own)) (sibling_checks file left) fault first))
+  child_fault fault first = search (rules, IsFirstFault-front)
 
   -- The first of them is read.
   pub one_more : (image : ImageModel) → IsReadImage file child image → AreReadTo file nodes (images ++ image ∷ []) left

@@ -1,4 +1,4 @@
-use Rattle.std.proofs.Common.{◌≡◌, ℕ, ◌+◌, ◌-◌, ◌<◌, ◌≤◌, List, length, take, drop, get_or, Some, refl, sym, ap, subst, ◌∙◌, arith}
+use Rattle.std.proofs.Common.{◌≡◌, ℕ, ◌+◌, ◌-◌, ◌<◌, ◌≤◌, List, length, take, drop, get_or, Some, refl, sym, ap, subst, ◌∙◌, arith, rules}
 use Rattle.std.proofs.lemmas.List.{get_or-drop, get_or-take, ext_get_or, length-take, length-drop}
 use Rattle.bi_fit.specs.declared.comparing.region_pairs.RegionPair.{RegionPair}
 use Rattle.bi_fit.specs.declared.image.Place.{Place}
@@ -16,9 +16,7 @@ region bytes begin end = take (end - begin) (drop begin bytes)
 
 -- How many they are.
 length-region : (bytes : List ℕ) (begin end : ℕ) → begin ≤ end → end ≤ length bytes → length (region bytes begin end) ≡ end - begin
-length-region bytes begin end ordered within =
-    let long : length (drop begin bytes) ≡ length bytes - begin = length-drop begin bytes in
-    omega (arith, length-take (end - begin) (drop begin bytes), long)
+length-region bytes begin end ordered within = search (rules, length-drop, length-take)
 
 -- One of them.
 get_or-region : (bytes : List ℕ) (begin end index : ℕ) → index < end - begin →
@@ -65,9 +63,7 @@ module _ (file other : List ℕ) (pair : RegionPair) (is : AreInFiles file other
 -- The bytes from an offset on, as many as a payload has, are the payload where it is in the file.
 region_is : (file : List ℕ) (begin end : ℕ) (payload : List ℕ) → IsAt file begin payload → end ≡ begin + length payload →
     region file begin end ≡ payload
-region_is file begin end payload is ends =
-    let long : end - begin ≡ length payload = omega arith in
-    ap (λ n. take n (drop begin file)) long ∙ is.is_slice
+region_is file begin end payload is ends = search rules
 
 -- A payload that has a place is at its offset.
 pub is_at_offset : (file : List ℕ) (place : Place) (payload : List ℕ) (begin : ℕ) → IsAtPlace file (offset_of_place place) (Some payload) →

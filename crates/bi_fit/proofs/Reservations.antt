@@ -1,5 +1,5 @@
 use Rattle.std.proofs.Common.{◌≡◌, ℕ, zero, suc, true, ◌&&◌, List, [], ◌∷◌, take, drop, map, Option, Some, None, slice_get, refl, ap, ap₂}
-use Rattle.std.proofs.Common.{append_assoc}
+use Rattle.std.proofs.Common.{append_assoc, rules}
 use Rattle.std.specs.Prelude.{nat_eq}
 use Rattle.std.specs.Option.{option_eq}
 use Rattle.std.proofs.lemmas.Bool.{and_parts}
@@ -29,20 +29,14 @@ reservations_from (reservation ∷ later) (suc index) pair is = reservations_fro
 pub with_reservations-cons : (document : Doc) (address size : ℕ) (later : List Reservation) →
     with_reservations (with_reservation document address size) later
     ≡ with_reservations document (record { address = address; size = size } ∷ later)
-with_reservations-cons document address size later =
-    ap (λ l. record document { reservations = l })
-    (append_assoc document.reservations (record { address = address; size = size } ∷ []) later)
+with_reservations-cons document address size later = search (rules, append_assoc)
 
 -- The test of two pairs that may be there is true only if they are the same.
 pub same_pairs : (one other : Option (ℕ × ℕ)) → option_eq (λ x y. nat_eq x.0 y.0 && nat_eq x.1 y.1) one other ≡ true → one ≡ other
 same_pairs None None is = refl
 same_pairs None (Some other) is = absurd cc
 same_pairs (Some one) None is = absurd cc
-same_pairs (Some one) (Some other) is =
-    let both = and_parts (nat_eq one.0 other.0) (nat_eq one.1 other.1) is in
-    let address : one.0 ≡ other.0 = (Decides-eqb one.0 other.0).0 both.0 in
-    let size : one.1 ≡ other.1 = (Decides-eqb one.1 other.1).0 both.1 in
-    λ i. Some (address i, size i)
+same_pairs (Some one) (Some other) is = search (rules, and_parts, Decides-eqb)
 
 -- First reservations that are the same, and one more.
 pub same_with_next : (reservations others : List Reservation) (index : ℕ) → take index reservations ≡ take index others →
@@ -53,9 +47,7 @@ same_with_next [] (other ∷ others) zero same next = absurd cc
 same_with_next [] (other ∷ others) (suc index) same next = absurd cc
 same_with_next (reservation ∷ later) [] zero same next = absurd cc
 same_with_next (reservation ∷ later) [] (suc index) same next = absurd cc
-same_with_next (reservation ∷ later) (other ∷ others) zero same next =
-    let pair : pair_of reservation ≡ pair_of other = same_in_some (pair_of reservation) (pair_of other) next in
-    λ i. record { address = (pair i).0; size = (pair i).1 } ∷ []
+same_with_next (reservation ∷ later) (other ∷ others) zero same next = search (rules, same_in_some)
 same_with_next (reservation ∷ later) (other ∷ others) (suc index) same next =
     let first : reservation ≡ other = cc in
     let rest : take index later ≡ take index others = cc in

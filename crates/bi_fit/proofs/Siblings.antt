@@ -1,4 +1,4 @@
-use Rattle.std.proofs.Common.{◌≡◌, ◌∷◌, Option, Some, sym, ap, ◌∙◌}
+use Rattle.std.proofs.Common.{◌≡◌, ◌∷◌, Option, Some, ap, ◌∙◌, rules}
 use Rattle.std.specs.Option.{option_map}
 use Rattle.bi_blob.specs.Tree.{Nodes, FileNode}
 use Rattle.bi_blob.specs.Lookups.{siblings, node_at}
@@ -18,6 +18,4 @@ from_first first nodes is = ap siblings_from is ∙ siblings_from-first nodes
 pub from_next : (left next : Option NodeRef) (first : NodeRef) → left ≡ Some first →
     option_map node_of next ≡ node_at (node_of first).later 0 →
     siblings_from (option_map node_of left) ≡ node_of first ∷ siblings_from (option_map node_of next)
-from_next left next first is next_is =
-    ap (λ (o : Option NodeRef). siblings_from (option_map node_of o)) is
-    ∙ ap (λ l. node_of first ∷ l) (sym (from_first next (node_of first).later next_is))
+from_next left next first is next_is = search (rules, from_first)

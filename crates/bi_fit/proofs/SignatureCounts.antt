@@ -1,5 +1,5 @@
-use Rattle.std.proofs.Common.{◌≡◌, ℕ, suc, ◌+◌, ◌<◌, ◌≤◌, ◌^◌, Bool, true, false, List, [], ◌∷◌, ◌++◌, length, map, flat_map, filter}
-use Rattle.std.proofs.Common.{bytes_eq, refl, sym, ap, ap₂, ◌∙◌, arith, length-append}
+use Rattle.std.proofs.Common.{◌≡◌, ℕ, ◌+◌, ◌<◌, ◌≤◌, ◌^◌, List, [], ◌∷◌, ◌++◌, length, map, flat_map, filter, rules}
+use Rattle.std.proofs.Common.{refl, sym, ap, ap₂, ◌∙◌, arith, length-append}
 use Rattle.std.specs.List.{AllZip}
 use Rattle.bi_blob.specs.Tree.{Nodes, none, node, FileNode, PropertyMap, node_count, node_count_of}
 use Rattle.bi_blob.specs.Lookups.{Sibling, siblings}
@@ -19,38 +19,17 @@ use Rattle.bi_fit.specs.NormalNodes.{nodes_by_name}
 -- There are at most as many signature nodes as nodes.
 few_of : (children : List (Sibling FileNode)) → length (filter (λ child. is_signature_name child.name) children) ≤ length children
 few_of [] = omega arith
-few_of (child ∷ later) = where_first (is_signature_name child.name) refl (few_of later)
-  where
-    where_first : (b : Bool) → is_signature_name child.name ≡ b →
-        length (filter (λ child. is_signature_name child.name) later) ≤ length later →
-        length (filter (λ child. is_signature_name child.name) (child ∷ later)) ≤ length (child ∷ later)
-    where_first true is rest = rw is (omega arith)
-    where_first false is rest = rw is (omega arith)
+few_of (child ∷ later) = search (rules, few_of later)
 
 pub few_signatures : (entries : List (Sibling FileNode)) → length (flat_map file_signatures entries) ≤ length (children_of_each entries)
 few_signatures [] = omega arith
-few_signatures (entry ∷ entries) =
-    let first : length (file_signatures entry) ≤ length (siblings entry.children) = few_of (siblings entry.children) in
-    let later : length (flat_map file_signatures entries) ≤ length (children_of_each entries) = few_signatures entries in
-    let few : length (file_signatures entry ++ flat_map file_signatures entries)
-    ≡ length (file_signatures entry) + length (flat_map file_signatures entries) = length-append (file_signatures entry)
-    (flat_map file_signatures entries) in
-    let all : length (siblings entry.children ++ children_of_each entries)
-    ≡ length (siblings entry.children) + length (children_of_each entries) = length-append
-    (siblings entry.children) (children_of_each entries) in
-    omega arith
+few_signatures (entry ∷ entries) = search (rules, few_of, length-append, few_signatures entries)
 
 -- The nodes below the node of a name are among the nodes.
 node_count-children_of : {Own : Type 0} (wanted : List ℕ) (nodes : Nodes Own) →
     node_count (nodes_or_none (children_of wanted nodes)) ≤ node_count nodes
 node_count-children_of wanted none = omega arith
-node_count-children_of {Own = Own} wanted (node name own children later) = where_first (bytes_eq name wanted) refl
-    (node_count-children_of wanted later)
-  where
-    where_first : (b : Bool) → bytes_eq name wanted ≡ b → node_count (nodes_or_none (children_of wanted later)) ≤ node_count later →
-        node_count (nodes_or_none (children_of wanted (node name own children later))) ≤ node_count (node name own children later)
-    where_first true is rest = rw is (omega arith)
-    where_first false is rest = rw is (omega arith)
+node_count-children_of {Own = Own} wanted (node name own children later) = search (rules, node_count-children_of wanted later)
 
 -- The nodes below a node of the root have fewer than 2^31 children.
 children_few : (content : FitModel) (name : List ℕ) → IsHeld content →
@@ -78,22 +57,12 @@ signatures_same : (children : List (Sibling FileNode)) →
     length (filter (λ child. is_signature_name child.name) (map sibling_by_name children))
     ≡ length (filter (λ child. is_signature_name child.name) children)
 signatures_same [] = refl
-signatures_same (child ∷ later) = where_first (is_signature_name child.name) refl (signatures_same later)
-  where
-    where_first : (b : Bool) → is_signature_name child.name ≡ b →
-        length (filter (λ child. is_signature_name child.name) (map sibling_by_name later)) ≡
-        length (filter (λ child. is_signature_name child.name) later) →
-        length (filter (λ child. is_signature_name child.name) (map sibling_by_name (child ∷ later))) ≡
-        length (filter (λ child. is_signature_name child.name) (child ∷ later))
-    where_first true is rest = rw is (ap suc rest)
-    where_first false is rest = rw is rest
+signatures_same (child ∷ later) = search (rules, signatures_same later)
 
 signatures_by_name : (nodes : Nodes FileNode) →
     length (filter (λ child. is_signature_name child.name) (siblings (nodes_by_name nodes)))
     ≡ length (filter (λ child. is_signature_name child.name) (siblings nodes))
-signatures_by_name nodes =
-    ap (λ (l : List (Sibling PropertyMap)). length (filter (λ child. is_signature_name child.name) l)) (siblings-by_name nodes)
-    ∙ signatures_same (siblings nodes)
+signatures_by_name nodes = search (rules, siblings-by_name, signatures_same)
 
 -- The numbers of two lists after one another.
 both : {A B : Type 0} (a c : List A) (b d : List B) → length a ≡ length b → length c ≡ length d → length (a ++ c) ≡ length (b ++ d)
@@ -106,9 +75,7 @@ in_images : (file : List ℕ) (entries : List (Sibling FileNode)) (images : List
 in_images file [] [] read = refl
 in_images file [] (image ∷ images) read = absurd read
 in_images file (entry ∷ entries) [] read = absurd read
-in_images file (entry ∷ entries) (image ∷ images) read =
-    both _ _ (file_signatures entry) (flat_map file_signatures entries) (signatures_by_name entry.children)
-    (in_images file entries images read.1)
+in_images file (entry ∷ entries) (image ∷ images) read = search (rules, both, signatures_by_name, in_images file entries images read.1)
 
 in_configurations : (entries : List (Sibling FileNode)) →
     length (flat_map signatures_in (map sibling_by_name entries)) ≡ length (flat_map file_signatures entries)

@@ -1,12 +1,12 @@
 use Rattle.std.proofs.Common.{◌≡◌, ℕ, Bool, true, false, List, [], ◌∷◌, ◌++◌, take, drop, length, Option, Some, None, refl, sym, ap, ap₂}
-use Rattle.std.proofs.Common.{subst, ◌∙◌, arith, append_assoc, length-append}
+use Rattle.std.proofs.Common.{◌∙◌, append_assoc, length-append, rules}
 use Rattle.std.proofs.Math.Seq.{take-append_seam, drop-append_seam}
 use Rattle.std.specs.FinMap.{insert}
 use Rattle.bi_blob.specs.Tree.{Nodes, none, node, PropertyMap}
 use Rattle.bi_hash.specs.declared.algo.Algo.{Algo}
 use Rattle.bi_hash.specs.Digests.{digest_of}
 use Rattle.bi_hash.proofs.DigestBytes.{length-digest_of}
-use Rattle.bi_fit.specs.Names.{value_name, is_hash_name}
+use Rattle.bi_fit.specs.Names.{value_name}
 use Rattle.bi_fit.specs.ImageTree.{without_payloads}
 use Rattle.bi_fit.specs.Updating.{with_digest_by, with_digest, with_digests, images_with_digests}
 use Rattle.bi_fit.specs.NewDigests.{hash_algorithm, digest_by, digests_for, digests_of_images, digests_if_changed}
@@ -20,9 +20,7 @@ use Rattle.bi_fit.proofs.UpdatedTrees.{new_images}
 module _ (payload rest digests : List ℕ) (properties : PropertyMap) where
   has_digest : (algo : Option Algo) → digests ≡ digest_by algo payload ++ rest → HasDigest algo digests
   has_digest None is = tt
-  has_digest (Some algo) is =
-      let all : length digests ≡ length (digest_of algo payload ++ rest) = ap length is in
-      omega (arith, all, length-append (digest_of algo payload) rest, length-digest_of algo payload)
+  has_digest (Some algo) is = search (rules, length-append, length-digest_of)
 
   same_first : (algo : Option Algo) → digests ≡ digest_by algo payload ++ rest →
       with_first_digest algo digests properties ≡ with_digest_by algo payload properties
@@ -43,12 +41,7 @@ module _ (payload rest digests : List ℕ) (properties : PropertyMap) where
 -- A child of an image node has the digest by its algorithm.
 with_digest_is : (payload name : List ℕ) (properties : PropertyMap) →
     with_digest payload name properties ≡ with_digest_by (hash_algorithm name properties) payload properties
-with_digest_is payload name properties = by_name (is_hash_name name) refl
-  where
-    by_name : (b : Bool) → is_hash_name name ≡ b →
-        with_digest payload name properties ≡ with_digest_by (hash_algorithm name properties) payload properties
-    by_name true is = rw is refl
-    by_name false is = rw is refl
+with_digest_is payload name properties = search rules
 
 -- The children of an image node take their digests from the bytes, and leave others.
 record IsTaken (hashed : Bool) (digests : List ℕ) (nodes : Nodes PropertyMap) (taken : Nodes PropertyMap) (rest : List ℕ) : Type 0 where
@@ -76,9 +69,7 @@ taken_in_turn payload rest (node name own children later) digests is =
 -- Without new digests they take none.
 none_taken : (nodes : Nodes PropertyMap) (digests : List ℕ) → IsTaken false digests nodes nodes digests
 none_taken none digests = record { there = tt; same = refl; left = refl }
-none_taken (node name own children later) digests =
-    let rest = none_taken later digests in
-    record { there = (tt, rest.there); same = ap (node name own children) rest.same; left = rest.left }
+none_taken (node name own children later) digests = search (rules, none_taken later digests)
 
 -- The same of image nodes.
 pub record AreTaken (hashes : Bool) (payloads : List (Option (List ℕ))) (digests : List ℕ) (nodes : Nodes PropertyMap)
@@ -91,10 +82,7 @@ one_more_image : (hashes : Bool) (payload : Option (List ℕ)) (payloads : List 
     (own : PropertyMap) (children later taken others : Nodes PropertyMap) → IsTaken (is_hashed hashes payload) digests children taken rest →
     AreTaken hashes payloads rest later others →
     AreTaken hashes (payload ∷ payloads) digests (node name own children later) (node name own taken others)
-one_more_image hashes payload payloads digests rest name own children later taken others first images = record {
-  there = (first.there, subst (λ digests. HaveImageDigests hashes payloads digests later) (sym first.left) images.there);
-  same = ap₂ (node name own) first.same (ap (λ digests. images_with_digests_from hashes payloads digests later) first.left ∙ images.same);
-}
+one_more_image hashes payload payloads digests rest name own children later taken others first images = search rules
 
 taken_by_images : (payloads : List (Option (List ℕ))) (nodes : Nodes PropertyMap) (digests : List ℕ) →
     digests ≡ digests_of_images payloads nodes → AreTaken true payloads digests nodes (images_with_digests payloads nodes)

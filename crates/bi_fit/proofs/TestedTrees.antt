@@ -1,4 +1,4 @@
-use Rattle.std.proofs.Common.{◌≡◌, ◌≢◌, ℕ, Bool, true, false, not, List, [], ◌∷◌, ◌++◌, map, bytes_eq, arith}
+use Rattle.std.proofs.Common.{◌≡◌, ◌≢◌, ℕ, Bool, true, false, not, List, [], ◌∷◌, ◌++◌, map, bytes_eq, arith, rules}
 use Rattle.std.specs.Prelude.{◌&&◌, ◌==◌, ltb}
 use Rattle.std.specs.List.{AllByRecursion, list_all}
 use Rattle.std.proofs.lemmas.Bool.{and_parts, not-true, eqb-false, false≢true}
@@ -78,13 +78,7 @@ abbrev is_child_name_of_bytes : List ℕ → Bool
 is_child_name_of_bytes name = has_some name && (has_no 0 name && (has_no 47 name && are_bytes name))
 
 child_name_by_test : (name : List ℕ) → is_child_name_of_bytes name ≡ true → IsChildName name × AreBytes name
-child_name_by_test name passes =
-    let first = and_parts (has_some name) (has_no 0 name && (has_no 47 name && are_bytes name)) passes in
-    let second = and_parts (has_no 0 name) (has_no 47 name && are_bytes name) first.1 in
-    let third = and_parts (has_no 47 name) (are_bytes name) second.1 in (
-      record { some = some_by_test name first.0; no_zero = no_byte_by_test 0 name second.0; no_slash = no_byte_by_test 47 name third.0 },
-      bytes_by_test name third.1,
-    )
+child_name_by_test name passes = search (rules, and_parts, some_by_test, no_byte_by_test, bytes_by_test)
 
 -- Whether these are nodes, and bytes.
 abbrev are_nodes : Nodes (List Property) → Bool

@@ -1,15 +1,15 @@
-use Rattle.std.proofs.Common.{◌≡◌, ℕ, ◌%◌, ◌<◌, ◌≤◌, List, [], ◌∷◌, ◌++◌, length, Option, Some, refl, sym, ap, subst, ◌∙◌, arith}
+use Rattle.std.proofs.Common.{◌≡◌, ℕ, ◌%◌, ◌<◌, ◌≤◌, List, [], ◌∷◌, ◌++◌, length, Option, refl, sym, ap, subst, ◌∙◌, arith, rules}
 use Rattle.std.proofs.Common.{length-append}
 use Rattle.bi_base.specs.Limits.{Limits}
 use Rattle.bi_base.proofs.AlignmentLaws.{alignment-positive}
 use Rattle.bi_blob.specs.Tree.{depth_of}
 use Rattle.bi_blob.specs.Blob.{IsWithin}
-use Rattle.bi_blob.specs.Layout.{text_of_tree, in_byte_order, longest_text}
+use Rattle.bi_blob.specs.Layout.{longest_text}
 use Rattle.bi_blob.proofs.Texts.TextBlob.{has_text_length}
 use Rattle.bi_fit.specs.declared.form.Form.{Form}
-use Rattle.bi_fit.specs.ImageTree.{ImageTree, IsImageTree, with_image_nodes}
+use Rattle.bi_fit.specs.ImageTree.{ImageTree, IsImageTree}
 use Rattle.bi_fit.specs.File.{IsFitFile, FitMeans}
-use Rattle.bi_fit.specs.Text.{alignment_of, blob_alignment, with_payloads, normal_tree, blob_of, payloads_end, end_after, payloads_after}
+use Rattle.bi_fit.specs.Text.{alignment_of, blob_alignment, normal_tree, blob_of, payloads_end, end_after, payloads_after}
 use Rattle.bi_fit.specs.Text.{after_blob, fit_text}
 use Rattle.bi_fit.specs.Judgement.{judgement}
 use Rattle.bi_fit.specs.Laws.{FileMeansImageTree, FitTextIsAccepted, NormalFitTextIsAccepted, SameTextSameTree, TextKeepsJudgement}
@@ -83,9 +83,7 @@ each_external_text_has_its_length form align tree aligned = record {
 
 -- The text in a form is made with the alignment of the form alone.
 pub aligned_by_four_is_external : AlignedByFourIsExternal
-aligned_by_four_is_external align tree is =
-    ap (λ n. text_of_tree n tree.cpu tree.reservations
-    (in_byte_order (with_image_nodes (with_payloads (Some n) 0 tree.payloads) tree.root)) ++ payloads_after (Some n) tree.payloads) is
+aligned_by_four_is_external align tree is = search rules
 
 -- Payloads end where the last of them do.
 pub payloads_end-append : (align end : ℕ) (first later : List (Option (List ℕ))) →
@@ -94,6 +92,4 @@ payloads_end-append align end [] later = refl
 payloads_end-append align end (payload ∷ first) later = payloads_end-append align (end_after align end payload) first later
 
 pub payloads_end_later : PayloadsEndLater
-payloads_end_later align first later aligned =
-    subst (λ n. payloads_end align 0 first ≤ n) (sym (payloads_end-append align 0 first later))
-    (payloads_end-le align (payloads_end align 0 first) later (omega (arith, alignment-positive align aligned)))
+payloads_end_later align first later aligned = search (rules, payloads_end-append, payloads_end-le, alignment-positive)

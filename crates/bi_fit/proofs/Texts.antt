@@ -1,5 +1,4 @@
-use Rattle.std.proofs.Common.{◌≡◌, ℕ, ◌+◌, ◌≤◌, max, List, [], ◌∷◌, length, Option, Some, None, refl, sym, ap, ◌∙◌, arith, length-append}
-use Rattle.std.specs.Option.{option_map}
+use Rattle.std.proofs.Common.{◌≡◌, ℕ, ◌≤◌, List, [], ◌∷◌, length, Option, Some, None, refl, sym, ap, ◌∙◌, arith, length-append, rules}
 use Rattle.std.specs.List.{AllZip}
 use Rattle.std.specs.FinMap.{entries}
 use Rattle.bi_base.specs.Cells.{up_to, up4, AreBytes}
@@ -89,19 +88,13 @@ text_has_payloads form tree is short =
 -- The image nodes of the tree of a text.
 normal_images : (form : Form) (tree : ImageTree) (is : IsImageTree tree) →
     image_nodes (normal_tree form tree) ≡ Some (with_each entries (with_payloads (alignment_of form) 0 tree.payloads is.images))
-normal_images form tree is =
-    children_of-with_each entries images_name (with_image_nodes (with_payloads (alignment_of form) 0 tree.payloads) tree.root).children
-    ∙ ap (option_map (with_each entries))
-    (children_of-with_children_of images_name
-    (with_payloads (alignment_of form) 0 tree.payloads) tree.root.children is.images is.has_images)
+normal_images form tree is = search (rules, children_of-with_each, children_of-with_children_of)
 
 -- The same at the places of the layout.
 pub text_images : (form : Form) (tree : ImageTree) (is : IsImageTree tree) →
     (place : ℕ) × (image_nodes (tree_with_places tree.reservations (normal_tree form tree))
     ≡ Some (with_places place (with_each entries (with_payloads (alignment_of form) 0 tree.payloads is.images))))
-text_images form tree is =
-    children_of-with_places _ images_name (normal_tree form tree).children
-    (with_each entries (with_payloads (alignment_of form) 0 tree.payloads is.images)) (normal_images form tree is)
+text_images form tree is = search (rules, children_of-with_places, normal_images)
 
 -- The tree of a text is the tree, with the properties that give payloads.
 normal_root : (form : Form) (tree : ImageTree) → IsImageTree tree →
@@ -133,8 +126,4 @@ fit_text_means form tree is short =
 
 -- The tree of a text is as deep as the tree.
 pub depth-normal_tree : (form : Form) (tree : ImageTree) → depth_of (normal_tree form tree) ≡ depth_of tree.root
-depth-normal_tree form tree =
-    ap (λ n. max (n + 1) 0)
-    (sym (depth-with_each entries (with_image_nodes (with_payloads (alignment_of form) 0 tree.payloads) tree.root).children)
-    ∙ depth-with_children_of images_name (with_payloads (alignment_of form) 0 tree.payloads)
-    (depth-with_payloads (alignment_of form) 0 tree.payloads) tree.root.children)
+depth-normal_tree form tree = search (rules, depth-with_each, depth-with_children_of, depth-with_payloads)

@@ -1,4 +1,4 @@
-use Rattle.std.proofs.Common.{◌≡◌, ℕ, ◌+◌, max, Bool, true, false, List, [], ◌∷◌, bytes_eq, Option, Some, refl, sym, ap, subst}
+use Rattle.std.proofs.Common.{◌≡◌, ℕ, ◌+◌, max, Bool, true, false, List, [], ◌∷◌, bytes_eq, Option, Some, refl, sym, ap, subst, rules}
 use Rattle.bi_blob.specs.Tree.{Nodes, none, node, PropertyMap, names, with_each, depth, IsNew, AreNodes}
 use Rattle.bi_blob.proofs.Blobs.Lookups.{names-with_each}
 use Rattle.bi_fit.specs.ImageTree.{children_of, with_children_of, without_payloads, HaveByteNames}
@@ -58,25 +58,13 @@ module _ {Own : Type 0} (wanted : List ℕ) (change : Nodes Own → Nodes Own) w
   -- Other children change no name.
   pub names-with_children_of : (nodes : Nodes Own) → names (with_children_of wanted change nodes) ≡ names nodes
   names-with_children_of none = refl
-  names-with_children_of (node name own children later) =
-      where_first (bytes_eq name wanted) refl (names-with_children_of later)
-    where
-      where_first : (b : Bool) → bytes_eq name wanted ≡ b → names (with_children_of wanted change later) ≡ names later →
-          names (with_children_of wanted change (node name own children later)) ≡ names (node name own children later)
-      where_first true is rest = rw is refl
-      where_first false is rest = rw is (ap (λ l. name ∷ l) rest)
+  names-with_children_of (node name own children later) = search (rules, names-with_children_of later)
 
   -- Other children that are as deep make nodes no deeper.
   pub depth-with_children_of : ((inner : Nodes Own) → depth (change inner) ≡ depth inner) → (nodes : Nodes Own) →
       depth (with_children_of wanted change nodes) ≡ depth nodes
   depth-with_children_of as_deep none = refl
-  depth-with_children_of as_deep (node name own children later) =
-      where_first (bytes_eq name wanted) refl (depth-with_children_of as_deep later)
-    where
-      where_first : (b : Bool) → bytes_eq name wanted ≡ b → depth (with_children_of wanted change later) ≡ depth later →
-          depth (with_children_of wanted change (node name own children later)) ≡ depth (node name own children later)
-      where_first true is rest = rw is (ap (λ n. max (n + 1) (depth later)) (as_deep children))
-      where_first false is rest = rw is (ap (λ n. max (depth children + 1) n) rest)
+  depth-with_children_of as_deep (node name own children later) = search (rules, depth-with_children_of as_deep later)
 
   -- What holds of each node holds with other children, where it holds of these.
   pub AreNodes-with_children_of : (P : Own → Type 0) → (nodes inner : Nodes Own) → children_of wanted nodes ≡ Some inner →
@@ -105,13 +93,7 @@ module _ {Own : Type 0} (wanted : List ℕ) (change : Nodes Own → Nodes Own) w
   pub bytes-with_children_of : ((inner : Nodes Own) → HaveByteNames inner → HaveByteNames (change inner)) → (nodes : Nodes Own) →
       HaveByteNames nodes → HaveByteNames (with_children_of wanted change nodes)
   bytes-with_children_of keeps none are = tt
-  bytes-with_children_of keeps (node name own children later) are =
-      where_first (bytes_eq name wanted) refl (bytes-with_children_of keeps later are.2)
-    where
-      where_first : (b : Bool) → bytes_eq name wanted ≡ b → HaveByteNames (with_children_of wanted change later) →
-          HaveByteNames (with_children_of wanted change (node name own children later))
-      where_first true is rest = rw is (are.0, keeps children are.1, are.2)
-      where_first false is rest = rw is (are.0, are.1, rest)
+  bytes-with_children_of keeps (node name own children later) are = search (rules, bytes-with_children_of keeps later are.2)
 
 -- Payloads change no name and no depth.
 pub names-with_payloads : (alignment : Option ℕ) (end : ℕ) (payloads : List (Option (List ℕ))) (nodes : Nodes PropertyMap) →

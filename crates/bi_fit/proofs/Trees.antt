@@ -1,4 +1,4 @@
-use Rattle.std.proofs.Common.{◌≡◌, ℕ, ◌+◌, Bool, true, false, List, map, bytes_eq, Some, refl, sym, ap, subst}
+use Rattle.std.proofs.Common.{◌≡◌, ℕ, ◌+◌, Bool, true, false, List, map, bytes_eq, Some, refl, sym, ap, subst, rules}
 use Rattle.std.specs.Option.{option_map}
 use Rattle.bi_blob.specs.Tree.{Nodes, none, node, Property, with_each}
 use Rattle.bi_blob.specs.Events.{NodeStart, NodeProperty, events}
@@ -13,15 +13,7 @@ use Rattle.bi_fit.specs.ImageTree.{children_of, with_children_of}
 pub children_of-with_each : {A B : Type 0} (change : A → B) (wanted : List ℕ) (nodes : Nodes A) →
     children_of wanted (with_each change nodes) ≡ option_map (with_each change) (children_of wanted nodes)
 children_of-with_each change wanted none = refl
-children_of-with_each change wanted (node name own children later) =
-    where_first (bytes_eq name wanted) refl (children_of-with_each change wanted later)
-  where
-    where_first : (b : Bool) → bytes_eq name wanted ≡ b →
-        children_of wanted (with_each change later) ≡ option_map (with_each change) (children_of wanted later) →
-        children_of wanted (with_each change (node name own children later)) ≡
-        option_map (with_each change) (children_of wanted (node name own children later))
-    where_first true is rest = rw is refl
-    where_first false is rest = rw is rest
+children_of-with_each change wanted (node name own children later) = search (rules, children_of-with_each change wanted later)
 
 -- What is found in nodes with places is what is found without, at some place.
 pub children_of-with_places : (at : ℕ) (wanted : List ℕ) (nodes inner : Nodes (List Property)) → children_of wanted nodes ≡ Some inner →

@@ -1,17 +1,15 @@
-use Rattle.std.proofs.Common.{◌≡◌, ◌≢◌, ℕ, Bool, true, false, List, [], ◌∷◌, Option, Some, None, bytes_eq, refl, sym, subst}
+use Rattle.std.proofs.Common.{◌≡◌, ◌≢◌, ℕ, Bool, true, false, List, [], ◌∷◌, Option, Some, None, bytes_eq, refl, rules}
 use Rattle.std.specs.List.{AllZip}
-use Rattle.bi_base.specs.Cells.{cell}
 use Rattle.bi_base.proofs.EqualBytes.{same_bytes}
 use Rattle.bi_blob.specs.Tree.{Nodes, none, node, PropertyMap}
 use Rattle.bi_blob.specs.Lookups.{siblings}
 use Rattle.bi_hash.specs.declared.algo.Algo.{Algo}
-use Rattle.bi_hash.specs.Digests.{digest_of}
 use Rattle.bi_fit.specs.declared.changes.Changes.{Changes}
-use Rattle.bi_fit.specs.Names.{images_name, timestamp_name, value_name, is_hash_name}
-use Rattle.bi_fit.specs.ImageTree.{ImageTree, with_children_of, image_nodes, nodes_or_none}
-use Rattle.bi_fit.specs.Judgement.{images_with, images_of}
+use Rattle.bi_fit.specs.Names.{images_name}
+use Rattle.bi_fit.specs.ImageTree.{ImageTree, with_children_of}
+use Rattle.bi_fit.specs.Judgement.{images_with}
 use Rattle.bi_fit.specs.NewDigests.{hash_algorithm}
-use Rattle.bi_fit.specs.Updating.{with_time, known_algorithm, with_digest_by, with_digest, with_digests, with_digests_of}
+use Rattle.bi_fit.specs.Updating.{with_time, with_digest_by, with_digest, with_digests, with_digests_of}
 use Rattle.bi_fit.specs.Updating.{images_with_digests, with_changes}
 use Rattle.bi_fit.specs.UpdateLaws.{HaveTime, HaveDigest, IsUpdatedChild, AreUpdatedChildren, IsUpdatedImage, IsKeptChild, HasDigests}
 use Rattle.bi_fit.specs.UpdateLaws.{EachUpdateHasItsChanges}
@@ -22,35 +20,20 @@ use Rattle.bi_fit.proofs.UpdatedVerdicts.{images_of-updated}
 
 -- Names that are not the same are found different.
 not_equal : (name other : List ℕ) → name ≢ other → bytes_eq name other ≡ false
-not_equal name other apart = where_same (bytes_eq name other) refl
-  where
-    where_same : (b : Bool) → bytes_eq name other ≡ b → bytes_eq name other ≡ false
-    where_same true is = absurd (apart (same_bytes name other is))
-    where_same false is = is
+not_equal name other apart = search (rules, same_bytes)
 
 time_is : (time : Option ℕ) (properties : PropertyMap) → HaveTime time properties (with_time time properties)
 time_is None properties = refl
-time_is (Some time) properties = record {
-  timestamp = get-put properties timestamp_name (cell time);
-  others = λ name apart. get-put_other properties timestamp_name (cell time) name (not_equal name timestamp_name apart);
-}
+time_is (Some time) properties = search (rules, get-put, get-put_other, not_equal)
 
 digest_is : (algo : Option Algo) (payload : List ℕ) (properties : PropertyMap) →
     HaveDigest algo payload properties (with_digest_by algo payload properties)
 digest_is None payload properties = refl
-digest_is (Some algo) payload properties = record {
-  value = get-put properties value_name (digest_of algo payload);
-  others = λ name apart. get-put_other properties value_name (digest_of algo payload) name (not_equal name value_name apart);
-}
+digest_is (Some algo) payload properties = search (rules, get-put, get-put_other, not_equal)
 
 child_digest_is : (payload name : List ℕ) (properties : PropertyMap) →
     HaveDigest (hash_algorithm name properties) payload properties (with_digest payload name properties)
-child_digest_is payload name properties = where_hash (is_hash_name name) refl
-  where
-    where_hash : (b : Bool) → is_hash_name name ≡ b →
-        HaveDigest (hash_algorithm name properties) payload properties (with_digest payload name properties)
-    where_hash true is = rw is (digest_is (known_algorithm properties) payload properties)
-    where_hash false is = rw is refl
+child_digest_is payload name properties = search (rules, digest_is)
 
 children_are : (payload : List ℕ) (nodes : Nodes PropertyMap) →
     AllZip (IsUpdatedChild payload) (siblings nodes) (siblings (with_digests payload nodes))
@@ -80,31 +63,12 @@ kept (node name own children later) = (record { name = refl; own = refl; childre
 root_children_are : (change : Nodes PropertyMap → Nodes PropertyMap) (nodes : Nodes PropertyMap) →
     AllZip IsKeptChild (siblings nodes) (siblings (with_children_of images_name change nodes))
 root_children_are change none = tt
-root_children_are change (node name own children later) =
-    where_images (bytes_eq name images_name) refl (root_children_are change later)
-  where
-    where_images : (b : Bool) → bytes_eq name images_name ≡ b →
-        AllZip IsKeptChild (siblings later) (siblings (with_children_of images_name change later)) →
-        AllZip IsKeptChild (siblings (node name own children later))
-        (siblings (with_children_of images_name change (node name own children later)))
-    where_images true is rest =
-        rw is (record { name = refl; own = refl; children = λ apart. absurd (apart (same_bytes name images_name is)) }, kept later)
-    where_images false is rest = rw is (record { name = refl; own = refl; children = λ apart. refl }, rest)
+root_children_are change (node name own children later) = search (rules, same_bytes, kept, root_children_are change later)
 
 nodes_are : (changes : Changes) (tree : ImageTree) → (hashes : Bool) → changes.hashes ≡ hashes →
     HasDigests hashes tree (with_changes changes tree)
 nodes_are changes tree false is = rw is refl
-nodes_are changes tree true is = record {
-  children = rw is (root_children_are (images_with_digests tree.payloads) tree.root.children);
-  images = subst (λ images. AllZip IsUpdatedImage (images_of tree) images) (sym (images_of-updated changes tree))
-      (rw is (images_are tree.payloads (nodes_or_none (image_nodes tree.root))));
-}
+nodes_are changes tree true is = search (rules, root_children_are, images_of-updated, images_are)
 
 pub each_update_has_its_changes : EachUpdateHasItsChanges
-each_update_has_its_changes changes tree = record {
-  cpu = refl;
-  reservations = refl;
-  payloads = refl;
-  properties = time_is changes.time tree.root.own;
-  nodes = nodes_are changes tree changes.hashes refl;
-}
+each_update_has_its_changes changes tree = search (rules, time_is, nodes_are)

@@ -1,4 +1,4 @@
-use Rattle.std.proofs.Common.{◌≡◌, List, [], ◌∷◌, ◌++◌, codes, option_and_then, Some, None, ap, ◌∙◌}
+use Rattle.std.proofs.Common.{◌≡◌, List, [], ◌∷◌, ◌++◌, codes, option_and_then, Some, None, ap, ◌∙◌, rules}
 use Rattle.std.specs.FinMap.{entries, from_entries}
 use Rattle.bi_base.specs.Cells.{cell}
 use Rattle.bi_base.specs.Crc.{crc32, crc_after, low_bits}
@@ -36,9 +36,7 @@ updated_hash =
 
 other_hash : entries (with_digest (codes "abc") (codes "hash@2") (from_entries other_crc))
     ≡ (algo_name, codes "crc16-ccitt" ++ 0 ∷ []) ∷ (value_name, 0 ∷ 0 ∷ []) ∷ []
-other_hash =
-    ap (λ algo. entries (with_digest_by algo (codes "abc") (from_entries other_crc))) not_known
-    ∙ entries_in_order other_crc
+other_hash = search (rules, not_known, entries_in_order)
 
 -- Nodes whose properties are these.
 abbrev nodes_with : (nothing hash other kept : List Property) → Nodes (List Property)

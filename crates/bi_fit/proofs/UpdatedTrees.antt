@@ -1,13 +1,12 @@
-use Rattle.std.proofs.Common.{◌≡◌, ℕ, ◌+◌, max, ◌≤◌, Bool, true, false, List, [], ◌∷◌, Option, Some, None, refl, sym, ap, ap₂, subst}
+use Rattle.std.proofs.Common.{◌≡◌, ℕ, ◌+◌, max, ◌≤◌, Bool, true, false, List, [], ◌∷◌, Option, Some, None, refl, sym, ap, ap₂, subst, rules}
 use Rattle.std.specs.List.{AllZip}
 use Rattle.bi_base.specs.Cells.{cell}
 use Rattle.bi_base.proofs.ByteLists.{AreBytes-cell}
 use Rattle.bi_blob.specs.Tree.{Nodes, none, node, PropertyMap, names, depth, depth_of, IsNew, AreNodes}
 use Rattle.bi_hash.specs.declared.algo.Algo.{Algo}
-use Rattle.bi_hash.specs.Digests.{digest_of}
 use Rattle.bi_hash.proofs.DigestBytes.{AreBytes-digest_of}
 use Rattle.bi_fit.specs.declared.changes.Changes.{Changes}
-use Rattle.bi_fit.specs.Names.{images_name, timestamp_name, value_name, is_hash_name}
+use Rattle.bi_fit.specs.Names.{images_name, timestamp_name, is_hash_name}
 use Rattle.bi_fit.specs.ImageTree.{ImageTree, children_of, each_own, ArePropertiesByName, HaveByteNames, IsApart, IsImageTree}
 use Rattle.bi_fit.specs.Updating.{with_time, known_algorithm, with_digest_by, with_digest, with_digests, with_digests_of}
 use Rattle.bi_fit.specs.Updating.{images_with_digests, with_new_digests, with_changes}
@@ -33,9 +32,7 @@ properties-with_time (Some time) properties are =
 properties-with_digest_by : (algo : Option Algo) (payload : List ℕ) (properties : PropertyMap) → ArePropertiesByName properties →
     ArePropertiesByName (with_digest_by algo payload properties)
 properties-with_digest_by None payload properties are = are
-properties-with_digest_by (Some algo) payload properties are =
-    properties-put properties value_name (digest_of algo payload) are
-    (tested_property _ _ (digest_of algo payload) refl (AreBytes-digest_of algo payload))
+properties-with_digest_by (Some algo) payload properties are = search (rules, properties-put, tested_property, AreBytes-digest_of)
 
 properties-with_digest : (payload name : List ℕ) (properties : PropertyMap) → ArePropertiesByName properties →
     ArePropertiesByName (with_digest payload name properties)

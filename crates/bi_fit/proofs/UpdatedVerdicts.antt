@@ -1,8 +1,6 @@
-use Rattle.std.proofs.Common.{◌≡◌, ℕ, ◌+◌, suc, Bool, true, false, if◌then◌else◌, List, [], ◌∷◌, ◌++◌, map, flat_map, filter, length}
+use Rattle.std.proofs.Common.{◌≡◌, ℕ, ◌+◌, Bool, true, false, List, [], ◌∷◌, map, flat_map, filter, length, rules}
 use Rattle.std.proofs.Common.{Option, Some, None, option_and_then, bytes_eq, refl, sym, ap, ap₂, ◌∙◌, length-append}
-use Rattle.std.specs.Prelude.{nat_eq}
 use Rattle.std.specs.Option.{option_map}
-use Rattle.std.specs.List.{ends_with}
 use Rattle.std.specs.FinMap.{get, insert}
 use Rattle.std.proofs.lemmas.Slice.Eq.{bytes_eq-Decides}
 use Rattle.bi_base.specs.Strings.{text_before_nul}
@@ -22,10 +20,10 @@ use Rattle.bi_fit.specs.Names.{images_name, configurations_name, algo_name, valu
 use Rattle.bi_fit.specs.Names.{key_name}
 use Rattle.bi_fit.specs.ImageTree.{ImageTree, children_of, with_children_of, image_nodes, nodes_or_none}
 use Rattle.bi_fit.specs.Judgement.{Image, images_with, images_of, CheckedHash, checked_hash, hash_nodes, verdicts_of, configuration_nodes}
-use Rattle.bi_fit.specs.Judgement.{default_of, ListResult, BadList, image_named, with_image, listed_from, list_images, listed_names}
+use Rattle.bi_fit.specs.Judgement.{default_of, ListResult, image_named, with_image, listed_from, list_images}
 use Rattle.bi_fit.specs.Judgement.{listed_at, listed_under, listed_of, signatures_in, signature_count}
 use Rattle.bi_fit.specs.Updating.{known_algorithm, with_digest_by, with_digests, with_digests_of, images_with_digests, with_new_digests}
-use Rattle.bi_fit.specs.Updating.{with_changes, rechecked_by, new_hash}
+use Rattle.bi_fit.specs.Updating.{with_changes, new_hash}
 use Rattle.bi_fit.specs.UpdateLaws.{EachUpdateHasItsJudgement}
 use Rattle.bi_fit.proofs.Meanings.{same_in_some}
 use Rattle.bi_fit.proofs.PayloadProperties.{get-put, get-put_other}
@@ -39,15 +37,7 @@ use Rattle.bi_fit.proofs.UpdatedTrees.{new_images}
 children_of-with_other : {Own : Type 0} (wanted : List ℕ) (change : Nodes Own → Nodes Own) (nodes : Nodes Own) →
     children_of wanted (with_children_of wanted change nodes) ≡ option_map change (children_of wanted nodes)
 children_of-with_other wanted change none = refl
-children_of-with_other wanted change (node name own children later) =
-    where_first (bytes_eq name wanted) refl (children_of-with_other wanted change later)
-  where
-    where_first : (b : Bool) → bytes_eq name wanted ≡ b →
-        children_of wanted (with_children_of wanted change later) ≡ option_map change (children_of wanted later) →
-        children_of wanted (with_children_of wanted change (node name own children later)) ≡
-        option_map change (children_of wanted (node name own children later))
-    where_first true is rest = rw (is, is) refl
-    where_first false is rest = rw (is, is) rest
+children_of-with_other wanted change (node name own children later) = search (rules, children_of-with_other wanted change later)
 
 -- If there are no image nodes, there are none with digests.
 no_images : (payloads : List (Option (List ℕ))) → none ≡ images_with_digests payloads none
@@ -64,9 +54,7 @@ image_nodes-with_new_digests : (hashes : Bool) (payloads : List (Option (List �
     nodes_or_none (children_of images_name (with_new_digests hashes payloads nodes))
     ≡ new_images hashes payloads (nodes_or_none (children_of images_name nodes))
 image_nodes-with_new_digests false payloads nodes = refl
-image_nodes-with_new_digests true payloads nodes =
-    ap nodes_or_none (children_of-with_other images_name (images_with_digests payloads) nodes)
-    ∙ images_or_none payloads (children_of images_name nodes)
+image_nodes-with_new_digests true payloads nodes = search (rules, children_of-with_other, images_or_none)
 
 -- Image nodes and their payloads as images, if the digests change.
 abbrev pub new_images_with : (hashes : Bool) → List (Option (List ℕ)) → Nodes PropertyMap → List Image
@@ -75,9 +63,7 @@ new_images_with hashes payloads nodes = images_with (siblings (new_images hashes
 -- The images of an updated tree.
 pub images_of-updated : (changes : Changes) (tree : ImageTree) →
     images_of (with_changes changes tree) ≡ new_images_with changes.hashes tree.payloads (nodes_or_none (image_nodes tree.root))
-images_of-updated changes tree =
-    ap (λ nodes. images_with (siblings nodes) tree.payloads)
-    (image_nodes-with_new_digests changes.hashes tree.payloads tree.root.children)
+images_of-updated changes tree = search (rules, image_nodes-with_new_digests)
 
 -- ---- its verdicts
 
@@ -136,10 +122,7 @@ good_hash image name properties payload algo is =
 hash-with_digest : (image name : List ℕ) (properties : PropertyMap) (payload digest : List ℕ) →
     hash_of image name (get (insert properties value_name digest) algo_name) (get (insert properties value_name digest) value_name)
     (Some payload) ≡ hash_of image name (get properties algo_name) (Some digest) (Some payload)
-hash-with_digest image name properties payload digest =
-    ap₂ (λ algo value. hash_of image name algo value (Some payload))
-    (get-put_other properties value_name digest algo_name refl)
-    (get-put properties value_name digest)
+hash-with_digest image name properties payload digest = search (rules, get-put_other, get-put)
 
 module _ (entry : Sibling PropertyMap) (payload : List ℕ) where
   -- The image of this node and payload.
@@ -155,32 +138,14 @@ module _ (entry : Sibling PropertyMap) (payload : List ℕ) where
         later =
             new_later;
       }) ≡ new_hash true image_of (record { name = name; own = own; children = children; later = later })
-  hash_is name own children later new_later = where_known (known_algorithm own) refl
-    where
-      where_known : (found : Option Algo) → known_algorithm own ≡ found →
-          checked_hash image_of (record { name = name; own = with_digest_by found payload own; children = children; later = new_later }) ≡
-          rechecked_by image_of (record { name = name; own = own; children = children; later = later }) (Some payload) found
-      where_known None is = refl
-      where_known (Some algo) is =
-          hash-with_digest entry.name name own payload (digest_of algo payload)
-          ∙ good_hash entry.name name own payload algo is
+  hash_is name own children later new_later = search (rules, hash-with_digest, good_hash)
 
   -- And each hash node among its children.
   hashes_are : (nodes : Nodes PropertyMap) →
       map (checked_hash image_of) (filter (λ child. is_hash_name child.name) (siblings (with_digests payload nodes)))
       ≡ map (new_hash true image_of) (filter (λ child. is_hash_name child.name) (siblings nodes))
   hashes_are none = refl
-  hashes_are (node name own children later) = where_first (is_hash_name name) refl (hashes_are later)
-    where
-      where_first : (b : Bool) → is_hash_name name ≡ b →
-          map (checked_hash image_of) (filter (λ child. is_hash_name child.name) (siblings (with_digests payload later))) ≡
-          map (new_hash true image_of) (filter (λ child. is_hash_name child.name) (siblings later)) →
-          map (checked_hash image_of)
-          (filter (λ child. is_hash_name child.name) (siblings (with_digests payload (node name own children later)))) ≡
-          map (new_hash true image_of) (filter (λ child. is_hash_name child.name) (siblings (node name own children later)))
-      where_first true is rest =
-          rw is (ap₂ (λ h t. h ∷ t) (hash_is name own children later (with_digests payload later)) rest)
-      where_first false is rest = rw is rest
+  hashes_are (node name own children later) = search (rules, hash_is, hashes_are later)
 
 -- The same where there may be no payload: then the hash nodes are as they were.
 hashes_of : (payload : Option (List ℕ)) (name : List ℕ) (own : PropertyMap) (children later new_later : Nodes PropertyMap) →
@@ -204,10 +169,7 @@ verdicts_with : (payloads : List (Option (List ℕ))) (nodes : Nodes PropertyMap
 verdicts_with [] none = refl
 verdicts_with [] (node name own children later) = refl
 verdicts_with (payload ∷ payloads) none = refl
-verdicts_with (payload ∷ payloads) (node name own children later) =
-    ap₂ (λ (a b : List CheckedHash). a ++ b)
-    (hashes_of payload name own children later (images_with_digests payloads later))
-    (verdicts_with payloads later)
+verdicts_with (payload ∷ payloads) (node name own children later) = search (rules, hashes_of, verdicts_with payloads later)
 
 -- The same, if the digests change.
 verdicts_with_new : (hashes : Bool) (payloads : List (Option (List ℕ))) (nodes : Nodes PropertyMap) →
@@ -219,9 +181,7 @@ verdicts_with_new true payloads nodes = verdicts_with payloads nodes
 -- The verdicts of an updated tree.
 pub verdicts-updated : (changes : Changes) (tree : ImageTree) →
     verdicts_of (with_changes changes tree) ≡ flat_map (λ image. map (new_hash changes.hashes image) (hash_nodes image)) (images_of tree)
-verdicts-updated changes tree =
-    ap (λ (images : List Image). flat_map (λ image. map (checked_hash image) (hash_nodes image)) images) (images_of-updated changes tree)
-    ∙ verdicts_with_new changes.hashes tree.payloads (nodes_or_none (image_nodes tree.root))
+verdicts-updated changes tree = search (rules, images_of-updated, verdicts_with_new)
 
 -- ---- its configurations
 
@@ -234,22 +194,7 @@ module _ {Own : Type 0} (change : Nodes Own → Nodes Own) where
   configurations_are : (nodes : Nodes Own) →
       children_of configurations_name (with_children_of images_name change nodes) ≡ children_of configurations_name nodes
   configurations_are none = refl
-  configurations_are (node name own children later) =
-      where_first (bytes_eq name images_name) refl (configurations_are later)
-    where
-      where_here : (b : Bool) → bytes_eq name configurations_name ≡ b →
-          children_of configurations_name (with_children_of images_name change later) ≡ children_of configurations_name later →
-          children_of configurations_name (node name own children (with_children_of images_name change later)) ≡
-          children_of configurations_name (node name own children later)
-      where_here true is rest = rw is refl
-      where_here false is rest = rw is rest
-
-      where_first : (b : Bool) → bytes_eq name images_name ≡ b →
-          children_of configurations_name (with_children_of images_name change later) ≡ children_of configurations_name later →
-          children_of configurations_name (with_children_of images_name change (node name own children later)) ≡
-          children_of configurations_name (node name own children later)
-      where_first true is rest = rw (is, not_configurations name is) refl
-      where_first false is rest = rw is (where_here (bytes_eq name configurations_name) refl rest)
+  configurations_are (node name own children later) = search (rules, not_configurations, configurations_are later)
 
   -- .. nor what it has itself.
   configurations_have : {B : Type 0} (of : Own → Option B) (nodes : Nodes Own) →
@@ -305,19 +250,7 @@ payload_named : (payloads : List (Option (List ℕ))) (nodes : Nodes PropertyMap
 payload_named [] none wanted = refl
 payload_named [] (node name own children later) wanted = refl
 payload_named (payload ∷ payloads) none wanted = refl
-payload_named (payload ∷ payloads) (node name own children later) wanted =
-    where_first (bytes_eq name wanted) refl (payload_named payloads later wanted)
-  where
-    -- The payload of the image of the name.
-    found_in : List Image → Option (Option (List ℕ))
-    found_in images = option_map (λ image. image.payload) (image_named wanted images)
-
-    where_first : (b : Bool) → bytes_eq name wanted ≡ b →
-        found_in (images_with (siblings (images_with_digests payloads later)) payloads) ≡ found_in (images_with (siblings later) payloads) →
-        found_in (images_with (siblings (images_with_digests (payload ∷ payloads) (node name own children later))) (payload ∷ payloads)) ≡
-        found_in (images_with (siblings (node name own children later)) (payload ∷ payloads))
-    where_first true is rest = rw is refl
-    where_first false is rest = rw is rest
+payload_named (payload ∷ payloads) (node name own children later) wanted = search (rules, payload_named payloads later wanted)
 
 -- What is listed depends only on the payloads of the images.
 listed_from-same : (index : ℕ) (name : List ℕ) (one other : Option Image) (later : ListResult) →
@@ -343,9 +276,7 @@ listed_at-same : (images others : List Image) →
     ≡ option_map (λ image. image.payload) (image_named wanted others)) → (value : Option (List ℕ)) →
     listed_at images value ≡ listed_at others value
 listed_at-same images others same None = refl
-listed_at-same images others same (Some value) =
-    ap (λ (l : ListResult). if ends_with nat_eq value (0 ∷ []) then l else BadList)
-    (list_images-same images others same 0 (listed_names value))
+listed_at-same images others same (Some value) = search (rules, list_images-same)
 
 listed_under-same : (images others : List Image) →
     ((wanted : List ℕ) → option_map (λ image. image.payload) (image_named wanted images)
@@ -379,17 +310,7 @@ signatures-with_digests : (payload : List ℕ) (nodes : Nodes PropertyMap) →
     length (filter (λ child. is_signature_name child.name) (siblings (with_digests payload nodes)))
     ≡ length (filter (λ child. is_signature_name child.name) (siblings nodes))
 signatures-with_digests payload none = refl
-signatures-with_digests payload (node name own children later) =
-    where_first (is_signature_name name) refl (signatures-with_digests payload later)
-  where
-    -- The number of signature nodes among nodes.
-    count : Nodes PropertyMap → ℕ
-    count nodes = length (filter (λ child. is_signature_name child.name) (siblings nodes))
-
-    where_first : (b : Bool) → is_signature_name name ≡ b → count (with_digests payload later) ≡ count later →
-        count (with_digests payload (node name own children later)) ≡ count (node name own children later)
-    where_first true is rest = rw is (ap suc rest)
-    where_first false is rest = rw is rest
+signatures-with_digests payload (node name own children later) = search (rules, signatures-with_digests payload later)
 
 signatures-with_digests_of : (payload : Option (List ℕ)) (nodes : Nodes PropertyMap) →
     length (filter (λ child. is_signature_name child.name) (siblings (with_digests_of payload nodes)))
@@ -417,11 +338,7 @@ signatures_with_new true payloads nodes = signatures_with payloads nodes
 
 -- The number of signature nodes of an updated tree.
 pub signatures-updated : (changes : Changes) (tree : ImageTree) → signature_count (with_changes changes tree) ≡ signature_count tree
-signatures-updated changes tree =
-    ap₂ (λ m n. m + n)
-    (ap (λ (images : List Image). length (flat_map (λ image. signatures_in image.entry) images)) (images_of-updated changes tree)
-    ∙ signatures_with_new changes.hashes tree.payloads (nodes_or_none (image_nodes tree.root)))
-    (ap (λ nodes. length (flat_map signatures_in (siblings nodes))) (configuration_nodes-updated changes tree))
+signatures-updated changes tree = search (rules, images_of-updated, signatures_with_new, configuration_nodes-updated)
 
 -- ---- all of it
 

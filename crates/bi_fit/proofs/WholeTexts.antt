@@ -1,13 +1,12 @@
-use Rattle.std.proofs.Common.{◌≡◌, ℕ, ◌+◌, ◌<◌, ◌≤◌, List, ◌++◌, length, Option, Result, refl, ap, subst, ◌∙◌, arith, length-append}
+use Rattle.std.proofs.Common.{◌≡◌, ℕ, ◌+◌, ◌<◌, ◌≤◌, List, length, Option, Result, refl, ap, subst, ◌∙◌, arith, length-append, rules}
 use Rattle.std.specs.Result.{IfErr, IsErrAnd}
 use Rattle.bi_base.specs.declared.fault.Error.{Error}
 use Rattle.bi_base.specs.Errors.{IsFaultOrNoMemory}
-use Rattle.bi_base.specs.declared.fault.Error.TheVariants.{Refused, OutOfMemory, ReadFailed, WriteFailed}
+use Rattle.bi_base.specs.declared.fault.Error.TheVariants.{Refused}
 use Rattle.bi_base.specs.declared.fault.Fault.{Fault}
 use Rattle.bi_base.specs.Limits.{Limits}
 use Rattle.bi_base.specs.Reading.{too_large}
 use Rattle.bi_base.proofs.Refusals.{error_passed_on}
-use Rattle.bi_blob.specs.Layout.{text_of_events}
 use Rattle.bi_lay.specs.Contents.{Doc, text_of, HaveSameContent}
 use Rattle.bi_fit.specs.declared.form.Form.{Form}
 use Rattle.bi_fit.specs.declared.form.Form.TheVariants.{Embedded}
@@ -32,35 +31,21 @@ length-payloads_after form payloads =
 pub length-whole_text : (form : Form) (document : Doc) (payloads : List (Option (List ℕ))) →
     length (whole_text form document payloads)
     ≡ length (text_of (blob_alignment (alignment_of form)) document) + length_after_blob form payloads
-length-whole_text form document payloads =
-    omega (
-      arith,
-      length-append (text_of (blob_alignment (alignment_of form)) document) (payloads_after (alignment_of form) payloads),
-      length-payloads_after form payloads,
-    )
+length-whole_text form document payloads = search (rules, length-append, length-payloads_after)
 
 -- Documents with the same content have the same text.
 same_text : (align : ℕ) (one other : Doc) → HaveSameContent one other → text_of align one ≡ text_of align other
-same_text align one other same =
-    ap (λ boot_cpu. text_of_events align boot_cpu one.reservations one.events) same.0
-    ∙ ap (λ reservations. text_of_events align other.boot_cpu reservations one.events) same.1
-    ∙ ap (text_of_events align other.boot_cpu other.reservations) same.2
+same_text align one other same = search rules
 
 module _ (form : Form) (tree : ImageTree) (payloads : List (Option (List ℕ))) (same : payloads ≡ tree.payloads) where
   -- The document of a tree, with its payloads, has the tree's text.
   pub whole_text_of_tree : (document : Doc) → HaveSameContent document (document_of form tree) →
       whole_text form document payloads ≡ fit_text form tree
-  whole_text_of_tree document is =
-      ap (λ text. text ++ payloads_after (alignment_of form) payloads)
-      (same_text (blob_alignment (alignment_of form)) document (document_of form tree) is)
-      ∙ ap (whole_text form (document_of form tree)) same
+  whole_text_of_tree document is = search (rules, same_text)
 
   -- The text of a tree is too long where what follows its blob is.
   pub late_payloads : (limit : ℕ) → limit < length_after_blob form payloads → limit < length (fit_text form tree)
-  late_payloads limit late =
-      let late_there : limit < length_after_blob form tree.payloads = subst
-      (λ payloads. limit < length_after_blob form payloads) same late in
-      omega (arith, late_there, length-fit_text form tree)
+  late_payloads limit late = search (rules, length-fit_text)
 
   module _ (limits : Limits) (limit : ℕ) (is_limit : limit ≡ limits.file) (fault : Fault) (is_fault : fault ≡ too_large limit) where
     -- So the fault is that the text is too long, where what follows the blob is,
@@ -71,32 +56,19 @@ module _ (form : Form) (tree : ImageTree) (payloads : List (Option (List ℕ))) 
     -- and where the whole is.
     pub too_long_text : (document : Doc) → HaveSameContent document (document_of form tree) →
         limit < length (whole_text form document payloads) → IsTextFault limits form tree fault
-    too_long_text document is late = (
-      is_fault ∙ ap too_large is_limit,
-      subst (λ n. n < length (fit_text form tree)) is_limit (subst (λ text. limit < length text) (whole_text_of_tree document is) late),
-    )
+    too_long_text document is late = search (rules, whole_text_of_tree)
 
   -- A text within the limit is that of the tree.
   pub is_text_of_tree : (limits : Limits) (limit : ℕ) → limit ≡ limits.file →
       (document : Doc) → HaveSameContent document (document_of form tree) →
       (text : List ℕ) → text ≡ whole_text form document payloads → length text ≤ limit → IsTextOfTree limits form tree text
-  is_text_of_tree limits limit is_limit document is text is_whole short = record {
-    is_text = is_whole ∙ whole_text_of_tree document is;
-    short = subst (λ n. length text ≤ n) is_limit short;
-  }
+  is_text_of_tree limits limit is_limit document is text is_whole short = search (rules, whole_text_of_tree)
 
 -- An error of building the document of a tree is passed on as one of laying out its text, if what follows the blob is not too long.
 pub document_error_passed_on : {A : Type 0} (r : Result A Error) (error : Error) (limits : Limits) (form : Form) (tree : ImageTree) →
     IsErrAnd r (λ other. other ≡ error) → IsFaultOrNoMemory (IsTextFault limits form tree) error →
     length_after_blob form tree.payloads ≤ limits.file → IfErr r (IsTextError limits form tree)
-document_error_passed_on r error limits form tree is fails within =
-    error_passed_on r error (IsTextError limits form tree) is (by_error error fails)
-  where
-    by_error : (error : Error) → IsFaultOrNoMemory (IsTextFault limits form tree) error → IsTextError limits form tree error
-    by_error (Refused fault) fails = fails
-    by_error OutOfMemory fails = within
-    by_error ReadFailed fails = absurd fails
-    by_error WriteFailed fails = absurd fails
+document_error_passed_on r error limits form tree is fails within = search (rules, error_passed_on)
 
 -- Such a fault is passed on as an error.
 pub too_long_passed_on : {A : Type 0} (r : Result A Error) (limits : Limits) (form : Form) (tree : ImageTree) (fault : Fault) →

@@ -1,4 +1,5 @@
-use Rattle.std.proofs.Common.{◌≡◌, ℕ, zero, suc, ◌<◌, List, [], ◌∷◌, ◌++◌, get_or, length, sym, ap, ap₂, ◌∙◌, append-nil, append_assoc, arith}
+use Rattle.std.proofs.Common.{◌≡◌, ℕ, zero, suc, ◌<◌, List, [], ◌∷◌, ◌++◌, get_or, length, sym, ap, ◌∙◌, append-nil, append_assoc, arith}
+use Rattle.std.proofs.Common.{rules}
 use Rattle.std.specs.List.{AllZip}
 use Rattle.bi_fit.specs.HashNodes.{flat_map_pairs}
 
@@ -16,11 +17,7 @@ module _ {A B C : Type 0} (f : A → B → List C) (left : List A) (others : Lis
   -- What two lists give so far and what is left are all: also with one more of each,
   pub one_pair_more : (x : A) (y : B) (later : List A) (rest : List B) (now : List C) → left ≡ x ∷ later → others ≡ y ∷ rest →
       now ≡ done ++ f x y → now ++ flat_map_pairs f later rest ≡ all
-  one_pair_more x y later rest now first second more =
-      ap (λ l. l ++ flat_map_pairs f later rest) more
-      ∙ append_assoc done (f x y) (flat_map_pairs f later rest)
-      ∙ ap (λ l. done ++ l) (sym (ap₂ (flat_map_pairs f) first second))
-      ∙ so_far
+  one_pair_more x y later rest now first second more = search (rules, append_assoc)
 
   -- and with none more.
   pub no_pair_more : left ≡ [] → done ≡ all
