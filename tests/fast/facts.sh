@@ -28,9 +28,8 @@ is_found() {
 
 check "definitions without the facts about runs are found" \
     is_found 'no fact: bi_base/Pipes.IsTracedPipe' crates/bi_base/src/known_pipes.rt '/ensures { TracedRunsAreKnown }/d'
-check "definitions without the facts about what texts keep are found" \
-    is_found 'no fact: bi_fit/Kept.IsKeptOf' crates/bi_fit/src/known_files.rt '/ensures files { KeptOfFilesIsKnown }/d
-/ensures payloads { KeptOfPayloadsIsKnown }/d'
+check "definitions without the facts about conversions that fail are found" \
+    is_found 'no fact: bi_norm/Converting.IsConvertError' crates/bi_norm/src/known_files.rt '/ensures { ConvertErrorsAreKnown }/d'
 check "a law that an output is JSON is not enough" \
     is_found 'no fact: bi_report/VerifiedFiles.IsVerifyOutput' crates/bi_report/src/known_texts.rt '/ensures { VerifyOutputsAreKnown }/d'
 check "an exception that explains nothing is found" \

@@ -33,11 +33,11 @@ impl MemoryPen {
         }
     }
 
-    /// Returns the whole text that was put. The only error is `OutOfMemory`, if an allocation for
-    /// the text has failed.
+    /// Returns the whole text that was put. Fails with `OutOfMemory` if and only if an allocation
+    /// for the text has failed.
     pub fn into_vec(self) -> Result<Vec<u8>, Error>
         ensures text { IfOk result (λ text. self ≡ Some text.items) }
-        ensures failed { IfErr result (λ error. error ≡ OutOfMemory) }
+        ensures failed { IfErr result (λ error. (self ≡ None) × (error ≡ OutOfMemory)) }
     {
         let MemoryPen { text } = self;
         text.ok_or(Error::OutOfMemory)
