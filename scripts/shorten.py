@@ -39,8 +39,8 @@ NO_LEMMAS |= set("is_some slice_set slice_index slice_index_or bit_xor nat_tests
 ARITHMETIC = {"omega", "grind", "arith"}
 # Where a definition is opened: below a signature, or in an attribute.
 OPENED = re.compile(r"\bunfolding[ (]([^)\n]*)")
-# Of a check: the file and the declaration of an error.
-ERROR = re.compile(r"^\./(proofs/\S+?):(\d+):\d+: error: (?:`([^`]*)`)?", re.M)
+# Of a check: an error in a declaration, and a tactic that chose a value, which no proof is to depend on.
+ERROR = re.compile(r"^(?:\./)?(proofs/\S+?):(\d+):\d+: (?:error: (?:`([^`]*)`)?|note: `\S+` has chosen a term)", re.M)
 
 
 @dataclass
@@ -171,6 +171,14 @@ class Shortening:
             sys.exit(f"{self.crate.name}: rattle did not come to its end: {self.log} has what it printed")
         return re.sub(r"\n  +(?=\S)", " ", said)
 
+    def errors(self, texts):
+        """Checks the crate with these texts. Returns the file and the declaration of each error."""
+        found = set()
+        for error in ERROR.finditer(self.check(texts)):
+            file = Path(error[1])
+            found.add((file, error[3] or declaration_at(texts.get(file, ""), int(error[2]) - 1)))
+        return found
+
     def name_lemma_files(self, room, files):
         """Has the answers of one function import these files, so that a check of the function reads them."""
         if not files:
@@ -201,12 +209,12 @@ class Shortening:
     def successes(self):
         """Tries all in one check. Returns the first trial of each clause that is proved."""
         tried = {trial.file for trial in self.trials}
-        errors = list(ERROR.finditer(self.check({file: self.with_trials(file) for file in tried})))
-        failed = {error[3] for error in errors}
-        read = {error[1] for error in errors if error[3] == "tried_control"}
+        errors = self.errors({file: self.with_trials(file) for file in tried})
+        failed = {name for _, name in errors}
+        read = {file for file, name in errors if name == "tried_control"}
         first = {}
         for trial in self.trials:
-            if str(trial.file) in read and trial.name not in failed:
+            if trial.file in read and trial.name not in failed:
                 first.setdefault(trial.proof, trial)
         return [trial for trial in first.values() if not any(is_inside(trial, other) for other in first.values())]
 
@@ -231,16 +239,17 @@ class Shortening:
     def proved(self, trials):
         """Checks the files with these trials in the place of the proofs. Returns the trials without those that fail there."""
         while trials:
-            wrong = {(error[1], error[3]) for error in ERROR.finditer(self.check(self.shortened(trials)))}
+            wrong = self.errors(self.shortened(trials))
             if not wrong:
                 break
             files = {file for file, _ in wrong}
-            print(f"put back in {len(files)} files: {', '.join(sorted(files))}")
-            kept = [trial for trial in trials if (str(trial.file), trial.declaration) not in wrong]
+            names = ", ".join(sorted(map(str, files)))
+            print(f"put back in {len(files)} files: {names}")
+            kept = [trial for trial in trials if (trial.file, trial.declaration) not in wrong]
             if len(kept) == len(trials):
-                kept = [trial for trial in trials if str(trial.file) not in files]
+                kept = [trial for trial in trials if trial.file not in files]
             if len(kept) == len(trials):
-                sys.exit(f"{self.crate.name}: errors in {', '.join(sorted(files))}, which are not changed: {self.log} has them")
+                sys.exit(f"{self.crate.name}: errors in {names}, where nothing is changed: {self.log} has them")
             trials = kept
         return trials
 
@@ -256,6 +265,12 @@ class Shortening:
                 shorter += before - after
         tried = len({trial.proof for trial in self.trials})
         print(f"{self.crate.name}: {len(trials)} of {tried} proofs are one line, {shorter} lines fewer")
+
+
+def declaration_at(text, line):
+    """The name of the declaration that has this line of a file."""
+    found = [declaration.name for declaration in read_declarations(text.split("\n")) if declaration.start <= line < declaration.end]
+    return found[0] if found else None
 
 
 def with_list(tactic, rules, lemmas):
