@@ -1,11 +1,11 @@
-use Rattle.std.proofs.Common.{ℕ, List, [], ◌∷◌, flat_map, map, Option, None, Some, refl, arith, ◌≡◌, true, ◌++◌, codes, ltb}
+use Rattle.std.proofs.Common.{ℕ, List, [], ◌∷◌, flat_map, map, Option, None, Some, refl, arith, ◌≡◌, true, ◌++◌, codes, ltb, rules}
 use Rattle.std.specs.Prelude.{IfSome, unwrap_or}
-use Rattle.std.specs.List.{AllByRecursion, join_with_byte, list_all}
+use Rattle.std.specs.List.{AllByRecursion, list_all}
 use Rattle.std.specs.Option.{option_map}
 use Rattle.bi_base.specs.Cells.{AreBytes}
 use Rattle.std.specs.Fmt.{decimal}
 use Rattle.bi_blob.specs.Blob.{Reservation}
-use Rattle.bi_legacy.specs.Codes.{CodeName, os_names, arch_names, type_names, compression_names, name_of_code}
+use Rattle.bi_legacy.specs.Codes.{CodeName, name_of_code}
 use Rattle.bi_legacy.specs.Meaning.{LegacyImage}
 use Rattle.bi_common.specs.Json.{JsonText, Member, json_array, json_line, json_null, json_object, json_string, member_text, string_or_null}
 use Rattle.bi_common.specs.Shown.{shown_text, hexadecimal_64}
@@ -40,11 +40,7 @@ maybe_digits_ascii (Some value) bytes = string_ascii (hexadecimal_digits value) 
 
 -- An array.
 pub array_ascii : (values : List JsonText) → AllByRecursion HasAscii values → HasAscii (json_array values)
-array_ascii values are = (
-  omega arith,
-  both (join_with_byte 44 values) (93 ∷ []) (words_ascii 44 (omega arith) values are)
-      (omega arith, tt),
-)
+array_ascii values are = search (rules, both, words_ascii)
 
 -- An object.
 abbrev pub IsAsciiMember : Member → Type 0
@@ -56,12 +52,7 @@ members_ascii (member ∷ later) are =
     (both (json_string member.0) (58 ∷ member.1) (string_ascii member.0 are.0.0) (omega arith, are.0.1), members_ascii later are.1)
 
 pub object_ascii : (members : List Member) → AllByRecursion IsAsciiMember members → HasAscii (json_object members)
-object_ascii members are =
-    let texts = map member_text members in (
-      omega arith,
-      both (join_with_byte 44 texts) (125 ∷ []) (words_ascii 44 (omega arith) texts (members_ascii members are))
-          (omega arith, tt),
-    )
+object_ascii members are = search (rules, both, words_ascii, members_ascii)
 
 -- A value and a newline.
 pub line_ascii : (value : JsonText) → HasAscii value → HasAscii (json_line value)
@@ -78,31 +69,7 @@ code_ascii code_names are code = by (name_of_code code_names code) (code_named c
 
 pub header_ascii : (image : LegacyImage) → AreBytes image.name → (last : List Member) → AllByRecursion IsAsciiMember last →
     AllByRecursion IsAsciiMember (header_members image ++ last)
-header_ascii image bytes last are = (
-  (by_test (codes "kind") refl, by_test (json_string (codes "legacy")) refl),
-  (
-    (by_test (codes "name") refl, name_ascii image.name bytes),
-    (
-      (by_test (codes "time") refl, decimal_shown image.time),
-      (
-        (by_test (codes "load") refl, decimal_shown image.load),
-        (
-          (by_test (codes "entry") refl, decimal_shown image.entry),
-          (
-            (by_test (codes "os") refl, code_ascii os_names refl image.os),
-            (
-              (by_test (codes "arch") refl, code_ascii arch_names refl image.arch),
-              (
-                (by_test (codes "type") refl, code_ascii type_names refl image.image_type),
-                ((by_test (codes "compression") refl, code_ascii compression_names refl image.compression), are),
-              ),
-            ),
-          ),
-        ),
-      ),
-    ),
-  ),
-)
+header_ascii image bytes last are = search (rules, by_test, name_ascii, decimal_shown, code_ascii)
 
 pub reservations_ascii : (reservations : List Reservation) → AllByRecursion HasAscii (map reservation_object reservations)
 reservations_ascii [] = tt

@@ -1,5 +1,5 @@
-use Rattle.std.proofs.Common.{◌≡◌, ℕ, zero, suc, ◌+◌, ◌/◌, ◌%◌, ◌^◌, ◌<◌, ◌&&◌, ◌||◌, ◌==◌, not, Bool, true, false, cond, eqb, ltb, List}
-use Rattle.std.proofs.Common.{[], ◌∷◌, ◌++◌, flat_map, map, codes, nat_le, bytes_eq, refl, sym, ap, subst, ◌∙◌, arith}
+use Rattle.std.proofs.Common.{◌≡◌, ℕ, zero, suc, ◌+◌, ◌/◌, ◌%◌, ◌^◌, ◌<◌, Bool, true, false, cond, eqb, ltb, List, rules}
+use Rattle.std.proofs.Common.{[], ◌∷◌, ◌++◌, flat_map, map, codes, nat_le, refl, arith}
 use Rattle.std.specs.Prelude.{IsAscii, IsUtf8}
 use Rattle.std.specs.Fmt.{decimal, digits, digits_onto, digit_glyph}
 use Rattle.std.specs.List.{AllByRecursion, join_with_byte, list_all}
@@ -11,11 +11,10 @@ use Rattle.bi_base.specs.Commands.{Appended}
 use Rattle.bi_base.specs.VecSinks.{Grows}
 use Rattle.bi_base.proofs.ByteLists.{AreBytes-right, AreBytes-cell, AreBytes-cell8}
 use Rattle.bi_base.proofs.ListMembers.{each-append}
-use Rattle.bi_fit.specs.Judgement.{listed_names}
 use Rattle.bi_legacy.specs.Codes.{CodeName}
-use Rattle.bi_common.specs.Shown.{Words, hexadecimal_64, line, digits_of_byte, hexadecimal, is_plain, shown_text, shown_byte, path}
+use Rattle.bi_common.specs.Shown.{Words, hexadecimal_64, line, digits_of_byte, hexadecimal, is_plain, shown_text, path}
 use Rattle.bi_common.specs.CommonLines.{code_word}
-use Rattle.bi_common.specs.ValueTexts.{is_printable, is_quotable, are_quotable_texts, escaped_byte, quoted_text, hexadecimal_digits}
+use Rattle.bi_common.specs.ValueTexts.{is_printable, is_quotable, escaped_byte, quoted_text, hexadecimal_digits}
 use Rattle.bi_common.specs.ValueTexts.{value_words}
 
 -- Proves that the words of lines are ASCII: numbers, names and values as they are printed.
@@ -122,26 +121,15 @@ address_64 n = (omega arith, (omega arith, bytes_digits (cell8 n) (AreBytes-cell
 -- A byte of a name.
 name_byte : (byte : ℕ) (b : Bool) → is_plain byte ≡ b → byte < 2 ^ 8 → HasAscii (cond b (byte ∷ []) (37 ∷ digits_of_byte true byte))
 name_byte byte false is small = (omega arith, hex_digits true byte small)
-name_byte byte true is small =
-    let graphic = and_parts (nat_le 0x21 byte && nat_le byte 0x7e) (not (byte == 37)) is in
-    (omega (arith, leb-true byte 0x7e (and_parts (nat_le 0x21 byte) (nat_le byte 0x7e) graphic.0).1), tt)
+name_byte byte true is small = search (rules, and_parts, nat_le, leb-true)
 
 -- A name as it is printed.
 pub name_shown : (name : List ℕ) → AreBytes name → HasAscii (shown_text name)
-name_shown name are = by (bytes_eq name []) (bytes_eq name (codes "-"))
-  where
-    by : (a b : Bool) → HasAscii (cond a (codes "-") (cond b (codes "%2D") (flat_map shown_byte name)))
-    by true b = by_test (codes "-") refl
-    by false true = by_test (codes "%2D") refl
-    by false false = text_of_bytes shown_byte (λ byte. name_byte byte (is_plain byte) refl) name are
+name_shown name are = search (rules, by_test, text_of_bytes, name_byte)
 
 -- Texts that are printed in quotes.
 pub escape_ascii : (byte : ℕ) → byte < 128 → HasAscii (escaped_byte byte)
-escape_ascii byte small = by (byte == 34 || byte == 92)
-  where
-    by : (b : Bool) → HasAscii (cond b (92 ∷ byte ∷ []) (byte ∷ []))
-    by true = (omega arith, (small, tt))
-    by false = (small, tt)
+escape_ascii byte small = search rules
 
 escaped_bytes : (text : List ℕ) → list_all is_printable text ≡ true → HasAscii (flat_map escaped_byte text)
 escaped_bytes [] are = tt
@@ -152,11 +140,7 @@ escaped_bytes (byte ∷ later) are =
     (escaped_bytes later first.1)
 
 pub in_quotes : (text : List ℕ) → is_quotable text ≡ true → HasAscii (quoted_text text)
-in_quotes text is = (
-  omega arith,
-  both (flat_map escaped_byte text) (34 ∷ []) (escaped_bytes text (and_parts (not (bytes_eq text [])) (list_all is_printable text) is).1)
-      (omega arith, tt),
-)
+in_quotes text is = search (rules, both, escaped_bytes, and_parts)
 
 pub all_in_quotes : (texts : List (List ℕ)) → list_all is_quotable texts ≡ true → AreAsciiWords (map quoted_text texts)
 all_in_quotes [] are = tt
@@ -166,23 +150,13 @@ all_in_quotes (text ∷ later) are =
 
 -- The words for a value.
 pub value_shown : (value : List ℕ) → AreBytes value → AreAsciiWords (value_words value)
-value_shown value bytes = by (bytes_eq value []) (are_quotable_texts value) refl
-  where
-    by : (a b : Bool) → are_quotable_texts value ≡ b →
-        AreAsciiWords (cond a [] (cond b (map quoted_text (listed_names value)) ((codes "0x" ++ hexadecimal_digits value) ∷ [])))
-    by true b is = tt
-    by false true is = all_in_quotes (listed_names value) (and_parts _ (list_all is_quotable (listed_names value)) is).1
-    by false false is = ((omega arith, (omega arith, bytes_digits value bytes)), tt)
+value_shown value bytes = search (rules, all_in_quotes, and_parts, bytes_digits)
 
 -- The word for a code.
 code_shown : (names : List CodeName) → AllByRecursion (λ (name : CodeName). HasAscii name.name) names → (code : ℕ) →
     HasAscii (code_word names code)
 code_shown [] are code = decimal_shown code
-code_shown (entry ∷ later) are code = by (entry.code == code) refl (code_shown later are.1 code)
-  where
-    by : (b : Bool) → entry.code == code ≡ b → HasAscii (code_word later code) → HasAscii (code_word (entry ∷ later) code)
-    by true is rest = rw is are.0
-    by false is rest = rw is rest
+code_shown (entry ∷ later) are code = search (rules, code_shown later are.1 code)
 
 named : (names : List CodeName) → list_all (λ (name : CodeName). list_all (λ byte. ltb byte 128) name.name) names ≡ true →
     AllByRecursion (λ (name : CodeName). HasAscii name.name) names
@@ -200,9 +174,7 @@ code_named names are code = code_shown names (named names are) code
 -- What is appended to no bytes is UTF-8 if it is ASCII.
 pub appended_utf8 : (IsText : List ℕ → Type 0) (old new bytes : List ℕ) → ((text : List ℕ) → IsText text → IsAscii text) →
     Appended Grows IsText old new → old ≡ [] → bytes ≡ new → IsUtf8 bytes
-appended_utf8 IsText old new bytes each is empty same =
-    let whole : bytes ≡ is.text = same ∙ is.appended ∙ ap (λ bytes. bytes ++ is.text) empty in
-    IsUtf8-from_ascii bytes (subst IsAscii (sym whole) (each is.text is.is_text))
+appended_utf8 IsText old new bytes each is empty same = search (rules, IsUtf8-from_ascii)
 
 -- A path.
 pub path_shown : (names : List (List ℕ)) → AllByRecursion AreBytes names → HasAscii (path names)

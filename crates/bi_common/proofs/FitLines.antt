@@ -1,4 +1,4 @@
-use Rattle.std.proofs.Common.{◌≡◌, ℕ, List, [], ◌∷◌, ◌++◌, map, sym, ap, ◌∙◌, Option, None, Some, ◌<◌, ◌+◌}
+use Rattle.std.proofs.Common.{◌≡◌, ℕ, List, [], ◌∷◌, ◌++◌, map, sym, ap, ◌∙◌, Option, None, Some, ◌<◌, ◌+◌, rules}
 use Rattle.std.proofs.Common.{drop, length, get_or, append_assoc}
 use Rattle.std.specs.List.{join_with_byte, flat_map, slice_get}
 use Rattle.std.specs.Option.{option_map}
@@ -18,9 +18,7 @@ joined_after byte first (word ∷ words) = ap (λ later. first ++ (byte ∷ late
 pub joined_more : (byte : ℕ) (first : List ℕ) (words more : List (List ℕ)) →
     join_with_byte byte (first ∷ (words ++ more)) ≡ join_with_byte byte (first ∷ words) ++ flat_map (λ word. byte ∷ word) more
 joined_more byte first [] more = joined_after byte first more
-joined_more byte first (word ∷ words) more =
-    ap (λ later. first ++ (byte ∷ later)) (joined_more byte word words more)
-    ∙ sym (append_assoc first (byte ∷ join_with_byte byte (word ∷ words)) (flat_map (λ word. byte ∷ word) more))
+joined_more byte first (word ∷ words) more = search (rules, append_assoc, joined_more byte word words more)
 
 -- The two numbers of a reservation.
 abbrev pub numbers_of : Reservation → ℕ × ℕ
@@ -50,9 +48,4 @@ reservation_and_later f reservations index found numbers within is some =
 -- There is a reservation at each index.
 pub no_more_reservation : {C : Type 0} (reservations : List Reservation) (index : ℕ) (found : Option (ℕ × ℕ)) →
     index < length reservations → found ≡ slice_get (map numbers_of reservations) index → found ≡ None → C
-no_more_reservation reservations index found within is none =
-    let some = reservation_found reservations index found within is in
-    absurd (differ (sym none ∙ some))
-  where
-    differ : {x : ℕ × ℕ} → ¬ (None ≡ Some x)
-    differ e = absurd cc
+no_more_reservation reservations index found within is none = search (rules, reservation_found reservations index found within is)

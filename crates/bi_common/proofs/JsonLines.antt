@@ -1,4 +1,4 @@
-use Rattle.std.proofs.Common.{◌≡◌, ◌≢◌, ℕ, zero, suc, ◌^◌, ◌≤◌, ◌<◌, ◌==◌, ◌||◌, Bool, true, false, cond, List, [], ◌∷◌, ◌++◌}
+use Rattle.std.proofs.Common.{◌≡◌, ◌≢◌, ℕ, zero, suc, ◌^◌, ◌≤◌, ◌<◌, ◌==◌, ◌||◌, Bool, true, false, cond, List, [], ◌∷◌, ◌++◌, rules}
 use Rattle.std.proofs.Common.{append-nil, append_assoc, ap, arith, flat_map, get_or, length, map, nat_le, refl, subst, sym}
 use Rattle.std.proofs.Common.{Option, Some, None}
 use Rattle.std.specs.Prelude.{IfSome}
@@ -60,9 +60,7 @@ character byte text rest low high are = by (byte == 34) (byte == 92) refl refl
 
 characters : (bytes rest : List ℕ) → HasAscii bytes → NoneBelow bytes → AreCharacters (flat_map escaped_byte bytes ++ rest) rest
 characters [] rest ascii none_below = NoCharacter
-characters (byte ∷ later) rest ascii none_below =
-    subst (λ (text : List ℕ). AreCharacters text rest) (sym (append_assoc (escaped_byte byte) (flat_map escaped_byte later) rest))
-    (character byte (flat_map escaped_byte later ++ rest) rest none_below.0 ascii.0 (characters later rest ascii.1 none_below.1))
+characters (byte ∷ later) rest ascii none_below = search (rules, append_assoc, character, characters later rest ascii.1 none_below.1)
 
 in_quotes : (bytes rest : List ℕ) → IsStringText bytes → IsJsonString (json_string bytes ++ rest) rest
 in_quotes bytes rest is =
@@ -181,10 +179,7 @@ array (first ∷ later) rest are =
     (plain_structural 93 rest)
 
 pub array_value : (texts : List JsonText) → AllByRecursion IsValueText texts → IsValueText (json_array texts)
-array_value texts are = record {
-  is_value = λ rest. array texts rest are;
-  none_below = in_brackets 91 93 (join_with_byte 44 texts) (omega arith) (omega arith) (joined_below texts (values_below texts are));
-}
+array_value texts are = search (rules, array, in_brackets, joined_below, values_below)
 
 -- A member is a name and a value.
 pub record IsMemberText (member : Member) : Type 0 where
@@ -219,19 +214,10 @@ object (first ∷ later) rest are =
 
 members_below : (own : List Member) → AllByRecursion IsMemberText own → AllByRecursion NoneBelow (map member_text own)
 members_below [] are = tt
-members_below (first ∷ later) are = (
-  each-append (λ byte. 32 ≤ byte) (json_string first.0) (58 ∷ first.1) (quoted_below first.0 are.0.name.none_below)
-      (omega arith, are.0.value.none_below),
-  members_below later are.1,
-)
+members_below (first ∷ later) are = search (rules, each-append, quoted_below, members_below later are.1)
 
 pub object_value : (own : List Member) → AllByRecursion IsMemberText own → IsValueText (json_object own)
-object_value own are = record {
-  is_value = λ rest. object own rest are;
-  none_below =
-      in_brackets 123 125 (join_with_byte 44 (map member_text own)) (omega arith) (omega arith)
-      (joined_below (map member_text own) (members_below own are));
-}
+object_value own are = search (rules, object, in_brackets, joined_below, members_below)
 
 -- ---- lines
 

@@ -1,4 +1,4 @@
-use Rattle.std.proofs.Common.{◌≡◌, ℕ, ◌+◌, ◌^◌, ◌≤◌, ◌<◌, true, false, Bool, cond, List, [], ◌∷◌, length, map, refl, sym, ap, ◌∙◌, subst}
+use Rattle.std.proofs.Common.{◌≡◌, ℕ, ◌+◌, ◌^◌, ◌≤◌, ◌<◌, List, [], ◌∷◌, length, map, sym, ap, ◌∙◌, subst, rules}
 use Rattle.std.proofs.Common.{arith}
 use Rattle.std.proofs.Common.{Option, Some, None}
 use Rattle.std.specs.Prelude.{IfSome}
@@ -9,8 +9,8 @@ use Rattle.bi_fit.specs.File.{IsFitFile}
 use Rattle.bi_fit.specs.ImageTree.{ImageTree, each_own}
 use Rattle.bi_fit.specs.Payloads.{IsAtPlace, payload_place, source_of}
 use Rattle.bi_fit.proofs.FilePayloads.{payloads_are_at_places}
-use Rattle.bi_legacy.specs.Meaning.{LegacyImage, has_part_table}
-use Rattle.bi_legacy.specs.Parts.{part_table, parts_end_from, parts_start}
+use Rattle.bi_legacy.specs.Meaning.{LegacyImage}
+use Rattle.bi_legacy.specs.Parts.{parts_end_from, parts_start}
 use Rattle.bi_legacy.specs.PlacedParts.{PartModel, placed_parts, placed_parts_from}
 use Rattle.bi_legacy.specs.Text.{IsLegacyImage}
 use Rattle.bi_legacy.proofs.EmitParts.{parts_end_from-grows}
@@ -41,13 +41,7 @@ parts_small at (part ∷ next ∷ later) aligned small =
     )
 
 pub placed_parts_small : (image : LegacyImage) → IsLegacyImage image → AllByRecursion IsSmallPart (placed_parts image)
-placed_parts_small image is =
-    parts_small (parts_start image.image_type image.parts) image.parts (by (has_part_table image.image_type))
-    (subst (λ (n : ℕ). n < 2 ^ 32) (length-normal_body image.image_type image.parts) is.size)
-  where
-    by : (b : Bool) → up4 (cond b (length (part_table image.parts)) 0) ≡ cond b (length (part_table image.parts)) 0
-    by true = subst (λ (n : ℕ). up4 n ≡ n) (sym (length-part_table image.parts)) (up4_of_four (length image.parts + 1))
-    by false = refl
+placed_parts_small image is = search (rules, parts_small, length-normal_body, length-part_table, up4_of_four)
 
 sizes_of_parts : (at : ℕ) (parts : List (List ℕ)) → AllByRecursion IsSmallPart (placed_parts_from at parts) →
     AllByRecursion (λ (part : List ℕ). length part < 2 ^ 64) parts

@@ -1,5 +1,5 @@
-use Rattle.std.proofs.Common.{◌≡◌, ℕ, ◌+◌, ◌/◌, ◌%◌, ◌<◌, ◌||◌, ◌-◌, ◌≤◌, Bool, true, false, cond, ltb, List, [], ◌∷◌, ◌++◌, flat_map, map}
-use Rattle.std.proofs.Common.{refl, sym, ap, ap₂, ◌∙◌, append_assoc, append-nil, arith, length, get_or, take, drop, take_all}
+use Rattle.std.proofs.Common.{◌≡◌, ℕ, ◌+◌, ◌-◌, ◌≤◌, Bool, true, false, cond, ltb, List, [], ◌∷◌, ◌++◌, flat_map, map, rules}
+use Rattle.std.proofs.Common.{refl, sym, ap, ◌∙◌, append_assoc, append-nil, arith, length, get_or, take, drop, take_all}
 use Rattle.std.specs.Borrow.{Bor}
 use Rattle.std.specs.List.{join_with_byte, list_any}
 use Rattle.std.proofs.lemmas.Bool.{ltb-false, ltb-true, ne_eqb}
@@ -19,24 +19,17 @@ use Rattle.bi_common.proofs.TextsInTurn.{map_append}
 
 -- A byte that is neither `"` nor a backslash.
 unescaped : (byte : ℕ) → (byte ≡ 34 → ⊥) → (byte ≡ 92 → ⊥) → escaped_byte byte ≡ byte ∷ []
-unescaped byte quote backslash =
-    let none : needs_backslash byte ≡ false = ap₂ (λ (a b : Bool). a || b) (ne_eqb byte 34 quote) (ne_eqb byte 92 backslash) in
-    ap (λ (b : Bool). cond b (92 ∷ byte ∷ []) (byte ∷ [])) none
+unescaped byte quote backslash = search (rules, ne_eqb)
 
 -- A hexadecimal digit in lower case.
 digit_unescaped : (d : ℕ) (b : Bool) → ltb d 10 ≡ b → escaped_byte (cond b (48 + d) (87 + d)) ≡ cond b (48 + d) (87 + d) ∷ []
-digit_unescaped d true is = unescaped (48 + d) (λ e. omega (arith, e)) (λ e. omega (arith, e, small))
-  where
-    small : d < 10
-    small = ltb-true d 10 is
+digit_unescaped d true is = search (rules, unescaped, ltb-true)
 digit_unescaped d false is = unescaped (87 + d) (λ e. omega (arith, e)) (λ e. omega (arith, e, ltb-false d 10 is))
 
 -- Hexadecimal digits in lower case.
 pub digits_unescaped : (bytes : List ℕ) → flat_map escaped_byte (hexadecimal_digits bytes) ≡ hexadecimal_digits bytes
 digits_unescaped [] = refl
-digits_unescaped (byte ∷ later) =
-    ap₂ (λ (a b : List ℕ). a ++ b) (digit_unescaped (byte / 16) _ refl)
-    (ap₂ (λ (a b : List ℕ). a ++ b) (digit_unescaped (byte % 16) _ refl) (digits_unescaped later))
+digits_unescaped (byte ∷ later) = search (rules, digit_unescaped, digits_unescaped later)
 
 -- A number of 64 bits.
 pub number_unescaped : (number : ℕ) → flat_map escaped_byte (hexadecimal_64 number) ≡ hexadecimal_64 number
@@ -45,21 +38,13 @@ number_unescaped number = ap (λ (digits : List ℕ). 48 ∷ 120 ∷ digits) (di
 -- A text without `"` and without a backslash.
 pub none_escaped : (text : List ℕ) → list_any needs_backslash text ≡ false → flat_map escaped_byte text ≡ text
 none_escaped [] none = refl
-none_escaped (byte ∷ later) none = by (needs_backslash byte) none (none_escaped later)
-  where
-    by : (b : Bool) → (b || list_any needs_backslash later) ≡ false →
-        (list_any needs_backslash later ≡ false → flat_map escaped_byte later ≡ later) →
-        cond b (92 ∷ byte ∷ []) (byte ∷ []) ++ flat_map escaped_byte later ≡ byte ∷ later
-    by true others rest = absurd cc
-    by false others rest = ap (λ (l : List ℕ). byte ∷ l) (rest others)
+none_escaped (byte ∷ later) none = search (rules, none_escaped later)
 
 -- A name, byte by byte.
 pub name_escaped : (name : List ℕ) →
     flat_map escaped_byte (flat_map shown_byte name) ≡ flat_map (λ byte. flat_map escaped_byte (shown_byte byte)) name
 name_escaped [] = refl
-name_escaped (byte ∷ later) =
-    flat_map-append escaped_byte (shown_byte byte) (flat_map shown_byte later)
-    ∙ ap (λ (l : List ℕ). flat_map escaped_byte (shown_byte byte) ++ l) (name_escaped later)
+name_escaped (byte ∷ later) = search (rules, flat_map-append, name_escaped later)
 
 -- A member as the code has it.
 abbrev pub MadeMember : Type 0
@@ -74,25 +59,14 @@ pub members_split : (members : List MadeMember) (d : MadeMember) → 1 ≤ lengt
     join_with_byte 44 (map member_text (map member_of members))
     ≡ member_text (member_of (get_or members 0 d)) ++ flat_map later_member (take (length members - 1) (drop 1 members))
 members_split [] d some = absurd (omega arith)
-members_split (first ∷ later) d some =
-    let text = member_text (member_of first) in
-    joined_after 44 text (map member_text (map member_of later))
-    ∙ ap (λ (bytes : List ℕ). text ++ bytes)
-    (flat_map-map (λ (word : List ℕ). 44 ∷ word) member_text (map member_of later)
-    ∙ flat_map-map (λ (member : Member). 44 ∷ member_text member) member_of later
-    ∙ ap (flat_map later_member) (sym (take_all (length (first ∷ later) - 1) later (omega arith))))
+members_split (first ∷ later) d some = search (rules, joined_after, flat_map-map, take_all)
 
 -- Members and more of them.
 pub members_joined : (members more : List Member) → 1 ≤ length members →
     join_with_byte 44 (map member_text (members ++ more))
     ≡ join_with_byte 44 (map member_text members) ++ flat_map (λ member. 44 ∷ member_text member) more
 members_joined [] more some = absurd (omega arith)
-members_joined (first ∷ members) more some =
-    let text = member_text first in
-    let texts = map member_text members in
-    ap (λ (words : List (List ℕ)). join_with_byte 44 (text ∷ words)) (map_append member_text members more)
-    ∙ joined_more 44 text texts (map member_text more)
-    ∙ ap (λ (l : List ℕ). join_with_byte 44 (text ∷ texts) ++ l) (flat_map-map (λ (word : List ℕ). 44 ∷ word) member_text more)
+members_joined (first ∷ members) more some = search (rules, map_append, joined_more, flat_map-map)
 
 -- One value, after what comes before it.
 pub one_value : (is_later : Bool) (value : JsonText) → with_commas is_later (value ∷ []) ≡ comma is_later ++ value

@@ -1,4 +1,4 @@
-use Rattle.std.proofs.Common.{◌≡◌, ◌+◌, ℕ, List, ◌++◌, subst, sym}
+use Rattle.std.proofs.Common.{◌≡◌, ◌+◌, ℕ, List, ◌++◌, subst, sym, rules}
 use Rattle.std.proofs.Common.{Result, IsErrAnd, append_assoc, ◌∙◌}
 use Rattle.bi_base.proofs.SinkLaws.{passed_on, wrote_after}
 use Rattle.bi_base.specs.Sinks.{AppendsInTurn, FailsAfter, FailsBefore, Wrote}
@@ -10,9 +10,7 @@ use Rattle.bi_base.specs.declared.fault.Error.{Error}
 pub first_of_all_fails : {S V : Type 0} (appends : S → List ℕ → S → Type 0) (fails : S → List ℕ → S → Error → Type 0)
     (before : FailsBefore fails) (old new : S) (first later whole : List ℕ) (error : Error) (result : Result V Error)
     → whole ≡ first ++ later → IsErrAnd result (λ e. e ≡ error) → fails old first new error → Wrote appends fails old whole result new
-first_of_all_fails appends fails before old new first later whole error result is passed failed =
-    passed_on appends fails old whole error result new passed
-    (subst (λ bytes. fails old bytes new error) (sym is) (before old new first later error failed))
+first_of_all_fails appends fails before old new first later whole error result is passed failed = search (rules, passed_on)
 
 -- One fails after others.
 pub next_fails : {S V : Type 0} (appends : S → List ℕ → S → Type 0) (fails : S → List ℕ → S → Error → Type 0)
@@ -29,9 +27,7 @@ pub last_writes : {S V : Type 0} (appends : S → List ℕ → S → Type 0) (fa
     (in_turn : AppendsInTurn appends) (after : FailsAfter appends fails) (old mid new : S) (first second whole : List ℕ)
     (result : Result V Error)
     → whole ≡ first ++ second → appends old first mid → Wrote appends fails mid second result new → Wrote appends fails old whole result new
-last_writes appends fails in_turn after old mid new first second whole result is done wrote =
-    subst (λ bytes. Wrote appends fails old bytes result new) (sym is)
-    (wrote_after appends fails in_turn after old mid new first second result done wrote)
+last_writes appends fails in_turn after old mid new first second whole result is done wrote = search (rules, wrote_after)
 
 -- One more is appended.
 pub one_more_appended : {S : Type 0} (appends : S → List ℕ → S → Type 0) (in_turn : AppendsInTurn appends) (old mid new : S)

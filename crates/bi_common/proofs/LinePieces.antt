@@ -1,5 +1,5 @@
 use Rattle.std.proofs.Common.{◌≡◌, ℕ, codes, ◌<◌, ◌≤◌, ◌-◌, false, get_or, take, drop, take_all, List, [], ◌∷◌, ◌++◌, flat_map, length, sym}
-use Rattle.std.proofs.Common.{ap, ◌∙◌, arith, Result, Ok, Err, OnOk}
+use Rattle.std.proofs.Common.{arith, Result, Ok, Err, OnOk, rules}
 use Rattle.std.specs.Result.{is_err}
 use Rattle.std.specs.Borrow.{Bor}
 use Rattle.std.specs.List.{join_with_byte}
@@ -29,9 +29,7 @@ steps_are_path (first ∷ names) some = sym
 -- Words as the code has them: the first, and the others, each after a space.
 pub words_joined : (first : Field) (later : List Field) →
     join_with_byte 32 (words_of (first ∷ later)) ≡ field_text first ++ flat_map (λ word. 32 ∷ field_text word) later
-words_joined first later =
-    joined_after 32 (field_text first) (words_of later)
-    ∙ ap (λ bytes. field_text first ++ bytes) (flat_map-map (λ word. 32 ∷ word) field_text later)
+words_joined first later = search (rules, joined_after, flat_map-map)
 
 -- What holds where a call succeeded.
 pub known_ok : {V E P : Type 0} (result : Result V E) → is_err result ≡ false → OnOk result P → P
@@ -43,10 +41,7 @@ pub words_split : (words : List Field) → 1 ≤ length words → join_with_byte
     ≡ field_text (get_or words 0 (Text (record { ref_ptr = (0, 0); now = [] })))
     ++ flat_map (λ word. 32 ∷ field_text word) (take (length words - 1) (drop 1 words))
 words_split [] some = absurd (omega arith)
-words_split (first ∷ later) some =
-    words_joined first later
-    ∙ ap (λ words. field_text first ++ flat_map (λ word. 32 ∷ field_text word) words)
-    (sym (take_all (length (first ∷ later) - 1) later (omega arith)))
+words_split (first ∷ later) some = search (rules, words_joined, take_all)
 
 -- Lines with the words for codes.
 abbrev pub code_lines_of : (os arch image_type compression : List ℕ) → List Words
@@ -56,8 +51,4 @@ code_lines_of os arch image_type compression =
 pub four_codes : (os os' arch arch' image_type image_type' compression compression' : List ℕ) → os ≡ os' → arch ≡ arch' →
     image_type ≡ image_type' → compression ≡ compression'
     → code_lines_of os arch image_type compression ≡ code_lines_of os' arch' image_type' compression'
-four_codes os os' arch arch' image_type image_type' compression compression' a b c d =
-    ap (λ word. code_lines_of word arch image_type compression) a
-    ∙ ap (λ word. code_lines_of os' word image_type compression) b
-    ∙ ap (λ word. code_lines_of os' arch' word compression) c
-    ∙ ap (λ word. code_lines_of os' arch' image_type' word) d
+four_codes os os' arch arch' image_type image_type' compression compression' a b c d = search rules

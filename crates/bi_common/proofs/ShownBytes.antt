@@ -1,8 +1,7 @@
-use Rattle.std.proofs.Common.{◌≡◌, ℕ, ◌-◌, ◌^◌, ◌<◌, Bool, true, false, List, [], ◌∷◌, ◌++◌, Some, ap, subst, ◌∙◌, codes, Result, OnOk}
-use Rattle.std.specs.Option.{option_map}
+use Rattle.std.proofs.Common.{◌≡◌, ℕ, ◌-◌, ◌^◌, ◌<◌, Bool, true, false, List, [], ◌++◌, Some, codes, Result, OnOk, rules}
 use Rattle.std.specs.Fmt.{AppendsText, ◌++?◌, digits, digits_output, styled_digits_output, format_spec, padded_integral}
 use Rattle.std.proofs.lemmas.Fmt.{hex_byte}
-use Rattle.bi_common.specs.Shown.{digits_of_byte, is_plain, shown_byte}
+use Rattle.bi_common.specs.Shown.{is_plain, shown_byte}
 
 -- Proves that formatting writes a byte that is not printed unchanged as its escape.
 
@@ -11,18 +10,11 @@ styled_hex : (d : _) (s : _) (upper : Bool) (n width : ℕ) (out : List ℕ) →
     s ≡ format_spec 32 0 4 width (2 ^ 64 - 1) →
     padded_integral (format_spec 32 0 4 width (2 ^ 64 - 1)) false [] (digits 16 upper n) ≡ out →
     styled_digits_output d s ≡ Some out
-styled_hex d s upper n width out digits_are style_is padded_is =
-    ap (styled_digits_output d) style_is
-    ∙ ap (option_map (padded_integral (format_spec 32 0 4 width (2 ^ 64 - 1)) false [])) digits_are
-    ∙ ap Some padded_is
+styled_hex d s upper n width out digits_are style_is padded_is = search rules
 
 -- What `%{:02X}` appends for a byte that is not printed unchanged.
 pub appended_escape : {E : Type 0} (result : Result (Unit {0}) E) (d : _) (s : _) (old new : List ℕ) (byte : ℕ) → byte < 256 →
     is_plain byte ≡ false → digits_output d ≡ Some (digits 16 true byte) → s ≡ format_spec 32 0 4 2 (2 ^ 64 - 1) →
     OnOk result (AppendsText old new (Some (codes "%") ++? styled_digits_output d s)) →
     OnOk result (new ≡ old ++ shown_byte byte)
-appended_escape result d s old new byte small escaped digits_are style_is appended =
-    let styled = styled_hex d s true byte 2 (digits_of_byte true byte) digits_are style_is (hex_byte true byte small) in
-    let written : OnOk result (new ≡ old ++ (37 ∷ digits_of_byte true byte)) =
-    subst (λ text. OnOk result (AppendsText old new (Some (codes "%") ++? text))) styled appended in
-    rw escaped written
+appended_escape result d s old new byte small escaped digits_are style_is appended = search (rules, styled_hex, hex_byte)

@@ -1,4 +1,4 @@
-use Rattle.std.proofs.Common.{◌≡◌, ℕ, Bool, true, List, [], ◌∷◌, ◌++◌, map, append-nil, append_assoc, refl, sym, ap, ◌∙◌}
+use Rattle.std.proofs.Common.{◌≡◌, ℕ, Bool, true, List, [], ◌∷◌, ◌++◌, map, append-nil, append_assoc, refl, sym, ap, ◌∙◌, rules}
 use Rattle.std.proofs.Common.{subst, Result, Ok, Err, IsErrAnd}
 use Rattle.std.proofs.lemmas.Grind.{flat_map-append}
 use Rattle.bi_base.specs.Sinks.{AppendsInTurn, AppendsNothing, FailsAfter, FailsBefore}
@@ -6,7 +6,7 @@ use Rattle.bi_base.specs.declared.fault.Error.{Error}
 use Rattle.bi_common.specs.declared.format.Format.{Format}
 use Rattle.bi_common.specs.declared.format.Format.TheVariants.{Lines, Json}
 use Rattle.bi_common.specs.Formats.{WroteInTurn, in_turn, is_later_after}
-use Rattle.bi_common.specs.Json.{comma, with_commas}
+use Rattle.bi_common.specs.Json.{with_commas}
 
 -- Texts of values in turn, in any form, that are appended part by part.
 
@@ -19,15 +19,7 @@ map_append f (x ∷ xs) ys = ap (λ (l : List _). f x ∷ l) (map_append f xs ys
 commas_in_parts : (is_later : Bool) (xs ys : List (List ℕ)) →
     with_commas is_later (xs ++ ys) ≡ with_commas is_later xs ++ with_commas (is_later_after is_later xs) ys
 commas_in_parts is_later [] ys = refl
-commas_in_parts is_later (x ∷ xs) ys =
-    ap (λ (l : List ℕ). comma is_later ++ (x ++ l)) (commas_in_parts true xs ys ∙ ap (λ b. with_commas true xs ++ with_commas b ys)
-    (after_true xs))
-    ∙ ap (λ (l : List ℕ). comma is_later ++ l) (sym (append_assoc x (with_commas true xs) (with_commas true ys)))
-    ∙ sym (append_assoc (comma is_later) (x ++ with_commas true xs) (with_commas true ys))
-  where
-    after_true : (values : List (List ℕ)) → is_later_after true values ≡ true
-    after_true [] = refl
-    after_true (value ∷ later) = refl
+commas_in_parts is_later (x ∷ xs) ys = search (rules, append_assoc, commas_in_parts true xs ys)
 
 -- Texts in two parts.
 in_two_parts : (format : Format) (is_later : Bool) (xs ys : List (List ℕ)) →
@@ -53,12 +45,7 @@ pub record AreInTurn {S : Type 0} (appends : S → List ℕ → S → Type 0) (o
 -- All are left at first.
 pub turn_begins : {S : Type 0} (appends : S → List ℕ → S → Type 0) (nothing : AppendsNothing appends) (old : S) (format : Format)
     (first : Bool) (left all : List (List ℕ)) → left ≡ all → AreInTurn appends old old format first first left all
-turn_begins appends nothing old format first left all is = record {
-  done = [];
-  written = nothing old;
-  texts = ap (in_turn format first) is;
-  later = ap (is_later_after first) is;
-}
+turn_begins appends nothing old format first left all is = search rules
 
 -- More of them are appended.
 pub turn_goes_on : {S : Type 0} (appends : S → List ℕ → S → Type 0) (together : AppendsInTurn appends) (old mid new : S) (format : Format)
@@ -83,17 +70,7 @@ turn_goes_on appends together old mid new format first now next more later left 
 pub turn_ends : {S : Type 0} (appends : S → List ℕ → S → Type 0) (old new : S) (format : Format) (first now : Bool)
     (left all : List (List ℕ)) → AreInTurn appends old new format first now left all → left ≡ [] →
     appends old (in_turn format first all) new × (now ≡ is_later_after first all)
-turn_ends appends old new format first now left all so_far none = (
-  subst (λ bytes. appends old bytes new)
-      (sym (append-nil so_far.done) ∙ ap (λ (l : List ℕ). so_far.done ++ l) (sym (nothing format now) ∙ ap (in_turn format now) (sym none))
-      ∙ so_far.texts)
-      so_far.written,
-  ap (is_later_after now) (sym none) ∙ so_far.later,
-)
-  where
-    nothing : (format : Format) (now : Bool) → in_turn format now [] ≡ []
-    nothing Lines now = refl
-    nothing Json now = refl
+turn_ends appends old new format first now left all so_far none = search (rules, append-nil)
 
 -- More of them are not appended.
 pub turn_fails : {S : Type 0} (appends : S → List ℕ → S → Type 0) (fails : S → List ℕ → S → Error → Type 0)

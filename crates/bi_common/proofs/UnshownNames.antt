@@ -1,5 +1,5 @@
-use Rattle.std.proofs.Common.{◌≡◌, ◌≢◌, ◌⊎◌, ℕ, suc, zero, ◌-◌, ◌≤◌, ◌<◌, Bool, true, false, cond, List, [], ◌∷◌, ◌++◌, length, get_or}
-use Rattle.std.proofs.Common.{take, drop, inl, inr, refl, sym, ap, ap₂, subst, append_assoc, ◌∙◌, arith, codes, true≢false, ◌==◌, IfNone}
+use Rattle.std.proofs.Common.{◌≡◌, ◌≢◌, ◌⊎◌, ℕ, ◌-◌, ◌≤◌, ◌<◌, Bool, true, false, cond, List, [], ◌∷◌, ◌++◌, length, get_or, rules}
+use Rattle.std.proofs.Common.{take, drop, refl, sym, ap₂, subst, append_assoc, ◌∙◌, arith, codes, true≢false, ◌==◌, IfNone}
 use Rattle.std.proofs.Common.{IfSome, Option, None, Some}
 use Rattle.std.proofs.lemmas.Bool.{cases_lt, eqb-true}
 use Rattle.std.proofs.lemmas.List.{take_all}
@@ -12,17 +12,14 @@ use Rattle.bi_common.specs.Unshown.{IsNameShownAs, IsNoShownBytes, IsShownOfNoBy
 use Rattle.bi_common.proofs.ReadableWords.Cuts.{IsReadBack, nothing_before, first_same, later_same}
 use Rattle.bi_common.proofs.ReadableWords.ShownNames.{low_glyph, high_glyph, plain_no_percent, read_shown_byte, same_shown}
 use Rattle.bi_common.proofs.ReadableWords.ShownNames.{some_shown_byte}
-use Rattle.bi_common.proofs.ReadableWords.ShownNames.{ways, ShownName, Nothing, Dash, Others}
+use Rattle.bi_common.proofs.ReadableWords.ShownNames.{ways}
 
 -- Names are read back from how they are printed.
 
 -- The digit of a number below 16 is a decimal one, or one of the letters from A to F.
 pub glyph_is_digit : (number : ℕ) → number < 16 →
     ((47 < digit_glyph true number) × (digit_glyph true number < 58)) ⊎ ((64 < digit_glyph true number) × (digit_glyph true number < 71))
-glyph_is_digit number small = elim (cases_lt number 10) [
-  | inl low ↦ inl (omega (arith, low_glyph true number low), omega (arith, low_glyph true number low))
-  | inr high ↦ inr (omega (arith, high_glyph true number high), omega (arith, high_glyph true number high, small))
-]
+glyph_is_digit number small = search (rules, cases_lt, low_glyph, high_glyph)
 
 -- What follows the codes of some elements of a list is the codes of the others.
 pub rest_of_codes : {X : Type 0} (code : X → List ℕ) → IsReadBack code → ((x : X) → code x ≡ [] → ⊥) → (xs ys : List X) (rest : List ℕ) →
@@ -78,21 +75,11 @@ no_first_byte text rest None is none = λ byte later small same. where_test byte
 
 -- Bytes that are printed as a text one by one are a name that is printed so, if the text is neither nothing nor that of the empty name.
 pub bytes_are_name : (text name : List ℕ) → text ≢ [] → text ≢ codes "-" → flat_map shown_byte name ≡ text → shown_text name ≡ text
-bytes_are_name text name some other is = where_way (ways name)
-  where
-    where_way : ShownName name → shown_text name ≡ text
-    where_way (Nothing empty way) = absurd (some (sym is ∙ ap (flat_map shown_byte) empty))
-    where_way (Dash dash way) = absurd (other (sym is ∙ ap (flat_map shown_byte) dash))
-    where_way (Others not_empty not_dash way) = way ∙ is
+bytes_are_name text name some other is = search (rules, ways)
 
 -- No name is printed as a text that is not how bytes are printed one by one, nor the text of the empty name or of the name `-`.
 pub no_name : (text : List ℕ) → text ≢ codes "-" → text ≢ codes "%2D" → IsNoShownBytes text → IsShownOfNoBytes text
-no_name text other also none name are is = where_way (ways name)
-  where
-    where_way : ShownName name → ⊥
-    where_way (Nothing empty way) = other (sym is ∙ way)
-    where_way (Dash dash way) = also (sym is ∙ way)
-    where_way (Others not_empty not_dash way) = none name are (sym way ∙ is)
+no_name text other also none name are is = search (rules, ways)
 
 -- A list whose length is tested for zero.
 pub empty_list : {X : Type 0} (xs : List X) → (length xs == 0) ≡ true → xs ≡ []
@@ -110,11 +97,7 @@ some_holds P (Some other) value is holds = let same : other ≡ value = cc in su
 
 -- The name `-` is bytes.
 pub dash_is_bytes : AreBytes (codes "-")
-dash_is_bytes = record { each = each }
-  where
-    each : (i : ℕ) → get_or (codes "-") i 0 < 256
-    each zero = omega arith
-    each (suc i) = omega arith
+dash_is_bytes = search rules
 
 -- A name that is printed as a text is the only one.
 pub only_name : (text name : List ℕ) → AreBytes name → shown_text name ≡ text → IsNameShownAs text name

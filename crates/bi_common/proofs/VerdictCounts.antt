@@ -1,4 +1,5 @@
 use Rattle.std.proofs.Common.{◌≡◌, ◌==◌, suc, ℕ, Option, ap₂, ◌+◌, ◌&&◌, Bool, true, false, List, [], ◌∷◌, ◌++◌, refl, sym, ap, ◌∙◌, arith}
+use Rattle.std.proofs.Common.{rules}
 use Rattle.std.specs.List.{list_all}
 use Rattle.std.proofs.Math.Dec.{eqb-suc-zero}
 use Rattle.bi_blob.specs.Lookups.{Sibling, siblings}
@@ -23,15 +24,7 @@ same_counts one other a b c d e = rw (a, b, c, d, e) refl
 -- A hash node is counted before the later ones.
 pub counted_first : (counts : Counts) (hash : CheckedHash) (later : List CheckedHash) →
     plus_hashes counts (hash ∷ later) ≡ plus_hashes (one_more_verdict hash.verdict counts) later
-counted_first counts hash later = by hash.verdict refl
-  where
-    by : (verdict : Verdict) → hash.verdict ≡ verdict →
-        plus_hashes counts (hash ∷ later) ≡ plus_hashes (one_more_verdict verdict counts) later
-    by Good is = rw is (same_counts _ _ (omega arith) (omega arith) (omega arith) (omega arith) (omega arith))
-    by Bad is = rw is (same_counts _ _ (omega arith) (omega arith) (omega arith) (omega arith) (omega arith))
-    by UnknownAlgo is = rw is (same_counts _ _ (omega arith) (omega arith) (omega arith) (omega arith) (omega arith))
-    by NoPayload is = rw is (same_counts _ _ (omega arith) (omega arith) (omega arith) (omega arith) (omega arith))
-    by Malformed is = rw is (same_counts _ _ (omega arith) (omega arith) (omega arith) (omega arith) (omega arith))
+counted_first counts hash later = search (rules, same_counts)
 
 -- It is one more.
 pub total_first : (verdict : Verdict) (counts : Counts) → total (one_more_verdict verdict counts) ≡ total counts + 1
@@ -78,55 +71,29 @@ third_fails a d = ap (λ b. b && d) (last_fails a)
 pub good_counts : (hashes : List CheckedHash) →
     are_good (hash_counts hashes) ≡ list_all (λ (hash : CheckedHash). is_verdict Good hash.verdict) hashes
 good_counts [] = refl
-good_counts (hash ∷ later) = by hash.verdict refl (good_counts later)
-  where
-    good : CheckedHash → Bool
-    good other = is_verdict Good other.verdict
-
-    by : (verdict : Verdict) → hash.verdict ≡ verdict → are_good (hash_counts later) ≡ list_all good later →
-        are_good (hash_counts (hash ∷ later)) ≡ list_all good (hash ∷ later)
-    by Good is rest = rw is rest
-    by Bad is rest = rw (is, not_zero) refl
-    by UnknownAlgo is rest = rw (is, not_zero) (second_fails _ _ _)
-    by NoPayload is rest = rw (is, not_zero) (third_fails _ _)
-    by Malformed is rest = rw (is, not_zero) (last_fails _)
+good_counts (hash ∷ later) = search (rules, not_zero, second_fails, third_fails, good_counts later)
 
 -- A child of an image node that is a hash node is counted,
 pub node_counted : (image : List ℕ) (payload : Option (List ℕ)) (entry : Sibling FileNode) (counts : Counts) (verdict : Verdict) →
     is_hash_name entry.name ≡ true → verdict ≡ (file_hash image payload entry).verdict →
     one_more_verdict verdict counts ≡ plus_hashes counts (file_hashes image payload (entry ∷ []))
-node_counted image payload entry counts verdict is judged =
-    let hash : CheckedHash = file_hash image payload entry in
-    let one : file_hashes image payload (entry ∷ []) ≡ hash ∷ [] = rw is refl in
-    ap (λ (v : Verdict). one_more_verdict v counts) judged
-    ∙ sym (ap (plus_hashes counts) one ∙ counted_first counts hash [] ∙ counted_none (one_more_verdict hash.verdict counts))
+node_counted image payload entry counts verdict is judged = search (rules, counted_first, counted_none)
 
 -- and any other is not.
 pub node_passed : (image : List ℕ) (payload : Option (List ℕ)) (entry : Sibling FileNode) (counts : Counts) →
     is_hash_name entry.name ≡ false → counts ≡ plus_hashes counts (file_hashes image payload (entry ∷ []))
-node_passed image payload entry counts is =
-    let no_hash : file_hashes image payload (entry ∷ []) ≡ [] = rw is refl in
-    sym (ap (plus_hashes counts) no_hash ∙ counted_none counts)
+node_passed image payload entry counts is = search (rules, counted_none)
 
 -- The hash nodes among the first child and the later ones.
 first_child : (image : List ℕ) (payload : Option (List ℕ)) (entry : Sibling FileNode) (later : List (Sibling FileNode)) →
     file_hashes image payload (entry ∷ later) ≡ file_hashes image payload (entry ∷ []) ++ file_hashes image payload later
-first_child image payload entry later = by (is_hash_name entry.name) refl
-  where
-    by : (b : Bool) → is_hash_name entry.name ≡ b →
-        file_hashes image payload (entry ∷ later) ≡ file_hashes image payload (entry ∷ []) ++ file_hashes image payload later
-    by true is = rw is refl
-    by false is = rw is refl
+first_child image payload entry later = search rules
 
 -- One more child is counted.
 pub one_child_counted : (image : List ℕ) (payload : Option (List ℕ)) (entry : Sibling FileNode) (left later : List (Sibling FileNode))
     (counts next all : Counts) → left ≡ entry ∷ later → next ≡ plus_hashes counts (file_hashes image payload (entry ∷ [])) →
     plus_hashes counts (file_hashes image payload left) ≡ all → plus_hashes next (file_hashes image payload later) ≡ all
-one_child_counted image payload entry left later counts next all is more so_far =
-    ap (λ (c : Counts). plus_hashes c (file_hashes image payload later)) more
-    ∙ sym (counted_before counts (file_hashes image payload (entry ∷ [])) (file_hashes image payload later))
-    ∙ ap (plus_hashes counts) (sym (ap (file_hashes image payload) is ∙ first_child image payload entry later))
-    ∙ so_far
+one_child_counted image payload entry left later counts next all is more so_far = search (rules, counted_before, first_child)
 
 -- The hash nodes of one more image are counted.
 pub one_image_counted : (entry : Sibling FileNode) (left later : List (Sibling FileNode)) (image : ImageModel)

@@ -1,11 +1,11 @@
-use Rattle.std.proofs.Common.{◌≡◌, ℕ, zero, suc, ◌+◌, ◌/◌, ◌%◌, ◌≤◌, ◌&&◌, ◌||◌, ◌==◌, not, Bool, true, false, cond, eqb, List, [], ◌∷◌}
-use Rattle.std.proofs.Common.{flat_map, codes, nat_le, bytes_eq, refl, arith}
+use Rattle.std.proofs.Common.{◌≡◌, ℕ, zero, suc, ◌+◌, ◌/◌, ◌%◌, ◌≤◌, Bool, true, false, cond, eqb, List, [], ◌∷◌, rules}
+use Rattle.std.proofs.Common.{flat_map, nat_le, refl, arith}
 use Rattle.std.specs.Fmt.{decimal, digits, digits_onto, digit_glyph}
 use Rattle.std.specs.List.{AllByRecursion, list_all}
 use Rattle.std.proofs.lemmas.Bool.{and_parts, leb-true}
 use Rattle.bi_base.specs.Cells.{cell, cell8}
 use Rattle.bi_base.proofs.ListMembers.{each-append}
-use Rattle.bi_common.specs.Shown.{hexadecimal_64, digits_of_byte, hexadecimal, is_plain, shown_text, shown_byte}
+use Rattle.bi_common.specs.Shown.{hexadecimal_64, digits_of_byte, hexadecimal, is_plain, shown_text}
 use Rattle.bi_common.specs.ValueTexts.{escaped_byte, hexadecimal_digits}
 
 -- Words of lines have no byte below a space.
@@ -66,28 +66,12 @@ visible_address n = (omega arith, (omega arith, visible_digits (cell8 n)))
 
 plain_byte : (byte : ℕ) (b : Bool) → is_plain byte ≡ b → NoneBelow (cond b (byte ∷ []) (37 ∷ digits_of_byte true byte))
 plain_byte byte false is = (omega arith, hex_digits true byte)
-plain_byte byte true is = (
-  omega (
-    arith,
-    leb-true 0x21 byte (and_parts (nat_le 0x21 byte) (nat_le byte 0x7e)
-        (and_parts (nat_le 0x21 byte && nat_le byte 0x7e) (not (byte == 37)) is).0).0,
-  ),
-  tt,
-)
+plain_byte byte true is = search (rules, leb-true, and_parts, nat_le)
 
 -- A name as it is printed.
 pub visible_name : (name : List ℕ) → NoneBelow (shown_text name)
-visible_name name = by (bytes_eq name []) (bytes_eq name (codes "-"))
-  where
-    by : (a b : Bool) → NoneBelow (cond a (codes "-") (cond b (codes "%2D") (flat_map shown_byte name)))
-    by true b = visible (codes "-") refl
-    by false true = visible (codes "%2D") refl
-    by false false = visible_pieces shown_byte (λ byte. plain_byte byte (is_plain byte) refl) name
+visible_name name = search (rules, visible, visible_pieces, plain_byte)
 
 -- Texts that are printed in quotes.
 pub visible_escape : (byte : ℕ) → 32 ≤ byte → NoneBelow (escaped_byte byte)
-visible_escape byte above = by (byte == 34 || byte == 92)
-  where
-    by : (b : Bool) → NoneBelow (cond b (92 ∷ byte ∷ []) (byte ∷ []))
-    by true = (omega arith, (above, tt))
-    by false = (above, tt)
+visible_escape byte above = search rules

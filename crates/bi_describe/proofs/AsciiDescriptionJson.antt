@@ -1,6 +1,5 @@
-use Rattle.std.proofs.Common.{◌≡◌, ℕ, Bool, true, false, cond, List, [], ◌∷◌, ◌++◌, None, Some, map, codes, refl}
+use Rattle.std.proofs.Common.{◌≡◌, ℕ, true, List, [], ◌∷◌, ◌++◌, map, codes, refl, rules}
 use Rattle.std.specs.Prelude.{IsAscii}
-use Rattle.std.specs.FinMap.{entries}
 use Rattle.std.specs.Fmt.{decimal}
 use Rattle.std.specs.List.{AllByRecursion, list_all}
 use Rattle.std.proofs.lemmas.Bool.{and_parts}
@@ -16,18 +15,18 @@ use Rattle.bi_legacy.specs.Meaning.{LegacyImage}
 use Rattle.bi_norm.specs.Meaning.{OfLegacy, OfFit}
 use Rattle.bi_common.specs.declared.format.Format.{Format}
 use Rattle.bi_common.specs.declared.format.Format.TheVariants.{Lines, Json}
-use Rattle.bi_common.specs.Json.{JsonText, Member, json_array, json_null, json_object, json_string}
+use Rattle.bi_common.specs.Json.{JsonText, Member, json_array, json_object, json_string}
 use Rattle.bi_common.specs.CommonLines.{header_members, name_member, reservation_object}
 use Rattle.bi_common.specs.ValueTexts.{are_quotable_texts, hexadecimal_digits, is_quotable}
 use Rattle.bi_common.proofs.AsciiJson.{IsAsciiMember, array_ascii, line_ascii, name_ascii, object_ascii, string_ascii}
 use Rattle.bi_common.proofs.AsciiJson.{header_ascii, reservations_ascii}
 use Rattle.bi_common.proofs.AsciiTexts.{HasAscii, all_in_quotes, by_test, bytes_digits, decimal_shown, is_ascii}
 use Rattle.bi_describe.specs.Describing.{description_text}
-use Rattle.bi_describe.specs.DescriptionJson.{digest_object, fit_object, legacy_object, node_members, node_objects, payload_members}
+use Rattle.bi_describe.specs.DescriptionJson.{digest_object, fit_object, legacy_object, node_members, node_objects}
 use Rattle.bi_describe.specs.DescriptionJson.{property_object, value_member}
-use Rattle.bi_describe.specs.Descriptions.{PayloadDigest, DescribedNode, NodePayload, NotAnImage, OfImage, digest_of_payload, plain_node}
+use Rattle.bi_describe.specs.Descriptions.{PayloadDigest, DescribedNode, digest_of_payload, plain_node}
 use Rattle.bi_describe.specs.Descriptions.{described_nodes}
-use Rattle.bi_describe.proofs.AsciiDescriptions.{AreByteNodes, HasByteDigest, IsByteDigest, IsByteNode, all_nodes, digest_is_bytes}
+use Rattle.bi_describe.proofs.AsciiDescriptions.{AreByteNodes, IsByteDigest, IsByteNode, all_nodes, digest_is_bytes}
 use Rattle.bi_describe.proofs.AsciiDescriptions.{fit_description_shown, legacy_description_shown}
 
 -- Proves that a description in JSON is ASCII: its strings are names, values and digests as they are printed.
@@ -59,13 +58,7 @@ strings_ascii value is =
     (all_in_quotes (listed_names value) (and_parts _ (list_all is_quotable (listed_names value)) is).1)
 
 value_ascii : (value : List ℕ) → AreBytes value → IsAsciiMember (value_member value)
-value_ascii value bytes = by (are_quotable_texts value) refl
-  where
-    by : (b : Bool) → are_quotable_texts value ≡ b →
-        IsAsciiMember (cond b (codes "strings", json_array (map json_string (listed_names value)))
-        (codes "hex", json_string (hexadecimal_digits value)))
-    by true is = (by_test (codes "strings") refl, strings_ascii value is)
-    by false is = (by_test (codes "hex") refl, string_ascii (hexadecimal_digits value) (bytes_digits value bytes))
+value_ascii value bytes = search (rules, by_test, strings_ascii, string_ascii, bytes_digits)
 
 properties_ascii : (properties : List Property) → AreBlobProperties properties → AllByRecursion HasAscii (map property_object properties)
 properties_ascii [] are = tt
@@ -78,24 +71,7 @@ properties_ascii (property ∷ later) are = (
 -- The members of a node.
 members_ascii : (own : DescribedNode) (children : List JsonText) → IsByteNode own → AllByRecursion HasAscii children →
     AllByRecursion IsAsciiMember (node_members own children)
-members_ascii own children bytes are = by own.payload bytes.1
-  where
-    properties : List JsonText
-    properties = map property_object (entries own.properties)
-
-    lasts : List Member
-    lasts = (codes "properties", json_array properties) ∷ (codes "children", json_array children) ∷ []
-
-    last : AllByRecursion IsAsciiMember lasts
-    last = (
-      (by_test (codes "properties") refl, array_ascii properties (properties_ascii (entries own.properties) bytes.0)),
-      ((by_test (codes "children") refl, array_ascii children are), tt),
-    )
-
-    by : (payload : NodePayload) → HasByteDigest payload → AllByRecursion IsAsciiMember (payload_members payload ++ lasts)
-    by NotAnImage digest = last
-    by (OfImage None) digest = ((by_test (codes "payload") refl, by_test json_null refl), last)
-    by (OfImage (Some made)) digest = ((by_test (codes "payload") refl, digest_ascii made digest), last)
+members_ascii own children bytes are = search (rules, by_test, array_ascii, properties_ascii, digest_ascii)
 
 -- Nodes.
 nodes_ascii : (nodes : Nodes DescribedNode) → AreByteNodes nodes → AllByRecursion HasAscii (node_objects nodes)
@@ -138,11 +114,7 @@ tree_ascii tree is =
 
 -- The description of a legacy image whose name is bytes is ASCII, in any form.
 pub legacy_is_ascii : (format : Format) (image : LegacyImage) → AreBytes image.name → IsAscii (description_text format (OfLegacy image))
-legacy_is_ascii format image bytes = is_ascii (description_text format (OfLegacy image)) (by format)
-  where
-    by : (form : Format) → HasAscii (description_text form (OfLegacy image))
-    by Lines = legacy_description_shown image bytes
-    by Json = line_ascii (legacy_object image) (legacy_ascii image bytes)
+legacy_is_ascii format image bytes = search (rules, is_ascii, legacy_description_shown, line_ascii, legacy_ascii)
 
 -- So is that of a flattened image tree that was read.
 pub fit_is_ascii : (format : Format) (content : FitModel) → IsHeld content → IsAscii (description_text format (OfFit (tree_of content)))

@@ -1,4 +1,4 @@
-use Rattle.std.proofs.Common.{ℕ, ◌+◌, Bool, true, false, cond, List, [], ◌∷◌, ◌++◌, map, codes, bytes_eq, refl, Option, Some, None}
+use Rattle.std.proofs.Common.{ℕ, ◌+◌, Bool, true, false, cond, List, [], ◌∷◌, ◌++◌, map, codes, bytes_eq, refl, Option, Some, None, rules}
 use Rattle.std.specs.Prelude.{⊤}
 use Rattle.std.specs.Option.{option_map}
 use Rattle.std.specs.FinMap.{entries}
@@ -14,7 +14,6 @@ use Rattle.bi_fit.proofs.TextLaws.{file_means_image_tree}
 use Rattle.bi_fit.proofs.TreeContents.{AreBlobProperties, good-entries}
 use Rattle.bi_hash.specs.declared.algo.Algo.TheVariants.{Sha256}
 use Rattle.bi_hash.proofs.DigestBytes.{AreBytes-digest_of}
-use Rattle.bi_legacy.specs.Codes.{os_names, arch_names, type_names, compression_names}
 use Rattle.bi_legacy.specs.Meaning.{LegacyImage}
 use Rattle.bi_legacy.proofs.ImageOfFile.{image_of_file}
 use Rattle.bi_norm.specs.Meaning.{Meaning, OfLegacy, OfFit, Means}
@@ -49,25 +48,10 @@ parts_shown index (part ∷ later) = (
 )
 
 fields_shown : (image : LegacyImage) → AreBytes image.name → AreAsciiLines (field_words image)
-fields_shown image bytes = (
-  (by_test (codes "name") refl, (name_shown image.name bytes, tt)),
-  (
-    (by_test (codes "time") refl, (decimal_shown image.time, tt)),
-    ((by_test (codes "load") refl, (address image.load, tt)), ((by_test (codes "entry") refl, (address image.entry, tt)), tt)),
-  ),
-)
+fields_shown image bytes = search (rules, by_test, name_shown, decimal_shown, address)
 
 codes_shown : (image : LegacyImage) → AreAsciiLines (code_words image)
-codes_shown image = (
-  (by_test (codes "os") refl, (code_named os_names refl image.os, tt)),
-  (
-    (by_test (codes "arch") refl, (code_named arch_names refl image.arch, tt)),
-    (
-      (by_test (codes "type") refl, (code_named type_names refl image.image_type, tt)),
-      ((by_test (codes "compression") refl, (code_named compression_names refl image.compression, tt)), tt),
-    ),
-  ),
-)
+codes_shown image = search (rules, by_test, code_named)
 
 legacy_shown : (image : LegacyImage) → AreBytes image.name → AreAsciiLines (legacy_lines image)
 legacy_shown image bytes = (
@@ -168,10 +152,7 @@ tree_shown tree is =
 -- The lines of a flattened image tree.
 reservations_shown : (reservations : List Reservation) → AreAsciiLines (map reservation_words reservations)
 reservations_shown [] = tt
-reservations_shown (reservation ∷ later) = (
-  (by_test (codes "reservation") refl, (address_64 reservation.address, (address_64 reservation.size, tt))),
-  reservations_shown later,
-)
+reservations_shown (reservation ∷ later) = search (rules, by_test, address_64, reservations_shown later)
 
 fit_shown : (tree : ImageTree) → IsImageTree tree → AreAsciiLines (fit_lines tree)
 fit_shown tree is = (

@@ -1,16 +1,16 @@
-use Rattle.std.proofs.Common.{◌≡◌, ℕ, zero, suc, ◌<◌, ◌==◌, ◌||◌, Bool, true, false, cond, List, [], ◌∷◌, map, take, codes, refl, sym}
+use Rattle.std.proofs.Common.{◌≡◌, ℕ, zero, suc, ◌<◌, ◌==◌, ◌||◌, Bool, true, false, List, [], ◌∷◌, map, take, codes, refl, sym, rules}
 use Rattle.std.proofs.Common.{subst, arith}
 use Rattle.std.specs.Prelude.{IsAscii, if◌then◌else◌}
-use Rattle.std.specs.List.{AllByRecursion, join_with_byte, list_all, onto_first}
+use Rattle.std.specs.List.{AllByRecursion, join_with_byte, list_all}
 use Rattle.std.proofs.lemmas.Bool.{and_parts}
 use Rattle.std.proofs.lemmas.Bool.Decides.{nat_tests}
 use Rattle.bi_base.specs.Limits.{Limits}
 use Rattle.bi_base.proofs.ListMembers.{each-map, each-weaker}
 use Rattle.bi_common.specs.declared.format.Format.TheVariants.{Lines}
 use Rattle.bi_common.specs.Shown.{Words}
-use Rattle.bi_common.specs.Json.{json_array, json_bool, json_line, json_string}
+use Rattle.bi_common.specs.Json.{json_array, json_bool, json_line}
 use Rattle.bi_common.proofs.AsciiJson.{array_ascii, line_ascii, object_ascii, string_ascii}
-use Rattle.bi_common.proofs.AsciiTexts.{AreAsciiLines, AreAsciiWords, HasAscii, by_test, is_ascii, words_ascii}
+use Rattle.bi_common.proofs.AsciiTexts.{AreAsciiLines, HasAscii, by_test, is_ascii, words_ascii}
 use Rattle.bi_describe.specs.Comparing.{IsComparison, IsTextOfDifferences, AreTheSame, AreDifferent}
 use Rattle.bi_describe.specs.Descriptions.{description_lines}
 use Rattle.bi_describe.specs.ComparisonJson.{comparison_object, difference_object, lines_of_text, pieces_of_text, signed_object}
@@ -25,9 +25,7 @@ AreAscii lines = AllByRecursion HasAscii lines
 
 -- The lines of a description.
 pub texts_ascii : (lines : List Words) → AreAsciiLines lines → AreAscii (map (λ words. join_with_byte 32 words) lines)
-texts_ascii lines are =
-    each-map HasAscii (λ words. join_with_byte 32 words) lines
-    (each-weaker AreAsciiWords (λ words. HasAscii (join_with_byte 32 words)) (words_ascii 32 (omega arith)) lines are)
+texts_ascii lines are = search (rules, each-map, each-weaker, words_ascii)
 
 -- Some known lines are ASCII.
 known : (text : List ℕ) → list_all is_line_byte text ≡ true → HasAscii text
@@ -60,12 +58,7 @@ has_ascii (byte ∷ later) is = (is 0, has_ascii later (λ index. is (suc index)
 
 pieces_ascii : (text : List ℕ) → HasAscii text → AreAscii (pieces_of_text text)
 pieces_ascii [] are = (tt, tt)
-pieces_ascii (byte ∷ later) are = by (byte == 10) (pieces_of_text later) (pieces_ascii later are.1)
-  where
-    by : (b : Bool) (pieces : List (List ℕ)) → AreAscii pieces → AreAscii (cond b ([] ∷ pieces) (onto_first byte pieces))
-    by true pieces rest = (tt, rest)
-    by false [] rest = ((are.0, tt), tt)
-    by false (piece ∷ pieces) rest = ((are.0, rest.0), rest.1)
+pieces_ascii (byte ∷ later) are = search (rules, pieces_ascii later are.1)
 
 first_lines_ascii : (count : ℕ) (lines : List (List ℕ)) → AreAscii lines → AreAscii (take count lines)
 first_lines_ascii zero lines are = tt
@@ -74,9 +67,7 @@ first_lines_ascii (suc count) (line ∷ later) are = (are.0, first_lines_ascii c
 
 -- The object of a line.
 signed_object_ascii : (sign line : List ℕ) → HasAscii sign → HasAscii line → HasAscii (signed_object sign line)
-signed_object_ascii sign line first are =
-    object_ascii ((codes "sign", json_string sign) ∷ (codes "line", json_string line) ∷ [])
-    ((by_test (codes "sign") refl, string_ascii sign first), ((by_test (codes "line") refl, string_ascii line are), tt))
+signed_object_ascii sign line first are = search (rules, object_ascii, by_test, string_ascii)
 
 difference_ascii : (line : List ℕ) → HasAscii line → HasAscii (difference_object line)
 difference_ascii [] are = signed_object_ascii [] [] tt tt

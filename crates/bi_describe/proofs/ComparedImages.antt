@@ -1,4 +1,4 @@
-use Rattle.std.proofs.Common.{◌≡◌, ◌≢◌, ◌↔◌, ◌⊎◌, ◌∙◌, ℕ, List, [], ◌∷◌, Bool, true, false, IsTrue, bytes_eq}
+use Rattle.std.proofs.Common.{◌≡◌, ◌≢◌, ◌↔◌, ◌⊎◌, ◌∙◌, ℕ, List, [], ◌∷◌, Bool, true, false, IsTrue, bytes_eq, rules}
 use Rattle.std.proofs.Common.{if◌then◌else◌, inl, inr, refl, sym, ap, subst}
 use Rattle.bi_base.specs.declared.fault.Error.{Error}
 use Rattle.bi_base.specs.declared.fault.Error.TheVariants.{Refused, OutOfMemory as NoMemory, ReadFailed, WriteFailed}
@@ -16,7 +16,6 @@ use Rattle.bi_describe.specs.declared.compare.CompareError.TheVariants.{OutOfMem
 use Rattle.bi_describe.specs.ComparisonJson.{comparison_object}
 use Rattle.bi_describe.specs.Comparing.{AreTheSame, AreDifferent, IsComparison, IsReadingError, IsDescribingError, IsComparisonError}
 use Rattle.bi_describe.specs.Comparing.{comparison, other_order_line, other_payloads_line}
-use Rattle.bi_describe.specs.Descriptions.{description, description_texts}
 use Rattle.bi_describe.specs.Differences.{differences}
 use Rattle.bi_describe.specs.Describing.{CanBeDescribed}
 use Rattle.bi_norm.proofs.Comparisons.{opened_means}
@@ -100,12 +99,8 @@ reason_is_not_empty false = λ empty. cc
 comparison_is_not_empty : (one other : Meaning) → comparison one other ≢ []
 comparison_is_not_empty (OfLegacy one) (OfFit other) = λ empty. cc
 comparison_is_not_empty (OfFit one) (OfLegacy other) = λ empty. cc
-comparison_is_not_empty (OfLegacy one) (OfLegacy other) =
-    not_empty (differences (description_texts (OfLegacy one)) (description_texts (OfLegacy other))) _
-    (reason_is_not_empty (bytes_eq (description (OfLegacy one)) (description (OfLegacy other))))
-comparison_is_not_empty (OfFit one) (OfFit other) =
-    not_empty (differences (description_texts (OfFit one)) (description_texts (OfFit other))) _
-    (reason_is_not_empty (bytes_eq (description (OfFit one)) (description (OfFit other))))
+comparison_is_not_empty (OfLegacy one) (OfLegacy other) = search (rules, not_empty, reason_is_not_empty)
+comparison_is_not_empty (OfFit one) (OfFit other) = search (rules, not_empty, reason_is_not_empty)
 
 -- Two files that mean the same have no differences.
 pub compared_same : (limits : Limits) (one other : List ℕ) (image other_image : BootImage) (same : Bool) (text : List ℕ) →

@@ -1,5 +1,5 @@
 use Rattle.std.proofs.Common.{◌≡◌, ℕ, ◌==◌, Bool, true, false, List, [], ◌∷◌, length, refl, sym, ap, ◌∙◌, subst, arith, Result, Ok, Err}
-use Rattle.std.proofs.Common.{IfOk, String, Global, string_bytes}
+use Rattle.std.proofs.Common.{IfOk, String, Global, string_bytes, rules}
 use Rattle.std.specs.Prelude.{bytes_eq, if◌then◌else◌}
 use Rattle.std.specs.Str.Lines.{lines}
 use Rattle.std.proofs.lemmas.Bool.{ne_eqb}
@@ -82,10 +82,7 @@ both_legacy image other parsed other_parsed is other_is =
 
 pub both_fit : (image other : BootImage) (content other_content : FitModel) → image ≡ Fit content → other ≡ Fit other_content
     → differences_or_reason (meaning_of image) (meaning_of other) ≡ comparison (meaning_of image) (meaning_of other)
-both_fit image other content other_content is other_is =
-    subst (λ i. differences_or_reason (meaning_of i) (meaning_of other) ≡ comparison (meaning_of i) (meaning_of other)) (sym is)
-    (subst (λ o. differences_or_reason (meaning_of (Fit content)) (meaning_of o)
-    ≡ comparison (meaning_of (Fit content)) (meaning_of o)) (sym other_is) refl)
+both_fit image other content other_content is other_is = search rules
 
 pub result_of_images : {E : Type 0} (one other : List ℕ) (image other_image : BootImage) (result : Result (String Global) E) →
     differences_or_reason (meaning_of image) (meaning_of other_image) ≡ comparison (meaning_of image) (meaning_of other_image)

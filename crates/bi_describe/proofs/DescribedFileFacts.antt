@@ -1,5 +1,5 @@
 use Rattle.std.proofs.Common.{◌≡◌, ◌++◌, ◌↔◌, ◌≤◌, ◌<◌, ℕ, Bool, true, false, IsTrue, List, [], ◌∷◌, codes, length, None, refl, sym, ap, subst}
-use Rattle.std.proofs.Common.{◌∙◌}
+use Rattle.std.proofs.Common.{◌∙◌, rules}
 use Rattle.std.proofs.Common.{lit≤, true≢false, arith}
 use Rattle.std.specs.Fmt.{digits}
 use Rattle.bi_base.specs.Limits.{Limits, widest}
@@ -55,10 +55,7 @@ description_of tree texts are = lines_of_texts (description_lines (OfFit tree)) 
 -- They can be described.
 can_be : (tree : ImageTree) (texts : List (List ℕ)) → description_texts (OfFit tree) ≡ texts → length (lines texts) ≤ 0x7fffffff →
     ¬ (0x7fffffff < payloads_length tree.payloads) → CanBeDescribed Lines widest (OfFit tree)
-can_be tree texts are short few = record {
-  payloads = few;
-  short = subst (λ text. length text ≤ 0x7fffffff) (sym (description_of tree texts are)) short;
-}
+can_be tree texts are short few = search (rules, description_of)
 
 -- How many images a meaning has.
 abbrev images_in : Meaning → ℕ
@@ -75,34 +72,17 @@ equal_values false true P Q there back is also = is.1 (back (also.0 refl))
 one_value : (format other_format : Format) (limits : Limits) (file other_file : List ℕ) (value other : Bool) (text other_text : List ℕ) →
     IsComparison format limits file other_file value text → IsComparison other_format limits file other_file other other_text →
     value ≡ other
-one_value format other_format limits file other_file value other text other_text is also =
-    let first : also.compared.meaning ≡ is.compared.meaning = is.compared.means.only also.compared.meaning also.compared.means.means in
-    let second : also.compared.other_meaning ≡ is.compared.other_meaning =
-    is.compared.other_means.only also.compared.other_meaning also.compared.other_means.means in
-    equal_values value other (is.compared.meaning ≡ is.compared.other_meaning) (also.compared.meaning ≡ also.compared.other_meaning)
-    (λ same. first ∙ same ∙ sym second) (λ same. sym first ∙ same ∙ second) is.compared.is_same also.compared.is_same
+one_value format other_format limits file other_file value other text other_text is also = search (rules, equal_values)
 
 module _ (one_legacy : OneLegacyMeaning) where
   only_smallest : MeansOnly widest smallest_text (OfFit smallest_tree)
-  only_smallest = record {
-    means = smallest_means;
-    only = λ other means. one_file_meaning one_legacy widest widest smallest_text other (OfFit smallest_tree) means smallest_means;
-  }
+  only_smallest = search (rules, smallest_means, one_file_meaning)
 
   only_bare : MeansOnly widest bare_file (OfFit bare_tree)
-  only_bare = record {
-    means = bare_means;
-    only = λ other means. one_file_meaning one_legacy widest widest bare_file other (OfFit bare_tree) means bare_means;
-  }
+  only_bare = search (rules, bare_means, one_file_meaning)
 
   are_same : AreCompared widest smallest_text smallest_text true
-  are_same = record {
-    meaning = OfFit smallest_tree;
-    other_meaning = OfFit smallest_tree;
-    means = only_smallest;
-    other_means = only_smallest;
-    is_same = (λ _. refl, λ _. refl);
-  }
+  are_same = search (rules, only_smallest)
 
   abbrev are_different : AreCompared widest smallest_text bare_file false
   are_different = record {

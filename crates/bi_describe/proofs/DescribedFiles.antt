@@ -1,4 +1,4 @@
-use Rattle.std.proofs.Common.{◌≡◌, ℕ, List, Result, Ok, Err, IfOk, OnOk, IfErr, inl, inr}
+use Rattle.std.proofs.Common.{◌≡◌, ℕ, List, Result, Ok, Err, IfOk, OnOk, IfErr, inl, inr, rules}
 use Rattle.bi_base.specs.Commands.{Appended, AppendFailed, WasRefused, SinkFailed}
 use Rattle.bi_base.specs.declared.fault.Error.{Error}
 use Rattle.bi_base.specs.declared.fault.Error.TheVariants.{Refused, OutOfMemory, ReadFailed, WriteFailed}
@@ -16,12 +16,7 @@ use Rattle.bi_norm.proofs.Comparisons.{opened_means}
 pub description_of_file : (format : Format) (limits : Limits) (file : List ℕ) (image : BootImage) (text : List ℕ) →
     IsReadBootImage limits file image
     → IsDescriptionOf format limits (meaning_of image) text → IsDescription format limits file text
-description_of_file format limits file image text opened is = record {
-  meaning = meaning_of image;
-  means = opened_means limits file image opened;
-  within = is.within;
-  is_text = is.is_text;
-}
+description_of_file format limits file image text opened is = search (rules, opened_means)
 
 -- The same of a call that returns the description.
 pub described_of_result : {T : Type 0} (bytes_of : T → List ℕ) (format : Format) (limits : Limits) (file : List ℕ) (image : BootImage)

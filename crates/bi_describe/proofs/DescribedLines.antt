@@ -1,7 +1,7 @@
-use Rattle.std.proofs.Common.{◌≡◌, ◌-◌, ◌==◌, ℕ, suc, zero, Bool, true, false, List, [], ◌∷◌, length, map, get_or, refl, ap, ◌∙◌, arith}
-use Rattle.std.proofs.Common.{cond, append_assoc}
+use Rattle.std.proofs.Common.{◌≡◌, ◌-◌, ◌==◌, ℕ, suc, zero, false, List, [], ◌∷◌, length, map, get_or, refl, ap, ◌∙◌, arith, rules}
+use Rattle.std.proofs.Common.{append_assoc}
 use Rattle.std.specs.Prelude.{flat_map}
-use Rattle.std.specs.List.{AllByRecursion, slice_split, onto_first, join_with_byte}
+use Rattle.std.specs.List.{AllByRecursion, slice_split, join_with_byte}
 use Rattle.std.specs.Str.Lines.{lines, lines_of_parts, strip_carriage_return}
 use Rattle.std.proofs.lemmas.Bool.{ne_eqb}
 use Rattle.std.proofs.lemmas.List.Elements.{All-from_recursion}
@@ -30,14 +30,7 @@ kept_whole bytes visible = rw (not_return bytes (length bytes - 1) visible) refl
 lines_of_more : (x : List ℕ) (bytes : List ℕ) →
     lines_of_parts (x ∷ slice_split (λ b. b == 10) bytes) ≡ strip_carriage_return x ∷ lines_of_parts (slice_split (λ b. b == 10) bytes)
 lines_of_more x [] = refl
-lines_of_more x (byte ∷ bytes) = of_cond (byte == 10) (slice_split (λ b. b == 10) bytes)
-  where
-    of_cond : (b : Bool) (parts : List (List ℕ)) →
-        lines_of_parts (x ∷ cond b ([] ∷ parts) (onto_first byte parts)) ≡
-        strip_carriage_return x ∷ lines_of_parts (cond b ([] ∷ parts) (onto_first byte parts))
-    of_cond true parts = refl
-    of_cond false [] = refl
-    of_cond false (part ∷ parts) = refl
+lines_of_more x (byte ∷ bytes) = search rules
 
 lines_of_lines : (more : List Words) → ArePrintableLines more → lines (flat_map line more) ≡ map (λ words. join_with_byte 32 words) more
 lines_of_lines [] visible = refl

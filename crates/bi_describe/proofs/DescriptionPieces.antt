@@ -1,4 +1,4 @@
-use Rattle.std.proofs.Common.{◌≡◌, ℕ, ◌+◌, codes, ◌<◌, get_or, drop, List, ◌∷◌, ◌++◌, flat_map, length, map, sym, ap, ◌∙◌, append_assoc}
+use Rattle.std.proofs.Common.{◌≡◌, ℕ, ◌+◌, codes, ◌<◌, get_or, drop, List, ◌∷◌, ◌++◌, flat_map, length, map, ap, append_assoc, rules}
 use Rattle.std.proofs.lemmas.Grind.{flat_map-append}
 use Rattle.std.specs.Fmt.{decimal}
 use Rattle.std.proofs.lemmas.List.{drop_more}
@@ -17,10 +17,7 @@ first_of_three first second third = flat_map-append line first (second ++ third)
 -- and all of them.
 pub three_texts : (first second third : List Words) →
     flat_map line (first ++ (second ++ third)) ≡ (flat_map line first ++ flat_map line second) ++ flat_map line third
-three_texts first second third =
-    flat_map-append line first (second ++ third)
-    ∙ ap (λ later. flat_map line first ++ later) (flat_map-append line second third)
-    ∙ sym (append_assoc (flat_map line first) (flat_map line second) (flat_map line third))
+three_texts first second third = search (rules, flat_map-append, append_assoc)
 
 -- The digests of the parts from one on are that of this part and those of the later ones.
 pub parts_from : (parts : List made.PayloadDigest) (index : ℕ) (d : made.PayloadDigest) → index < length parts

@@ -1,4 +1,4 @@
-use Rattle.std.proofs.Common.{◌≡◌, ℕ, ◌==◌, ◌&&◌, ◌||◌, not, Bool, true, false, cond, List, [], ◌∷◌, ◌++◌, flat_map, codes}
+use Rattle.std.proofs.Common.{◌≡◌, ℕ, ◌==◌, ◌||◌, Bool, true, false, List, [], ◌∷◌, ◌++◌, flat_map, codes, rules}
 use Rattle.std.proofs.Common.{bytes_eq}
 use Rattle.std.proofs.Common.{refl, Option, Some, None}
 use Rattle.std.specs.Prelude.{IfSome, if◌then◌else◌}
@@ -8,7 +8,7 @@ use Rattle.bi_norm.specs.Meaning.{Meaning, OfLegacy, OfFit}
 use Rattle.bi_common.specs.ValueTexts.{is_printable}
 use Rattle.bi_describe.specs.Comparing.{comparison, differences_or_reason, other_order_line, other_payloads_line}
 use Rattle.bi_describe.specs.Descriptions.{description, description_texts}
-use Rattle.bi_describe.specs.Differences.{added_line, counterpart, differences, has_line, is_counterpart, key_of_line, lines_for_first}
+use Rattle.bi_describe.specs.Differences.{added_line, counterpart, differences, has_line, is_counterpart, lines_for_first}
 use Rattle.bi_describe.specs.Differences.{lines_for_second, signed_line}
 
 -- If each byte of two descriptions, each sign and the newline have a property, each byte of the differences has it.
@@ -38,21 +38,10 @@ module _ (P : ℕ → Type 0) (known : (text : List ℕ) → list_all is_line_by
   -- The bytes of a line that is found have it.
   found_line : (test : List ℕ → Bool) (lines : List (List ℕ)) → Are lines → IfSome (find test lines) (AllByRecursion P)
   found_line test [] are = tt
-  found_line test (line ∷ later) are = by (test line) (found_line test later are.1)
-    where
-      by : (b : Bool) → IfSome (find test later) (AllByRecursion P) → IfSome (cond b (Some line) (find test later)) (AllByRecursion P)
-      by true rest = are.0
-      by false rest = rest
+  found_line test (line ∷ later) are = search (rules, found_line test later are.1)
 
   counterpart_line : (one other : List (List ℕ)) (line : List ℕ) → Are other → IfSome (counterpart one other line) (AllByRecursion P)
-  counterpart_line one other line are =
-      by (has_line other line) _
-      (found_line (λ found. bytes_eq (key_of_line found) (key_of_line line) && not (has_line one found)) other are)
-    where
-      by : (b : Bool) (found : Option (List ℕ)) → IfSome found (AllByRecursion P) →
-          IfSome (if b then None else found) (AllByRecursion P)
-      by true found rest = tt
-      by false found rest = rest
+  counterpart_line one other line are = search (rules, found_line)
 
   -- The bytes that are written for a line of either list have it.
   first_lines : (one other : List (List ℕ)) → Are other → (line : List ℕ) → AllByRecursion P line →
@@ -74,10 +63,7 @@ module _ (P : ℕ → Type 0) (known : (text : List ℕ) → list_all is_line_by
 
   -- The bytes of the differences of two lists have it.
   of_lines : (one other : List (List ℕ)) → Are one → Are other → AllByRecursion P (differences one other)
-  of_lines one other are others =
-      each-append P (flat_map (lines_for_first one other) one) (flat_map (lines_for_second one other) other)
-      (each (AllByRecursion P) (lines_for_first one other) (first_lines one other others) one are)
-      (each (AllByRecursion P) (lines_for_second one other) (second_lines one other) other others)
+  of_lines one other are others = search (rules, each-append, each, first_lines, second_lines)
 
   reason : (b : Bool) → AllByRecursion P (if b then other_payloads_line else other_order_line)
   reason true = known other_payloads_line refl

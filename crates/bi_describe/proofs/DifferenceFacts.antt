@@ -1,4 +1,4 @@
-use Rattle.std.proofs.Common.{◌≡◌, ℕ, List, [], ◌∷◌, ◌++◌, codes, bytes_eq, flat_map, map, append_assoc, refl, ap, ◌∙◌, nat_cmp}
+use Rattle.std.proofs.Common.{◌≡◌, ℕ, List, [], ◌∷◌, ◌++◌, codes, bytes_eq, flat_map, map, append_assoc, refl, ap, ◌∙◌, nat_cmp, rules}
 use Rattle.std.specs.Prelude.{if◌then◌else◌}
 use Rattle.std.specs.Cmp.Lexicographic.{slice_cmp}
 use Rattle.std.specs.Fmt.{digits}
@@ -19,26 +19,12 @@ use Rattle.bi_describe.specs.KnownDifferences.{images_exchanged, DifferencesAreK
 -- Small lists of lines have known differences, and small boot images have known comparisons.
 
 pub differences_are_known : DifferencesAreKnown
-differences_are_known = record {
-  same = refl;
-  other_order = refl;
-  properties = refl;
-  payloads = refl;
-  parts = refl;
-  nodes = refl;
-  reservations = refl;
-  line_twice = refl;
-  new_line_twice = refl;
-  other_number = refl;
-  fields = refl;
-}
+differences_are_known = search rules
 
 -- A description is the texts of its lines, each with its newline.
 pub lines_of_texts : (words : List Words) → flat_map line words ≡ lines (map (λ each. join_with_byte 32 each) words)
 lines_of_texts [] = refl
-lines_of_texts (each ∷ later) =
-    append_assoc (join_with_byte 32 each) (10 ∷ []) (flat_map line later)
-    ∙ ap (λ l. join_with_byte 32 each ++ 10 ∷ l) (lines_of_texts later)
+lines_of_texts (each ∷ later) = search (rules, append_assoc, lines_of_texts later)
 
 -- What differs between two descriptions, by these texts and as these bytes.
 abbrev written : (texts others : List (List ℕ)) → (one other : List ℕ) → List ℕ

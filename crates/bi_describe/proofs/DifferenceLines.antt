@@ -1,5 +1,5 @@
-use Rattle.std.proofs.Common.{◌≡◌, ◌≢◌, ℕ, suc, ◌+◌, ◌-◌, ◌<◌, ◌==◌, Bool, false, List, [], ◌∷◌, ◌++◌, length, take, get_or, map, codes}
-use Rattle.std.proofs.Common.{arith, refl, sym, ap, ◌∙◌}
+use Rattle.std.proofs.Common.{◌≡◌, ◌≢◌, ℕ, ◌+◌, ◌-◌, ◌<◌, ◌==◌, Bool, false, List, [], ◌∷◌, ◌++◌, length, take, get_or, map, codes, rules}
+use Rattle.std.proofs.Common.{refl, sym, ap, ◌∙◌}
 use Rattle.std.specs.List.{join_with_byte, slice_split}
 use Rattle.std.proofs.lemmas.Bool.{ne_eqb}
 use Rattle.std.proofs.lemmas.List.{append_assoc}
@@ -14,9 +14,7 @@ use Rattle.bi_describe.specs.ComparisonJson.{comparison_object, difference_objec
 -- A piece before others.
 all_but_last : (first : List ℕ) (later : List (List ℕ)) (count : ℕ) → length later ≡ count + 1 →
     take (length (first ∷ later) - 1) (first ∷ later) ≡ first ∷ take (length later - 1) later
-all_but_last first later count is =
-    let more : length (first ∷ later) - 1 ≡ suc (length later - 1) = omega (arith, is) in
-    ap (λ count. take count (first ∷ later)) more
+all_but_last first later count is = search rules
 
 -- A text without a newline has no lines.
 pub no_line_left : (text : List ℕ) → ((index : ℕ) → index < length text → get_or text index 0 ≢ 10) → lines_of_text text ≡ []

@@ -1,21 +1,20 @@
-use Rattle.std.proofs.Common.{◌≡◌, ℕ, Bool, true, false, List, [], ◌∷◌, ◌++◌, Option, option_map, map, bytes_eq, refl, sym, ap, ◌∙◌}
+use Rattle.std.proofs.Common.{◌≡◌, ℕ, true, false, List, [], ◌∷◌, ◌++◌, Option, map, bytes_eq, refl, sym, ap, ◌∙◌, rules}
 use Rattle.std.proofs.Common.{append_assoc}
 use Rattle.std.proofs.Common.{subst}
-use Rattle.std.specs.Prelude.{if◌then◌else◌}
 use Rattle.std.specs.FinMap.{from_entries}
 use Rattle.std.proofs.lemmas.List.{map-append}
 use Rattle.std.proofs.lemmas.Slice.Eq.{bytes_eq-Decides}
 use Rattle.bi_blob.specs.Tree.{Nodes, none, node, PropertyMap, FileNode, with_each, properties_of, names, IsNew}
 use Rattle.bi_blob.specs.Lookups.{Sibling}
 use Rattle.bi_blob.proofs.Blobs.Lookups.{names-with_each}
-use Rattle.bi_fit.specs.ImageTree.{with_children_of, without_payload, without_payloads}
+use Rattle.bi_fit.specs.ImageTree.{with_children_of, without_payloads}
 use Rattle.bi_fit.specs.NormalNodes.{alone, nodes_by_name, properties_by_name}
 use Rattle.bi_fit.specs.Names.{images_name}
 use Rattle.bi_describe.specs.declared.describe.entries.Entry.{Entry}
 use Rattle.bi_describe.specs.declared.describe.entries.Entry.TheVariants as made
-use Rattle.bi_describe.specs.Descriptions.{DescribedNode, OfImage, digest_of_payload, plain_node, described_children, described_images}
+use Rattle.bi_describe.specs.Descriptions.{DescribedNode, plain_node, described_children, described_images}
 use Rattle.bi_describe.specs.Descriptions.{described_nodes}
-use Rattle.bi_describe.specs.TreeEntries.{EntryModel, NodeBegins, NodeEnds, as_entry, own_entries, node_entries}
+use Rattle.bi_describe.specs.TreeEntries.{EntryModel, NodeEnds, as_entry, node_entries}
 use Rattle.bi_describe.specs.MadeEntries.{plain_entries, begin_entries, image_entries}
 use Rattle.bi_describe.specs.MadeEntries.{images_entries, root_children_entries}
 
@@ -30,9 +29,7 @@ entries-push entries entry = map-append as_entry entries (entry ∷ [])
 -- The entries of a node come before those of the nodes after it.
 pub entries-first : (name : List ℕ) (own : DescribedNode) (children later : Nodes DescribedNode) →
     node_entries (node name own children later) ≡ node_entries (node name own children none) ++ node_entries later
-entries-first name own children later = ap (λ l. NodeBegins name ∷ l)
-    (sym (append_assoc (own_entries own) (node_entries children ++ (NodeEnds ∷ [])) (node_entries later)
-    ∙ ap (λ l. own_entries own ++ l) (append_assoc (node_entries children) (NodeEnds ∷ []) (node_entries later))))
+entries-first name own children later = search (rules, append_assoc)
 
 -- Entries are left to be appended, and with them there are all.
 pub appended_first : (start first later target after : List EntryModel) → start ++ (first ++ later) ≡ target → after ≡ start ++ first →
@@ -43,29 +40,18 @@ appended_first start first later target after left is =
 -- The same for nodes that are not image nodes.
 pub plain-first : (s : Sibling FileNode) →
     plain_entries (node s.name s.own s.children s.later) ≡ plain_entries (alone s) ++ plain_entries s.later
-plain-first s =
-    entries-first s.name (plain_node (properties_by_name s.own)) (with_each plain_node (nodes_by_name s.children))
-    (with_each plain_node (nodes_by_name s.later))
+plain-first s = search (rules, entries-first)
 
 -- A node is appended by some entries that begin it, those of its children, and its end.
 pub node_appended : (start begin children begun : List EntryModel) (filled ended : List Entry) → begun ≡ start ++ begin →
     map as_entry filled ≡ begun ++ children → ended ≡ filled ++ made.End ∷ [] →
     map as_entry ended ≡ start ++ (begin ++ (children ++ NodeEnds ∷ []))
-node_appended start begin children begun filled ended is_begun is_filled is_ended =
-    ap (map as_entry) is_ended
-    ∙ entries-push filled made.End
-    ∙ ap (λ l. l ++ NodeEnds ∷ []) is_filled
-    ∙ append_assoc begun children (NodeEnds ∷ [])
-    ∙ ap (λ l. l ++ (children ++ NodeEnds ∷ [])) is_begun
-    ∙ append_assoc start begin (children ++ NodeEnds ∷ [])
+node_appended start begin children begun filled ended is_begun is_filled is_ended = search (rules, entries-push, append_assoc)
 
 -- The same for image nodes with their payloads.
 pub images-first : (s : Sibling FileNode) (payload : Option (List ℕ)) (payloads : List (Option (List ℕ))) →
     images_entries (node s.name s.own s.children s.later) (payload ∷ payloads) ≡ image_entries s payload ++ images_entries s.later payloads
-images-first s payload payloads =
-    entries-first s.name
-    (record { properties = without_payload (properties_by_name s.own); payload = OfImage (option_map digest_of_payload payload) })
-    (with_each plain_node (nodes_by_name s.children)) (described_images (without_payloads (nodes_by_name s.later)) payloads)
+images-first s payload payloads = search (rules, entries-first)
 
 -- Where no payloads are left there are no entries,
 described-none : (nodes : Nodes PropertyMap) → described_images nodes [] ≡ none
@@ -83,14 +69,7 @@ images-no_nodes payloads = refl
 others_kept : (wanted : List ℕ) (change : Nodes PropertyMap → Nodes PropertyMap) (nodes : Nodes PropertyMap) → IsNew wanted (names nodes) →
     with_children_of wanted change nodes ≡ nodes
 others_kept wanted change none new = refl
-others_kept wanted change (node name own children later) new =
-    where_wanted (bytes_eq name wanted) refl (others_kept wanted change later new.1)
-  where
-    where_wanted : (b : Bool) → bytes_eq name wanted ≡ b → with_children_of wanted change later ≡ later →
-        (if b then node name own (change children) later else node name own children (with_children_of wanted change later))
-        ≡ node name own children later
-    where_wanted true is rest = absurd (new.0 ((bytes_eq-Decides name wanted).0 is))
-    where_wanted false is rest = ap (λ nodes. node name own children nodes) rest
+others_kept wanted change (node name own children later) new = search (rules, bytes_eq-Decides, others_kept wanted change later new.1)
 
 -- The same for children of the root, of which no two have one name: one of the name `images`,
 pub root-images : (s : Sibling FileNode) (payloads : List (Option (List ℕ))) → bytes_eq s.name images_name ≡ true →

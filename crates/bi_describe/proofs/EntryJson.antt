@@ -1,5 +1,5 @@
 use Rattle.std.proofs.Common.{◌≡◌, ℕ, Bool, true, false, List, [], ◌∷◌, ◌++◌, codes, drop, flat_map, get_or, length, map, refl, sym, ap}
-use Rattle.std.proofs.Common.{◌∙◌, append_assoc, append-nil, ◌<◌, ◌+◌}
+use Rattle.std.proofs.Common.{◌∙◌, append_assoc, append-nil, ◌<◌, ◌+◌, rules}
 use Rattle.std.specs.FinMap.{entries}
 use Rattle.std.specs.List.{join_with_byte}
 use Rattle.bi_blob.specs.Tree.{Nodes, none, node, Property}
@@ -10,9 +10,9 @@ use Rattle.bi_fit.specs.Judgement.{listed_names}
 use Rattle.bi_norm.specs.Meaning.{OfFit}
 use Rattle.bi_common.specs.declared.format.Format.{Format}
 use Rattle.bi_common.specs.declared.format.Format.TheVariants.{Lines, Json}
-use Rattle.bi_common.specs.Shown.{Words, line, shown_text}
-use Rattle.bi_common.specs.CommonLines.{reservation_words, name_member, reservation_object}
-use Rattle.bi_common.specs.Json.{JsonText, Member, comma, json_array, json_number, json_object, json_string, member_text, with_commas}
+use Rattle.bi_common.specs.Shown.{shown_text}
+use Rattle.bi_common.specs.CommonLines.{name_member}
+use Rattle.bi_common.specs.Json.{JsonText, Member, comma, json_array, json_object, json_string, member_text, with_commas}
 use Rattle.bi_common.specs.ValueTexts.{are_quotable_texts, hexadecimal_digits}
 use Rattle.bi_common.proofs.FitLines.{joined_after}
 use Rattle.bi_common.proofs.JsonTexts.{commas_between}
@@ -24,7 +24,7 @@ use Rattle.bi_describe.specs.DescriptionJson.{description_json, node_members, no
 use Rattle.bi_describe.specs.DescriptionJson.{property_object}
 use Rattle.bi_describe.specs.Descriptions.{DescribedNode, NodePayload, NotAnImage, OfImage, described_nodes, plain_node}
 use Rattle.bi_describe.specs.EntryJson.{before_child, end_of_node, entries_json, entry_json, node_begin, part_after}
-use Rattle.bi_describe.specs.ReadDescription.{before_root, head_lines, processor_members, read_json, read_text}
+use Rattle.bi_describe.specs.ReadDescription.{read_json, read_text}
 use Rattle.bi_describe.specs.TreeEntries.{EntryModel, NodeEnds, PropertyEntry, as_entry, node_entries, own_entries, payload_entries}
 use Rattle.bi_describe.specs.TreeEntries.{tree_entries}
 use Rattle.bi_describe.proofs.EntryLines.{entries_from, no_entry}
@@ -48,10 +48,7 @@ properties_later : (properties : List Property) (later : List EntryModel)
     → entries_json Properties (map PropertyEntry properties ++ later)
     ≡ flat_map (λ (text : List ℕ). 44 ∷ text) (map property_object properties) ++ entries_json Properties later
 properties_later [] later = refl
-properties_later (property ∷ properties) later =
-    let others : List ℕ = flat_map (λ (text : List ℕ). 44 ∷ text) (map property_object properties) in
-    ap (λ (l : List ℕ). 44 ∷ (property_object property ++ l)) (properties_later properties later)
-    ∙ ap (λ (l : List ℕ). 44 ∷ l) (sym (append_assoc (property_object property) others (entries_json Properties later)))
+properties_later (property ∷ properties) later = search (rules, append_assoc, properties_later properties later)
 
 -- The text of all properties of a node, and of the entries after them.
 properties_json : (properties : List Property) (more : List EntryModel) (rest : List ℕ) →
@@ -122,16 +119,7 @@ whole_node Children name members later rest = simp append_assoc refl
 pub name_first : (name : List ℕ) (own : DescribedNode) (children : List JsonText)
     → json_object (name_member (codes "name") name ∷ node_members own children)
     ≡ 123 ∷ (((codes "\"name\":" ++ json_string (shown_text name)) ++ (44 ∷ members_after_name own children)) ++ 125 ∷ [])
-name_first name own children = by own.payload
-  where
-    lasts : List Member
-    lasts = (codes "properties", json_array (map property_object (entries own.properties))) ∷ (codes "children", json_array children) ∷ []
-
-    by : (payload : NodePayload) → json_object (name_member (codes "name") name ∷ (payload_members payload ++ lasts))
-        ≡ 123 ∷ (((codes "\"name\":" ++ json_string (shown_text name))
-        ++ (44 ∷ join_with_byte 44 (map member_text (payload_members payload ++ lasts)))) ++ 125 ∷ [])
-    by NotAnImage = refl
-    by (OfImage payload) = refl
+name_first name own children = search rules
 
 -- The end of a node without children that were not written yet.
 end_after : (part : NodePart) (later : List ℕ) → end_of_node part ++ later ≡ opening part ++ (codes "]}" ++ later)
@@ -205,32 +193,18 @@ tree_pieces processor reservations root =
 -- The text of the entries of a tree that was read is its description in JSON.
 pub json_of_tree : (content : FitModel) →
     read_json content.blob (tree_entries (tree_of content)) ≡ description_json (OfFit (tree_of content))
-json_of_tree content =
-    let tree : ImageTree = tree_of content in
-    let cpu : ℕ = content.blob.cpu in
-    let reservations : List (List ℕ) = map reservation_object content.blob.reservations in
-    let root : List ℕ =
-    members_after_name (plain_node tree.root.own) (node_objects (described_nodes tree.root.children tree.payloads)) in
-    ap (λ (l : List ℕ). before_root content.blob ++ (l ++ codes "}\n")) (root_json tree)
-    ∙ ap (λ (l : List ℕ). (123 ∷ (join_with_byte 44 (map member_text (processor_members cpu))
-    ++ (codes ",\"reservations\":[" ++ (l ++ codes "],\"root\":{")))) ++ ((root ++ 125 ∷ []) ++ codes "}\n")) (commas_between reservations)
-    ∙ sym (tree_pieces (member_text (codes "boot_cpu", json_number cpu)) (join_with_byte 44 reservations) root)
+json_of_tree content = search (rules, root_json, commas_between, tree_pieces)
 
 -- The text that is written for a flattened image tree, in a form.
 tree_described : (format : Format) (content : FitModel) →
     read_text format content.blob (tree_entries (tree_of content)) ≡ description_text format (OfFit (tree_of content))
-tree_described Lines content =
-    ap (λ (lines : List Words). flat_map line (head_lines content.blob.cpu ++ (map reservation_words content.blob.reservations ++ lines)))
-    (lines_of_tree (tree_of content))
+tree_described Lines content = search (rules, lines_of_tree)
 tree_described Json content = json_of_tree content
 
 pub fit_description : (format : Format) (content : FitModel) (blob : Blob) (made : List Entry) → blob ≡ content.blob →
     map as_entry made ≡ tree_entries (tree_of content)
     → read_text format blob (map as_entry made) ≡ description_text format (OfFit (tree_of content))
-fit_description format content blob made is entries_are =
-    ap (λ (other : Blob). read_text format other (map as_entry made)) is
-    ∙ ap (read_text format content.blob) entries_are
-    ∙ tree_described format content
+fit_description format content blob made is entries_are = search (rules, tree_described)
 
 -- What was written before an entry, the text of the entry, and those after it are all.
 pub json_after : (done all : List ℕ) (part : NodePart) (entries : List Entry) (index : ℕ) → index < length entries →
@@ -238,11 +212,7 @@ pub json_after : (done all : List ℕ) (part : NodePart) (entries : List Entry) 
     → (done ++ entry_json part (as_entry (get_or entries index no_entry)))
     ++ entries_json (part_after (as_entry (get_or entries index no_entry))) (map as_entry (drop (index + 1) entries))
     ≡ all
-json_after done all part entries index within is =
-    let entry : EntryModel = as_entry (get_or entries index no_entry) in
-    append_assoc done (entry_json part entry) (entries_json (part_after entry) (map as_entry (drop (index + 1) entries)))
-    ∙ ap (λ (left : List EntryModel). done ++ entries_json part left) (sym (entries_from entries index within))
-    ∙ is
+json_after done all part entries index within is = search (rules, append_assoc, entries_from)
 
 -- The object of a property whose value is one or more texts, and that of any other.
 pub property_of_texts : (name value : List ℕ) → are_quotable_texts value ≡ true →

@@ -1,4 +1,4 @@
-use Rattle.std.proofs.Common.{◌≡◌, ℕ, ◌+◌, ◌-◌, ◌<◌, ◌≤◌, max, List, [], ◌∷◌, ◌++◌, flat_map, get_or, drop, take, length, map, sym, ap, ◌∙◌}
+use Rattle.std.proofs.Common.{◌≡◌, ℕ, ◌+◌, ◌-◌, ◌<◌, ◌≤◌, max, List, [], ◌∷◌, ◌++◌, flat_map, get_or, drop, take, length, map, ap, rules}
 use Rattle.std.proofs.Common.{arith, append_assoc}
 use Rattle.std.proofs.lemmas.Grind.{flat_map-append}
 use Rattle.std.specs.Borrow.{Bor}
@@ -44,10 +44,7 @@ pub text_after : (done all : List ℕ) (names : List (List ℕ)) (entry : EntryM
     done ++ flat_map line (entry_lines names (entry ∷ later)) ≡ all
     → (done ++ flat_map line (lines_of_entry (open_after names entry) entry)) ++ flat_map line (entry_lines (open_after names entry) later)
     ≡ all
-text_after done all names entry later is =
-    append_assoc done (flat_map line (lines_of_entry (open_after names entry) entry))
-    (flat_map line (entry_lines (open_after names entry) later))
-    ∙ ap (λ bytes. done ++ bytes) (sym (text_from names entry later)) ∙ is
+text_after done all names entry later is = search (rules, append_assoc, text_from)
 
 -- One entry opens one node at most.
 pub count_after-le : (count : ℕ) (entry : EntryModel) → count_after count entry ≤ count + 1
@@ -59,10 +56,4 @@ count_after-le count (PropertyEntry property) = omega arith
 -- After an end, the names are those before the last.
 pub names_closed : (names : List (Bor (List ℕ))) (count : ℕ) → count ≤ length names →
     bytes_of_names (take (count - 1) names) ≡ take (length (bytes_of_names (take count names)) - 1) (bytes_of_names (take count names))
-names_closed names count within =
-    let kept : List (Bor (List ℕ)) = take count names in
-    let counted : length (bytes_of_names kept) ≡ count = length-map kept (λ (name : Bor (List ℕ)). name.now)
-    ∙ length-take-le count names within in
-    sym (ap (λ n. take (n - 1) (bytes_of_names kept)) counted
-    ∙ take-map (λ (name : Bor (List ℕ)). name.now) (count - 1) kept
-    ∙ ap bytes_of_names (take-take (count - 1) count names (omega arith)))
+names_closed names count within = search (rules, length-map, length-take-le, take-map, take-take)

@@ -1,4 +1,4 @@
-use Rattle.std.proofs.Common.{◌≡◌, ◌≢◌, ℕ, zero, suc, ◌-◌, ◌==◌, Bool, true, false, List, [], ◌∷◌, take, refl, sym, ap, ap₂, ◌∙◌, arith}
+use Rattle.std.proofs.Common.{◌≡◌, ◌≢◌, ℕ, zero, suc, ◌-◌, ◌==◌, Bool, true, false, List, [], ◌∷◌, take, refl, ap, ◌∙◌, arith, rules}
 use Rattle.std.specs.Prelude.{max, nat_le, if◌then◌else◌}
 use Rattle.std.specs.List.{join_with_byte, onto_first}
 use Rattle.std.proofs.lemmas.Bool.{eqb-true, leb-true, leb-false}
@@ -38,10 +38,7 @@ onto_some byte (word ∷ later) = λ e. cc
 
 has_words : (line : List ℕ) → words_of_line line ≢ []
 has_words [] = λ e. cc
-has_words (byte ∷ later) = by (byte == 32) where
-  by : (b : Bool) → (if b then [] ∷ words_of_line later else onto_first byte (words_of_line later)) ≢ []
-  by true = λ e. cc
-  by false = onto_some byte (words_of_line later)
+has_words (byte ∷ later) = search (rules, onto_some)
 
 -- One more byte of the line.
 one_more : (is_space is_last : Bool) (byte more : ℕ) (words : List (List ℕ)) (same fewer : List ℕ) →
@@ -51,11 +48,7 @@ one_more : (is_space is_last : Bool) (byte more : ℕ) (words : List (List ℕ))
     ≡ (if is_space then (if is_last then [] else byte ∷ fewer) else byte ∷ same)
 one_more false is_last byte more words same fewer space last rest some is = longer_word byte more words ∙ ap (λ l. byte ∷ l) is
 one_more true true byte more words same fewer space last rest some is = ap (λ n. joined (suc n) ([] ∷ words)) (last refl)
-one_more true false byte more words same fewer space last rest some is =
-    let less = rest refl in
-    ap (λ n. joined (suc n) ([] ∷ words)) less.1
-    ∙ space_before less.0 words some
-    ∙ ap₂ (λ (b : ℕ) (l : List ℕ). b ∷ l) (sym (space refl)) less.2
+one_more true false byte more words same fewer space last rest some is = search (rules, space_before)
 
 are_counted : (left more : ℕ) (line : List ℕ) → max left 1 ≡ suc more → first_words (suc more) line ≡ counted_words left line
 are_counted left zero [] is = refl
@@ -72,7 +65,4 @@ are_counted left more (byte ∷ later) is =
     (has_words later) (are_counted left more later is)
 
 pub first_words_are_counted : (count : ℕ) (line : List ℕ) → first_words (max count 1) line ≡ counted_words count line
-first_words_are_counted count line = by (max count 1) refl where
-  by : (n : ℕ) → max count 1 ≡ n → first_words n line ≡ counted_words count line
-  by zero is = absurd (omega (arith, is))
-  by (suc more) is = are_counted count more line is
+first_words_are_counted count line = search (rules, are_counted)

@@ -1,12 +1,11 @@
-use Rattle.std.proofs.Common.{◌≡◌, ℕ, zero, suc, ◌≤◌, ◌<◌, ◌==◌, ◌||◌, Bool, true, false, cond, List, [], ◌∷◌, ◌⊎◌, inl, inr, map, take}
-use Rattle.std.proofs.Common.{codes, refl, sym, subst, arith}
+use Rattle.std.proofs.Common.{◌≡◌, ℕ, zero, suc, ◌≤◌, ◌<◌, ◌==◌, ◌||◌, Bool, true, false, List, [], ◌∷◌, ◌⊎◌, inr, map, take, rules}
+use Rattle.std.proofs.Common.{codes, refl, sym, subst}
 use Rattle.std.specs.Prelude.{if◌then◌else◌}
-use Rattle.std.specs.List.{AllByRecursion, list_all, onto_first}
+use Rattle.std.specs.List.{AllByRecursion, list_all}
 use Rattle.std.proofs.lemmas.Bool.{and_parts}
-use Rattle.std.proofs.lemmas.Bool.Decides.{nat_tests}
 use Rattle.bi_base.specs.Limits.{Limits}
 use Rattle.bi_norm.specs.Meaning.{Meaning, Means}
-use Rattle.bi_common.specs.Json.{JsonText, json_array, json_bool, json_string}
+use Rattle.bi_common.specs.Json.{JsonText, json_array, json_bool}
 use Rattle.bi_common.specs.JsonGrammar.{IsJsonLine}
 use Rattle.bi_common.proofs.AsciiTexts.{HasAscii}
 use Rattle.bi_common.proofs.JsonLines.{IsStringText, IsValueText, array_value, bool_value, known_string, line_json, object_value}
@@ -14,7 +13,7 @@ use Rattle.bi_common.proofs.JsonLines.{string_value}
 use Rattle.bi_common.proofs.VisibleTexts.{NoneBelow}
 use Rattle.bi_describe.specs.ComparisonJson.{comparison_object, difference_object, lines_of_text, pieces_of_text, signed_object}
 use Rattle.bi_describe.specs.Comparing.{IsTextOfDifferences, AreTheSame, AreDifferent}
-use Rattle.bi_describe.specs.Descriptions.{description_lines, description_texts}
+use Rattle.bi_describe.specs.Descriptions.{description_texts}
 use Rattle.bi_describe.specs.JsonLaws.{ComparisonsAreJson}
 use Rattle.bi_describe.proofs.AsciiDescriptions.{lines_are_ascii}
 use Rattle.bi_describe.proofs.AsciiDifferences.{texts_ascii}
@@ -28,11 +27,7 @@ abbrev IsByteOfLines : ℕ → Type 0
 IsByteOfLines byte = (byte < 128) × ((byte ≡ 10) ⊎ (32 ≤ byte))
 
 one_byte : (byte : ℕ) → is_line_byte byte ≡ true → IsByteOfLines byte
-one_byte byte is = by (byte == 10) refl
-  where
-    by : (b : Bool) → byte == 10 ≡ b → IsByteOfLines byte
-    by true same = let e : byte ≡ 10 = grind (arith, nat_tests, same) in (omega (arith, e), inl e)
-    by false not = (grind (arith, nat_tests, not, is), inr (grind (arith, nat_tests, not, is)))
+one_byte byte is = search rules
 
 known : (text : List ℕ) → list_all is_line_byte text ≡ true → AllByRecursion IsByteOfLines text
 known [] is = tt
@@ -51,27 +46,14 @@ bytes_of_lines (line ∷ later) ascii low = (line_bytes line ascii.0 low.0, byte
 
 -- The bytes between two newlines may be in a string.
 one_more : (byte : ℕ) (text : List ℕ) → IsByteOfLines byte → byte == 10 ≡ false → IsStringText text → IsStringText (byte ∷ text)
-one_more byte text is not text_is = record {
-  ascii = (is.0, text_is.ascii);
-  none_below = (above is.1, text_is.none_below);
-}
-  where
-    above : (byte ≡ 10) ⊎ (32 ≤ byte) → 32 ≤ byte
-    above (inl same) = absurd (grind (arith, nat_tests, not, same))
-    above (inr low) = low
+one_more byte text is not text_is = search rules
 
 no_bytes : IsStringText []
 no_bytes = record { ascii = tt; none_below = tt }
 
 pieces : (text : List ℕ) → AllByRecursion IsByteOfLines text → AllByRecursion IsStringText (pieces_of_text text)
 pieces [] are = (no_bytes, tt)
-pieces (byte ∷ later) are = by (byte == 10) refl (pieces_of_text later) (pieces later are.1)
-  where
-    by : (b : Bool) → byte == 10 ≡ b → (others : List (List ℕ)) → AllByRecursion IsStringText others →
-        AllByRecursion IsStringText (cond b ([] ∷ others) (onto_first byte others))
-    by true is others rest = (no_bytes, rest)
-    by false is [] rest = (one_more byte [] are.0 is no_bytes, tt)
-    by false is (piece ∷ others) rest = (one_more byte piece are.0 is rest.0, rest.1)
+pieces (byte ∷ later) are = search (rules, no_bytes, one_more, pieces later are.1)
 
 first_lines : (count : ℕ) (lines : List (List ℕ)) → AllByRecursion IsStringText lines → AllByRecursion IsStringText (take count lines)
 first_lines zero lines are = tt
@@ -80,11 +62,7 @@ first_lines (suc count) (line ∷ later) are = (are.0, first_lines count later a
 
 -- The object of a line is JSON.
 signed : (sign line : List ℕ) → IsStringText sign → IsStringText line → IsValueText (signed_object sign line)
-signed sign line first is =
-    object_value ((codes "sign", json_string sign) ∷ (codes "line", json_string line) ∷ []) (
-      record { name = known_string (codes "sign") refl; value = string_value sign first },
-      (record { name = known_string (codes "line") refl; value = string_value line is }, tt),
-    )
+signed sign line first is = search (rules, object_value, known_string, string_value)
 
 line_object : (line : List ℕ) → IsStringText line → IsValueText (difference_object line)
 line_object [] is = signed [] [] no_bytes no_bytes
@@ -120,9 +98,7 @@ comparison_value same differences are =
 -- The lines of a description are lists of such bytes.
 described : (limits : Limits) (file : List ℕ) (meaning : Meaning) → Means limits file meaning →
     AllByRecursion (AllByRecursion IsByteOfLines) (description_texts meaning)
-described limits file meaning means =
-    bytes_of_lines (description_texts meaning) (texts_ascii (description_lines meaning) (lines_are_ascii limits file meaning means))
-    (texts_shown meaning)
+described limits file meaning means = search (rules, bytes_of_lines, texts_ascii, lines_are_ascii, texts_shown)
 
 pub comparisons_are_json : ComparisonsAreJson
 comparisons_are_json limits one other same text is =

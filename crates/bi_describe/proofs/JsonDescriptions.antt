@@ -1,4 +1,4 @@
-use Rattle.std.proofs.Common.{◌≡◌, ℕ, ◌^◌, ◌<◌, Bool, true, false, cond, List, [], ◌∷◌, ◌++◌, None, Some, Option, length, map, codes}
+use Rattle.std.proofs.Common.{◌≡◌, ℕ, ◌^◌, ◌<◌, Bool, true, false, cond, List, [], ◌∷◌, ◌++◌, None, Some, Option, length, map, codes, rules}
 use Rattle.std.proofs.Common.{refl}
 use Rattle.std.proofs.Common.{arith, bytes_eq, not}
 use Rattle.std.specs.Prelude.{⊤}
@@ -10,7 +10,6 @@ use Rattle.bi_base.specs.Limits.{Limits, IsInRange}
 use Rattle.bi_blob.specs.Tree.{Nodes, none, node, Property, PropertyMap, with_each}
 use Rattle.bi_fit.specs.File.{FitMeans}
 use Rattle.bi_fit.specs.ImageTree.{ImageTree, IsImageTree}
-use Rattle.bi_fit.specs.Judgement.{listed_names}
 use Rattle.bi_fit.specs.Names.{images_name}
 use Rattle.bi_fit.proofs.TextLaws.{file_means_image_tree}
 use Rattle.bi_fit.proofs.TreeContents.{AreBlobProperties, good-entries}
@@ -20,7 +19,7 @@ use Rattle.bi_legacy.proofs.ImageOfFile.{image_of_file}
 use Rattle.bi_norm.specs.Meaning.{OfLegacy, OfFit}
 use Rattle.bi_common.specs.Json.{JsonText, Member, json_array, json_null, json_object, json_string}
 use Rattle.bi_common.specs.CommonLines.{header_members, name_member, reservation_object}
-use Rattle.bi_common.specs.ValueTexts.{are_quotable_texts, hexadecimal_digits, is_printable, is_quotable}
+use Rattle.bi_common.specs.ValueTexts.{hexadecimal_digits, is_printable, is_quotable}
 use Rattle.bi_common.proofs.JsonLines.{IsMemberText, IsValueText, array_value, known_string, line_json, null_value, object_value}
 use Rattle.bi_common.proofs.JsonLines.{string_value}
 use Rattle.bi_common.proofs.JsonNames.{digits_string, header_texts, member_holds, name_member_holds, number_member_holds}
@@ -67,15 +66,7 @@ quoted (text ∷ later) are =
     (string_value text (known_string text printable.1), quoted later both.1)
 
 property_value : (value : List ℕ) → IsValueText (json_string (hexadecimal_digits value)) → IsMemberText (value_member value)
-property_value value digits = by (are_quotable_texts value) refl
-  where
-    by : (b : Bool) → are_quotable_texts value ≡ b →
-        IsMemberText (cond b (codes "strings", json_array (map json_string (listed_names value)))
-        (codes "hex", json_string (hexadecimal_digits value)))
-    by true is =
-        member_holds (codes "strings") _ refl (array_value (map json_string (listed_names value))
-        (quoted (listed_names value) (and_parts _ (list_all is_quotable (listed_names value)) is).1))
-    by false is = member_holds (codes "hex") _ refl digits
+property_value value digits = search (rules, member_holds, array_value, quoted, and_parts)
 
 properties : (own : List Property) → AreBlobProperties own → AllByRecursion IsValueText (map property_object own)
 properties [] are = tt

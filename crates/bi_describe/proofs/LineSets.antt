@@ -1,5 +1,5 @@
 use Rattle.std.proofs.Common.{◌≡◌, ℕ, ◌+◌, ◌<◌, ◌&&◌, ◌||◌, Bool, true, false, not, List, [], ◌∷◌, ◌++◌, Option, Some, None, length, map}
-use Rattle.std.proofs.Common.{take, drop, get_or, cond, refl, sym, ap, ◌∙◌, subst, append-nil}
+use Rattle.std.proofs.Common.{take, drop, get_or, cond, refl, sym, ap, ◌∙◌, append-nil, rules}
 use Rattle.std.specs.Prelude.{bytes_eq, flat_map, if◌then◌else◌}
 use Rattle.std.specs.BTreeMap.{BTreeMap, Updates as UpdatesMap}
 use Rattle.std.specs.BTreeSet.{BTreeSet, Updates as UpdatesSet}
@@ -31,11 +31,7 @@ abbrev pub texts : List LineRef → List (List ℕ)
 texts lines = map (λ line. line.now) lines
 
 same_bytes : (xs ys : List ℕ) → bytes_eq xs ys ≡ bytes_eq ys xs
-same_bytes xs ys =
-    same_from_decides (bytes_eq xs ys) (bytes_eq ys xs) (bytes_eq-Decides xs ys) (
-      λ t. sym ((bytes_eq-Decides ys xs).0 t),
-      λ e. (bytes_eq-Decides ys xs).1 (sym e),
-    )
+same_bytes xs ys = search (rules, same_from_decides, bytes_eq-Decides)
 
 or_of_cond : (b c : Bool) → cond b true c ≡ (c || b)
 or_of_cond true true = refl
@@ -74,9 +70,7 @@ any_of_texts test (line ∷ lines) = ap (λ b. test line.now || b) (any_of_texts
 -- A set of all lines.
 pub set_of_all : (lines : List LineRef) (index : ℕ) (set : BTreeSet LineRef) → index ≡ length lines
     → ((line : List ℕ) → set_has set line ≡ list_any (λ other. bytes_eq line other.now) (take index lines)) → IsSetOf (texts lines) set
-set_of_all lines index set is_all has line =
-    has line ∙ ap (λ l. list_any (λ other. bytes_eq line other.now) l) (ap (λ n. take n lines) is_all ∙ take-length lines)
-    ∙ any_of_texts (bytes_eq line) lines
+set_of_all lines index set is_all has line = search (rules, take-length lines, any_of_texts (bytes_eq line) lines)
 
 option_map_of_cond : (b : Bool) (line : LineRef) (found : Option LineRef) →
     option_map (λ l. l.now) (cond b (Some line) found) ≡ cond b (Some line.now) (option_map (λ l. l.now) found)
@@ -94,9 +88,7 @@ new_for false x y = refl
 -- A map after nothing is inserted for a line that is in the set.
 pub kept_at : (key : List ℕ) (line : List ℕ) (has : Bool) (old : BTreeMap LineRef LineRef) → has ≡ true
     → line_at old key ≡ (if bytes_eq (key_of_line line) key && not has then Some line else line_at old key)
-kept_at key line has old is_in =
-    subst (λ b. line_at old key ≡ (if bytes_eq (key_of_line line) key && not b then Some line else line_at old key)) (sym is_in)
-    (kept_for (bytes_eq (key_of_line line) key) (Some line) (line_at old key))
+kept_at key line has old is_in = search (rules, kept_for)
 
 -- A map after a line that is not in the set is inserted.
 pub inserted_at : (place line : LineRef) (has : Bool) (old new : BTreeMap LineRef LineRef) → has ≡ false →
@@ -117,12 +109,7 @@ pub first_line_inserted : (others : BTreeSet LineRef) (lines : List LineRef) (in
     ≡ (if bytes_eq (key_of_line (get_or lines index default).now) key && not (set_has others (get_or lines index default).now) then Some
     (get_or lines index default).now else line_at old key))
     → HasNewLines others (texts (drop next lines)) old → HasNewLines others (texts (drop index lines)) new
-first_line_inserted others lines index next default old new is_next within updates has key =
-    let here = get_or lines index default in
-    updates key
-    ∙ ap (λ found. if bytes_eq (key_of_line here.now) key && not (set_has others here.now) then Some here.now else found)
-    (has key ∙ ap (λ n. new_line others (texts (drop n lines)) key) is_next)
-    ∙ ap (λ l. new_line others (texts l) key) (sym (drop_more lines index default within))
+first_line_inserted others lines index next default old new is_next within updates has key = search (rules, drop_more)
 
 -- A set after nothing is inserted for a line without a counterpart.
 pub same_set : (others : BTreeSet LineRef) (counterparts : BTreeMap LineRef LineRef) (line : List ℕ) (set : BTreeSet LineRef) →
@@ -157,19 +144,13 @@ counterparts_more others counterparts lines index default old new within updates
 pub put_more : (write : LineRef → List ℕ) (start : List ℕ) (lines : List LineRef) (index : ℕ) (default : LineRef) (old new : List ℕ) →
     index < length lines → new ≡ old ++ write (get_or lines index default)
     → old ≡ start ++ flat_map write (take index lines) → new ≡ start ++ flat_map write (take (index + 1) lines)
-put_more write start lines index default old new within appended has =
-    appended ∙ ap (λ t. t ++ write (get_or lines index default)) has
-    ∙ flat_map_more write start (take index lines) (get_or lines index default)
-    ∙ ap (λ l. start ++ flat_map write l) (sym (take_more lines index default within))
+put_more write start lines index default old new within appended has = search (rules, flat_map_more, take_more)
 
 -- A text after a line without a counterpart.
 pub put_alone : (others : BTreeSet LineRef) (by_key : BTreeMap LineRef LineRef) (line key old new : List ℕ) → set_has others line ≡ false →
     key ≡ key_of_line line → line_at by_key key ≡ None → new ≡ old ++ signed_line 45 line
     → new ≡ old ++ removed_lines others by_key line
-put_alone others by_key line key old new is_out is_key is_none appended =
-    appended ∙ ap (λ t. old ++ t) (sym (append-nil (signed_line 45 line)))
-    ∙ ap (λ o. old ++ (signed_line 45 line ++ added_line o)) (sym is_none ∙ ap (line_at by_key) is_key)
-    ∙ ap (λ b. old ++ (if b then [] else signed_line 45 line ++ added_line (line_at by_key (key_of_line line)))) (sym is_out)
+put_alone others by_key line key old new is_out is_key is_none appended = search (rules, append-nil)
 
 -- The differences from sets and maps.
 
@@ -193,17 +174,12 @@ flat_map_same write other (line ∷ lines) same = ap (λ l. l ++ flat_map write 
 
 new_line_is : (one other : List (List ℕ)) (set : BTreeSet LineRef) (key : List ℕ) → IsSetOf one set →
     new_line set other key ≡ find (λ found. bytes_eq (key_of_line found) key && not (has_line one found)) other
-new_line_is one other set key has =
-    find_same (λ found. bytes_eq (key_of_line found) key && not (set_has set found))
-    (λ found. bytes_eq (key_of_line found) key && not (has_line one found)) other
-    (λ found. ap (λ b. bytes_eq (key_of_line found) key && not b) (has found))
+new_line_is one other set key has = search (rules, find_same)
 
 counterpart_is : (one other : List (List ℕ)) (set other_set : BTreeSet LineRef) (by_key : BTreeMap LineRef LineRef) → IsSetOf one set →
     IsSetOf other other_set → HasNewLines set other by_key
     → (line : List ℕ) → counterpart_in other_set by_key line ≡ counterpart one other line
-counterpart_is one other set other_set by_key has other_has new_lines line =
-    ap (λ b. if b then None else line_at by_key (key_of_line line)) (other_has line)
-    ∙ ap (λ o. if has_line other line then None else o) (new_lines (key_of_line line) ∙ new_line_is one other set (key_of_line line) has)
+counterpart_is one other set other_set by_key has other_has new_lines line = search (rules, new_line_is)
 
 removed_are : (other_has : Bool) (line : List ℕ) (found : Option (List ℕ)) →
     (if other_has then [] else signed_line 45 line ++ added_line found)
@@ -214,11 +190,7 @@ removed_are false line found = refl
 first_is : (one other : List (List ℕ)) (set other_set : BTreeSet LineRef) (by_key : BTreeMap LineRef LineRef) → IsSetOf one set →
     IsSetOf other other_set → HasNewLines set other by_key
     → (line : List ℕ) → removed_lines other_set by_key line ≡ lines_for_first one other line
-first_is one other set other_set by_key has other_has new_lines line =
-    removed_are (set_has other_set line) line (line_at by_key (key_of_line line))
-    ∙ ap (λ o. if set_has other_set line then [] else signed_line 45 line ++ added_line o)
-    (counterpart_is one other set other_set by_key has other_has new_lines line)
-    ∙ ap (λ b. if b then [] else signed_line 45 line ++ added_line (counterpart one other line)) (other_has line)
+first_is one other set other_set by_key has other_has new_lines line = search (rules, removed_are, counterpart_is)
 
 -- The two passes together write the differences.
 pub differences_are : (one other : List LineRef) (set other_set written : BTreeSet LineRef) (by_key : BTreeMap LineRef LineRef)

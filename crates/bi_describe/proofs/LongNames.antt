@@ -1,9 +1,7 @@
-use Rattle.std.proofs.Common.{◌≡◌, ◌+◌, ◌≤◌, ℕ, Bool, true, false, List, [], ◌∷◌, ◌++◌, Option, Some, codes, length, map, bytes_eq}
+use Rattle.std.proofs.Common.{◌≡◌, ◌+◌, ◌≤◌, ℕ, Bool, true, false, List, [], ◌∷◌, ◌++◌, Option, Some, codes, length, map, bytes_eq, rules}
 use Rattle.std.proofs.Common.{flat_map, refl, sym, ap, subst, ◌∙◌, arith, length-append}
-use Rattle.std.specs.Prelude.{if◌then◌else◌}
 use Rattle.std.specs.FinMap.{entries}
-use Rattle.std.specs.Fmt.{decimal}
-use Rattle.std.specs.List.{AllZip, join_with_byte}
+use Rattle.std.specs.List.{AllZip}
 use Rattle.std.proofs.lemmas.Grind.{flat_map-append}
 use Rattle.std.proofs.lemmas.Slice.Eq.{bytes_eq-Decides}
 use Rattle.bi_blob.specs.Tree.{Nodes, none, node, names, as_nodes, with_each, AreNodes, IsNew, Property, PropertyMap}
@@ -13,54 +11,29 @@ use Rattle.bi_fit.specs.Names.{images_name}
 use Rattle.bi_fit.proofs.LongNames.{length-name_if_long, names_of_nodes, names_of_nodes-first}
 use Rattle.bi_fit.proofs.Meanings.{same_in_some}
 use Rattle.bi_norm.specs.Meaning.{OfFit}
-use Rattle.bi_common.specs.Shown.{Words, path, line, is_plain, shown_byte, shown_text, digits_of_byte}
-use Rattle.bi_common.specs.CommonLines.{reservation_words}
+use Rattle.bi_common.specs.Shown.{Words, path, line, shown_byte, shown_text}
 use Rattle.bi_common.specs.ValueTexts.{value_words}
 use Rattle.bi_common.proofs.FitLines.{joined_after}
 use Rattle.bi_describe.specs.Descriptions.{DescribedNode, plain_node, described_images, described_children, described_nodes, description}
-use Rattle.bi_describe.specs.Descriptions.{node_lines, own_lines, payload_words, property_words, tree_lines}
+use Rattle.bi_describe.specs.Descriptions.{node_lines, own_lines, property_words, tree_lines}
 
 -- The description of an image tree is at least as long as the long names of its properties together.
 
 -- A byte is shown as one byte or more,
 byte_shown : (byte : ℕ) → 1 ≤ length (shown_byte byte)
-byte_shown byte = where_plain (is_plain byte)
-  where
-    where_plain : (b : Bool) → 1 ≤ length (if b then byte ∷ [] else 37 ∷ digits_of_byte true byte)
-    where_plain true = omega arith
-    where_plain false = omega arith
+byte_shown byte = search rules
 
 bytes_shown : (bytes : List ℕ) → length bytes ≤ length (flat_map shown_byte bytes)
 bytes_shown [] = omega arith
-bytes_shown (byte ∷ later) =
-    let both = length-append (shown_byte byte) (flat_map shown_byte later) in
-    let first = byte_shown byte in
-    let rest = bytes_shown later in
-    omega (arith, both, first, rest)
+bytes_shown (byte ∷ later) = search (rules, length-append, byte_shown, bytes_shown later)
 
 -- and a name as no fewer bytes than it has.
 pub shown_as_long : (name : List ℕ) → length name ≤ length (shown_text name)
-shown_as_long name = by_name (bytes_eq name []) refl (bytes_eq name (codes "-")) refl
-  where
-    by_name : (a : Bool) → bytes_eq name [] ≡ a → (b : Bool) → bytes_eq name (codes "-") ≡ b → length name ≤ length (shown_text name)
-    by_name true is b dash =
-        let empty : length name ≡ 0 = ap length ((bytes_eq-Decides name []).0 is) in
-        omega (arith, empty)
-    by_name false is true dash =
-        let one : length name ≡ 1 = ap length ((bytes_eq-Decides name (codes "-")).0 dash) in
-        rw (is, dash) (omega (arith, one))
-    by_name false is false dash = rw (is, dash) (bytes_shown name)
+shown_as_long name = search (rules, bytes_eq-Decides, bytes_shown)
 
 -- A line is at least as long as its third word.
 third_word : (first second third : List ℕ) (later : Words) → length third ≤ length (line (first ∷ second ∷ third ∷ later))
-third_word first second third later =
-    let rest : List ℕ = flat_map (λ word. 32 ∷ word) later in
-    let words = ap length (joined_after 32 first (second ∷ third ∷ later)) in
-    let whole = length-append (join_with_byte 32 (first ∷ second ∷ third ∷ later)) (10 ∷ []) in
-    let after_first = length-append first ((32 ∷ second) ++ ((32 ∷ third) ++ rest)) in
-    let after_second = length-append (32 ∷ second) ((32 ∷ third) ++ rest) in
-    let after_third = length-append (32 ∷ third) rest in
-    omega (arith, words, whole, after_first, after_second, after_third)
+third_word first second third later = search (rules, joined_after, length-append)
 
 -- How many bytes these names have together, as far as they are long.
 abbrev pub long_bytes : List (List ℕ) → ℕ
@@ -74,11 +47,7 @@ long_bytes-append front back =
 pub long_bytes_of_node : (name : List ℕ) (own : PropertyMap) (children later : Nodes PropertyMap)
     → long_bytes (names_of_nodes (node name own children later))
     ≡ long_bytes (map (λ property. property.0) (entries own)) + (long_bytes (names_of_nodes children) + long_bytes (names_of_nodes later))
-long_bytes_of_node name own children later =
-    let own_names : List (List ℕ) = map (λ property. property.0) (entries own) in
-    ap long_bytes (names_of_nodes-first name own children later)
-    ∙ long_bytes-append own_names (names_of_nodes children ++ names_of_nodes later)
-    ∙ ap (λ n. long_bytes own_names + n) (long_bytes-append (names_of_nodes children) (names_of_nodes later))
+long_bytes_of_node name own children later = search (rules, names_of_nodes-first, long_bytes-append)
 
 -- The lines of properties are at least as long as their long names.
 properties_long : (path : List ℕ) (properties : List Property) →
@@ -97,14 +66,7 @@ properties_long path (property ∷ later) =
 -- So are the lines of a node: of what it has itself,
 own_long : (path : List ℕ) (own : DescribedNode) →
     long_bytes (map (λ property. property.0) (entries own.properties)) ≤ length (flat_map line (own_lines path own))
-own_long path own =
-    let head : Words = codes "node" ∷ path ∷ [] in
-    let payload : List Words = payload_words path own.payload in
-    let properties : List Words = map (property_words path) (entries own.properties) in
-    let lines = length-append (line head) (flat_map line (payload ++ properties)) in
-    let parts = ap length (flat_map-append line payload properties) ∙ length-append (flat_map line payload) (flat_map line properties) in
-    let own_ones = properties_long path (entries own.properties) in
-    omega (arith, lines, parts, own_ones)
+own_long path own = search (rules, length-append, flat_map-append, properties_long)
 
 -- and with those of all nodes below it.
 abbrev pub properties_by_node : Nodes DescribedNode → Nodes PropertyMap
@@ -200,14 +162,4 @@ tree_long tree is =
 -- and so is the description.
 pub long_names_described : (tree : ImageTree) → IsImageTree tree →
     long_bytes (names_of_nodes (as_nodes tree.root)) ≤ length (description (OfFit tree))
-long_names_described tree is =
-    let kind : Words = codes "kind" ∷ codes "fit" ∷ [] in
-    let cpu : Words = codes "boot-cpu" ∷ decimal tree.cpu ∷ [] in
-    let reservations : List Words = map reservation_words tree.reservations in
-    let later : List Words = reservations ++ tree_lines tree in
-    let first = length-append (line kind) (line cpu ++ flat_map line later) in
-    let second = length-append (line cpu) (flat_map line later) in
-    let both = ap length (flat_map-append line reservations (tree_lines tree))
-    ∙ length-append (flat_map line reservations) (flat_map line (tree_lines tree)) in
-    let long = tree_long tree is in
-    omega (arith, first, second, both, long)
+long_names_described tree is = search (rules, length-append, flat_map-append, tree_long)

@@ -1,4 +1,4 @@
-use Rattle.std.proofs.Common.{◌≡◌, ◌+◌, ◌≤◌, ◌||◌, ◌==◌, ℕ, Bool, true, false, cond, inr, List, [], ◌∷◌, ◌++◌, codes, length, map, flat_map}
+use Rattle.std.proofs.Common.{◌≡◌, ◌+◌, ◌≤◌, ℕ, inr, List, [], ◌∷◌, ◌++◌, codes, length, map, flat_map, rules}
 use Rattle.std.proofs.Common.{ap, ◌∙◌, arith, length-append}
 use Rattle.std.specs.FinMap.{entries}
 use Rattle.std.specs.List.{join_with_byte}
@@ -18,15 +18,14 @@ use Rattle.bi_fit.proofs.NormalTrees.{held_means}
 use Rattle.bi_norm.specs.Meaning.{OfFit}
 use Rattle.bi_common.specs.declared.format.Format.{Format}
 use Rattle.bi_common.specs.declared.format.Format.TheVariants.{Lines, Json}
-use Rattle.bi_common.specs.Json.{JsonText, Member, json_array, json_object, json_string, member_text}
+use Rattle.bi_common.specs.Json.{JsonText, json_object}
 use Rattle.bi_common.specs.CommonLines.{name_member}
-use Rattle.bi_common.specs.Shown.{shown_text}
 use Rattle.bi_common.specs.ValueTexts.{escaped_byte}
 use Rattle.bi_describe.specs.declared.describe.json.NodePart.TheVariants.{Head}
 use Rattle.bi_describe.specs.Describing.{IsImageError, description_text}
-use Rattle.bi_describe.specs.DescriptionJson.{description_json, node_members, node_objects, payload_members, payload_or_null}
-use Rattle.bi_describe.specs.DescriptionJson.{property_object, value_member}
-use Rattle.bi_describe.specs.Descriptions.{DescribedNode, NodePayload, NotAnImage, OfImage, described_nodes, plain_node}
+use Rattle.bi_describe.specs.DescriptionJson.{description_json, node_members, node_objects}
+use Rattle.bi_describe.specs.DescriptionJson.{property_object}
+use Rattle.bi_describe.specs.Descriptions.{DescribedNode, described_nodes, plain_node}
 use Rattle.bi_describe.specs.EntryJson.{entries_json}
 use Rattle.bi_describe.specs.ReadDescription.{before_root}
 use Rattle.bi_describe.specs.TreeEntries.{tree_entries}
@@ -39,42 +38,21 @@ use Rattle.bi_describe.proofs.LongNames.{properties_shown}
 -- The characters of a string are no fewer than those of its text.
 escaped_long : (text : List ℕ) → length text ≤ length (flat_map escaped_byte text)
 escaped_long [] = omega arith
-escaped_long (byte ∷ later) =
-    let both = length-append (escaped_byte byte) (flat_map escaped_byte later) in
-    let first = by (byte == 34 || byte == 92) in
-    let rest = escaped_long later in
-    omega (arith, both, first, rest)
-  where
-    by : (b : Bool) → 1 ≤ length (cond b (92 ∷ byte ∷ []) (byte ∷ []))
-    by true = omega arith
-    by false = omega arith
+escaped_long (byte ∷ later) = search (rules, length-append, escaped_long later)
 
 -- A text is no longer than one that has it between others.
 within : (before text after : List ℕ) → length text ≤ length (before ++ (text ++ after))
-within before text after =
-    let whole = length-append before (text ++ after) in
-    let rest = length-append text after in
-    omega (arith, whole, rest)
+within before text after = search (rules, length-append)
 
 -- The object of a property is at least as long as its name.
 property_long : (property : Property) → length property.0 ≤ length (property_object property)
-property_long property =
-    let name : List ℕ = flat_map escaped_byte (shown_text property.0) in
-    let value : List ℕ = member_text (value_member property.1) in
-    let shown = shown_as_long property.0 in
-    let escaped = escaped_long (shown_text property.0) in
-    let first = length-append name (34 ∷ []) in
-    let two = length-append (codes "\"name\":\"" ++ (name ++ 34 ∷ [])) (44 ∷ value) in
-    let all = length-append ((codes "\"name\":\"" ++ (name ++ 34 ∷ [])) ++ (44 ∷ value)) (125 ∷ []) in
-    omega (arith, shown, escaped, first, two, all)
+property_long property = grind (arith, shown_as_long, escaped_long, length-append)
 
 -- A first text and others, with commas between them.
 joined_long : (first : List ℕ) (others : List (List ℕ)) →
     length first + length (join_with_byte 44 others) ≤ length (join_with_byte 44 (first ∷ others))
 joined_long first [] = omega arith
-joined_long first (next ∷ later) =
-    let both = length-append first (44 ∷ join_with_byte 44 (next ∷ later)) in
-    omega (arith, both)
+joined_long first (next ∷ later) = search (rules, length-append)
 
 -- The objects of properties are at least as long as their long names.
 properties_long : (properties : List Property) →
@@ -92,40 +70,12 @@ properties_long (property ∷ later) =
 members_long : (own : DescribedNode) (children : List JsonText) →
     length (join_with_byte 44 (map property_object (entries own.properties))) + length (join_with_byte 44 children)
     ≤ length (members_after_name own children)
-members_long own children = by own.payload
-  where
-    properties : List ℕ
-    properties = join_with_byte 44 (map property_object (entries own.properties))
-
-    lasts : List Member
-    lasts = (codes "properties", json_array (map property_object (entries own.properties))) ∷ (codes "children", json_array children) ∷ []
-
-    last : length properties + length (join_with_byte 44 children) ≤ length (join_with_byte 44 (map member_text lasts))
-    last =
-        let objects : List ℕ = join_with_byte 44 children in
-        let one = length-append properties (93 ∷ []) in
-        let other = length-append objects (93 ∷ []) in
-        let both = length-append (codes "\"properties\":[" ++ (properties ++ 93 ∷ []))
-        (44 ∷ (codes "\"children\":[" ++ (objects ++ 93 ∷ []))) in
-        omega (arith, one, other, both)
-
-    by : (payload : NodePayload) → length properties + length (join_with_byte 44 children)
-        ≤ length (join_with_byte 44 (map member_text (payload_members payload ++ lasts)))
-    by NotAnImage = last
-    by (OfImage payload) =
-        let both = length-append (codes "\"payload\":" ++ payload_or_null payload) (44 ∷ join_with_byte 44 (map member_text lasts)) in
-        omega (arith, both, last)
+members_long own children = search (rules, length-append)
 
 -- The object of a node is at least as long as them.
 node_long : (name : List ℕ) (own : DescribedNode) (children : List JsonText) →
     length (members_after_name own children) ≤ length (json_object (name_member (codes "name") name ∷ node_members own children))
-node_long name own children =
-    let members : List ℕ = members_after_name own children in
-    let before : List ℕ = codes "\"name\":" ++ json_string (shown_text name) in
-    let same = ap length (name_first name own children) in
-    let one = length-append before (44 ∷ members) in
-    let all = length-append (before ++ (44 ∷ members)) (125 ∷ []) in
-    omega (arith, same, one, all)
+node_long name own children = search (rules, name_first, length-append)
 
 -- Nodes with all nodes below them.
 nodes_long : (nodes : Nodes DescribedNode) →

@@ -1,5 +1,5 @@
-use Rattle.std.proofs.Common.{◌≡◌, ℕ, ◌+◌, ◌≤◌, ◌==◌, not, Bool, true, false, cond, List, [], ◌∷◌, ◌++◌, flat_map, map, codes, nat_le}
-use Rattle.std.proofs.Common.{bytes_eq, refl, arith, Some, None}
+use Rattle.std.proofs.Common.{◌≡◌, ℕ, ◌+◌, ◌≤◌, true, List, [], ◌∷◌, ◌++◌, flat_map, map, codes, nat_le, rules}
+use Rattle.std.proofs.Common.{refl, arith, Some, None}
 use Rattle.std.specs.FinMap.{entries}
 use Rattle.std.specs.List.{AllByRecursion, join_with_byte, list_all}
 use Rattle.std.proofs.lemmas.Bool.{and_parts, leb-true}
@@ -7,18 +7,17 @@ use Rattle.bi_base.proofs.ListMembers.{each-append}
 use Rattle.bi_blob.specs.Blob.{Reservation}
 use Rattle.bi_blob.specs.Tree.{Nodes, none, node, Property}
 use Rattle.bi_fit.specs.ImageTree.{ImageTree}
-use Rattle.bi_fit.specs.Judgement.{listed_names}
 use Rattle.bi_legacy.specs.Codes.{CodeName, os_names, arch_names, type_names, compression_names}
 use Rattle.bi_legacy.specs.Meaning.{LegacyImage}
 use Rattle.bi_norm.specs.Meaning.{Meaning, OfLegacy, OfFit}
 use Rattle.bi_common.specs.Shown.{Words, path, shown_text}
 use Rattle.bi_common.specs.CommonLines.{reservation_words, code_word}
-use Rattle.bi_common.specs.ValueTexts.{is_printable, is_quotable, are_quotable_texts, escaped_byte, quoted_text, hexadecimal_digits}
+use Rattle.bi_common.specs.ValueTexts.{is_printable, is_quotable, escaped_byte, quoted_text}
 use Rattle.bi_common.specs.ValueTexts.{value_words}
 use Rattle.bi_common.proofs.VisibleTexts.{NoneBelow, visible_cell, visible_pieces, visible, visible_number, visible_address, visible_digits}
 use Rattle.bi_common.proofs.VisibleTexts.{visible_escape, visible_name}
 use Rattle.bi_describe.specs.Descriptions.{PayloadDigest, NodePayload, NotAnImage, OfImage, DescribedNode, digest_of_payload, digest_words}
-use Rattle.bi_describe.specs.Descriptions.{part_words, legacy_lines, described_nodes, plain_node, property_words, payload_words, own_lines}
+use Rattle.bi_describe.specs.Descriptions.{part_words, legacy_lines, property_words, payload_words, own_lines}
 use Rattle.bi_describe.specs.Descriptions.{node_lines, tree_lines, fit_lines, description_lines, description_texts}
 
 -- The lines of a description have no byte below a space, so no newline.
@@ -39,11 +38,7 @@ of-map P f holds (x ∷ xs) = (holds x, of-map P f holds xs)
 pub joined_is_printable : (words : Words) → ArePrintableWords words → NoneBelow (join_with_byte 32 words)
 joined_is_printable [] are = tt
 joined_is_printable (word ∷ []) are = are.0
-joined_is_printable (word ∷ next ∷ later) are =
-    each-append (λ byte. 32 ≤ byte) word (32 ∷ join_with_byte 32 (next ∷ later)) are.0 (
-      omega arith,
-      joined_is_printable (next ∷ later) are.1,
-    )
+joined_is_printable (word ∷ next ∷ later) are = search (rules, each-append, joined_is_printable (next ∷ later) are.1)
 
 -- A path.
 path_shown : (names : List (List ℕ)) → NoneBelow (path names)
@@ -58,11 +53,7 @@ escaped_bytes (byte ∷ later) are =
     (visible_escape byte (leb-true 0x20 byte (and_parts (nat_le 0x20 byte) (nat_le byte 0x7e) both.0).0)) (escaped_bytes later both.1)
 
 in_quotes : (text : List ℕ) → is_quotable text ≡ true → NoneBelow (quoted_text text)
-in_quotes text is = (
-  omega arith,
-  each-append (λ byte. 32 ≤ byte) (flat_map escaped_byte text) (34 ∷ [])
-      (escaped_bytes text (and_parts (not (bytes_eq text [])) (list_all is_printable text) is).1) (omega arith, tt),
-)
+in_quotes text is = search (rules, each-append, escaped_bytes, and_parts)
 
 all_in_quotes : (texts : List (List ℕ)) → list_all is_quotable texts ≡ true → ArePrintableWords (map quoted_text texts)
 all_in_quotes [] are = tt
@@ -72,13 +63,7 @@ all_in_quotes (text ∷ later) are =
 
 -- The words for a value.
 value_shown : (value : List ℕ) → ArePrintableWords (value_words value)
-value_shown value = by (bytes_eq value []) (are_quotable_texts value) refl
-  where
-    by : (a b : Bool) → are_quotable_texts value ≡ b →
-        ArePrintableWords (cond a [] (cond b (map quoted_text (listed_names value)) ((codes "0x" ++ hexadecimal_digits value) ∷ [])))
-    by true b is = tt
-    by false true is = all_in_quotes (listed_names value) (and_parts _ (list_all is_quotable (listed_names value)) is).1
-    by false false is = ((omega arith, (omega arith, visible_digits value)), tt)
+value_shown value = search (rules, all_in_quotes, and_parts, visible_digits)
 
 -- The words for a digest.
 digest_shown : (digest : PayloadDigest) → ArePrintableWords (digest_words digest)
@@ -89,11 +74,7 @@ digest_shown digest =
 code_shown : (names : List CodeName) → AllByRecursion (λ (name : CodeName). NoneBelow name.name) names → (code : ℕ) →
     NoneBelow (code_word names code)
 code_shown [] are code = visible_number code
-code_shown (entry ∷ later) are code = by (entry.code == code) refl (code_shown later are.1 code)
-  where
-    by : (b : Bool) → entry.code == code ≡ b → NoneBelow (code_word later code) → NoneBelow (code_word (entry ∷ later) code)
-    by true is rest = rw is are.0
-    by false is rest = rw is rest
+code_shown (entry ∷ later) are code = search (rules, code_shown later are.1 code)
 
 named : (names : List CodeName) → list_all (λ (name : CodeName). list_all (nat_le 32) name.name) names ≡ true →
     AllByRecursion (λ (name : CodeName). NoneBelow name.name) names
@@ -163,19 +144,10 @@ nodes_shown above (node name own children later) =
     (nodes_shown (above ++ name ∷ []) children) (nodes_shown above later))
 
 reservation_shown : (reservation : Reservation) → ArePrintableWords (reservation_words reservation)
-reservation_shown reservation = (
-  visible (codes "reservation") refl,
-  (
-    visible_address reservation.address,
-    (visible_address reservation.size, tt),
-  ),
-)
+reservation_shown reservation = search (rules, visible, visible_address)
 
 tree_shown : (tree : ImageTree) → ArePrintableLines (tree_lines tree)
-tree_shown tree =
-    each-append ArePrintableWords (own_lines (path []) (plain_node tree.root.own))
-    (node_lines [] (described_nodes tree.root.children tree.payloads))
-    (own_shown (path []) (path_shown []) (plain_node tree.root.own)) (nodes_shown [] (described_nodes tree.root.children tree.payloads))
+tree_shown tree = search (rules, each-append, own_shown, path_shown, nodes_shown)
 
 fit_shown : (tree : ImageTree) → ArePrintableLines (fit_lines tree)
 fit_shown tree = (

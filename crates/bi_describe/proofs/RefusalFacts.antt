@@ -1,4 +1,4 @@
-use Rattle.std.proofs.Common.{◌≡◌, ℕ, ◌*◌, ◌+◌, List, [], ◌∷◌, ◌++◌, length, codes, inl, inr, lit<, refl, ap, ◌∙◌, arith}
+use Rattle.std.proofs.Common.{◌≡◌, ℕ, ◌*◌, ◌+◌, List, [], ◌∷◌, ◌++◌, length, codes, inl, inr, refl, ap, ◌∙◌, arith, rules}
 use Rattle.std.specs.Fmt.{digits}
 use Rattle.std.proofs.lemmas.List.{length-append}
 use Rattle.bi_base.specs.Cells.{cell}
@@ -13,12 +13,10 @@ use Rattle.bi_norm.proofs.ComparisonFacts.{kernel_means, no_magic_is_error}
 use Rattle.bi_common.specs.declared.format.Format.TheVariants.{Lines}
 use Rattle.bi_common.specs.KnownWords.{lines}
 use Rattle.bi_common.specs.ValueTexts.{hexadecimal_digits}
-use Rattle.bi_describe.specs.declared.compare.CompareError.{CompareError}
-use Rattle.bi_describe.specs.declared.compare.CompareError.TheVariants.{One, Other, OutOfMemory}
 use Rattle.bi_describe.specs.Describing.{CanBeDescribed, IsTooLongToDescribe}
 use Rattle.bi_describe.specs.Descriptions.{description, description_lines, description_texts}
 use Rattle.bi_describe.specs.KnownRefusals.{longer_meaning, shorter_meaning, DescriptionBoundsAreKnown, DescribingErrorsAreKnown}
-use Rattle.bi_describe.specs.KnownRefusals.{ReadingErrorsAreKnown, FailsDescribing}
+use Rattle.bi_describe.specs.KnownRefusals.{ReadingErrorsAreKnown}
 use Rattle.bi_describe.proofs.DifferenceFacts.{lines_of_texts}
 
 -- Small boot images are over the bounds for descriptions or within them, and the first of two that cannot be read or described is the one
@@ -70,14 +68,7 @@ unfolding digits
 shorter_length = rw no_entries refl
 
 pub description_bounds_are_known : DescriptionBoundsAreKnown
-description_bounds_are_known = record {
-  as_long = record { payloads = λ over. over; short = omega (arith, longer_length) };
-  as_long_is_within = λ is. elim is [ inl over ↦ over | inr over ↦ omega (arith, over, longer_length) ];
-  longer = λ can. omega (arith, can.short, longer_length);
-  longer_is_over = inr (omega (arith, longer_length));
-  payloads = λ can. can.payloads (lit< tt);
-  payloads_are_over = inl (lit< tt);
-}
+description_bounds_are_known = search (rules, longer_length)
 
 -- ---- errors
 
@@ -94,21 +85,8 @@ shorter_can = record { payloads = λ over. omega (arith, over); short = omega (a
 shorter_is_not : ¬ (IsTooLongToDescribe Lines (limited_to 88) shorter_meaning)
 shorter_is_not is = elim is [ inl over ↦ omega (arith, over) | inr over ↦ omega (arith, over, shorter_length) ]
 
--- Neither of two short ones is refused.
-neither_fails : (error : CompareError) → ¬ (FailsDescribing shorter_meaning shorter_meaning error)
-neither_fails (One fault) is = shorter_is_not is.0
-neither_fails (Other fault) is = shorter_is_not is.1
-neither_fails OutOfMemory is = is
-
 pub describing_errors_are_known : DescribingErrorsAreKnown
-describing_errors_are_known = record {
-  only_first = (longer_is_too_long, refl);
-  only_second = (shorter_can, longer_is_too_long, refl);
-  not_first = λ fault is. shorter_is_not is.0;
-  first_of_both = (longer_is_too_long, refl);
-  not_second_of_both = λ fault is. longer_cannot is.0;
-  neither = neither_fails;
-}
+describing_errors_are_known = search (rules, longer_is_too_long, shorter_can, shorter_is_not, longer_cannot)
 
 pub reading_errors_are_known : ReadingErrorsAreKnown
 reading_errors_are_known = record {

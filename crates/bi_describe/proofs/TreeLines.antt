@@ -1,4 +1,4 @@
-use Rattle.std.proofs.Common.{◌≡◌, ℕ, ◌-◌, List, [], ◌∷◌, ◌++◌, codes, take, length, map, refl, sym, ap, ◌∙◌, arith, append_assoc}
+use Rattle.std.proofs.Common.{◌≡◌, ℕ, ◌-◌, List, [], ◌∷◌, ◌++◌, codes, take, length, map, refl, sym, ap, ◌∙◌, arith, append_assoc, rules}
 use Rattle.std.proofs.Common.{append-nil, length-append}
 use Rattle.std.specs.FinMap.{entries}
 use Rattle.std.proofs.lemmas.List.{take-append-le}
@@ -31,13 +31,7 @@ payload_lines names (OfImage payload) later = refl
 own_entry_lines : (names : List (List ℕ)) (own : DescribedNode) (later : List EntryModel)
     → entry_lines names (own_entries own ++ later)
     ≡ (payload_words (path names) own.payload ++ map (property_words (path names)) (entries own.properties)) ++ entry_lines names later
-own_entry_lines names own later =
-    let properties : List EntryModel = map PropertyEntry (entries own.properties) in
-    ap (entry_lines names) (append_assoc (payload_entries own.payload) properties later)
-    ∙ payload_lines names own.payload (properties ++ later)
-    ∙ ap (λ lines. payload_words (path names) own.payload ++ lines) (property_lines names (entries own.properties) later)
-    ∙ sym (append_assoc (payload_words (path names) own.payload)
-    (map (property_words (path names)) (entries own.properties)) (entry_lines names later))
+own_entry_lines names own later = search (rules, append_assoc, payload_lines, property_lines)
 
 -- After the end of a node, the nodes above it are open.
 closed : (above : List (List ℕ)) (name : List ℕ) → take (length (above ++ name ∷ []) - 1) (above ++ name ∷ []) ≡ above

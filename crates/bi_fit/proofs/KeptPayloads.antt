@@ -140,11 +140,6 @@ pub aligned_without_place : (bytes new : ℕ) (offset : Option ℕ) → is_some 
 aligned_without_place bytes new None is_none = tt
 aligned_without_place bytes new (Some offset) is_none = absurd (true≢false is_none)
 
-pub aligned_at_place : (bytes new : ℕ) (offset : Option ℕ) → is_some offset ≡ true → IfSome offset (λ offset. new % bytes ≡ 0) →
-    new % bytes ≡ 0
-aligned_at_place bytes new None some is = absurd (true≢false (sym some))
-aligned_at_place bytes new (Some offset) some is = is
-
 -- ---- the images from one on
 
 module _ (images : List Image) (i : ℕ) (d : Image) (within : i < length images) where

@@ -156,7 +156,14 @@ some_nodes (Some nodes) is = refl
 module _ (content : FitModel) (held : IsHeld content) where
   -- Its file means its image tree.
   pub held_means : IsFitFile content.blob.file (tree_of content)
-  held_means = search (rules, some_nodes, read_payloads)
+  held_means = record {
+    root = root_of content.blob;
+    blob = held.is_blob;
+    images = nodes_or_none (image_nodes (root_of content.blob));
+    has_images = some_nodes (image_nodes (root_of content.blob)) held.has_images;
+    payloads = read_payloads content.blob.file (nodes_or_none (image_nodes (root_of content.blob))) content.images held.images;
+    is_root = refl;
+  }
 
   -- The nodes of its file are nodes that a tree can have.
   pub held_nodes : AreNodes (λ own. AreProperties (properties_of own)) (root_of content.blob).children

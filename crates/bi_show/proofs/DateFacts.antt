@@ -1,89 +1,23 @@
-use Rattle.std.proofs.Common.{◌≡◌, ℕ, zero, suc, ◌+◌, ◌*◌, ◌<◌, ◌≤◌, Bool, true, false, List, [], ◌∷◌, ◌++◌, length, ap, ◌∙◌}
+use Rattle.std.proofs.Common.{◌≡◌, ℕ, zero, suc, ◌+◌, ◌*◌, ◌<◌, ◌≤◌, List, [], ◌∷◌, ◌++◌, length, ap, ◌∙◌, rules}
 use Rattle.std.proofs.Common.{arith, subst}
-use Rattle.std.specs.Prelude.{if◌then◌else◌}
-use Rattle.std.specs.List.{AllByRecursion, sum}
+use Rattle.std.specs.List.{AllByRecursion}
 use Rattle.std.proofs.lemmas.List.{length-append}
 use Rattle.bi_show.specs.declared.show.dates.Date.{Date}
-use Rattle.bi_show.specs.Dates.{IsDate, days_of_years, is_leap_year, month_lengths, year_length}
+use Rattle.bi_show.specs.Dates.{IsDate, days_of_years, month_lengths, year_length}
 
 -- These lemmas bound the lengths of years and months, and the numbers of a date.
 
 -- A year has at least 365 days.
 pub year_has_days : (year : ℕ) → 365 ≤ year_length year
-year_has_days year = by (is_leap_year year) where
-  by : (b : Bool)
-      → 365 ≤ sum (31 ∷ (if b then 29 else 28) ∷ 31 ∷ 30 ∷ 31 ∷ 30 ∷ 31 ∷ 31 ∷ 30 ∷ 31 ∷ 30 ∷ 31 ∷ [])
-  by true = omega arith
-  by false = omega arith
+year_has_days year = search rules
 
 years_have_days : (count : ℕ) → 365 * count ≤ days_of_years count
 years_have_days zero = omega arith
-years_have_days (suc count) =
-    let rest = years_have_days count in
-    let year = year_has_days (1970 + count) in
-    omega (arith, rest, year)
+years_have_days (suc count) = search (rules, year_has_days, years_have_days count)
 
 -- A month has at most 31 days.
 months_are_short : (year : ℕ) → AllByRecursion (λ days. days ≤ 31) (month_lengths year)
-months_are_short year = by (is_leap_year year) where
-  by : (b : Bool) → AllByRecursion (λ days. days ≤ 31)
-      (31 ∷ (if b then 29 else 28) ∷ 31 ∷ 30 ∷ 31 ∷ 30 ∷ 31 ∷ 31 ∷ 30 ∷ 31 ∷ 30 ∷ 31 ∷ [])
-  by true = (
-    omega arith,
-    (
-      omega arith,
-      (
-        omega arith,
-        (
-          omega arith,
-          (
-            omega arith,
-            (
-              omega arith,
-              (
-                omega arith,
-                (
-                  omega arith,
-                  (
-                    omega arith,
-                    (omega arith, (omega arith, (omega arith, tt))),
-                  ),
-                ),
-              ),
-            ),
-          ),
-        ),
-      ),
-    ),
-  )
-  by false = (
-    omega arith,
-    (
-      omega arith,
-      (
-        omega arith,
-        (
-          omega arith,
-          (
-            omega arith,
-            (
-              omega arith,
-              (
-                omega arith,
-                (
-                  omega arith,
-                  (
-                    omega arith,
-                    (omega arith, (omega arith, (omega arith, tt))),
-                  ),
-                ),
-              ),
-            ),
-          ),
-        ),
-      ),
-    ),
-  )
+months_are_short year = search rules
 
 -- If each number of a list has a property, a number in the list has it.
 of_one : (P : ℕ → Type 0) (earlier : List ℕ) (one : ℕ) (later : List ℕ) → AllByRecursion P (earlier ++ one ∷ later) → P one

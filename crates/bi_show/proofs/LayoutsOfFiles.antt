@@ -1,8 +1,8 @@
-use Rattle.std.proofs.Common.{◌≡◌, ◌∷◌, ◌++◌, ℕ, ◌+◌, Bool, List, [], ap, ap₂, length, map, refl, subst, sym, ◌∙◌}
+use Rattle.std.proofs.Common.{◌≡◌, ◌∷◌, ◌++◌, ℕ, ◌+◌, Bool, List, [], ap, ap₂, length, map, refl, subst, ◌∙◌, rules}
 use Rattle.std.specs.List.{AllZip}
 use Rattle.bi_base.specs.Limits.{Limits}
 use Rattle.bi_blob.specs.Lookups.{Sibling, siblings}
-use Rattle.bi_blob.specs.Tree.{FileNode, Nodes, Root, none, node, names}
+use Rattle.bi_blob.specs.Tree.{FileNode, Nodes, none, node, names}
 use Rattle.bi_fit.specs.Content.{FitModel, ImageModel, IsReadImage, tree_of}
 use Rattle.bi_fit.specs.HashNodes.{file_images}
 use Rattle.bi_fit.specs.Payloads.{source_of}
@@ -12,7 +12,7 @@ use Rattle.bi_report.specs.ReadChecking.{end_of_read_payloads}
 use Rattle.bi_report.proofs.CheckedFiles.{content_end_read, nodes_found}
 use Rattle.bi_show.specs.declared.show.layout.LayoutRegion.{LayoutRegion}
 use Rattle.bi_show.specs.FitPages.{fit_regions}
-use Rattle.bi_show.specs.Layouts.{IsLayoutIf, blob_regions, region_of_payload, payload_regions}
+use Rattle.bi_show.specs.Layouts.{IsLayoutIf, region_of_payload, payload_regions}
 use Rattle.bi_show.specs.Pages.{Table}
 use Rattle.bi_show.specs.ReadPages.{read_image_names, read_payload_regions, read_regions}
 use Rattle.bi_show.proofs.ShownPages.{images_of_file, offset_found}
@@ -43,11 +43,7 @@ payloads_found file index (entry ∷ entries) (image ∷ images) are =
 -- all regions,
 regions_found : (limits : Limits) (file : List ℕ) (content : FitModel) (is : IsReadFit limits file content) →
     read_regions content ≡ fit_regions file is.means.is_file.root (tree_of content)
-regions_found limits file content is =
-    ap₂ (λ (blocks payloads : List LayoutRegion). blocks ++ payloads)
-    (ap (λ (f : List ℕ). blob_regions f content.blob.reservations) is.is_file)
-    (payloads_found file 0 (siblings (file_images content.blob)) content.images (images_of_file limits file content is))
-    ∙ ap (λ (root : Root FileNode). fit_regions file root (tree_of content)) (sym is.same_root)
+regions_found limits file content is = search (rules, payloads_found, images_of_file)
 
 -- and their table.
 pub layout_found : (wanted : Bool) (limits : Limits) (file : List ℕ) (content : FitModel) (is : IsReadFit limits file content)

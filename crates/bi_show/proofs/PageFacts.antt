@@ -1,4 +1,4 @@
-use Rattle.std.proofs.Common.{◌≤◌, zero, suc, List, [], ◌∷◌, codes, length, lit≤, refl, arith}
+use Rattle.std.proofs.Common.{◌≤◌, zero, suc, List, [], ◌∷◌, codes, length, lit≤, refl, arith, rules}
 use Rattle.std.specs.Fmt.{digits}
 use Rattle.std.specs.List.{AllAdjacentBelow}
 use Rattle.std.proofs.lemmas.List.Sorted.{IsPermutation-refl, IsNonDecreasingBy-from_all_adjacent}
@@ -125,44 +125,11 @@ times_are_known = record {
 }
 
 pub tables_are_known : TablesAreKnown
-tables_are_known = record {
-  two_rows = refl;
-  short_row = refl;
-  one_row = refl;
-  no_rows = refl;
-  no_concerns = refl;
-  concerns = refl;
-}
+tables_are_known = search rules
 
 pub cells_are_known : CellsAreKnown
 unfolding digits cell
-cells_are_known = record {
-  os = refl;
-  other_os = refl;
-  no_os = refl;
-  arch = refl;
-  other_arch = refl;
-  no_arch = refl;
-  image_type = refl;
-  compression = refl;
-  number = refl;
-  no_number = refl;
-  size = refl;
-  word = refl;
-  text = refl;
-  digit_first = refl;
-  minus = refl;
-  no_text = refl;
-  other_text = refl;
-  word_value = refl;
-  text_value = refl;
-  empty_value = refl;
-  other_value = refl;
-  address = refl;
-  long_address = refl;
-  no_address = refl;
-  names = refl;
-}
+cells_are_known = search rules
 
 -- ---- layouts
 
@@ -171,11 +138,7 @@ abbrev pub Rise : List LayoutRegion → Type 0
 Rise regions = AllAdjacentBelow (λ (one next : LayoutRegion). one.begin ≤ next.begin) regions (length regions)
 
 pub by_offset : (regions : List LayoutRegion) → Rise regions → AreByOffset regions regions
-by_offset regions rise = record {
-  same = IsPermutation-refl regions;
-  by_offset = IsNonDecreasingBy-from_all_adjacent (λ (region : LayoutRegion). region.begin) regions rise;
-  stable = λ x. refl;
-}
+by_offset regions rise = search (rules, IsPermutation-refl, IsNonDecreasingBy-from_all_adjacent)
 
 kernel_rise : Rise (legacy_regions kernel_image)
 unfolding cell

@@ -1,4 +1,4 @@
-use Rattle.std.proofs.Common.{◌≡◌, ◌∷◌, ◌++◌, ℕ, List, [], ap, flat_map, map, subst, sym, ◌∙◌}
+use Rattle.std.proofs.Common.{◌≡◌, ◌∷◌, ◌++◌, ℕ, List, [], ap, flat_map, map, subst, sym, ◌∙◌, rules}
 use Rattle.std.specs.List.{join_with_byte}
 use Rattle.std.specs.Prelude.{IsAscii}
 use Rattle.std.proofs.lemmas.List.Folds.{flat_map-map}
@@ -16,9 +16,4 @@ ascii_in_memory old new text empty grown ascii =
 -- The words of elements, with a space between each two, are the first word, and then each other word after a space.
 pub joined_in_turn : {X : Type 0} (word : X → List ℕ) (all later : List X) (first : X) (start middle end : List ℕ) → all ≡ first ∷ later →
     start ≡ [] → middle ≡ start ++ word first → end ≡ middle ++ flat_map (λ x. 32 ∷ word x) later → end ≡ join_with_byte 32 (map word all)
-joined_in_turn {X} word all later first start middle end is empty one more =
-    more
-    ∙ ap (λ (l : List ℕ). l ++ flat_map (λ x. 32 ∷ word x) later) (one ∙ ap (λ (l : List ℕ). l ++ word first) empty)
-    ∙ ap (λ (l : List ℕ). word first ++ l) (sym (flat_map-map (λ (text : List ℕ). 32 ∷ text) word later))
-    ∙ sym (joined_after 32 (word first) (map word later))
-    ∙ ap (λ (l : List X). join_with_byte 32 (map word l)) (sym is)
+joined_in_turn {X} word all later first start middle end is empty one more = search (rules, flat_map-map, joined_after)

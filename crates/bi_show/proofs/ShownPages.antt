@@ -1,4 +1,4 @@
-use Rattle.std.proofs.Common.{◌≡◌, ◌∷◌, ◌++◌, ℕ, ◌-◌, List, [], String, Vec, Result, Ok, Err, IfErr, ap, ap₂, append-nil}
+use Rattle.std.proofs.Common.{◌≡◌, ◌∷◌, ◌++◌, ℕ, ◌-◌, List, [], String, Vec, Result, Ok, Err, IfErr, ap, append-nil, rules}
 use Rattle.std.proofs.Common.{append_assoc, map, refl, subst, sym, ◌∙◌}
 use Rattle.std.specs.Prelude.{IsAscii}
 use Rattle.std.specs.declared.alloc.Global.{Global}
@@ -7,12 +7,12 @@ use Rattle.bi_base.specs.declared.fault.Error.{Error}
 use Rattle.bi_base.specs.Limits.{Limits}
 use Rattle.bi_base.specs.VecSinks.{Grows}
 use Rattle.bi_blob.specs.Lookups.{Sibling, siblings}
-use Rattle.bi_blob.specs.Tree.{FileNode, Root}
+use Rattle.bi_blob.specs.Tree.{FileNode}
 use Rattle.bi_fdt.specs.Content.{root_of}
 use Rattle.bi_fit.specs.declared.image.Place.{Place}
 use Rattle.bi_fit.specs.Content.{FitModel, ImageModel, IsReadImage, offset_of_place, place_of, tree_of}
 use Rattle.bi_fit.specs.HashNodes.{file_configurations, file_images}
-use Rattle.bi_fit.specs.Payloads.{PayloadSource, NoSource, Data, DataOffset, DataPosition, payload_place, source_of}
+use Rattle.bi_fit.specs.Payloads.{PayloadSource, NoSource, Data, DataOffset, DataPosition, payload_place}
 use Rattle.bi_fit.specs.Reading.{IsReadFit}
 use Rattle.bi_common.specs.declared.format.Format.TheVariants.{Lines}
 use Rattle.bi_report.specs.CheckedFiles.{IsCheckError, concerns_text}
@@ -21,7 +21,7 @@ use Rattle.bi_report.specs.FoundConcerns.{FoundConcern, HasConcerns, concerns_in
 use Rattle.bi_report.specs.ReadChecking.{IsReadCheckError}
 use Rattle.bi_report.proofs.AsciiReports.{checked_is_ascii}
 use Rattle.bi_report.proofs.CheckedFiles.{check_error_of_tree, text_checks}
-use Rattle.bi_show.specs.FitPages.{configurations_table, fit_head, fit_tables, image_heading, image_row, image_rows, reservations_table}
+use Rattle.bi_show.specs.FitPages.{configurations_table, fit_head, fit_tables, image_heading, image_rows, reservations_table}
 use Rattle.bi_show.specs.FitPages.{signatures_table}
 use Rattle.bi_show.specs.Pages.{Table, table_text}
 use Rattle.bi_show.specs.ReadPages.{read_image_rows}
@@ -66,10 +66,7 @@ rows_of_images : (file : List ℕ) (entries : List (Sibling FileNode)) (images :
 rows_of_images file [] [] are = refl
 rows_of_images file [] (image ∷ images) are = absurd are
 rows_of_images file (entry ∷ entries) [] are = refl
-rows_of_images file (entry ∷ entries) (image ∷ images) are =
-    ap₂ (λ (row : List (List ℕ)) (rows : Table). row ∷ rows)
-    (ap (image_row entry image.payload) (offset_found file (source_of entry.own) image.place are.0.place))
-    (rows_of_images file entries images are.1)
+rows_of_images file (entry ∷ entries) (image ∷ images) are = search (rules, offset_found, rows_of_images file entries images are.1)
 
 -- The images that were read are those of the file.
 pub images_of_file : (limits : Limits) (file : List ℕ) (content : FitModel) → IsReadFit limits file content →
@@ -86,15 +83,7 @@ pub tables_of_file : (limits : Limits) (file : List ℕ) (content : FitModel) (i
     ∷ configurations_table (siblings (file_configurations content.blob))
     ∷ signatures_table (siblings (file_images content.blob)) (siblings (file_configurations content.blob)) ∷ regions ∷ []
     ≡ fit_tables file is.means.is_file.root (tree_of content) time regions
-tables_of_file limits file content is time regions =
-    let entries = siblings (file_images content.blob) in
-    ap (λ (rows : Table). fit_head file (root_of content.blob) (tree_of content) time
-    ∷ reservations_table content.blob.reservations
-    ∷ (image_heading ∷ rows)
-    ∷ configurations_table (siblings (file_configurations content.blob))
-    ∷ signatures_table (siblings (file_images content.blob)) (siblings (file_configurations content.blob)) ∷ regions ∷ [])
-    (rows_of_images file entries content.images (images_of_file limits file content is))
-    ∙ ap (λ (root : Root FileNode). fit_tables file root (tree_of content) time regions) (sym is.same_root)
+tables_of_file limits file content is time regions = search (rules, rows_of_images, images_of_file)
 
 -- A table was appended.
 pub shown_table : (old new : List ℕ) (slice rows : List (Vec (String Global) Global)) (table : Table) →

@@ -1,4 +1,4 @@
-use Rattle.std.proofs.Common.{◌≡◌, ℕ, ◌+◌, ◌<◌, List, [], ◌∷◌, ◌++◌, Option, Some, String, Vec, string_bytes, append_assoc, ap, ap₂, sym}
+use Rattle.std.proofs.Common.{◌≡◌, ℕ, ◌+◌, ◌<◌, List, [], ◌∷◌, ◌++◌, Option, Some, String, Vec, string_bytes, append_assoc, ap, sym, rules}
 use Rattle.std.proofs.Common.{◌∙◌}
 use Rattle.std.proofs.Common.{drop, get_or, length, map}
 use Rattle.std.specs.declared.alloc.Global.{Global}
@@ -16,20 +16,12 @@ use Rattle.bi_show.specs.Rows.{cells_of_rows, cells_of_row}
 pub one_more_row : (rows new : List (Vec (String Global) Global)) (row : Vec (String Global) Global) (cells : List (List ℕ))
     (later all : Table) →
     new ≡ rows ++ row ∷ [] → cells_of_row row.items ≡ cells → cells_of_rows rows ++ cells ∷ later ≡ all → cells_of_rows new ++ later ≡ all
-one_more_row rows new row cells later all is same whole =
-    ap (λ (l : List (Vec (String Global) Global)). cells_of_rows l ++ later) is
-    ∙ ap (λ (l : Table). l ++ later) (map-append (λ (r : Vec (String Global) Global). cells_of_row r.items) rows (row ∷ []))
-    ∙ append_assoc (cells_of_rows rows) (cells_of_row row.items ∷ []) later
-    ∙ ap (λ (c : List (List ℕ)). cells_of_rows rows ++ c ∷ later) same
-    ∙ whole
+one_more_row rows new row cells later all is same whole = search (rules, map-append, append_assoc)
 
 -- A row of a word and a cell is added.
 pub next_pair : (base done before after : Table) (word cell shown : List ℕ) → before ≡ base ++ done →
     after ≡ before ++ (word ∷ cell ∷ []) ∷ [] → cell ≡ shown → after ≡ base ++ (done ++ (word ∷ shown ∷ []) ∷ [])
-next_pair base done before after word cell shown so_far is same =
-    is
-    ∙ ap₂ (λ (b : Table) (c : List ℕ). b ++ (word ∷ c ∷ []) ∷ []) so_far same
-    ∙ append_assoc base done ((word ∷ shown ∷ []) ∷ [])
+next_pair base done before after word cell shown so_far is same = search (rules, append_assoc)
 
 -- Some rows are added.
 pub next_rows : (base done before after more : Table) → before ≡ base ++ done → after ≡ before ++ more → after ≡ base ++ (done ++ more)
@@ -39,10 +31,7 @@ next_rows base done before after more so_far is =
 -- A cell is added to a row.
 pub last_cell : (row new : List (String Global)) (cell : String Global) (before : List (List ℕ)) (text : List ℕ) → new ≡ row ++ cell ∷ [] →
     cells_of_row row ≡ before → string_bytes cell ≡ text → cells_of_row new ≡ before ++ text ∷ []
-last_cell row new cell before text is same shown =
-    ap cells_of_row is
-    ∙ map-append string_bytes row (cell ∷ [])
-    ∙ ap₂ (λ (b : List (List ℕ)) (t : List ℕ). b ++ t ∷ []) same shown
+last_cell row new cell before text is same shown = search (rules, map-append)
 
 -- The rows from a reservation on are its row and those of the later reservations.
 pub rows_from_reservation : (reservations : List Reservation) (index : ℕ) (found : Option (ℕ × ℕ)) (numbers : ℕ × ℕ) →

@@ -1,4 +1,4 @@
-use Rattle.std.proofs.Common.{◌≡◌, List, [], ◌∷◌, Some, codes, lit≤, refl}
+use Rattle.std.proofs.Common.{◌≡◌, List, [], ◌∷◌, Some, codes, lit≤, refl, rules}
 use Rattle.bi_base.specs.Cells.{cell, cell8, u32_at}
 use Rattle.bi_base.specs.Crc.{crc32, crc_after, low_bits}
 use Rattle.bi_base.specs.Limits.{widest}
@@ -8,9 +8,6 @@ use Rattle.bi_blob.specs.Tree.{FileNode, Nodes, Root, tree_without_order, tree_w
 use Rattle.bi_fit.specs.File.{FitMeans}
 use Rattle.bi_fit.specs.ImageTree.{ImageTree, image_nodes, nodes_or_none, tree_without_payloads}
 use Rattle.bi_fit.specs.Judgement.{CheckedHash}
-use Rattle.bi_fit.specs.KnownJudgements.{good_crc}
-use Rattle.bi_fit.specs.Names.{algo_name, default_name, key_name, value_name}
-use Rattle.bi_fit.specs.declared.key.Key.TheVariants.{Kernel, Fdt, Ramdisk, Firmware, Loadables, Script}
 use Rattle.bi_fit.proofs.FileFacts.{blob_by_test}
 use Rattle.bi_fit.proofs.JudgementFacts.{find-properties}
 use Rattle.bi_hash.specs.Algos.{find_algorithm}
@@ -18,7 +15,7 @@ use Rattle.bi_hash.specs.Digests.{digest_of}
 use Rattle.bi_hash.specs.Verdicts.{verdict_of}
 use Rattle.bi_hash.specs.declared.verdicts.Verdict.TheVariants.{Good}
 use Rattle.bi_report.specs.Checking.{Concern, WeakHash, tree_concerns}
-use Rattle.bi_show.specs.KnownTrees.{shown_configuration, shown_default, shown_file, shown_tree}
+use Rattle.bi_show.specs.KnownTrees.{shown_file, shown_tree}
 
 -- What the file of a small flattened image tree means.
 
@@ -66,14 +63,4 @@ shown_concerns = WeakHash (codes "a") (shown_hash ∷ []) ∷ []
 
 pub concerns_of_tree : tree_concerns shown_meaning ≡ shown_concerns
 unfolding text_before_nul verdict_of find_algorithm digest_of cell crc32 crc_after low_bits
-concerns_of_tree = rw (
-  find-properties good_crc algo_name,
-  find-properties good_crc value_name,
-  find-properties shown_configuration (key_name Kernel),
-  find-properties shown_configuration (key_name Fdt),
-  find-properties shown_configuration (key_name Ramdisk),
-  find-properties shown_configuration (key_name Firmware),
-  find-properties shown_configuration (key_name Loadables),
-  find-properties shown_configuration (key_name Script),
-  find-properties shown_default default_name,
-) refl
+concerns_of_tree = search (rules, find-properties)

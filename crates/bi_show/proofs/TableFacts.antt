@@ -1,4 +1,4 @@
-use Rattle.std.proofs.Common.{◌≡◌, ◌⊎◌, inl, inr, ℕ, ◌+◌, ◌<◌, ◌≤◌, ◌==◌, max, false, List, [], ◌∷◌, ◌++◌, codes, length}
+use Rattle.std.proofs.Common.{◌≡◌, ◌⊎◌, inl, inr, ℕ, ◌+◌, ◌<◌, ◌≤◌, ◌==◌, max, false, List, [], ◌∷◌, ◌++◌, codes, length, rules}
 use Rattle.std.proofs.Common.{map, take, set, get_or}
 use Rattle.std.proofs.Common.{String, string_bytes, refl, sym, ap, ◌∙◌, subst, arith}
 use Rattle.std.specs.declared.alloc.Global.{Global}
@@ -31,20 +31,11 @@ wider-push (width ∷ widths) (first ∷ cells) cell none =
 -- One more cell in a row adds its length to the lengths of the cells.
 one_more_cell : (row : List (String Global)) (column : ℕ) (cell : String Global) → column < length row → get_or row column cell ≡ cell →
     map length (cells_of_row (take (column + 1) row)) ≡ map length (cells_of_row (take column row)) ++ length (string_bytes cell) ∷ []
-one_more_cell row column cell within there =
-    ap (λ (l : List (String Global)). map length (cells_of_row l))
-    (take_more row column cell within ∙ ap (λ (c : String Global). take column row ++ c ∷ []) there)
-    ∙ ap (map length) (map-append string_bytes (take column row) (cell ∷ []))
-    ∙ map-append length (cells_of_row (take column row)) (string_bytes cell ∷ [])
+one_more_cell row column cell within there = search (rules, take_more row column cell within, map-append)
 
 cells_before : (row : List (String Global)) (column : ℕ) → column < length row →
     length (map length (cells_of_row (take column row))) ≡ column
-cells_before row column within =
-    let texts = cells_of_row (take column row) in
-    let many = length-map texts (λ (text : List ℕ). length text) in
-    let same = length-map (take column row) string_bytes in
-    let taken = length-take column row in
-    omega (arith, many, same, taken, within)
+cells_before row column within = search (rules, length-map, length-take)
 
 -- One more cell in a row gives these widths of columns.
 pub widths_with_cell : (old current : List ℕ) (row : List (String Global)) (column : ℕ) (cell : String Global) (width d : ℕ) →
@@ -65,14 +56,7 @@ pub widths_with_new_cell : (old current : List ℕ) (row : List (String Global))
     column < length row →
     get_or row column cell ≡ cell → width ≡ length (string_bytes cell) → current ≡ with_row old (cells_of_row (take column row)) →
     length current ≤ column → current ++ width ∷ [] ≡ with_row old (cells_of_row (take (column + 1) row))
-widths_with_new_cell old current row column cell width within there wide is none =
-    let cells = map length (cells_of_row (take column row)) in
-    let many = cells_before row column within in
-    let here : length (wider old cells) ≤ length cells = omega (arith, many, none, ap length is) in
-    ap (λ (l : List ℕ). l ++ width ∷ []) is
-    ∙ wider-push old cells width here
-    ∙ ap (λ (n : ℕ). wider old (cells ++ n ∷ [])) wide
-    ∙ ap (wider old) (sym (one_more_cell row column cell within there))
+widths_with_new_cell old current row column cell width within there wide is none = search (rules, cells_before, wider-push, one_more_cell)
 
 -- If no width is left, or no cell, no cell is written.
 pub no_more_cells : (left : ℕ) (widths : List ℕ) (cells : List (String Global)) → (widths ≡ []) ⊎ (cells ≡ []) →

@@ -1,4 +1,4 @@
-use Rattle.std.proofs.Common.{◌≡◌, ◌++◌, ◌==◌, ℕ, Bool, true, false, List, [], ◌∷◌, Option, Some, None, refl}
+use Rattle.std.proofs.Common.{◌≡◌, ◌++◌, ℕ, Bool, true, false, List, [], ◌∷◌, Option, Some, None, refl, rules}
 use Rattle.std.specs.Prelude.{if◌then◌else◌}
 use Rattle.bi_legacy.specs.Codes.{CodeName, name_of_code}
 
@@ -12,9 +12,7 @@ named_step false here later both name step is = step is
 pub named_in_first : (first second : List CodeName) (code : ℕ) (name : List ℕ) → name_of_code first code ≡ Some name →
     name_of_code (first ++ second) code ≡ Some name
 named_in_first [] second code name is = absurd cc
-named_in_first (entry ∷ first) second code name is =
-    named_step (entry.code == code) (Some entry.name) (name_of_code first code) (name_of_code (first ++ second) code) name
-    (named_in_first first second code name) is
+named_in_first (entry ∷ first) second code name is = search (rules, named_step, named_in_first first second code name)
 
 unnamed_step : (found : Bool) (here : List ℕ) (later both wanted : Option (List ℕ)) → (later ≡ None → both ≡ wanted) →
     (if found then Some here else later) ≡ None → (if found then Some here else both) ≡ wanted
@@ -24,6 +22,4 @@ unnamed_step false here later both wanted step is = step is
 pub named_in_second : (first second : List CodeName) (code : ℕ) → name_of_code first code ≡ None →
     name_of_code (first ++ second) code ≡ name_of_code second code
 named_in_second [] second code is = refl
-named_in_second (entry ∷ first) second code is =
-    unnamed_step (entry.code == code) entry.name (name_of_code first code) (name_of_code (first ++ second) code)
-    (name_of_code second code) (named_in_second first second code) is
+named_in_second (entry ∷ first) second code is = search (rules, unnamed_step, named_in_second first second code)

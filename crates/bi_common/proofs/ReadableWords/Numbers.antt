@@ -1,17 +1,17 @@
 use Rattle.std.proofs.Common.{◌≡◌, ℕ, zero, suc, ◌+◌, ◌/◌, ◌%◌, ◌<◌, ◌^◌, Bool, true, false, cond, eqb, ltb, List, [], ◌∷◌, ◌++◌, refl, sym}
-use Rattle.std.proofs.Common.{ap, ◌∙◌, arith, codes}
+use Rattle.std.proofs.Common.{ap, ◌∙◌, arith, codes, rules}
 use Rattle.std.specs.Int.{from_be_bytes, w32}
 use Rattle.std.specs.Fmt.{decimal, digits, digits_onto, digit_glyph}
 use Rattle.std.specs.List.{AllByRecursion, flat_map, list_all}
 use Rattle.std.proofs.lemmas.Bool.{lt-leb, ltb-true, and_parts, cond-true, lt-ltb}
 use Rattle.std.proofs.lemmas.List.{append_cancel_left}
 use Rattle.std.proofs.lemmas.Nat.{from_be_bytes-to_be_bytes_4}
-use Rattle.bi_base.specs.Cells.{cell, cell8}
+use Rattle.bi_base.specs.Cells.{cell}
 use Rattle.bi_blob.proofs.Blobs.Cells.{cell8_agree}
 use Rattle.bi_common.specs.Shown.{digits_of_byte, hexadecimal}
 use Rattle.bi_common.specs.Shown.{hexadecimal_64}
 use Rattle.bi_common.proofs.ReadableWords.ShownNames.{glyph_above, same_digits}
-use Rattle.bi_common.proofs.ReadableWords.WordLines.{IsBare, HasNoQuote, IsLaterWord, Bare}
+use Rattle.bi_common.proofs.ReadableWords.WordLines.{IsBare, IsLaterWord}
 
 -- Words of digits have no blank and no quote, and numbers are read back from their hexadecimal digits.
 
@@ -33,11 +33,7 @@ above_bare (byte ∷ later) are = (let high = are.0 in lt-leb byte 32 (omega (ar
 
 -- It does not begin with a quote, so it may come after the first three.
 pub above_later : (word : List ℕ) → IsAbove word → IsLaterWord word
-above_later word are = Bare (above_bare word are) (no_quote word are)
-  where
-    no_quote : (word : List ℕ) → IsAbove word → HasNoQuote word
-    no_quote [] are = tt
-    no_quote (byte ∷ later) are = λ is. let high = are.0 in omega (arith, high, is)
+above_later word are = search (rules, above_bare)
 
 -- Two such words, one after the other.
 pub above-append : (one other : List ℕ) → IsAbove one → IsAbove other → IsAbove (one ++ other)
@@ -104,12 +100,8 @@ cell_agree m n fits also same =
 
 -- A number of 32 bits is read back.
 pub same_hexadecimal : (m n : ℕ) → m < 2 ^ 32 → n < 2 ^ 32 → hexadecimal m ≡ hexadecimal n → m ≡ n
-same_hexadecimal m n fits also same =
-    cell_agree m n fits also (same_digits false (cell m) (cell n)
-    (append_cancel_left (codes "0x") (flat_map (digits_of_byte false) (cell m)) (flat_map (digits_of_byte false) (cell n)) same))
+same_hexadecimal m n fits also same = search (rules, cell_agree, same_digits, append_cancel_left)
 
 -- A number of 64 bits is read back.
 pub same_hexadecimal_64 : (m n : ℕ) → m < 2 ^ 64 → n < 2 ^ 64 → hexadecimal_64 m ≡ hexadecimal_64 n → m ≡ n
-same_hexadecimal_64 m n fits also same =
-    cell8_agree m n fits also (same_digits false (cell8 m) (cell8 n)
-    (append_cancel_left (codes "0x") (flat_map (digits_of_byte false) (cell8 m)) (flat_map (digits_of_byte false) (cell8 n)) same))
+same_hexadecimal_64 m n fits also same = search (rules, cell8_agree, same_digits, append_cancel_left)

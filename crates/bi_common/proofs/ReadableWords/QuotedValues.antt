@@ -1,4 +1,4 @@
-use Rattle.std.proofs.Common.{◌≡◌, ◌||◌, ℕ, Bool, true, false, cond, eqb, List, [], ◌∷◌, ◌++◌, map, refl, sym, ap, subst, ◌∙◌, codes}
+use Rattle.std.proofs.Common.{◌≡◌, ℕ, Bool, true, false, cond, List, [], ◌∷◌, ◌++◌, map, refl, sym, ap, ◌∙◌, codes, rules}
 use Rattle.std.proofs.Common.{bytes_eq}
 use Rattle.std.specs.Prelude.{nat_eq}
 use Rattle.std.proofs.lemmas.Bool.{cond-true, cond-false, eqb-false, and_parts}
@@ -21,49 +21,22 @@ data Escaped (byte : ℕ) : Type 0 where
 
 -- It is escaped in one of these ways.
 escapes : (byte : ℕ) → Escaped byte
-escapes byte = where_test (eqb byte 34) (eqb byte 92) refl refl
-  where
-    where_test : (p q : Bool) → eqb byte 34 ≡ p → eqb byte 92 ≡ q → Escaped byte
-    where_test true q one other =
-        Special (cond-true (eqb byte 34 || eqb byte 92) (92 ∷ byte ∷ []) (byte ∷ []) (ap (λ r. r || eqb byte 92) one))
-    where_test false true one other =
-        Special (cond-true (eqb byte 34 || eqb byte 92) (92 ∷ byte ∷ []) (byte ∷ []) (ap (λ r. r || eqb byte 92) one ∙ other))
-    where_test false false one other = Plain (eqb-false byte 34 one) (eqb-false byte 92 other)
-        (cond-false (eqb byte 34 || eqb byte 92) (92 ∷ byte ∷ []) (byte ∷ []) (ap (λ r. r || eqb byte 92) one ∙ other))
+escapes byte = search (rules, cond-true, eqb-false, cond-false)
 
 -- A byte is read back from how it is escaped.
 read_escaped : (a b : ℕ) (x y : List ℕ) → escaped_byte a ++ x ≡ escaped_byte b ++ y → (a ≡ b) × (x ≡ y)
-read_escaped a b x y same = where_ways (escapes a) (escapes b)
-  where
-    texts : (one other : List ℕ) → escaped_byte a ≡ one → escaped_byte b ≡ other → one ++ x ≡ other ++ y
-    texts one other is also = subst (λ w. one ++ x ≡ w ++ y) also (subst (λ w. w ++ x ≡ escaped_byte b ++ y) is same)
-
-    where_ways : Escaped a → Escaped b → (a ≡ b) × (x ≡ y)
-    where_ways (Plain no_quote no_slash is) (Plain none none_either also) = let both = texts (a ∷ []) (b ∷ []) is also in (cc, cc)
-    where_ways (Plain no_quote no_slash is) (Special also) = let both = texts (a ∷ []) (92 ∷ b ∷ []) is also in absurd (no_slash cc)
-    where_ways (Special is) (Plain none none_either also) = let both = texts (92 ∷ a ∷ []) (b ∷ []) is also in absurd (none_either cc)
-    where_ways (Special is) (Special also) = let both = texts (92 ∷ a ∷ []) (92 ∷ b ∷ []) is also in (cc, cc)
+read_escaped a b x y same = search (rules, escapes)
 
 -- An escaped byte does not begin as what follows a text does.
 no_escaped_quote : (byte : ℕ) (x y : List ℕ) → escaped_byte byte ++ x ≡ 34 ∷ y → ⊥
-no_escaped_quote byte x y same = where_way (escapes byte)
-  where
-    where_way : Escaped byte → ⊥
-    where_way (Plain no_quote no_slash is) =
-        let text : (byte ∷ []) ++ x ≡ 34 ∷ y = subst (λ w. w ++ x ≡ 34 ∷ y) is same in no_quote cc
-    where_way (Special is) = let text : (92 ∷ byte ∷ []) ++ x ≡ 34 ∷ y = subst (λ w. w ++ x ≡ 34 ∷ y) is same in
-        begin_apart 92 34 (byte ∷ x) y refl text
+no_escaped_quote byte x y same = search (rules, escapes, begin_apart)
 
 -- The bytes of a text are read back from the quote that follows them.
 read_escapes : (one other x y : List ℕ) → flat_map escaped_byte one ++ (34 ∷ x) ≡ flat_map escaped_byte other ++ (34 ∷ y) →
     (one ≡ other) × (x ≡ y)
 read_escapes [] [] x y same = (refl, cc)
-read_escapes [] (b ∷ other) x y same =
-    absurd (no_escaped_quote b (flat_map escaped_byte other ++ (34 ∷ y)) x
-    (sym (append_assoc (escaped_byte b) (flat_map escaped_byte other) (34 ∷ y)) ∙ sym same))
-read_escapes (a ∷ one) [] x y same =
-    absurd (no_escaped_quote a (flat_map escaped_byte one ++ (34 ∷ x)) y
-    (sym (append_assoc (escaped_byte a) (flat_map escaped_byte one) (34 ∷ x)) ∙ same))
+read_escapes [] (b ∷ other) x y same = search (rules, no_escaped_quote, append_assoc)
+read_escapes (a ∷ one) [] x y same = search (rules, no_escaped_quote, append_assoc)
 read_escapes (a ∷ one) (b ∷ other) x y same =
     let first = read_escaped a b (flat_map escaped_byte one ++ (34 ∷ x)) (flat_map escaped_byte other ++ (34 ∷ y))
     (sym (append_assoc (escaped_byte a) (flat_map escaped_byte one) (34 ∷ x)) ∙ same ∙ append_assoc (escaped_byte b)
@@ -75,10 +48,7 @@ read_escapes (a ∷ one) (b ∷ other) x y same =
 
 -- A text is read back from how it is quoted.
 pub read_quoted : (one other x y : List ℕ) → quoted_text one ++ x ≡ quoted_text other ++ y → (one ≡ other) × (x ≡ y)
-read_quoted one other x y same =
-    let inner : (flat_map escaped_byte one ++ 34 ∷ []) ++ x ≡ (flat_map escaped_byte other ++ 34 ∷ []) ++ y = cc in
-    read_escapes one other x y
-    (sym (append_assoc (flat_map escaped_byte one) (34 ∷ []) x) ∙ inner ∙ append_assoc (flat_map escaped_byte other) (34 ∷ []) y)
+read_quoted one other x y same = search (rules, read_escapes, append_assoc)
 
 -- So are texts from each of them in quotes.
 same_texts : (one other : List (List ℕ)) → map quoted_text one ≡ map quoted_text other → one ≡ other

@@ -1,7 +1,7 @@
-use Rattle.std.proofs.Common.{◌≡◌, ℕ, zero, suc, List, [], ◌∷◌, ◌++◌, refl, sym, ap, ◌∙◌, true≢false}
+use Rattle.std.proofs.Common.{◌≡◌, ℕ, zero, suc, List, [], ◌∷◌, ◌++◌, refl, sym, ap, ◌∙◌, true≢false, rules}
 use Rattle.std.specs.Prelude.{⊤}
 use Rattle.std.proofs.lemmas.List.{append_assoc}
-use Rattle.std.specs.List.{AllByRecursion, flat_map, join_with_byte}
+use Rattle.std.specs.List.{AllByRecursion, flat_map}
 use Rattle.bi_common.specs.Shown.{line}
 use Rattle.bi_common.specs.ValueTexts.{quoted_text, escaped_byte}
 use Rattle.bi_common.proofs.ReadableWords.Cuts.{HasNoEnd, Ends, cut_agrees, begin_apart}
@@ -48,10 +48,7 @@ ends-after_word (word ∷ words) rest = refl
 -- A line is its first word and what follows it.
 line-after_word : (word : List ℕ) (words : List (List ℕ)) (rest : List ℕ) → line (word ∷ words) ++ rest ≡ word ++ after_word words rest
 line-after_word word [] rest = append_assoc word (10 ∷ []) rest
-line-after_word word (next ∷ words) rest =
-    ap (λ text. text ++ rest) (append_assoc word (32 ∷ join_with_byte 32 (next ∷ words)) (10 ∷ []))
-    ∙ append_assoc word (32 ∷ line (next ∷ words)) rest
-    ∙ ap (λ text. word ++ (32 ∷ text)) (line-after_word next words rest)
+line-after_word word (next ∷ words) rest = search (rules, append_assoc, line-after_word next words rest)
 
 -- A word without a quote at its front is not a text in quotes.
 not_quoted : (word x y : List ℕ) → HasNoQuote word → Ends is_blank x → word ++ x ≡ 34 ∷ y → ⊥
@@ -69,9 +66,7 @@ later_agrees one other x y (Bare bare no_quote) (Quoted text is) end ending same
     absurd (not_quoted one x ((flat_map escaped_byte text ++ 34 ∷ []) ++ y) no_quote end (same ∙ ap (λ w. w ++ y) is))
 later_agrees one other x y (Quoted text is) (Bare bare no_quote) end ending same =
     absurd (not_quoted other y ((flat_map escaped_byte text ++ 34 ∷ []) ++ x) no_quote ending (sym same ∙ ap (λ w. w ++ x) is))
-later_agrees one other x y (Quoted text is) (Quoted text_also also) end ending same =
-    let both = read_quoted text text_also x y (sym (ap (λ w. w ++ x) is) ∙ same ∙ ap (λ w. w ++ y) also) in
-    (is ∙ ap quoted_text both.0 ∙ sym also, both.1)
+later_agrees one other x y (Quoted text is) (Quoted text_also also) end ending same = search (rules, read_quoted)
 
 -- Words are read back from what follows a word before them.
 words_agree : (count : ℕ) (one other : List (List ℕ)) (x y : List ℕ) → AreReadableWords count one → AreReadableWords count other →

@@ -1,5 +1,5 @@
 use Rattle.std.proofs.Common.{◌≡◌, ℕ, ◌<◌, ◌^◌, ◌&&◌, Bool, true, false, not, eqb, leb, List, [], ◌∷◌, Some, unwrap_or, bytes_eq, refl, sym}
-use Rattle.std.proofs.Common.{ap, subst, ◌∙◌, arith}
+use Rattle.std.proofs.Common.{ap, subst, ◌∙◌, arith, rules}
 use Rattle.std.specs.Fmt.{decimal}
 use Rattle.std.specs.List.{list_all}
 use Rattle.std.proofs.lemmas.Bool.{cond-true, cond-false, and_parts, not-true, leb-true, eqb-true}
@@ -34,13 +34,7 @@ record IsEntry (entry : CodeName) (later : List CodeName) : Type 0 where
   rest : is_table later ≡ true
 
 entry_of : (entry : CodeName) (later : List CodeName) → is_table (entry ∷ later) ≡ true → IsEntry entry later
-entry_of entry later passes =
-    let first = and_parts (list_all (λ byte. not (is_blank byte)) entry.name) (begins_with_letter entry.name
-    && (list_all (λ other. not (bytes_eq other.name entry.name)) later && is_table later)) passes in
-    let second = and_parts (begins_with_letter entry.name)
-    (list_all (λ other. not (bytes_eq other.name entry.name)) later && is_table later) first.1 in
-    let third = and_parts (list_all (λ other. not (bytes_eq other.name entry.name)) later) (is_table later) second.1 in
-    record { bare = has_no_end is_blank entry.name first.0; letter = second.0; differs = third.0; rest = third.1 }
+entry_of entry later passes = search (rules, and_parts, has_no_end)
 
 -- The word of a code that the first name is of.
 word_here : (entry : CodeName) (later : List CodeName) (code : ℕ) → eqb entry.code code ≡ true → code_word (entry ∷ later) code ≡ entry.name

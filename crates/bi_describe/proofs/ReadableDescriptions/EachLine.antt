@@ -1,4 +1,4 @@
-use Rattle.std.proofs.Common.{ℕ, ◌+◌, List, [], ◌∷◌, ◌++◌, map, Some, None, refl, sym, subst, codes}
+use Rattle.std.proofs.Common.{ℕ, ◌+◌, List, [], ◌∷◌, ◌++◌, map, Some, None, refl, sym, subst, codes, rules}
 use Rattle.std.specs.Fmt.{decimal}
 use Rattle.std.specs.FinMap.{entries}
 use Rattle.std.specs.List.{AllByRecursion}
@@ -7,11 +7,10 @@ use Rattle.bi_base.proofs.ListMembers.{each-append, each-map}
 use Rattle.bi_blob.specs.Blob.{Reservation}
 use Rattle.bi_blob.specs.Tree.{Nodes, none, node, Property}
 use Rattle.bi_fit.specs.Judgement.{listed_names}
-use Rattle.bi_legacy.specs.Codes.{os_names, arch_names, type_names, compression_names}
 use Rattle.bi_legacy.specs.Meaning.{LegacyImage}
 use Rattle.bi_norm.specs.Meaning.{Meaning, OfLegacy, OfFit}
 use Rattle.bi_common.specs.Shown.{hexadecimal_64, hexadecimal, shown_text, path}
-use Rattle.bi_common.specs.CommonLines.{code_word, field_words, code_words, reservation_words}
+use Rattle.bi_common.specs.CommonLines.{field_words, code_words, reservation_words}
 use Rattle.bi_common.specs.ValueTexts.{quoted_text, hexadecimal_digits, value_words}
 use Rattle.bi_common.proofs.ReadableWords.Cuts.{has_no_end}
 use Rattle.bi_common.proofs.ReadableWords.ShownNames.{is_blank, shown_no_blank}
@@ -68,22 +67,7 @@ each_field image = (
 
 -- The lines of its codes.
 each_code : (image : LegacyImage) → AllByRecursion IsLine (code_words image)
-each_code image = (
-  two_words (codes "os") (code_word os_names image.os) (has_no_end is_blank (codes "os") refl) (code_bare os_names image.os refl),
-  (
-    two_words (codes "arch") (code_word arch_names image.arch) (has_no_end is_blank (codes "arch") refl)
-        (code_bare arch_names image.arch refl),
-    (
-      two_words (codes "type") (code_word type_names image.image_type) (has_no_end is_blank (codes "type") refl)
-          (code_bare type_names image.image_type refl),
-      (
-        two_words (codes "compression") (code_word compression_names image.compression) (has_no_end is_blank (codes "compression") refl)
-            (code_bare compression_names image.compression refl),
-        tt,
-      ),
-    ),
-  ),
-)
+each_code image = search (rules, two_words, has_no_end, code_bare)
 
 -- The lines of its parts.
 each_part : (index : ℕ) (parts : List PayloadDigest) → AllByRecursion IsLine (part_words index parts)

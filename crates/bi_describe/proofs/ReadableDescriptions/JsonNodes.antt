@@ -1,5 +1,5 @@
 use Rattle.std.proofs.Common.{◌≡◌, ℕ, ◌<◌, ◌^◌, Bool, true, false, cond, List, [], ◌∷◌, ◌++◌, map, Option, None, Some, refl, sym, ap, ap₂}
-use Rattle.std.proofs.Common.{◌∙◌, codes}
+use Rattle.std.proofs.Common.{◌∙◌, codes, rules}
 use Rattle.std.specs.Prelude.{⊤, nat_eq}
 use Rattle.std.specs.FinMap.{entries, same_entries_map}
 use Rattle.std.specs.Fmt.{decimal}
@@ -31,20 +31,13 @@ use Rattle.bi_describe.proofs.ReadableDescriptions.OwnLines.{IsSmall}
 -- Digests are read back from their digits in a string.
 read_hex : (one other x y : List ℕ) → json_string (hexadecimal_digits one) ++ x ≡ json_string (hexadecimal_digits other) ++ y →
     (one ≡ other) × (x ≡ y)
-read_hex one other x y same =
-    let digits = read_quoted (hexadecimal_digits one) (hexadecimal_digits other) x y same in
-    (same_digits false one other digits.0, digits.1)
+read_hex one other x y same = search (rules, read_quoted, same_digits)
 
 -- A digest.
 digest_parts : (digest : PayloadDigest) (x : List ℕ) → digest_object digest ++ x
     ≡ codes "{\"size\":" ++ (decimal digest.size
     ++ (44 ∷ (codes "\"sha256\":" ++ (json_string (hexadecimal_digits digest.sha256) ++ (125 ∷ x)))))
-digest_parts digest x = around (decimal digest.size) (json_string (hexadecimal_digits digest.sha256))
-  where
-    around : (size sha256 : List ℕ)
-        → (123 ∷ (((codes "\"size\":" ++ size) ++ (44 ∷ (codes "\"sha256\":" ++ sha256))) ++ 125 ∷ [])) ++ x
-        ≡ codes "{\"size\":" ++ (size ++ (44 ∷ (codes "\"sha256\":" ++ (sha256 ++ (125 ∷ x)))))
-    around size sha256 = simp append_assoc refl
+digest_parts digest x = search (rules, append_assoc)
 
 pub read_digest : (one other : PayloadDigest) (x y : List ℕ) → one.size < 2 ^ 64 → other.size < 2 ^ 64 →
     digest_object one ++ x ≡ digest_object other ++ y → (one ≡ other) × (x ≡ y)
@@ -97,11 +90,7 @@ read_value one other x y same = by (are_quotable_texts one) (are_quotable_texts 
 -- A property.
 property_parts : (property : Property) (x : List ℕ) → property_object property ++ x
     ≡ codes "{\"name\":" ++ (json_string (shown_text property.0) ++ (44 ∷ (member_text (value_member property.1) ++ (125 ∷ x))))
-property_parts property x = around (json_string (shown_text property.0)) (member_text (value_member property.1))
-  where
-    around : (name value : List ℕ) → (123 ∷ (((codes "\"name\":" ++ name) ++ (44 ∷ value)) ++ 125 ∷ [])) ++ x
-        ≡ codes "{\"name\":" ++ (name ++ (44 ∷ (value ++ (125 ∷ x))))
-    around name value = simp append_assoc refl
+property_parts property x = search (rules, append_assoc)
 
 read_property : (one other : Property) (x y : List ℕ) → ⊤ → ⊤ → property_object one ++ x ≡ property_object other ++ y →
     (one ≡ other) × (x ≡ y)
@@ -120,9 +109,7 @@ read_payload : (one other : Option PayloadDigest) (x y : List ℕ) → IsSmall (
 read_payload None None x y small also same = (refl, append_cancel_left json_null x y same)
 read_payload None (Some digest) x y small also same = absurd (begin_apart 110 123 _ _ refl same)
 read_payload (Some digest) None x y small also same = absurd (begin_apart 123 110 _ _ refl same)
-read_payload (Some one) (Some other) x y small also same =
-    let digests = read_digest one other x y small also same in
-    (ap Some digests.0, digests.1)
+read_payload (Some one) (Some other) x y small also same = search (rules, read_digest one other x y small also same)
 
 -- The member for it, and what follows it.
 payload_parts : (payload members later : List ℕ)
@@ -139,11 +126,7 @@ last_two own children =
 last_parts : (own : DescribedNode) (children : List JsonText) (later : List ℕ) → last_two own children ++ (125 ∷ later)
     ≡ codes "\"properties\":[" ++ (with_commas false (map property_object (entries own.properties))
     ++ (93 ∷ (codes ",\"children\":[" ++ (with_commas false children ++ (93 ∷ 125 ∷ later)))))
-last_parts own children later =
-    let properties : List JsonText = map property_object (entries own.properties) in
-    last_members (join_with_byte 44 properties) (join_with_byte 44 children) later
-    ∙ ap₂ (λ (a b : List ℕ). codes "\"properties\":[" ++ (a ++ (codes "],\"children\":[" ++ (b ++ (codes "]}" ++ later)))))
-    (sym (commas_between properties)) (sym (commas_between children))
+last_parts own children later = search (rules, last_members, commas_between)
 
 read_last : (own other : DescribedNode) (children others : List JsonText) (x y : List ℕ) →
     last_two own children ++ (125 ∷ x) ≡ last_two other others ++ (125 ∷ y) →
@@ -205,12 +188,7 @@ read_members own other children others x y small also same =
 node_parts : (name : List ℕ) (own : DescribedNode) (children : List JsonText) (x : List ℕ)
     → json_object (name_member (codes "name") name ∷ node_members own children) ++ x
     ≡ codes "{\"name\":" ++ (json_string (shown_text name) ++ (44 ∷ (members_after_name own children ++ (125 ∷ x))))
-node_parts name own children x =
-    ap (λ (l : List ℕ). l ++ x) (name_first name own children) ∙ around (json_string (shown_text name)) (members_after_name own children)
-  where
-    around : (text members : List ℕ) → (123 ∷ (((codes "\"name\":" ++ text) ++ (44 ∷ members)) ++ 125 ∷ [])) ++ x
-        ≡ codes "{\"name\":" ++ (text ++ (44 ∷ (members ++ (125 ∷ x))))
-    around text members = simp append_assoc refl
+node_parts name own children x = search (rules, name_first, append_assoc)
 
 same_node : {a b : List ℕ} {c d : DescribedNode} {e f g h : Nodes DescribedNode} → a ≡ b → c ≡ d → e ≡ f → g ≡ h →
     node a c e g ≡ node b d f h

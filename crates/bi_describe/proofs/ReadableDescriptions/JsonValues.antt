@@ -1,8 +1,8 @@
-use Rattle.std.proofs.Common.{◌≡◌, ℕ, ◌<◌, ◌^◌, Bool, true, false, eqb, List, [], ◌∷◌, ◌++◌, map, Option, None, Some, refl, sym, ap, ap₂}
+use Rattle.std.proofs.Common.{◌≡◌, ℕ, ◌<◌, ◌^◌, Bool, true, false, eqb, List, [], ◌∷◌, ◌++◌, map, refl, sym, ap₂, rules}
 use Rattle.std.proofs.Common.{◌∙◌}
-use Rattle.std.proofs.Common.{arith, unwrap_or}
+use Rattle.std.proofs.Common.{arith}
 use Rattle.std.specs.Fmt.{decimal}
-use Rattle.std.specs.List.{AllByRecursion, join_with_byte}
+use Rattle.std.specs.List.{AllByRecursion}
 use Rattle.std.proofs.lemmas.Bool.{ne_eqb}
 use Rattle.std.proofs.lemmas.Fmt.{decimal_injective}
 use Rattle.std.proofs.lemmas.List.{append_assoc}
@@ -34,31 +34,18 @@ same_numbers m n x y same =
 
 -- Numbers of 64 bits.
 pub read_number : (m n : ℕ) (x y : List ℕ) → m < 2 ^ 64 → n < 2 ^ 64 → decimal m ++ (44 ∷ x) ≡ decimal n ++ (44 ∷ y) → (m ≡ n) × (x ≡ y)
-read_number m n x y small also same =
-    let digits = same_numbers m n x y same in
-    (decimal_injective m n small also digits.0, digits.1)
+read_number m n x y small also same = search (rules, same_numbers, decimal_injective)
 
 -- A number does not begin with a quote.
 no_quote : (word x y : List ℕ) → IsAbove word → word ++ (44 ∷ x) ≡ 34 ∷ y → ⊥
 no_quote [] x y are same = begin_apart 44 34 x y refl same
-no_quote (byte ∷ later) x y are same =
-    let first : byte ≡ 34 = first_same same in
-    omega (arith, are.0, first)
+no_quote (byte ∷ later) x y are same = search (rules, first_same)
 
 -- The word of a code is read back from its name or its number.
 pub read_code : (names : List CodeName) (m n : ℕ) (x y : List ℕ) →
     named_code (name_of_code names m) m ++ (44 ∷ x) ≡ named_code (name_of_code names n) n ++ (44 ∷ y) →
     (code_word names m ≡ code_word names n) × (x ≡ y)
-read_code names m n x y same = by (name_of_code names m) (name_of_code names n) same
-  where
-    by : (one other : Option (List ℕ)) → named_code one m ++ (44 ∷ x) ≡ named_code other n ++ (44 ∷ y) →
-        (unwrap_or one (decimal m) ≡ unwrap_or other (decimal n)) × (x ≡ y)
-    by None None same = same_numbers m n x y same
-    by None (Some name) same = absurd (no_quote (decimal m) x _ (decimal_above m) same)
-    by (Some name) None same = absurd (no_quote (decimal n) y _ (decimal_above n) (sym same))
-    by (Some one) (Some other) same =
-        let names = read_quoted one other (44 ∷ x) (44 ∷ y) same in
-        (names.0, later_same names.1)
+read_code names m n x y same = search (rules, same_numbers, no_quote, decimal_above, read_quoted)
 
 -- What follows the comma before a value, if there is one.
 pub without_comma : (is_later : Bool) (one other x y : List ℕ) →
@@ -73,9 +60,7 @@ not_at_end true one x y differ same = begin_apart 44 93 (one ++ x) y refl same
 
 -- An array and what follows it.
 pub array_parts : (values : List JsonText) (x : List ℕ) → json_array values ++ x ≡ 91 ∷ (with_commas false values ++ (93 ∷ x))
-array_parts values x =
-    ap (λ (l : List ℕ). 91 ∷ l)
-    (append_assoc (join_with_byte 44 values) (93 ∷ []) x ∙ ap (λ (l : List ℕ). l ++ (93 ∷ x)) (sym (commas_between values)))
+array_parts values x = search (rules, append_assoc, commas_between)
 
 -- The values of arrays, if each of them is read back from what follows it and is not the end of an array.
 module _ {X : Type 0} (IsGood : X → Type 0) (text : X → List ℕ)

@@ -1,13 +1,13 @@
 use Rattle.std.proofs.Common.{◌≡◌, ℕ, ◌<◌, ◌^◌, false, List, [], ◌∷◌, ◌++◌, map, Some, None, refl, sym, ap, ap₂, ◌∙◌, codes, bytes_eq}
+use Rattle.std.proofs.Common.{rules}
 use Rattle.std.specs.Prelude.{⊤}
-use Rattle.std.specs.Fmt.{decimal}
 use Rattle.std.specs.FinMap.{entries, same_entries_map}
 use Rattle.std.proofs.lemmas.Fmt.{decimal_injective}
 use Rattle.std.proofs.lemmas.List.{append_assoc}
 use Rattle.bi_base.proofs.EqualBytes.{other_bytes}
 use Rattle.bi_blob.specs.Tree.{Property}
 use Rattle.bi_common.specs.Shown.{shown_text, Words}
-use Rattle.bi_common.specs.ValueTexts.{value_words, hexadecimal_digits}
+use Rattle.bi_common.specs.ValueTexts.{value_words}
 use Rattle.bi_common.proofs.ReadableWords.Cuts.{first_same, later_same}
 use Rattle.bi_common.proofs.ReadableWords.ShownNames.{same_shown, same_digits}
 use Rattle.bi_common.proofs.ReadableWords.QuotedValues.{same_value}
@@ -34,21 +34,12 @@ not_there word (words ∷ lines) others later end same = end others cc
 -- The line of an image node without a payload is not that of one with a payload.
 none_or_size : (path : List ℕ) (digest : PayloadDigest) (x y : List Words) →
     (codes "payload" ∷ path ∷ codes "none" ∷ []) ∷ x ≡ (codes "payload" ∷ path ∷ digest_words digest) ∷ y → ⊥
-none_or_size path digest x y same =
-    let lines = first_same same in
-    words_apart (codes "none") (codes "size") [] (decimal digest.size ∷ codes "sha256" ∷ hexadecimal_digits digest.sha256 ∷ []) refl
-    (later_same (later_same lines))
+none_or_size path digest x y same = search (rules, first_same, words_apart, later_same)
 
 -- A digest is read back from its words.
 pub same_digest : (one other : PayloadDigest) → one.size < 2 ^ 64 → other.size < 2 ^ 64 → digest_words one ≡ digest_words other →
     one ≡ other
-same_digest one other small also same =
-    let after_size = later_same same in
-    let sizes = decimal_injective one.size other.size small also (first_same after_size) in
-    let after_number = later_same after_size in
-    let last = later_same after_number in
-    let digests = same_digits false one.sha256 other.sha256 (first_same last) in
-    ap₂ (λ size sha256. record { size = size; sha256 = sha256 }) sizes digests
+same_digest one other small also same = search (rules, later_same, decimal_injective, first_same, same_digits)
 
 -- The size of a payload, if there is one, is a number of 64 bits.
 abbrev pub IsSmall : NodePayload → Type 0

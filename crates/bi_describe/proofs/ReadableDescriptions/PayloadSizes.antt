@@ -1,10 +1,9 @@
-use Rattle.std.proofs.Common.{◌≡◌, ℕ, ◌+◌, ◌<◌, ◌^◌, Bool, true, false, List, [], ◌∷◌, ◌++◌, map, length, take, drop, bytes_eq, Option}
+use Rattle.std.proofs.Common.{◌≡◌, ℕ, ◌+◌, ◌<◌, ◌^◌, Bool, true, false, List, [], ◌∷◌, ◌++◌, map, length, bytes_eq, Option, rules}
 use Rattle.std.proofs.Common.{Some, None, refl, sym, ap, subst, ◌∙◌, arith}
 use Rattle.std.specs.Prelude.{⊤}
-use Rattle.std.specs.Int.{from_be_bytes, w32}
 use Rattle.std.specs.List.{AllByRecursion, AllZip}
 use Rattle.std.proofs.lemmas.List.{length-take}
-use Rattle.bi_base.specs.Cells.{slice, u32_at, AreBytes}
+use Rattle.bi_base.specs.Cells.{u32_at, AreBytes}
 use Rattle.bi_base.proofs.CellLaws.{u32_at-fits}
 use Rattle.bi_base.proofs.ListMembers.{each-front, each-back, each-map_back}
 use Rattle.bi_blob.specs.Tokens.{Token, BeginNode, EndNode, Prop, Nop, End, width}
@@ -84,21 +83,13 @@ found_fit wanted (node name own children later) inner has fit =
 named_fits : (name : List ℕ) (properties : List FileProperty) (property : FileProperty) → AllByRecursion Fits properties →
     property_named properties name ≡ Some property → Fits property
 named_fits name [] property fit found = absurd cc
-named_fits name (first ∷ later) property fit found =
-    where_first (bytes_eq first.name name) refl found (named_fits name later property fit.1)
-  where
-    where_first : (b : Bool) → bytes_eq first.name name ≡ b → property_named (first ∷ later) name ≡ Some property →
-        (property_named later name ≡ Some property → Fits property) → Fits property
-    where_first true is found rest = let same : first ≡ property = same_in_some first property (rw is at found) in subst Fits same fit.0
-    where_first false is found rest = rest (rw is at found)
+named_fits name (first ∷ later) property fit found = search (rules, same_in_some, named_fits name later property fit.1)
 
 -- The number of a cell whose bytes are in the file.
 number_fits : (file : List ℕ) (property : FileProperty) → AreBytes file → HasValue file property → length property.value ≡ 4 →
     cell_number property < 2 ^ 32
 unfolding u32_at
-number_fits file property bytes has is_cell =
-    let value : slice file (property.place + 12) 4 ≡ property.value = ap (slice file (property.place + 12)) (sym is_cell) ∙ has.is_slice in
-    subst (λ value. from_be_bytes w32 value < 2 ^ 32) value (u32_at-fits file (property.place + 12) bytes)
+number_fits file property bytes has is_cell = search (rules, u32_at-fits)
 
 -- The property `data-size`, where a source has one.
 size_is_named : (position offset size found : Option FileProperty) (begin property : FileProperty) →
@@ -121,12 +112,7 @@ region_fits : (file : List ℕ) (base : ℕ) (begin : FileProperty) (size : Opti
     ((property : FileProperty) → size ≡ Some property → length property.value ≡ 4 → cell_number property < 2 ^ 32) →
     IsSizedRegion file base begin size payload → HasSize payload
 region_fits file base begin None payload small is = absurd is
-region_fits file base begin (Some size) payload small is =
-    subst HasSize (sym is.is_slice)
-    (shorter (cell_number size) (drop (base + cell_number begin) file) (small size refl is.size_cell))
-  where
-    shorter : (n : ℕ) (bytes : List ℕ) → n < 2 ^ 32 → length (take n bytes) < 2 ^ 64
-    shorter n bytes fits = omega (arith, fits, length-take n bytes)
+region_fits file base begin (Some size) payload small is = search (rules, length-take)
 
 -- The payload of an image node has a length of 64 bits.
 payload_fits : (file : List ℕ) (own : FileNode) (payload : Option (List ℕ)) → AreBytes file →

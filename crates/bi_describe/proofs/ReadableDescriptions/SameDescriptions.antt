@@ -1,4 +1,4 @@
-use Rattle.std.proofs.Common.{◌≡◌, ℕ, List, [], ◌∷◌, sym, codes, refl}
+use Rattle.std.proofs.Common.{◌≡◌, ℕ, List, [], ◌∷◌, sym, codes, rules}
 use Rattle.bi_base.specs.Limits.{Limits}
 use Rattle.bi_norm.specs.Meaning.{Meaning, OfLegacy, OfFit, Means}
 use Rattle.bi_common.specs.declared.format.Format.TheVariants.{Lines, Json}
@@ -17,9 +17,7 @@ use Rattle.bi_describe.proofs.ReadableDescriptions.SameTrees.{similar_trees}
 
 -- Lines that begin with different kinds differ.
 kinds_apart : (xs ys : List (List (List ℕ))) → (codes "kind" ∷ codes "legacy" ∷ []) ∷ xs ≡ (codes "kind" ∷ codes "fit" ∷ []) ∷ ys → ⊥
-kinds_apart xs ys same =
-    words_apart (codes "legacy") (codes "fit") [] [] refl
-    (later_same (first_same same))
+kinds_apart xs ys same = search (rules, words_apart, later_same, first_same)
 
 -- Meanings with the same lines are similar.
 similar : (limits other_limits : Limits) (file other_file : List ℕ) (one other : Meaning) → Means limits file one →

@@ -1,12 +1,12 @@
-use Rattle.std.proofs.Common.{◌≡◌, ℕ, ◌+◌, ◌<◌, ◌^◌, Bool, true, false, List, [], ◌∷◌, ◌++◌, map, length, refl, sym, ap, ap₂, subst, arith}
+use Rattle.std.proofs.Common.{◌≡◌, ℕ, ◌+◌, ◌<◌, ◌^◌, List, [], ◌∷◌, ◌++◌, map, length, refl, ap, ap₂, arith, rules}
 use Rattle.std.specs.List.{AllByRecursion}
 use Rattle.std.proofs.lemmas.Bool.{MatchBool-at_true, MatchBool-at_false}
 use Rattle.std.proofs.lemmas.Fmt.{decimal_injective}
 use Rattle.std.proofs.lemmas.List.{length-append}
 use Rattle.bi_legacy.specs.Codes.{os_names, arch_names, type_names, compression_names}
 use Rattle.bi_legacy.specs.File.{IsLegacyFile}
-use Rattle.bi_legacy.specs.Meaning.{LegacyImage, has_part_table}
-use Rattle.bi_legacy.specs.Parts.{part_table, ArePaddedParts, HasPartTable, HoldsParts}
+use Rattle.bi_legacy.specs.Meaning.{LegacyImage}
+use Rattle.bi_legacy.specs.Parts.{ArePaddedParts, HoldsParts}
 use Rattle.bi_common.specs.Shown.{Words}
 use Rattle.bi_common.specs.CommonLines.{code_words, field_words}
 use Rattle.bi_common.proofs.ReadableWords.ShownNames.{same_shown}
@@ -52,19 +52,7 @@ padded_small (part ∷ next ∷ later) bytes are small = (
 -- The parts of an image are short.
 pub parts_small : (image_type : ℕ) (body : List ℕ) (parts : List (List ℕ)) → HoldsParts image_type body parts → length body < 2 ^ 32 →
     AllByRecursion HasSmallSize (map digest_of_payload parts)
-parts_small image_type body parts holds small = where_type (has_part_table image_type) refl
-  where
-    body_small : length body < 2 ^ 64
-    body_small = omega (arith, small)
-
-    where_type : (b : Bool) → has_part_table image_type ≡ b → AllByRecursion HasSmallSize (map digest_of_payload parts)
-    where_type true is =
-        let table : HasPartTable parts body = MatchBool-at_true (HasPartTable parts body) (parts ≡ body ∷ []) is holds in
-        padded_small parts table.rest table.padded_parts
-        (omega (arith, small, ap length table.body_is, length-append (part_table parts) table.rest))
-    where_type false is =
-        let one_part : parts ≡ body ∷ [] = MatchBool-at_false (HasPartTable parts body) (parts ≡ body ∷ []) is holds in
-        subst (λ parts. AllByRecursion HasSmallSize (map digest_of_payload parts)) (sym one_part) (body_small, tt)
+parts_small image_type body parts holds small = search (rules, MatchBool-at_true, padded_small, length-append, MatchBool-at_false)
 
 -- Legacy images with the same lines are similar.
 pub similar_images : (file other_file : List ℕ) (one other : LegacyImage) → IsLegacyFile file one → IsLegacyFile other_file other →

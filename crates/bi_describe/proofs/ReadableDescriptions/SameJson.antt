@@ -1,4 +1,4 @@
-use Rattle.std.proofs.Common.{◌≡◌, ℕ, ◌<◌, ◌^◌, false, List, [], ◌∷◌, ◌++◌, drop, map, refl, sym, ap, ap₂, ◌∙◌, arith, codes}
+use Rattle.std.proofs.Common.{◌≡◌, ℕ, ◌<◌, ◌^◌, false, List, [], ◌∷◌, ◌++◌, drop, map, refl, sym, ap, ap₂, ◌∙◌, arith, codes, rules}
 use Rattle.std.specs.Fmt.{decimal}
 use Rattle.std.specs.List.{join_with_byte}
 use Rattle.std.proofs.lemmas.List.{append_assoc, append_cancel_left}
@@ -74,11 +74,7 @@ after_cpu tree =
 
 tree_json : (tree : ImageTree) →
     description_json (OfFit tree) ≡ codes "{\"kind\":\"fit\",\"boot_cpu\":" ++ (decimal tree.cpu ++ (44 ∷ after_cpu tree))
-tree_json tree =
-    let reservations : List JsonText = map reservation_object tree.reservations in
-    tree_in_turn (member_text (codes "boot_cpu", decimal tree.cpu)) (join_with_byte 44 reservations) (root_members tree)
-    ∙ ap (λ (l : List ℕ). codes "{\"kind\":\"fit\",\"boot_cpu\":" ++ (decimal tree.cpu ++ (44 ∷ (codes "\"reservations\":["
-    ++ (l ++ (93 ∷ (codes ",\"root\":{" ++ (root_members tree ++ (125 ∷ 125 ∷ 10 ∷ []))))))))) (sym (commas_between reservations))
+tree_json tree = search (rules, tree_in_turn, commas_between)
 
 pub similar_json_trees : (file other_file : List ℕ) (one other : ImageTree) → IsFitFile file one → IsFitFile other_file other →
     description_json (OfFit one) ≡ description_json (OfFit other) → AreSimilarTrees one other
@@ -126,12 +122,7 @@ part_texts_of image = with_commas false (map digest_object (map digest_of_payloa
 
 last_member : (image : LegacyImage) →
     members_from 9 image ++ end_of_line ≡ codes "\"parts\":[" ++ (part_texts_of image ++ (93 ∷ end_of_line))
-last_member image =
-    let values : List ℕ = join_with_byte 44 (map (λ part. digest_object (digest_of_payload part)) image.parts) in
-    ap (λ (l : List ℕ). codes "\"parts\":[" ++ l)
-    (append_assoc values (93 ∷ []) end_of_line
-    ∙ ap (λ (l : List ℕ). l ++ (93 ∷ end_of_line)) (ap (join_with_byte 44) (objects_of_parts image.parts)
-    ∙ sym (commas_between (map digest_object (map digest_of_payload image.parts)))))
+last_member image = search (rules, append_assoc, objects_of_parts, commas_between)
 
 pub similar_json_images : (file other_file : List ℕ) (one other : LegacyImage) → IsLegacyFile file one → IsLegacyFile other_file other →
     description_json (OfLegacy one) ≡ description_json (OfLegacy other) → AreSimilarImages one other

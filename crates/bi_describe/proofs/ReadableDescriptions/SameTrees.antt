@@ -1,4 +1,4 @@
-use Rattle.std.proofs.Common.{◌≡◌, ℕ, ◌<◌, ◌^◌, List, [], ◌∷◌, ◌++◌, map, refl, sym, ap, ap₂, codes, arith}
+use Rattle.std.proofs.Common.{◌≡◌, ℕ, ◌<◌, ◌^◌, List, [], ◌∷◌, ◌++◌, map, refl, ap, ap₂, codes, rules}
 use Rattle.std.specs.Fmt.{decimal}
 use Rattle.std.specs.List.{AllByRecursion}
 use Rattle.std.proofs.lemmas.Fmt.{decimal_injective}
@@ -7,7 +7,7 @@ use Rattle.bi_blob.specs.Tree.{Nodes}
 use Rattle.bi_fit.specs.File.{IsFitFile}
 use Rattle.bi_fit.specs.ImageTree.{ImageTree, ArePropertiesByName, IsImageTree}
 use Rattle.bi_fit.proofs.TextLaws.{file_means_image_tree}
-use Rattle.bi_common.specs.Shown.{Words, path, hexadecimal_64}
+use Rattle.bi_common.specs.Shown.{Words, path}
 use Rattle.bi_common.specs.CommonLines.{reservation_words}
 use Rattle.bi_common.proofs.ReadableWords.Cuts.{first_same, later_same}
 use Rattle.bi_common.proofs.ReadableWords.Numbers.{same_hexadecimal_64}
@@ -23,26 +23,15 @@ use Rattle.bi_describe.proofs.ReadableDescriptions.PayloadSizes.{file_payloads_f
 -- A reservation is read back from its line.
 same_reservation : (one other : Reservation) → IsReservation one → IsReservation other → reservation_words one ≡ reservation_words other →
     one ≡ other
-same_reservation one other is also same =
-    let words = later_same same in
-    let sizes = later_same words in
-    ap₂ (λ address size. record { address = address; size = size })
-    (same_hexadecimal_64 one.address other.address is.address_fits also.address_fits
-    (first_same words))
-    (same_hexadecimal_64 one.size other.size is.size_fits also.size_fits
-    (first_same sizes))
+same_reservation one other is also same = search (rules, later_same, same_hexadecimal_64, first_same)
 
 -- Reservations are read back from their lines and what follows them.
 reservations_agree : (one other : List Reservation) (x y : List Words) → AllByRecursion IsReservation one →
     AllByRecursion IsReservation other → BeginsOther (codes "reservation") x → BeginsOther (codes "reservation") y →
     map reservation_words one ++ x ≡ map reservation_words other ++ y → (one ≡ other) × (x ≡ y)
 reservations_agree [] [] x y are also end ending same = (refl, same)
-reservations_agree [] (b ∷ other) x y are also end ending same =
-    absurd (not_there (codes "reservation") x (hexadecimal_64 b.address ∷ hexadecimal_64 b.size ∷ [])
-    (map reservation_words other ++ y) end same)
-reservations_agree (a ∷ one) [] x y are also end ending same =
-    absurd (not_there (codes "reservation") y (hexadecimal_64 a.address ∷ hexadecimal_64 a.size ∷ [])
-    (map reservation_words one ++ x) ending (sym same))
+reservations_agree [] (b ∷ other) x y are also end ending same = search (rules, not_there)
+reservations_agree (a ∷ one) [] x y are also end ending same = search (rules, not_there)
 reservations_agree (a ∷ one) (b ∷ other) x y are also end ending same =
     let first = same_reservation a b are.0 also.0 (first_same same) in
     let rest = reservations_agree one other x y are.1 also.1 end ending (later_same same) in
@@ -79,9 +68,7 @@ similar_parts file other_file one other is also cpu reservations own nodes =
 
 -- The number of a boot processor has 64 bits.
 pub cpu_fits : (file : List ℕ) (tree : ImageTree) → IsFitFile file tree → tree.cpu < 2 ^ 64
-cpu_fits file tree is =
-    let fits : tree.cpu < 2 ^ 32 = (file_means_image_tree file tree is).cpu_fits in
-    omega (arith, fits)
+cpu_fits file tree is = search (rules, file_means_image_tree file tree is)
 
 -- Flattened image trees with the same lines are similar.
 pub similar_trees : (file other_file : List ℕ) (one other : ImageTree) → IsFitFile file one → IsFitFile other_file other →
