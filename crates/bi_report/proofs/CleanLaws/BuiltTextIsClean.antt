@@ -1,12 +1,12 @@
-use Rattle.std.proofs.Common.{◌≡◌, ◌↔◌, ◌⊎◌, inl, inr, ℕ, ◌<◌, ◌≤◌, true, ◌||◌, List, [], ◌∷◌, ◌++◌, Option, Some, None, length, map, refl, sym, ap}
-use Rattle.std.proofs.Common.{IsTrue, subst, ◌∙◌, arith}
+use Rattle.std.proofs.Common.{◌≡◌, ◌↔◌, ◌⊎◌, inl, inr, ℕ, ◌<◌, ◌≤◌, ◌||◌, List, [], ◌∷◌, ◌++◌, Option, Some, None, length, map, refl, sym, ap}
+use Rattle.std.proofs.Common.{subst, arith}
 use Rattle.std.proofs.lemmas.Slice.Eq.{bytes_eq-Decides}
 use Rattle.bi_base.specs.declared.fault.Error.{Error}
 use Rattle.bi_base.specs.declared.fault.Error.TheVariants.{OutOfMemory, ReadFailed, Refused, WriteFailed}
 use Rattle.bi_base.specs.Checks.{HasNoFault}
 use Rattle.bi_base.specs.Limits.{Limits}
 use Rattle.bi_base.proofs.ListMembers.{each-back, each-front}
-use Rattle.bi_blob.specs.Layout.{is_among, longest_text}
+use Rattle.bi_blob.specs.Layout.{is_among}
 use Rattle.bi_hash.specs.declared.algo.Algo.{Algo}
 use Rattle.bi_common.specs.PayloadBounds.{IsOverPayloadBound, payloads_length}
 use Rattle.bi_fit.specs.declared.building.Head.{Head}
@@ -19,12 +19,12 @@ use Rattle.bi_fit.specs.Text.{fit_text}
 use Rattle.bi_fit.proofs.FileTrees.{is_image_tree}
 use Rattle.bi_fit.proofs.Meanings.{one_fit_meaning}
 use Rattle.bi_norm.specs.declared.fit_building.ImageSpec.{ImageSpec}
-use Rattle.bi_norm.specs.FitBuilding.{BuildCheck, BuildPasses, HasDefault, HasKnownDefault, IsBuiltAs, PlanSpecModel, ImageTextsModel}
-use Rattle.bi_norm.specs.FitBuilding.{FitsLimit, HasFewConfigurations, HasFewImages, HasTextDescription, configuration_checks, early_checks}
+use Rattle.bi_norm.specs.FitBuilding.{BuildCheck, BuildPasses, HasDefault, HasKnownDefault, PlanSpecModel, ImageTextsModel}
+use Rattle.bi_norm.specs.FitBuilding.{FitsLimit, configuration_checks, early_checks}
 use Rattle.bi_norm.specs.FitBuilding.{given_images, names_of_specs, plan_of_tree, spec_checks, spec_model, spec_models, tree_of_images, whole_plan}
 use Rattle.bi_norm.specs.Meaning.{Meaning, Means, OfFit, OfLegacy}
 use Rattle.bi_report.specs.declared.check.Allowed.{Allowed}
-use Rattle.bi_report.specs.CheckedFiles.{HoldsTooMuch, IsCheckError}
+use Rattle.bi_report.specs.CheckedFiles.{IsCheckError}
 use Rattle.bi_report.specs.CleanFiles.{BuiltTextIsClean, IsBuiltClean, IsClean, IsCleanTree, ProtectImages}
 use Rattle.bi_report.proofs.CleanLaws.BuiltIsClean.{IsDefaultOf, built_tree_is_clean, clean_is_protected}
 use Rattle.bi_report.proofs.CleanLaws.TextEnds.{payloads_fit, text_is_clean}

@@ -1,4 +1,4 @@
-use Rattle.std.proofs.Common.{◌≡◌, ℕ, ◌+◌, ◌<◌, ◌≤◌, ◌↔◌, max, List, [], ◌∷◌, length, drop, Option, Some, None, refl, sym, ap, subst}
+use Rattle.std.proofs.Common.{◌≡◌, ℕ, ◌+◌, ◌<◌, ◌≤◌, ◌↔◌, max, List, [], ◌∷◌, length, Option, Some, None, refl, sym, ap, subst}
 use Rattle.std.proofs.Common.{arith, drop_of_length-le, length-append}
 use Rattle.std.specs.List.{AllZip}
 use Rattle.std.specs.Prelude.{unwrap_or}
@@ -14,8 +14,8 @@ use Rattle.bi_fit.specs.declared.form.Form.{Form}
 use Rattle.bi_fit.specs.declared.form.Form.TheVariants.{Embedded, External, Aligned}
 use Rattle.bi_fit.specs.File.{IsFitFile, FitMeans}
 use Rattle.bi_fit.specs.ImageTree.{ImageTree, IsImageTree, each_own}
-use Rattle.bi_fit.specs.Payloads.{payload_place, source_of}
-use Rattle.bi_fit.specs.Text.{alignment_of, blob_alignment, blob_of, end_after, fit_text, payload_places, payloads_end}
+use Rattle.bi_fit.specs.Payloads.{source_of}
+use Rattle.bi_fit.specs.Text.{alignment_of, blob_alignment, blob_of, fit_text, payload_places, payloads_end}
 use Rattle.bi_fit.proofs.FileTrees.{is_image_tree}
 use Rattle.bi_fit.proofs.FormAlignments.{form-positive}
 use Rattle.bi_fit.proofs.Meanings.{one_fit_meaning}

@@ -9,13 +9,13 @@ use Rattle.bi_base.proofs.AlignmentLaws.{up_to-le}
 use Rattle.bi_base.specs.Cells.{up4, up_to}
 use Rattle.bi_blob.specs.Blob.{reservation_block}
 use Rattle.bi_blob.specs.Events.{NodeStart, NodeProperty, NodeEnd, events, events_of}
-use Rattle.bi_blob.specs.Layout.{event_width, length_before_padding, strings_block, structure_block}
+use Rattle.bi_blob.specs.Layout.{event_width, strings_block, structure_block}
 use Rattle.bi_blob.specs.Tree.{Nodes, none, node, Root, Property, PropertyMap, with_each}
 use Rattle.bi_blob.proofs.Texts.EventLengths.{has_event_widths, length-structure_block}
 use Rattle.bi_blob.proofs.Texts.Structure.{blocks-le}
 use Rattle.bi_common.specs.PayloadBounds.{payload_length, payloads_length}
 use Rattle.bi_fit.specs.declared.form.Form.TheVariants.{Embedded}
-use Rattle.bi_fit.specs.ImageTree.{ImageTree, IsApart, IsImageTree, children_of, each_own, image_nodes, with_image_nodes}
+use Rattle.bi_fit.specs.ImageTree.{ImageTree, IsApart, IsImageTree, children_of, each_own, with_image_nodes}
 use Rattle.bi_fit.specs.Names.{data_name, images_name}
 use Rattle.bi_fit.specs.Text.{blob_of, end_after, normal_tree, with_payload, with_payloads}
 use Rattle.bi_fit.proofs.Meanings.{same_in_some}
