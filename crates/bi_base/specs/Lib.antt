@@ -23,6 +23,7 @@ pub mod WriteSinks
 pub mod BufferedSinks
 pub mod Pens
 pub mod SinkPens
+pub mod PenSinks
 pub mod MemoryPens
 pub mod Crc
 pub mod Strings
