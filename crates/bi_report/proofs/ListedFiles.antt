@@ -104,28 +104,6 @@ object_pieces parsed fields unused is counted =
     ∙ ap (λ (image : LegacyImage). object (header image) (join_with_byte 44 objects) parsed.unused) (sym is)
     ∙ ap₂ (λ (parts : List ℕ) (number : ℕ). object (header (image_of fields [])) parts number) values (sym counted)
 
--- ---- flattened image trees
-
--- The listing of a flattened image tree with this blob, these images and this default.
-pub fit_pieces : (format : Format) (content : FitModel) (blob : Blob) (images : List ImageModel) (default : Option (List ℕ)) →
-    blob ≡ content.blob → images ≡ content.images → default ≡ default_of (tree_of content) →
-    read_listing_text format content
-    ≡ before_reservations format blob
-    ++ (in_turn format false (map (reservation_text format) blob.reservations)
-    ++ (json_only format (codes "],\"images\":[")
-    ++ (in_turn format false (map (image_text format) images)
-    ++ (json_only format (codes "],\"configurations\":[")
-    ++ (in_turn format false (configuration_texts format content) ++ after_configurations format default)))))
-fit_pieces format content blob images default same_blob same_images same_default =
-    let listed : Blob → List ImageModel → Option (List ℕ) → List ℕ = λ blob images default. before_reservations format blob
-    ++ (in_turn format false (map (reservation_text format) blob.reservations)
-    ++ (json_only format (codes "],\"images\":[")
-    ++ (in_turn format false (map (image_text format) images)
-    ++ (json_only format (codes "],\"configurations\":[")
-    ++ (in_turn format false (configuration_texts format content) ++ after_configurations format default))))) in
-    ap (λ (other : Blob). listed other content.images (default_of (tree_of content))) (sym same_blob)
-    ∙ ap₂ (λ (others : List ImageModel) (other : Option (List ℕ)). listed blob others other) (sym same_images) (sym same_default)
-
 -- ---- errors
 
 -- Memory may run out for a file that has a listing.

@@ -1,0 +1,3 @@
+pub mod Pens
+pub mod SinkPens
+pub mod PenSinks
