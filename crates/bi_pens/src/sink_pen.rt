@@ -3,8 +3,8 @@
 ghost use Rattle.std.specs.Prelude.{◌≡◌, ℕ, List, None};
 ghost use Rattle.bi_base.specs.Sinks.{Wrote};
 
-use bi_base::{Error, Sink};
 use crate::pens::Pen;
+use bi_base::{Error, Sink};
 
 /// A pen that appends what it is put to a sink, which it borrows. It keeps the first failure of the
 /// sink, and then makes no further call on it.

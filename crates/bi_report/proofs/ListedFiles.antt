@@ -1,4 +1,4 @@
-use Rattle.std.proofs.Common.{◌≡◌, ℕ, ◌+◌, List, [], ◌∷◌, ◌++◌, Option, codes, false, map, refl, sym, ap, ap₂, subst, ◌∙◌, append_assoc}
+use Rattle.std.proofs.Common.{◌≡◌, ℕ, ◌+◌, List, [], ◌∷◌, ◌++◌, codes, false, map, refl, sym, ap, ap₂, subst, ◌∙◌, append_assoc}
 use Rattle.std.proofs.Common.{append-nil, arith, length}
 use Rattle.std.specs.Fmt.{decimal}
 use Rattle.std.specs.List.{flat_map, join_with_byte}
@@ -7,9 +7,6 @@ use Rattle.bi_base.specs.declared.fault.Error.{Error}
 use Rattle.bi_base.specs.Limits.{Limits}
 use Rattle.bi_base.specs.Sinks.{FailsWithin}
 use Rattle.bi_base.specs.VecSinks.{Grows, IsOutOfMemory}
-use Rattle.bi_fdt.specs.Content.{Blob}
-use Rattle.bi_fit.specs.Content.{FitModel, ImageModel, tree_of}
-use Rattle.bi_fit.specs.Judgement.{default_of}
 use Rattle.bi_legacy.specs.declared.fields.Fields.{Fields}
 use Rattle.bi_legacy.specs.Codes.{os_names, arch_names, type_names, compression_names}
 use Rattle.bi_legacy.specs.Meaning.{LegacyImage, image_of}
@@ -20,7 +17,7 @@ use Rattle.bi_norm.specs.Reading.{NeedsMemory, ForLegacyImage, IsBootImageReadEr
 use Rattle.bi_norm.proofs.NormalForms.{needs_memory}
 use Rattle.bi_common.specs.declared.format.Format.{Format}
 use Rattle.bi_common.specs.declared.format.Format.TheVariants.{Lines, Json}
-use Rattle.bi_common.specs.CommonLines.{field_words, code_words, code_word, header_members, reservation_text}
+use Rattle.bi_common.specs.CommonLines.{field_words, code_words, code_word, header_members}
 use Rattle.bi_common.specs.Formats.{in_turn}
 use Rattle.bi_common.specs.Json.{Member, json_array, json_line, json_number, member_text, with_commas}
 use Rattle.bi_common.specs.Shown.{line, shown_text, hexadecimal}
@@ -28,8 +25,8 @@ use Rattle.bi_common.proofs.JsonTexts.{commas_between, members_joined}
 use Rattle.bi_report.specs.ListedFiles.{IsListing, OfLegacyImage, OfImageTree}
 use Rattle.bi_report.specs.Listing.{legacy_listing, part_line, part_lines, parts_lines}
 use Rattle.bi_report.specs.ListingJson.{legacy_listing_object, part_object}
-use Rattle.bi_report.specs.ReadListing.{after_configurations, before_parts, before_reservations, configuration_texts, image_text, json_only}
-use Rattle.bi_report.specs.ReadListing.{part_texts, read_listing_text}
+use Rattle.bi_report.specs.ReadListing.{before_parts}
+use Rattle.bi_report.specs.ReadListing.{part_texts}
 
 -- The listing of a file is the texts of its fields and its parts, or those of its blob, its reservations and its images.
 

@@ -1,6 +1,6 @@
 use Rattle.std.proofs.Common.{◌≡◌, true, ℕ, ◌+◌, List, [], ◌∷◌, ◌++◌, Option, Some, None, option_and_then, slice_get, map, codes, refl, sym}
 use Rattle.std.proofs.Common.{ap}
-use Rattle.std.proofs.Common.{◌∙◌, append_assoc, append-nil, Bool, subst}
+use Rattle.std.proofs.Common.{◌∙◌, append_assoc}
 use Rattle.std.specs.List.{ends_with, join_with_byte, flat_map}
 use Rattle.std.specs.Prelude.{nat_eq}
 use Rattle.std.proofs.lemmas.List.Folds.{flat_map-map}
@@ -11,15 +11,10 @@ use Rattle.bi_fit.specs.Judgement.{ListedImage, ListResult, Missing, ListedImage
 use Rattle.bi_fit.specs.Names.{key_name}
 use Rattle.bi_fit.specs.HashNodes.{file_list, file_listed_in, listed_payload}
 use Rattle.bi_fit.proofs.FileLists.{payload_found, payload_named-missing}
-use Rattle.bi_common.specs.declared.format.Format.{Format}
 use Rattle.bi_common.specs.declared.format.Format.TheVariants.{Lines}
-use Rattle.bi_common.specs.Formats.{in_turn, is_later_after}
 use Rattle.bi_common.specs.Shown.{line, shown_text}
 use Rattle.bi_common.proofs.FitLines.{joined_more}
-use Rattle.bi_report.specs.FitListing.{key_line}
-use Rattle.bi_report.specs.declared.listed.KeyList.{KeyList}
-use Rattle.bi_report.specs.declared.listed.KeyList.TheVariants as listed
-use Rattle.bi_report.specs.Listed.{AreListedImages, IsListed}
+use Rattle.bi_report.specs.Listed.{AreListedImages}
 use Rattle.bi_report.specs.ListingJson.{key_objects, listed_object}
 use Rattle.bi_report.specs.ReadListing.{key_texts, missing_from, first_missing}
 

@@ -18,7 +18,7 @@ use Rattle.bi_fit.specs.HashNodes.{file_configurations, file_listed}
 use Rattle.bi_common.specs.declared.format.Format.{Format}
 use Rattle.bi_common.specs.declared.format.Format.TheVariants.{Lines, Json}
 use Rattle.bi_common.specs.Formats.{in_turn}
-use Rattle.bi_common.specs.Json.{JsonText, Member, json_array, json_null, json_number, json_object}
+use Rattle.bi_common.specs.Json.{JsonText, Member, json_null, json_number, json_object}
 use Rattle.bi_common.specs.Json.{json_string, member_text, string_or_null}
 use Rattle.bi_common.specs.CommonLines.{name_member, reservation_text}
 use Rattle.bi_common.specs.Shown.{line, shown_text}

@@ -15,8 +15,9 @@ ghost use Rattle.bi_report.specs.ListingJson.{key_objects, listed_object};
 ghost use Rattle.bi_report.specs.ReadListing.{configuration_text, configuration_texts, key_texts};
 ghost use Rattle.bi_report.specs.ReadListing.{node_key_texts};
 
-use super::texts::{put_comma, put_fields, put_later_field, put_line, put_members, put_next};
-use super::texts::put_object;
+use super::texts::{
+    put_comma, put_fields, put_later_field, put_line, put_members, put_next, put_object,
+};
 use crate::listed::{KeyList, listed_under};
 use bi_common::fields::Field;
 use bi_common::format::Format;

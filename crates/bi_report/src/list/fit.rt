@@ -16,8 +16,9 @@ ghost use Rattle.bi_report.specs.ReadListing.{read_image_object, read_listing_te
 ghost use Rattle.bi_report.specs.ReadListing.{words_of_blob_lines};
 
 use super::configurations::put_configurations;
-use super::texts::{put_comma, put_json, put_line, put_lines, put_members, put_object};
-use super::texts::put_reservations;
+use super::texts::{
+    put_comma, put_json, put_line, put_lines, put_members, put_object, put_reservations,
+};
 use bi_base::{Error, Sink};
 use bi_common::fields::Field;
 use bi_common::format::Format;

@@ -11,8 +11,10 @@ ghost use Rattle.bi_report.specs.Listing.{legacy_listing, part_line};
 ghost use Rattle.bi_report.specs.ListingJson.{legacy_listing_object, part_object};
 ghost use Rattle.bi_report.specs.ReadListing.{before_parts, part_text, part_texts};
 
-use super::texts::{put_codes, put_comma, put_decimal, put_header_members, put_kind_and_fields};
-use super::texts::{put_line, put_object};
+use super::texts::{
+    put_codes, put_comma, put_decimal, put_header_members, put_kind_and_fields, put_line,
+    put_object,
+};
 use bi_base::{Error, Sink};
 use bi_common::fields::Field;
 use bi_common::format::Format;

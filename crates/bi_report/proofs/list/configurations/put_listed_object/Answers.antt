@@ -1,4 +1,4 @@
-use Rattle.std.proofs.Common.{ℕ, List, [], codes, map, subst, sym, ◌∙◌}
+use Rattle.std.proofs.Common.{ℕ, List, [], codes, map, subst, sym}
 use Rattle.bi_fit.specs.Judgement.{listed_names}
 use Rattle.bi_common.specs.Json.{json_string}
 use Rattle.bi_common.specs.Shown.{shown_text}
