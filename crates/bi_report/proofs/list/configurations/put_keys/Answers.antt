@@ -19,7 +19,8 @@ loop-key-preserved g c =
     let texts : Key → List (List ℕ) = λ key. key_texts c.args.format entry.name key (file_listed c.args.fit.now.images entry key) in
     turn_goes_on g.P.Pen.puts g.met.P.Pen.puts_in_turn c.args.pen.now c.loop-key.pen c.put_key-is_later.new.pen c.args.format false
     c.loop-key.is_later _ (texts (get_or all_keys index Kernel)) (flat_map texts (drop (index + 1) all_keys)) _ _ c.loop-key.invariant
-    (ap (flat_map texts) (drop_more all_keys index Kernel c.loop-key-test.true)) c.put_key-is_later.ensures.later c.put_key-is_later.ensures.put
+    (ap (flat_map texts) (drop_more all_keys index Kernel c.loop-key-test.true))
+    c.put_key-is_later.ensures.later c.put_key-is_later.ensures.put
 
 pub returns : goal.returns
 returns g c =

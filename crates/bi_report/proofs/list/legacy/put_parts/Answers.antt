@@ -44,5 +44,5 @@ returns g c =
     one_more_appended g.P.Pen.puts g.met.P.Pen.puts_in_turn c.args.pen.now c.put_before_parts.new.pen c.loop-index.pen
     (before_parts format c.part_count.result) all _ (ap (λ count. before_parts format count ++ all) (sym c.part_count.ensures))
     c.put_before_parts.ensures
-    (turn_ends g.P.Pen.puts c.put_before_parts.new.pen c.loop-index.pen format false c.loop-index.is_later _ _ c.loop-index.invariant.written
-    (ap (part_texts format (enumerate_count c.loop-index.index-iterator)) c.in-None.ensures.steps.0.0)).0
+    (turn_ends g.P.Pen.puts c.put_before_parts.new.pen c.loop-index.pen format false c.loop-index.is_later _ _
+    c.loop-index.invariant.written (ap (part_texts format (enumerate_count c.loop-index.index-iterator)) c.in-None.ensures.steps.0.0)).0
