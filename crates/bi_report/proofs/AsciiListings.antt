@@ -31,22 +31,21 @@ use Rattle.bi_fit.proofs.TextLaws.{file_means_image_tree}
 use Rattle.bi_fit.proofs.Trees.{children_of-with_each, children_of-with_children_of}
 use Rattle.bi_fit.proofs.TreeShapes.{AreNodes-children_of, bytes-children_of, names-without_payloads}
 use Rattle.bi_legacy.specs.Codes.{os_names, arch_names, type_names, compression_names}
-use Rattle.bi_legacy.specs.Meaning.{LegacyImage}
 use Rattle.bi_legacy.specs.PlacedParts.{PartModel, placed_parts}
 use Rattle.bi_legacy.specs.Reading.{LegacyModel}
 use Rattle.bi_legacy.proofs.ImageOfFile.{image_of_file}
-use Rattle.bi_common.specs.Shown.{Words, hexadecimal_64, line, hexadecimal, shown_text}
-use Rattle.bi_common.specs.CommonLines.{reservation_line, code_word, header_members, name_member, reservation_object}
+use Rattle.bi_common.specs.Shown.{Words, hexadecimal_64, line, shown_text}
+use Rattle.bi_common.specs.CommonLines.{code_words, field_words, header_members, name_member, reservation_line, reservation_object}
 use Rattle.bi_common.specs.declared.format.Format.{Format}
 use Rattle.bi_common.specs.declared.format.Format.TheVariants.{Lines, Json}
 use Rattle.bi_common.specs.Json.{Member, json_array, json_bool, json_line, json_null, json_string, string_or_null}
 use Rattle.bi_common.proofs.AsciiJson.{IsAsciiMember, array_ascii, line_ascii, maybe_name_ascii, name_ascii, object_ascii, string_ascii}
 use Rattle.bi_common.proofs.AsciiJson.{header_ascii, reservations_ascii}
-use Rattle.bi_common.proofs.AsciiTexts.{HasAscii, AreAsciiWords, is_ascii, by_test, both, each_text, any_text, ascii_line, decimal_shown}
-use Rattle.bi_common.proofs.AsciiTexts.{address, address_64, name_shown, code_named}
+use Rattle.bi_common.proofs.AsciiTexts.{HasAscii, AreAsciiWords, is_ascii, by_test, both, each_text, any_text, ascii_line, ascii_lines}
+use Rattle.bi_common.proofs.AsciiTexts.{address, address_64, decimal_shown, name_shown, code_named}
 use Rattle.bi_report.specs.FitListing.{source_word, image_line, image_lines, key_line, configuration_lines, default_line, fit_listing}
 use Rattle.bi_report.specs.ListedFiles.{IsListing, OfLegacyImage, OfImageTree, fit_listing_text, legacy_listing_text}
-use Rattle.bi_report.specs.Listing.{field_lines, code_lines, part_line, part_lines, parts_lines, legacy_listing}
+use Rattle.bi_report.specs.Listing.{part_line, part_lines, parts_lines, legacy_listing}
 use Rattle.bi_report.specs.ListingJson.{configuration_object, fit_listing_object, image_objects, key_object, key_objects}
 use Rattle.bi_report.specs.ListingJson.{legacy_listing_object, part_object, payload_object}
 
@@ -56,29 +55,7 @@ use Rattle.bi_report.specs.ListingJson.{legacy_listing_object, part_object, payl
 then : (words : Words) (later : List ℕ) → AreAsciiWords words → HasAscii later → HasAscii (line words ++ later)
 then words later are rest = both (line words) later (ascii_line words are) rest
 
--- The listing of a legacy image.
-fields_listed : (image : LegacyImage) → AreBytes image.name → HasAscii (field_lines image)
-fields_listed image bytes =
-    let time : Words = codes "time" ∷ decimal image.time ∷ [] in
-    let load : Words = codes "load" ∷ hexadecimal image.load ∷ [] in
-    let entry : Words = codes "entry" ∷ hexadecimal image.entry ∷ [] in
-    then (codes "name" ∷ shown_text image.name ∷ []) (line time ++ (line load ++ line entry))
-    (by_test (codes "name") refl, (name_shown image.name bytes, tt))
-    (then time (line load ++ line entry) (by_test (codes "time") refl, (decimal_shown image.time, tt))
-    (then load (line entry) (by_test (codes "load") refl, (address image.load, tt))
-    (ascii_line entry (by_test (codes "entry") refl, (address image.entry, tt)))))
-
-codes_listed : (image : LegacyImage) → HasAscii (code_lines image)
-codes_listed image =
-    let arch : Words = codes "arch" ∷ code_word arch_names image.arch ∷ [] in
-    let image_type : Words = codes "type" ∷ code_word type_names image.image_type ∷ [] in
-    let compression : Words = codes "compression" ∷ code_word compression_names image.compression ∷ [] in
-    then (codes "os" ∷ code_word os_names image.os ∷ []) (line arch ++ (line image_type ++ line compression))
-    (by_test (codes "os") refl, (code_named os_names refl image.os, tt))
-    (then arch (line image_type ++ line compression) (by_test (codes "arch") refl, (code_named arch_names refl image.arch, tt))
-    (then image_type (line compression) (by_test (codes "type") refl, (code_named type_names refl image.image_type, tt))
-    (ascii_line compression (by_test (codes "compression") refl, (code_named compression_names refl image.compression, tt)))))
-
+-- The listing of a legacy image, and its parts.
 part_listed : (index : ℕ) (placed : PartModel) → HasAscii (part_line index placed)
 part_listed index placed =
     let place : Words = codes "at" ∷ decimal placed.place ∷ [] in
@@ -94,18 +71,39 @@ parts_listed index (placed ∷ later) =
 
 legacy_listed : (parsed : LegacyModel) → AreBytes parsed.image.name → HasAscii (legacy_listing parsed)
 legacy_listed parsed bytes =
+    let image = parsed.image in
     let unused : Words = codes "unused" ∷ decimal parsed.unused ∷ [] in
-    let count : Words = codes "parts" ∷ decimal (length parsed.image.parts) ∷ [] in
-    then (codes "kind" ∷ codes "legacy" ∷ [])
-    (field_lines parsed.image ++ (code_lines parsed.image ++ (parts_lines parsed.image ++ line unused)))
-    (by_test (codes "kind") refl, (by_test (codes "legacy") refl, tt))
-    (both (field_lines parsed.image) (code_lines parsed.image ++ (parts_lines parsed.image ++ line unused))
-    (fields_listed parsed.image bytes)
-    (both (code_lines parsed.image) (parts_lines parsed.image ++ line unused) (codes_listed parsed.image)
-    (both (parts_lines parsed.image) (line unused)
-    (then count (part_lines 0 (placed_parts parsed.image)) (by_test (codes "parts") refl, (decimal_shown (length parsed.image.parts), tt))
-    (parts_listed 0 (placed_parts parsed.image)))
-    (ascii_line unused (by_test (codes "unused") refl, (decimal_shown parsed.unused, tt))))))
+    let count : Words = codes "parts" ∷ decimal (length image.parts) ∷ [] in
+    let fields : List Words = (codes "kind" ∷ codes "legacy" ∷ []) ∷ field_words image in
+    both (flat_map line fields) (flat_map line (code_words image) ++ (parts_lines image ++ line unused))
+    (ascii_lines fields (
+      (by_test (codes "kind") refl, (by_test (codes "legacy") refl, tt)),
+      (
+        (by_test (codes "name") refl, (name_shown image.name bytes, tt)),
+        (
+          (by_test (codes "time") refl, (decimal_shown image.time, tt)),
+          (
+            (by_test (codes "load") refl, (address image.load, tt)),
+            ((by_test (codes "entry") refl, (address image.entry, tt)), tt),
+          ),
+        ),
+      ),
+    ))
+    (both (flat_map line (code_words image)) (parts_lines image ++ line unused)
+    (ascii_lines (code_words image) (
+      (by_test (codes "os") refl, (code_named os_names refl image.os, tt)),
+      (
+        (by_test (codes "arch") refl, (code_named arch_names refl image.arch, tt)),
+        (
+          (by_test (codes "type") refl, (code_named type_names refl image.image_type, tt)),
+          ((by_test (codes "compression") refl, (code_named compression_names refl image.compression, tt)), tt),
+        ),
+      ),
+    ))
+    (both (parts_lines image) (line unused)
+    (then count (part_lines 0 (placed_parts image)) (by_test (codes "parts") refl, (decimal_shown (length image.parts), tt))
+    (parts_listed 0 (placed_parts image)))
+    (ascii_line unused (by_test (codes "unused") refl, (decimal_shown parsed.unused, tt)))))
 
 -- The lines of image nodes.
 source_shown : (payload_source : PayloadSource) → HasAscii (source_word payload_source)

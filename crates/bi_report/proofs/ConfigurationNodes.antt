@@ -16,9 +16,11 @@ use Rattle.bi_common.specs.declared.format.Format.TheVariants.{Lines, Json}
 use Rattle.bi_common.specs.Json.{JsonText, json_array, json_object}
 use Rattle.bi_common.specs.CommonLines.{name_member}
 use Rattle.bi_common.specs.Shown.{line, shown_text}
+use Rattle.bi_common.proofs.JsonTexts.{object_with_list}
+use Rattle.bi_base.specs.Pens.{literal}
 use Rattle.bi_report.specs.FitListing.{configuration_lines, key_line}
 use Rattle.bi_report.specs.ListingJson.{configuration_object, key_objects}
-use Rattle.bi_report.specs.ReadListing.{configuration_text, configuration_texts, key_lines, key_texts, node_key_texts}
+use Rattle.bi_report.specs.ReadListing.{configuration_text, configuration_texts, key_texts, node_key_texts}
 
 -- The texts of configurations are those of the children of the node of the configurations, one after the other.
 
@@ -45,8 +47,9 @@ lines_of_key configuration key (Missing index) = append-nil (key_line configurat
 lines_of_key configuration key (ListedImages images) = append-nil (key_line configuration key (ListedImages images))
 
 -- The lines of the keys of a configuration.
-pub lines_of_keys : (images : List ImageModel) (entry : Sibling FileNode) →
-    key_lines images entry ≡ flat_map (λ text. text) (node_key_texts Lines images entry)
+lines_of_keys : (images : List ImageModel) (entry : Sibling FileNode) →
+    flat_map (λ (key : Key). key_line entry.name key (file_listed images entry key)) all_keys
+    ≡ flat_map (λ text. text) (node_key_texts Lines images entry)
 lines_of_keys images entry =
     sym (texts_of_each (λ (key : Key). key_texts Lines entry.name key (file_listed images entry key))
     (λ (key : Key). key_line entry.name key (file_listed images entry key))
@@ -60,16 +63,19 @@ tree_text Json content configuration = configuration_object (tree_of content) co
 -- The text of a configuration.
 text_of_node : (format : Format) (content : FitModel) → IsHeld content → (entry : Sibling FileNode) → IsConfiguration content entry →
     tree_text format content entry.name ≡ configuration_text format content.images entry
+unfolding literal
 text_of_node Lines content held entry is =
     ap (λ keys. line (codes "config" ∷ shown_text entry.name ∷ []) ++ keys)
     (same_texts (λ (key : Key). key_line entry.name key (listed_of (tree_of content) entry.name key))
     (λ (key : Key). key_line entry.name key (file_listed content.images entry key))
-    (λ (key : Key). ap (key_line entry.name key) (listed_is content held entry.name entry key is.is_found)) all_keys)
+    (λ (key : Key). ap (key_line entry.name key) (listed_is content held entry.name entry key is.is_found)) all_keys
+    ∙ lines_of_keys content.images entry)
 text_of_node Json content held entry is =
     ap (λ (keys : List JsonText). json_object (name_member (codes "name") entry.name ∷ (codes "keys", json_array keys) ∷ []))
     (same_texts (λ (key : Key). key_objects key (listed_of (tree_of content) entry.name key))
     (λ (key : Key). key_objects key (file_listed content.images entry key))
     (λ (key : Key). ap (key_objects key) (listed_is content held entry.name entry key is.is_found)) all_keys)
+    ∙ object_with_list (name_member (codes "name") entry.name) [] (codes "keys") (node_key_texts Json content.images entry)
 
 -- The texts of several.
 texts_of_nodes : (format : Format) (content : FitModel) → IsHeld content → (entries : List (Sibling FileNode)) →

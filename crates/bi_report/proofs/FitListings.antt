@@ -20,7 +20,8 @@ use Rattle.bi_common.specs.CommonLines.{reservation_line, name_member, reservati
 use Rattle.bi_common.specs.Formats.{in_turn}
 use Rattle.bi_common.specs.Json.{json_line, json_number, json_object, json_string, member_text, string_or_null, with_commas}
 use Rattle.bi_common.specs.Shown.{line, shown_text}
-use Rattle.bi_common.proofs.JsonTexts.{commas_between}
+use Rattle.bi_common.proofs.JsonTexts.{commas_between, object_with_value}
+use Rattle.bi_base.specs.Pens.{literal}
 use Rattle.bi_report.specs.FitListing.{image_line, image_lines, default_line}
 use Rattle.bi_report.specs.ListedFiles.{IsListing, OfImageTree, fit_listing_text}
 use Rattle.bi_report.specs.ListingJson.{image_object, image_objects, payload_object}
@@ -75,10 +76,12 @@ placed_object file (DataPosition position size) (Some payload) is = refl
 image_object_of : (file : List ℕ) (name : List ℕ) (source : PayloadSource) (image : ImageModel) → image.name ≡ name →
     IsPayload file source image.payload → image.place ≡ place_of file source →
     read_image_object image ≡ image_object file name source image.payload
+unfolding literal
 image_object_of file name source image named is placed =
     let object : List ℕ → List ℕ → List ℕ = λ name payload.
     json_object (name_member (codes "name") name ∷ (codes "payload", payload) ∷ []) in
-    ap₂ object named (ap (placed_payload image.payload) placed ∙ placed_object file source image.payload is)
+    sym (object_with_value (name_member (codes "name") image.name) [] (codes "payload") (placed_payload image.payload image.place))
+    ∙ ap₂ object named (ap (placed_payload image.payload) placed ∙ placed_object file source image.payload is)
 
 -- The objects of images that were read.
 objects_of_images : (file : List ℕ) (nodes : Nodes FileNode) (images : List ImageModel) →
@@ -133,6 +136,7 @@ listed_with : (format : Format) (content : FitModel) →
     (in_turn format false (map (reservation_text format) content.blob.reservations))
     (in_turn format false (map (image_text format) content.images))
     (in_turn format false (configuration_texts format content)) (default_of (tree_of content))
+unfolding literal
 listed_with Lines content =
     sym (first_three (line (codes "kind" ∷ codes "fit" ∷ [])) (line (codes "boot-cpu" ∷ decimal content.blob.cpu ∷ []))
     (line (codes "total-size" ∷ decimal content.blob.total_size ∷ []))

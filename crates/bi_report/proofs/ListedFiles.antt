@@ -1,4 +1,4 @@
-use Rattle.std.proofs.Common.{◌≡◌, ℕ, ◌+◌, List, [], ◌∷◌, ◌++◌, Option, codes, false, map, refl, sym, ap, ap₂, subst, ◌∙◌, append_assoc}
+use Rattle.std.proofs.Common.{◌≡◌, ℕ, ◌+◌, List, [], ◌∷◌, ◌++◌, codes, false, map, refl, sym, ap, ap₂, subst, ◌∙◌, append_assoc}
 use Rattle.std.proofs.Common.{append-nil, arith, length}
 use Rattle.std.specs.Fmt.{decimal}
 use Rattle.std.specs.List.{flat_map, join_with_byte}
@@ -7,11 +7,7 @@ use Rattle.bi_base.specs.declared.fault.Error.{Error}
 use Rattle.bi_base.specs.Limits.{Limits}
 use Rattle.bi_base.specs.Sinks.{FailsWithin}
 use Rattle.bi_base.specs.VecSinks.{Grows, IsOutOfMemory}
-use Rattle.bi_fdt.specs.Content.{Blob}
-use Rattle.bi_fit.specs.Content.{FitModel, ImageModel, tree_of}
-use Rattle.bi_fit.specs.Judgement.{default_of}
 use Rattle.bi_legacy.specs.declared.fields.Fields.{Fields}
-use Rattle.bi_legacy.specs.Codes.{os_names, arch_names, type_names, compression_names}
 use Rattle.bi_legacy.specs.Meaning.{LegacyImage, image_of}
 use Rattle.bi_legacy.specs.PlacedParts.{PartModel, placed_parts}
 use Rattle.bi_legacy.specs.Reading.{LegacyModel}
@@ -20,26 +16,20 @@ use Rattle.bi_norm.specs.Reading.{NeedsMemory, ForLegacyImage, IsBootImageReadEr
 use Rattle.bi_norm.proofs.NormalForms.{needs_memory}
 use Rattle.bi_common.specs.declared.format.Format.{Format}
 use Rattle.bi_common.specs.declared.format.Format.TheVariants.{Lines, Json}
-use Rattle.bi_common.specs.CommonLines.{field_words, code_words, code_word, header_members, reservation_text}
+use Rattle.bi_common.specs.CommonLines.{field_words, code_words, header_members}
 use Rattle.bi_common.specs.Formats.{in_turn}
 use Rattle.bi_common.specs.Json.{Member, json_array, json_line, json_number, member_text, with_commas}
-use Rattle.bi_common.specs.Shown.{line, shown_text, hexadecimal}
+use Rattle.bi_common.specs.Shown.{line}
 use Rattle.bi_common.proofs.JsonTexts.{commas_between, members_joined}
 use Rattle.bi_report.specs.ListedFiles.{IsListing, OfLegacyImage, OfImageTree}
 use Rattle.bi_report.specs.Listing.{legacy_listing, part_line, part_lines, parts_lines}
 use Rattle.bi_report.specs.ListingJson.{legacy_listing_object, part_object}
-use Rattle.bi_report.specs.ReadListing.{after_configurations, before_parts, before_reservations, configuration_texts, image_text, json_only}
-use Rattle.bi_report.specs.ReadListing.{part_texts, read_listing_text}
+use Rattle.bi_report.specs.ReadListing.{before_parts}
+use Rattle.bi_report.specs.ReadListing.{part_texts}
 
 -- The listing of a file is the texts of its fields and its parts, or those of its blob, its reservations and its images.
 
 -- ---- legacy images
-
--- Lines that begin a listing, and what follows them.
-first_nine : (kind name time load entry os arch image_type compression later : List ℕ) →
-    kind ++ ((name ++ (time ++ (load ++ entry))) ++ ((os ++ (arch ++ (image_type ++ compression))) ++ later))
-    ≡ (kind ++ (name ++ (time ++ (load ++ (entry ++ []))))) ++ ((os ++ (arch ++ (image_type ++ (compression ++ [])))) ++ later)
-first_nine kind name time load entry os arch image_type compression later = simp append_assoc refl
 
 -- The texts of parts: their lines,
 lines_of_parts : (index : ℕ) (parts : List PartModel) → flat_map (λ text. text) (part_texts Lines index parts) ≡ part_lines index parts
@@ -59,15 +49,7 @@ pub legacy_pieces : (parsed : LegacyModel) (fields : Fields) (unused : ℕ) → 
     ++ ((before_parts Lines (length parsed.image.parts) ++ in_turn Lines false (part_texts Lines 0 (placed_parts parsed.image)))
     ++ line (codes "unused" ∷ decimal unused ∷ [])))
 legacy_pieces parsed fields unused is counted =
-    let image = parsed.image in
-    first_nine (line (codes "kind" ∷ codes "legacy" ∷ []))
-    (line (codes "name" ∷ shown_text image.name ∷ [])) (line (codes "time" ∷ decimal image.time ∷ []))
-    (line (codes "load" ∷ hexadecimal image.load ∷ [])) (line (codes "entry" ∷ hexadecimal image.entry ∷ []))
-    (line (codes "os" ∷ code_word os_names image.os ∷ [])) (line (codes "arch" ∷ code_word arch_names image.arch ∷ []))
-    (line (codes "type" ∷ code_word type_names image.image_type ∷ []))
-    (line (codes "compression" ∷ code_word compression_names image.compression ∷ []))
-    (parts_lines image ++ line (codes "unused" ∷ decimal parsed.unused ∷ []))
-    ∙ ap (λ (image : LegacyImage). flat_map line ((codes "kind" ∷ codes "legacy" ∷ []) ∷ field_words image)
+    ap (λ (image : LegacyImage). flat_map line ((codes "kind" ∷ codes "legacy" ∷ []) ∷ field_words image)
     ++ (flat_map line (code_words image) ++ (parts_lines parsed.image ++ line (codes "unused" ∷ decimal parsed.unused ∷ [])))) (sym is)
     ∙ ap₂ (λ (lines : List ℕ) (number : ℕ). flat_map line ((codes "kind" ∷ codes "legacy" ∷ []) ∷ field_words (image_of fields []))
     ++ (flat_map line (code_words (image_of fields []))
@@ -103,28 +85,6 @@ object_pieces parsed fields unused is counted =
     ∙ around_parts (header parsed.image) (join_with_byte 44 objects) (decimal parsed.unused)
     ∙ ap (λ (image : LegacyImage). object (header image) (join_with_byte 44 objects) parsed.unused) (sym is)
     ∙ ap₂ (λ (parts : List ℕ) (number : ℕ). object (header (image_of fields [])) parts number) values (sym counted)
-
--- ---- flattened image trees
-
--- The listing of a flattened image tree with this blob, these images and this default.
-pub fit_pieces : (format : Format) (content : FitModel) (blob : Blob) (images : List ImageModel) (default : Option (List ℕ)) →
-    blob ≡ content.blob → images ≡ content.images → default ≡ default_of (tree_of content) →
-    read_listing_text format content
-    ≡ before_reservations format blob
-    ++ (in_turn format false (map (reservation_text format) blob.reservations)
-    ++ (json_only format (codes "],\"images\":[")
-    ++ (in_turn format false (map (image_text format) images)
-    ++ (json_only format (codes "],\"configurations\":[")
-    ++ (in_turn format false (configuration_texts format content) ++ after_configurations format default)))))
-fit_pieces format content blob images default same_blob same_images same_default =
-    let listed : Blob → List ImageModel → Option (List ℕ) → List ℕ = λ blob images default. before_reservations format blob
-    ++ (in_turn format false (map (reservation_text format) blob.reservations)
-    ++ (json_only format (codes "],\"images\":[")
-    ++ (in_turn format false (map (image_text format) images)
-    ++ (json_only format (codes "],\"configurations\":[")
-    ++ (in_turn format false (configuration_texts format content) ++ after_configurations format default))))) in
-    ap (λ (other : Blob). listed other content.images (default_of (tree_of content))) (sym same_blob)
-    ∙ ap₂ (λ (others : List ImageModel) (other : Option (List ℕ)). listed blob others other) (sym same_images) (sym same_default)
 
 -- ---- errors
 

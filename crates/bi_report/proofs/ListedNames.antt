@@ -1,6 +1,6 @@
 use Rattle.std.proofs.Common.{◌≡◌, true, ℕ, ◌+◌, List, [], ◌∷◌, ◌++◌, Option, Some, None, option_and_then, slice_get, map, codes, refl, sym}
 use Rattle.std.proofs.Common.{ap}
-use Rattle.std.proofs.Common.{◌∙◌, append_assoc, append-nil, Bool, subst}
+use Rattle.std.proofs.Common.{◌∙◌, append_assoc}
 use Rattle.std.specs.List.{ends_with, join_with_byte, flat_map}
 use Rattle.std.specs.Prelude.{nat_eq}
 use Rattle.std.proofs.lemmas.List.Folds.{flat_map-map}
@@ -11,15 +11,10 @@ use Rattle.bi_fit.specs.Judgement.{ListedImage, ListResult, Missing, ListedImage
 use Rattle.bi_fit.specs.Names.{key_name}
 use Rattle.bi_fit.specs.HashNodes.{file_list, file_listed_in, listed_payload}
 use Rattle.bi_fit.proofs.FileLists.{payload_found, payload_named-missing}
-use Rattle.bi_common.specs.declared.format.Format.{Format}
 use Rattle.bi_common.specs.declared.format.Format.TheVariants.{Lines}
-use Rattle.bi_common.specs.Formats.{in_turn, is_later_after}
 use Rattle.bi_common.specs.Shown.{line, shown_text}
 use Rattle.bi_common.proofs.FitLines.{joined_more}
-use Rattle.bi_report.specs.FitListing.{key_line}
-use Rattle.bi_report.specs.declared.listed.KeyList.{KeyList}
-use Rattle.bi_report.specs.declared.listed.KeyList.TheVariants as listed
-use Rattle.bi_report.specs.Listed.{AreListedImages, IsListed}
+use Rattle.bi_report.specs.Listed.{AreListedImages}
 use Rattle.bi_report.specs.ListingJson.{key_objects, listed_object}
 use Rattle.bi_report.specs.ReadListing.{key_texts, missing_from, first_missing}
 
@@ -77,10 +72,11 @@ shown_names (image ∷ later) = ap (λ names. shown_text image.name ∷ names) (
 
 -- The line of a key that lists these names.
 pub images_line : (configuration : List ℕ) (key : Key) (result : ListResult) (names : List (List ℕ)) → AreListedImages result names →
-    key_line configuration key result ≡ line (codes "key" ∷ shown_text configuration ∷ key_name key ∷ codes "ok" ∷ map shown_text names)
+    key_texts Lines configuration key result
+    ≡ line (codes "key" ∷ shown_text configuration ∷ key_name key ∷ codes "ok" ∷ map shown_text names) ∷ []
 images_line configuration key result names are =
-    ap (key_line configuration key) are.is_listed
-    ∙ ap (λ words. line (codes "key" ∷ shown_text configuration ∷ key_name key ∷ codes "ok" ∷ words))
+    ap (key_texts Lines configuration key) are.is_listed
+    ∙ ap (λ words. line (codes "key" ∷ shown_text configuration ∷ key_name key ∷ codes "ok" ∷ words) ∷ [])
     (shown_names are.images ∙ ap (map shown_text) are.are_names)
 
 -- The object of a key that lists these names.
@@ -88,25 +84,6 @@ pub images_object : (key : Key) (result : ListResult) (names : List (List ℕ)) 
     key_objects key result ≡ listed_object key names ∷ []
 images_object key result names are =
     ap (key_objects key) are.is_listed ∙ ap (λ (names : List (List ℕ)). listed_object key names ∷ []) are.are_names
-
--- What is listed under a key that is there: one line,
-pub key_as_line : (format : Format) (is_later : Bool) (configuration : List ℕ) (key : Key) (result : ListResult) (found : KeyList) →
-    format ≡ Lines → IsListed result found → ¬ (found ≡ listed.NoKey) →
-    (in_turn format is_later (key_texts format configuration key result) ≡ key_line configuration key result)
-    × (true ≡ is_later_after is_later (key_texts format configuration key result))
-key_as_line format is_later configuration key result found lines is some =
-    subst (λ (form : Format). (in_turn form is_later (key_texts form configuration key result) ≡ key_line configuration key result)
-    × (true ≡ is_later_after is_later (key_texts form configuration key result))) (sym lines) (
-      ap (in_turn Lines is_later) (by found is some) ∙ append-nil (key_line configuration key result),
-      ap (is_later_after is_later) (sym (by found is some)),
-    )
-  where
-    by : (other : KeyList) → IsListed result other → ¬ (other ≡ listed.NoKey) →
-        key_texts Lines configuration key result ≡ key_line configuration key result ∷ []
-    by listed.NoKey is some = absurd (some refl)
-    by listed.BadList is some = rw is refl
-    by (listed.Missing index) is some = rw is refl
-    by (listed.Images value) is some = rw is.is_listed refl
 
 -- The line of a key that lists names: its first words, where the name of the key is given as a word, the names, and a newline.
 pub line_of_names : (configuration : List ℕ) (key : Key) (word : List ℕ) (names : List (List ℕ)) → word ≡ key_name key →

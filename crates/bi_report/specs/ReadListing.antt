@@ -18,10 +18,11 @@ use Rattle.bi_fit.specs.HashNodes.{file_configurations, file_listed}
 use Rattle.bi_common.specs.declared.format.Format.{Format}
 use Rattle.bi_common.specs.declared.format.Format.TheVariants.{Lines, Json}
 use Rattle.bi_common.specs.Formats.{in_turn}
-use Rattle.bi_common.specs.Json.{JsonText, Member, json_array, json_null, json_number, json_object}
+use Rattle.bi_common.specs.Json.{JsonText, Member, json_null, json_number, json_object}
 use Rattle.bi_common.specs.Json.{json_string, member_text, string_or_null}
 use Rattle.bi_common.specs.CommonLines.{name_member, reservation_text}
 use Rattle.bi_common.specs.Shown.{line, shown_text}
+use Rattle.bi_base.specs.Pens.{literal}
 use Rattle.bi_report.specs.FitListing.{default_line, key_line}
 use Rattle.bi_report.specs.Listing.{part_line}
 use Rattle.bi_report.specs.ListingJson.{key_objects, part_object}
@@ -58,16 +59,6 @@ placed_line name payload place = line (codes "image" ∷ shown_text name ∷ cod
 abbrev pub read_image_line : ImageModel → List ℕ
 read_image_line image = placed_line image.name image.payload image.place
 
--- The lines of the keys of a configuration node, of a file with these images.
-abbrev pub key_lines : List ImageModel → Sibling FileNode → List ℕ
-key_lines images entry =
-    flat_map (λ key. key_line entry.name key (file_listed images entry key)) all_keys
-
--- The lines of a configuration node.
-abbrev pub configuration_node_lines : List ImageModel → Sibling FileNode → List ℕ
-configuration_node_lines images entry =
-    line (codes "config" ∷ shown_text entry.name ∷ []) ++ key_lines images entry
-
 -- The index of a name that no image has, or else that of a later one. This is the index of the
 -- image of the name.
 abbrev pub missing_from : (index : ℕ) → Option ℕ → (later : Option ℕ) → Option ℕ
@@ -103,9 +94,10 @@ placed_payload payload place = json_null
 -- The object of an image that was read.
 abbrev pub read_image_object : ImageModel → JsonText
 read_image_object image =
-    json_object
-    (name_member (codes "name") image.name
-    ∷ (codes "payload", placed_payload image.payload image.place) ∷ [])
+    literal (codes "{")
+    ++ (join_with_byte 44 (map member_text (name_member (codes "name") image.name ∷ []))
+    ++ (literal (codes ",\"payload\":")
+    ++ (placed_payload image.payload image.place ++ literal (codes "}"))))
 
 -- The text of an image.
 abbrev pub image_text : Format → ImageModel → List ℕ
@@ -130,11 +122,14 @@ node_key_texts format images entry =
 
 -- The text of a configuration node.
 abbrev pub configuration_text : Format → List ImageModel → Sibling FileNode → List ℕ
-configuration_text Lines images entry = configuration_node_lines images entry
+configuration_text Lines images entry =
+    line (codes "config" ∷ shown_text entry.name ∷ [])
+    ++ in_turn Lines false (node_key_texts Lines images entry)
 configuration_text Json images entry =
-    json_object
-    (name_member (codes "name") entry.name
-    ∷ (codes "keys", json_array (node_key_texts Json images entry)) ∷ [])
+    literal (codes "{")
+    ++ (join_with_byte 44 (map member_text (name_member (codes "name") entry.name ∷ []))
+    ++ (literal (codes ",\"keys\":[")
+    ++ (in_turn Json false (node_key_texts Json images entry) ++ literal (codes "]}"))))
 
 -- The texts of these parts of a legacy image, the first of which is part `index`.
 abbrev pub part_text : Format → (index : ℕ) → PartModel → List ℕ
@@ -149,7 +144,7 @@ part_texts format index (placed ∷ later) =
 -- What comes before the parts of a legacy image, of which there are `count`.
 abbrev pub before_parts : Format → (count : ℕ) → List ℕ
 before_parts Lines count = line (codes "parts" ∷ decimal count ∷ [])
-before_parts Json count = codes ",\"parts\":["
+before_parts Json count = literal (codes ",\"parts\":[")
 
 -- A text that only JSON has.
 abbrev pub json_only : Format → List ℕ → List ℕ
@@ -167,14 +162,16 @@ head_members blob =
 abbrev pub before_reservations : Format → Blob → List ℕ
 before_reservations Lines blob = flat_map line (words_of_blob_lines blob)
 before_reservations Json blob =
-    123 ∷ (join_with_byte 44 (map member_text (head_members blob)) ++ codes ",\"reservations\":[")
+    literal (codes "{")
+    ++ (join_with_byte 44 (map member_text (head_members blob))
+    ++ literal (codes ",\"reservations\":["))
 
 -- What comes after the configurations: the default.
 abbrev pub after_configurations : Format → Option (List ℕ) → List ℕ
 after_configurations Lines default = default_line default
 after_configurations Json default =
-    codes "],\"default\":"
-    ++ (string_or_null (option_map shown_text default) ++ codes "}\n")
+    literal (codes "],\"default\":")
+    ++ (string_or_null (option_map shown_text default) ++ literal (codes "}\n"))
 
 -- The configurations.
 abbrev pub configuration_texts : Format → FitModel → List (List ℕ)
@@ -186,8 +183,8 @@ abbrev pub read_listing_text : Format → FitModel → List ℕ
 read_listing_text format content =
     before_reservations format content.blob
     ++ (in_turn format false (map (reservation_text format) content.blob.reservations)
-    ++ (json_only format (codes "],\"images\":[")
+    ++ (json_only format (literal (codes "],\"images\":["))
     ++ (in_turn format false (map (image_text format) content.images)
-    ++ (json_only format (codes "],\"configurations\":[")
+    ++ (json_only format (literal (codes "],\"configurations\":["))
     ++ (in_turn format false (configuration_texts format content)
     ++ after_configurations format (default_of (tree_of content)))))))

@@ -3,6 +3,7 @@
 mod configurations;
 mod fit;
 mod legacy;
+mod texts;
 
 ghost use Rattle.std.specs.Prelude.{⊤, IfOk, OnOk, IfErr, string_bytes};
 ghost use Rattle.bi_base.specs.Commands.{Appended, AppendFailed};

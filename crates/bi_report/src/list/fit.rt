@@ -3,6 +3,7 @@
 ghost use Rattle.std.specs.Prelude.{[], ◌∷◌, false, flat_map, length, map};
 ghost use Rattle.std.specs.Option.{option_map};
 ghost use Rattle.bi_base.specs.Sinks.{Wrote};
+ghost use Rattle.bi_base.specs.Pens.{literal};
 ghost use Rattle.bi_fit.specs.Content.{IsHeld, image_model};
 ghost use Rattle.bi_common.specs.declared.format.Format.TheVariants.{Json};
 ghost use Rattle.bi_common.specs.Formats.{in_turn};
@@ -15,11 +16,13 @@ ghost use Rattle.bi_report.specs.ReadListing.{read_image_object, read_listing_te
 ghost use Rattle.bi_report.specs.ReadListing.{words_of_blob_lines};
 
 use super::configurations::put_configurations;
-use bi_base::{Error, Sink};
-use bi_common::common_lines::put_reservations;
-use bi_common::fields::{Field, put_line, put_lines};
+use super::texts::{
+    put_comma, put_json, put_line, put_lines, put_members, put_object, put_reservations,
+};
+use bi_base::{Error, Pen, Sink, SinkPen, put_literal};
+use bi_common::fields::Field;
 use bi_common::format::Format;
-use bi_common::json::{JsonValue, put_comma, put_json, put_members, put_object, shown_or_null};
+use bi_common::json::{JsonValue, shown_or_null};
 use bi_fdt::Blob;
 use bi_fit::{Fit, Image, Place};
 
@@ -29,41 +32,49 @@ pub(super) fn list_fit<S: Sink>(fit: &Fit, format: Format, sink: &mut S) -> Resu
     requires held { IsHeld fit.now }
     ensures { Wrote S.appends S.fails sink.old (read_listing_text format fit.now) result sink.new }
 {
+    let mut pen = SinkPen::new(sink);
+    put_listing(fit, format, &mut pen);
+    pen.result()
+}
+
+/// Puts the listing of a flattened image tree, in a form. Requires: the tree was read.
+fn put_listing<P: Pen>(fit: &Fit, format: Format, pen: &mut P)
+    requires held { IsHeld fit.now }
+    ensures { P.puts pen.old (read_listing_text format fit.now) pen.new }
+{
     let blob = fit.blob();
-    put_before_reservations(blob, format, sink)?;
-    put_reservations(blob, format, sink)?;
-    put_json_only(b"],\"images\":[", format, sink)?;
-    put_images(fit.images(), format, sink)?;
-    put_json_only(b"],\"configurations\":[", format, sink)?;
-    put_configurations(fit, format, sink)?;
-    put_after_configurations(fit.default_config(), format, sink)
+    put_before_reservations(blob, format, pen);
+    put_reservations(blob, format, pen);
+    put_json_only("],\"images\":[", format, pen);
+    put_images(fit.images(), format, pen);
+    put_json_only("],\"configurations\":[", format, pen);
+    put_configurations(fit, format, pen);
+    put_after_configurations(fit.default_config(), format, pen);
 }
 
-/// Appends a text that only JSON has. Fails as the sink does.
-fn put_json_only<S: Sink>(text: &[u8], format: Format, sink: &mut S) -> Result<(), Error>
-    ensures { Wrote S.appends S.fails sink.old (json_only format text.now) result sink.new }
+/// Puts a text that only JSON has.
+fn put_json_only<P: Pen>(text: &str, format: Format, pen: &mut P)
+    ensures { P.puts pen.old (json_only format (literal text.now)) pen.new }
 {
     match format {
-        Format::Lines => Ok(()),
-        Format::Json => sink.put(text),
+        Format::Lines => (),
+        Format::Json => put_literal(text, pen),
     }
 }
 
-/// Appends what comes before the memory reservations. Fails as the sink does.
-fn put_before_reservations<S: Sink>(blob: &Blob, format: Format, sink: &mut S) -> Result<(), Error>
-    ensures { Wrote S.appends S.fails sink.old (before_reservations format blob.now) result
-        sink.new }
+/// Puts what comes before the memory reservations.
+fn put_before_reservations<P: Pen>(blob: &Blob, format: Format, pen: &mut P)
+    ensures { P.puts pen.old (before_reservations format blob.now) pen.new }
 {
     match format {
-        Format::Lines => put_head(blob, sink),
-        Format::Json => put_head_members(blob, sink),
+        Format::Lines => put_head(blob, pen),
+        Format::Json => put_head_members(blob, pen),
     }
 }
 
-/// Appends the members before the memory reservations. Fails as the sink does.
-fn put_head_members<S: Sink>(blob: &Blob, sink: &mut S) -> Result<(), Error>
-    ensures { Wrote S.appends S.fails sink.old (before_reservations Json blob.now) result
-        sink.new }
+/// Puts the members before the memory reservations.
+fn put_head_members<P: Pen>(blob: &Blob, pen: &mut P)
+    ensures { P.puts pen.old (before_reservations Json blob.now) pen.new }
 {
     let members = [
         ("kind", JsonValue::Text(b"fit")),
@@ -73,16 +84,14 @@ fn put_head_members<S: Sink>(blob: &Blob, sink: &mut S) -> Result<(), Error>
             JsonValue::Number(u64::from(blob.total_size())),
         ),
     ];
-    sink.put(b"{")?;
-    put_members(&members, sink)?;
-    sink.put(b",\"reservations\":[")
+    put_literal("{", pen);
+    put_members(&members, pen);
+    put_literal(",\"reservations\":[", pen)
 }
 
-/// Appends the lines of the kind, the boot processor and the size of the blob. Fails as the sink
-/// does.
-fn put_head<S: Sink>(blob: &Blob, sink: &mut S) -> Result<(), Error>
-    ensures { Wrote S.appends S.fails sink.old (flat_map line (words_of_blob_lines blob.now)) result
-        sink.new }
+/// Puts the lines of the kind, the boot processor and the size of the blob.
+fn put_head<P: Pen>(blob: &Blob, pen: &mut P)
+    ensures { P.puts pen.old (flat_map line (words_of_blob_lines blob.now)) pen.new }
 {
     let boot_cpu = Field::Decimal(u64::from(blob.boot_cpu()));
     let total_size = Field::Decimal(u64::from(blob.total_size()));
@@ -92,106 +101,89 @@ fn put_head<S: Sink>(blob: &Blob, sink: &mut S) -> Result<(), Error>
             [Field::Text(b"boot-cpu"), boot_cpu],
             [Field::Text(b"total-size"), total_size],
         ],
-        sink,
+        pen,
     )
 }
 
-/// Appends each image, in a form. Fails as the sink does.
-fn put_images<S: Sink>(images: &[Image], format: Format, sink: &mut S) -> Result<(), Error>
-    ensures { Wrote S.appends S.fails sink.old
-        (in_turn format false (map (image_text format) (map image_model images.now))) result
-        sink.new }
+/// Puts each image, in a form.
+fn put_images<P: Pen>(images: &[Image], format: Format, pen: &mut P)
+    ensures { P.puts pen.old
+        (in_turn format false (map (image_text format) (map image_model images.now))) pen.new }
 {
     let mut is_later = false;
     for image in images {
-        put_image(image, format, is_later, sink)?;
+        put_image(image, format, is_later, pen);
         is_later = true;
     }
-    Ok(())
 }
 
-/// Appends an image, in a form. Fails as the sink does.
-fn put_image<S: Sink>(
-    image: &Image,
-    format: Format,
-    is_later: bool,
-    sink: &mut S,
-) -> Result<(), Error>
-    ensures { Wrote S.appends S.fails sink.old
-        (in_turn format is_later (image_text format (image_model image.now) ∷ [])) result
-        sink.new }
+/// Puts an image, in a form.
+fn put_image<P: Pen>(image: &Image, format: Format, is_later: bool, pen: &mut P)
+    ensures { P.puts pen.old
+        (in_turn format is_later (image_text format (image_model image.now) ∷ [])) pen.new }
 {
     match format {
-        Format::Lines => put_image_line(image, sink),
+        Format::Lines => put_image_line(image, pen),
         Format::Json => {
-            put_comma(is_later, sink)?;
-            put_image_object(image, sink)
+            put_comma(is_later, pen);
+            put_image_object(image, pen)
         }
     }
 }
 
-/// Appends the object of an image. Fails as the sink does.
-fn put_image_object<S: Sink>(image: &Image, sink: &mut S) -> Result<(), Error>
-    ensures { Wrote S.appends S.fails sink.old (read_image_object (image_model image.now)) result
-        sink.new }
+/// Puts the object of an image.
+fn put_image_object<P: Pen>(image: &Image, pen: &mut P)
+    ensures { P.puts pen.old (read_image_object (image_model image.now)) pen.new }
 {
-    sink.put(b"{")?;
-    put_members(&[("name", JsonValue::Shown(image.name))], sink)?;
-    sink.put(b",\"payload\":")?;
-    put_placed_payload(image, sink)?;
-    sink.put(b"}")
+    put_literal("{", pen);
+    put_members(&[("name", JsonValue::Shown(image.name))], pen);
+    put_literal(",\"payload\":", pen);
+    put_placed_payload(image, pen);
+    put_literal("}", pen)
 }
 
-/// Appends the payload of an image in JSON: its property, offset and size, or `null`. Fails as the
-/// sink does.
-fn put_placed_payload<S: Sink>(image: &Image, sink: &mut S) -> Result<(), Error>
+/// Puts the payload of an image in JSON: its property, offset and size, or `null`.
+fn put_placed_payload<P: Pen>(image: &Image, pen: &mut P)
     ensures { let model = image_model image.now in
-        Wrote S.appends S.fails sink.old (placed_payload model.payload model.place) result
-        sink.new }
+        P.puts pen.old (placed_payload model.payload model.place) pen.new }
 {
     match (image.payload, image.place) {
-        (Some(payload), Place::Data(offset)) => put_payload_object(payload, "data", offset, sink),
+        (Some(payload), Place::Data(offset)) => put_payload_object(payload, "data", offset, pen),
         (Some(payload), Place::DataOffset(offset)) => {
-            put_payload_object(payload, "data-offset", offset, sink)
+            put_payload_object(payload, "data-offset", offset, pen)
         }
         (Some(payload), Place::DataPosition(offset)) => {
-            put_payload_object(payload, "data-position", offset, sink)
+            put_payload_object(payload, "data-position", offset, pen)
         }
-        _ => sink.put(b"null"),
+        _ => pen.put(b"null"),
     }
 }
 
-/// Appends the object of a payload. Fails as the sink does.
-fn put_payload_object<S: Sink>(
-    payload: &[u8],
-    property: &str,
-    offset: u32,
-    sink: &mut S,
-) -> Result<(), Error>
-    ensures { Wrote S.appends S.fails sink.old
-        (payload_at property.now offset (length payload.now)) result sink.new }
+/// Puts the object of a payload.
+fn put_payload_object<P: Pen>(payload: &[u8], property: &str, offset: u32, pen: &mut P)
+    ensures { P.puts pen.old
+        (payload_at property.now offset (length payload.now)) pen.new }
 {
     let members = [
         ("property", JsonValue::Text(property.as_bytes())),
         ("offset", JsonValue::Number(u64::from(offset))),
         ("size", JsonValue::Number(payload.len() as u64)),
     ];
-    put_object(&members, sink)
+    put_object(&members, pen)
 }
 
-/// Appends the line of an image. Fails as the sink does.
-fn put_image_line<S: Sink>(image: &Image, sink: &mut S) -> Result<(), Error>
-    ensures { Wrote S.appends S.fails sink.old (read_image_line (image_model image.now)) result
-        sink.new }
+/// Puts the line of an image.
+fn put_image_line<P: Pen>(image: &Image, pen: &mut P)
+    ensures { P.puts pen.old (read_image_line (image_model image.now)) pen.new }
 {
     let name = image.name;
     match (image.payload, image.place) {
-        (Some(payload), Place::Data(offset)) => put_payload(name, payload, "data", offset, sink),
+        (Some(payload), Place::Data(offset)) => put_payload(name, payload, "data", offset, pen),
         (Some(payload), Place::DataOffset(offset)) => {
-            put_payload(name, payload, "data-offset", offset, sink)
+            put_payload(name, payload, "data-offset", offset, pen)
         }
         (Some(payload), Place::DataPosition(offset)) => {
-            put_payload(name, payload, "data-position", offset, sink)
+            put_payload(name, payload, "data-position", offset, pen)
         }
         _ => put_line(
             &[
@@ -199,22 +191,21 @@ fn put_image_line<S: Sink>(image: &Image, sink: &mut S) -> Result<(), Error>
                 Field::Shown(name),
                 Field::Text(b"none"),
             ],
-            sink,
+            pen,
         ),
     }
 }
 
-/// Appends the line of an image of this name with a payload. Fails as the sink does.
-fn put_payload<'a, S: Sink>(
+/// Puts the line of an image of this name with a payload.
+fn put_payload<'a, P: Pen>(
     name: &'a [u8],
     payload: &[u8],
     property: &'a str,
     offset: u32,
-    sink: &mut S,
-) -> Result<(), Error>
-    ensures { Wrote S.appends S.fails sink.old
-        (payload_line (shown_text name.now) (length payload.now) property.now offset)
-        result sink.new }
+    pen: &mut P,
+)
+    ensures { P.puts pen.old
+        (payload_line (shown_text name.now) (length payload.now) property.now offset) pen.new }
 {
     let words = [
         Field::Text(b"image"),
@@ -225,44 +216,37 @@ fn put_payload<'a, S: Sink>(
         Field::Text(b"at"),
         Field::Decimal(u64::from(offset)),
     ];
-    put_line(&words, sink)
+    put_line(&words, pen)
 }
 
-/// Appends what comes after the configurations: the default. Fails as the sink does.
-fn put_after_configurations<S: Sink>(
-    default: Option<&[u8]>,
-    format: Format,
-    sink: &mut S,
-) -> Result<(), Error>
-    ensures { Wrote S.appends S.fails sink.old
-        (after_configurations format (option_map (λ name. name.now) default.entry)) result
-        sink.new }
+/// Puts what comes after the configurations: the default.
+fn put_after_configurations<P: Pen>(default: Option<&[u8]>, format: Format, pen: &mut P)
+    ensures { P.puts pen.old
+        (after_configurations format (option_map (λ name. name.now) default.entry)) pen.new }
 {
     match format {
-        Format::Lines => put_default_line(default, sink),
-        Format::Json => put_default_member(default, sink),
+        Format::Lines => put_default_line(default, pen),
+        Format::Json => put_default_member(default, pen),
     }
 }
 
-/// Appends the line of the default configuration, if one is named. Fails as the sink does.
-fn put_default_line<S: Sink>(default: Option<&[u8]>, sink: &mut S) -> Result<(), Error>
-    ensures { Wrote S.appends S.fails sink.old
-        (default_line (option_map (λ name. name.now) default.entry)) result sink.new }
+/// Puts the line of the default configuration, if one is named.
+fn put_default_line<P: Pen>(default: Option<&[u8]>, pen: &mut P)
+    ensures { P.puts pen.old
+        (default_line (option_map (λ name. name.now) default.entry)) pen.new }
 {
     match default {
-        Some(name) => put_line(&[Field::Text(b"default"), Field::Shown(name)], sink),
-        None => Ok(()),
+        Some(name) => put_line(&[Field::Text(b"default"), Field::Shown(name)], pen),
+        None => (),
     }
 }
 
-/// Appends the member for the default configuration, and the end of the text. Fails as the sink
-/// does.
-fn put_default_member<S: Sink>(default: Option<&[u8]>, sink: &mut S) -> Result<(), Error>
-    ensures { Wrote S.appends S.fails sink.old
-        (after_configurations Json (option_map (λ name. name.now) default.entry)) result
-        sink.new }
+/// Puts the member for the default configuration, and the end of the text.
+fn put_default_member<P: Pen>(default: Option<&[u8]>, pen: &mut P)
+    ensures { P.puts pen.old
+        (after_configurations Json (option_map (λ name. name.now) default.entry)) pen.new }
 {
-    sink.put(b"],\"default\":")?;
-    put_json(shown_or_null(default), sink)?;
-    sink.put(b"}\n")
+    put_literal("],\"default\":", pen);
+    put_json(shown_or_null(default), pen);
+    put_literal("}\n", pen)
 }

@@ -1,5 +1,4 @@
-use Rattle.std.proofs.Common.{sym, subst}
-use Rattle.bi_base.specs.Sinks.{Wrote}
+use Rattle.std.proofs.Common.{ℕ, List, flat_map, append-nil, ap, sym, subst, ◌∙◌}
 use Rattle.bi_fit.specs.Judgement.{listed_names}
 use Rattle.bi_report.specs.Listed.{IsListed}
 use Rattle.bi_report.proofs.ListedNames.{images_line}
@@ -8,5 +7,7 @@ use Rattle.bi_report.proofs.list.configurations.put_key_line.Goals as goal
 pub returns-in-Images : goal.returns-in-Images
 returns-in-Images g c result is =
     let are = subst (IsListed result) c.in-Images.is is in
-    subst (λ text. Wrote g.S.Sink.appends g.S.Sink.fails c.args.sink.now text c.put_images.result c.put_images.new.sink)
-    (sym (images_line c.args.configuration.now c.args.key result (listed_names c.in-Images.value.now) are)) c.put_images.ensures
+    subst (λ text. g.P.Pen.puts c.args.pen.now text c.put_images.new.pen)
+    (sym (ap (flat_map (λ (text : List ℕ). text))
+    (images_line c.args.configuration.now c.args.key result (listed_names c.in-Images.value.now) are) ∙ append-nil _))
+    c.put_images.ensures

@@ -9,7 +9,7 @@ use Rattle.bi_report.proofs.list.configurations.put_name_strings.Given as goal
 -- The names that are left follow those that were appended.
 abbrev pub invariant-loop-name : goal.invariant-loop-name
 invariant-loop-name g l =
-    AreInTurn g.S.Sink.appends l.initial.sink l.sink Json false l.is_later
+    AreInTurn g.P.Pen.puts l.initial.pen l.pen Json false l.is_later
     (map (λ (name : List ℕ). json_string (shown_text name)) (listed_names l.rest))
     (map (λ (name : List ℕ). json_string (shown_text name)) (listed_names l.value))
 

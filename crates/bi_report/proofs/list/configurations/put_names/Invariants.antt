@@ -6,7 +6,7 @@ use Rattle.bi_report.proofs.list.configurations.put_names.Given as goal
 -- The names before the remaining ones were appended.
 abbrev pub invariant-loop-name : goal.invariant-loop-name
 invariant-loop-name g l =
-    (done : List ℕ) × g.S.Sink.appends l.initial.sink done l.sink
+    (done : List ℕ) × g.P.Pen.puts l.initial.pen done l.pen
     × (done ++ flat_map (λ name. 32 ∷ shown_text name) (listed_names l.rest)
     ≡ flat_map (λ name. 32 ∷ shown_text name) (listed_names l.value))
 

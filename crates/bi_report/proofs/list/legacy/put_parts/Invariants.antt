@@ -10,7 +10,7 @@ abbrev pub invariant-loop-index : goal.invariant-loop-index
 invariant-loop-index g l = record {
   can_next : (goal.iterator-loop-index g).can_next l.index-iterator;
   is_finite : (goal.iterator-loop-index g).is_finite l.index-iterator;
-  written : AreInTurn g.S.Sink.appends l.initial.sink l.sink l.fn.format false l.is_later
+  written : AreInTurn g.P.Pen.puts l.initial.pen l.pen l.fn.format false l.is_later
       (part_texts l.fn.format (enumerate_count l.index-iterator) (enumerate_source l.index-iterator))
       (part_texts l.fn.format 0 (placed_parts l.image.image));
 }
