@@ -1,4 +1,4 @@
-use Rattle.std.proofs.Common.{◌≡◌, ◌≤◌, ◌⊎◌, ◌↔◌, ℕ, List, ◌∷◌, length, refl, sym, ap, subst, ◌∙◌, inl, inr, arith}
+use Rattle.std.proofs.Common.{◌≡◌, ◌≤◌, ◌⊎◌, ◌↔◌, ℕ, List, ◌∷◌, length, refl, sym, ap, subst, ◌∙◌, inl, inr, arith, rules}
 use Rattle.bi_base.specs.Cells.{cell, u32_at}
 use Rattle.bi_base.specs.Commands.{AppendFailed, WasRefused, SinkFailed}
 use Rattle.bi_base.specs.Limits.{Limits}
@@ -71,10 +71,7 @@ distinguishes_legacy limits form file parsed opened other_file (OfLegacy other) 
   λ same. ap OfLegacy (opened.normal_form.only_image other_file other means.is_file same),
   λ same. ap (normal_text form) same,
 )
-distinguishes_legacy limits form file parsed opened other_file (OfFit tree) means = (
-  λ same. absurd (texts_differ form parsed.image tree (sym same)),
-  λ same. ap (normal_text form) same,
-)
+distinguishes_legacy limits form file parsed opened other_file (OfFit tree) means = search (rules, texts_differ)
 
 -- The normal text of a legacy image that was read from a file is the normal form of the file.
 pub legacy_normal_form : (limits : Limits) (form : Form) (file : List ℕ) (parsed : LegacyModel) → IsReadLegacy limits file parsed →
@@ -116,10 +113,7 @@ distinguishes_tree limits form file tree is short other_file (OfFit other) means
       (file_means_image_tree other_file other means.is_file) short).0 (sym same))),
   λ same. ap (normal_text form) same,
 )
-distinguishes_tree limits form file tree is short other_file (OfLegacy image) means = (
-  λ same. absurd (texts_differ form image tree same),
-  λ same. ap (normal_text form) same,
-)
+distinguishes_tree limits form file tree is short other_file (OfLegacy image) means = search (rules, texts_differ)
 
 -- The normal text of a flattened image tree that was read from a file is the normal form of the file, if it is no longer than the limit.
 pub tree_normal_form : (limits : Limits) (form : Form) (file : List ℕ) (content : FitModel) → IsReadFit limits file content →
