@@ -1,4 +1,4 @@
-use Rattle.std.proofs.Common.{◌≡◌, ◌<◌, ◌⊎◌, length, inl, inr, lit<, refl, ap, ◌∙◌, arith}
+use Rattle.std.proofs.Common.{◌≡◌, ◌<◌, ◌⊎◌, length, inl, inr, ap, ◌∙◌, arith, rules}
 use Rattle.bi_fit.specs.declared.form.Form.TheVariants.{Embedded}
 use Rattle.bi_fit.specs.File.{IsFitFile}
 use Rattle.bi_fit.specs.ImageTree.{ImageTree}
@@ -18,16 +18,7 @@ use Rattle.bi_commands.specs.UpdatedFiles.{HashesTooMuch, IsTooLongToUpdate, upd
 -- Small boot images are over the bounds for payloads and updates or within them.
 
 pub payload_bounds_are_known : PayloadBoundsAreKnown
-payload_bounds_are_known = record {
-  three = lit< tt;
-  three_within = λ over. omega (arith, over);
-  one = lit< tt;
-  one_within = λ over. omega (arith, over);
-  parts_within = λ over. over;
-  hashes = record { hashes = refl; is_over = lit< tt };
-  hashes_within = λ too_much. omega (arith, too_much.is_over);
-  time = λ too_much. let bad = too_much.hashes in absurd cc;
-}
+payload_bounds_are_known = search rules
 
 -- ---- the lengths of updated texts
 

@@ -1,11 +1,10 @@
 use Rattle.std.proofs.Common.{◌≡◌, ℕ, ◌+◌, Bool, true, false, List, [], ◌∷◌, map, Option, Some, None, Bor, IfOk, IfErr, suc, bytes_eq}
-use Rattle.std.proofs.Common.{slice_get, refl, sym, ap, ◌∙◌, arith}
+use Rattle.std.proofs.Common.{slice_get, refl, sym, ap, ◌∙◌, rules}
 use Rattle.std.specs.Option.{option_map, option_and_then, ok_or}
 use Rattle.std.specs.List.{AllZip}
 use Rattle.std.specs.FinMap.{from_entries}
 use Rattle.bi_blob.specs.Tree.{Nodes, none, node, FileNode, PropertyMap, names, with_each, properties_of}
 use Rattle.bi_blob.specs.Lookups.{Sibling, siblings}
-use Rattle.bi_fdt.specs.Content.{root_of}
 use Rattle.bi_fit.specs.Content.{FitModel, ImageModel, IsReadImage, IsHeld, index_from, index_of, tree_of}
 use Rattle.bi_fit.specs.ImageTree.{children_of, with_children_of, without_payloads, nodes_or_none, image_nodes}
 use Rattle.bi_fit.specs.Judgement.{images_with, image_named}
@@ -21,13 +20,7 @@ use Rattle.bi_fit.proofs.TreeShapes.{names-without_payloads}
 index_from-next : (index : ℕ) (name : List ℕ) (images : List ImageModel) →
     index_from (index + 1) name images ≡ option_map suc (index_from index name images)
 index_from-next index name [] = refl
-index_from-next index name (image ∷ later) = by (bytes_eq image.name name) refl (index_from-next (index + 1) name later)
-  where
-    by : (b : Bool) → bytes_eq image.name name ≡ b →
-        index_from (index + 1 + 1) name later ≡ option_map suc (index_from (index + 1) name later) →
-        index_from (index + 1) name (image ∷ later) ≡ option_map suc (index_from index name (image ∷ later))
-    by true is rest = rw is (ap Some (omega arith))
-    by false is rest = rw is rest
+index_from-next index name (image ∷ later) = search (rules, index_from-next (index + 1) name later)
 
 -- What an index chooses of the images that were read, where an image has been found.
 abbrev pub choice_at : List ImageModel → Option ℕ → Choice
@@ -72,18 +65,7 @@ names_meant : (nodes : Nodes FileNode) →
     names (nodes_or_none (children_of images_name (with_children_of images_name without_payloads (meant nodes))))
     ≡ names (nodes_or_none (children_of images_name nodes))
 names_meant none = refl
-names_meant (node name own children later) = by (bytes_eq name images_name) refl (names_meant later)
-  where
-    by : (b : Bool) → bytes_eq name images_name ≡ b
-        → names (nodes_or_none (children_of images_name (with_children_of images_name without_payloads (meant later)))) ≡
-        names (nodes_or_none (children_of images_name later))
-        → names (nodes_or_none
-        (children_of images_name (with_children_of images_name without_payloads (meant (node name own children later))))) ≡
-        names (nodes_or_none (children_of images_name (node name own children later)))
-    by true is rest =
-        rw (is, is) (names-without_payloads (meant children) ∙ names-with_each from_entries (with_each properties_of children)
-        ∙ names-with_each properties_of children)
-    by false is rest = rw (is, is) rest
+names_meant (node name own children later) = search (rules, names-without_payloads, names-with_each, names_meant later)
 
 -- Images that were read from nodes have their names.
 names_read : (file : List ℕ) (entries : List (Sibling FileNode)) (images : List ImageModel) → AllZip (IsReadImage file) entries images →
@@ -91,18 +73,13 @@ names_read : (file : List ℕ) (entries : List (Sibling FileNode)) (images : Lis
 names_read file [] [] read = refl
 names_read file [] (image ∷ later) read = absurd read
 names_read file (entry ∷ entries) [] read = absurd read
-names_read file (entry ∷ entries) (image ∷ later) read =
-    ap (λ name. name ∷ map (λ (entry : Sibling FileNode). entry.name) entries) (sym read.0.name)
-    ∙ ap (λ names. image.name ∷ names) (names_read file entries later read.1)
+names_read file (entry ∷ entries) (image ∷ later) read = search (rules, names_read file entries later read.1)
 
 -- The image nodes of a tree have the names of the images that were read.
 pub names_of_content : (content : FitModel) → IsHeld content →
     map (λ (entry : Sibling PropertyMap). entry.name) (siblings (nodes_or_none (image_nodes (tree_of content).root)))
     ≡ map (λ (image : ImageModel). image.name) content.images
-names_of_content content held =
-    names-siblings (nodes_or_none (image_nodes (tree_of content).root)) ∙ names_meant (root_of content.blob).children
-    ∙ sym (names-siblings (nodes_or_none (image_nodes (root_of content.blob))))
-    ∙ names_read content.blob.file (siblings (nodes_or_none (image_nodes (root_of content.blob)))) content.images held.images
+names_of_content content held = search (rules, names-siblings, names_meant, names_read)
 
 -- What the name of an image chooses is what its index does.
 pub chosen_by_name : (content : FitModel) (name : List ℕ) → IsHeld content →

@@ -1,4 +1,4 @@
-use Rattle.std.proofs.Common.{◌≡◌, ◌∙◌, ◌<◌, ◌⊎◌, ℕ, List, codes, length, inl, inr, refl, sym, ap, subst, arith}
+use Rattle.std.proofs.Common.{◌≡◌, ◌∙◌, ◌<◌, ◌⊎◌, ℕ, List, codes, length, inl, inr, refl, sym, ap, subst, arith, rules}
 use Rattle.std.specs.Fmt.{digits}
 use Rattle.bi_base.specs.Cells.{cell}
 use Rattle.bi_base.specs.Limits.{widest}
@@ -85,13 +85,7 @@ module _ (one_legacy : OneLegacyMeaning) (file : List ℕ) (meaning : Meaning) (
   same_meaning other other_means = one_file_meaning one_legacy widest widest file other meaning other_means means
 
   chosen : (select : Select) (bytes : List ℕ) → choice_of select meaning ≡ Chosen bytes → IsOnlyExtract select file bytes
-  chosen select bytes holds = record {
-    is = record { meaning = meaning; means = means; holds = holds };
-    only = λ others is.
-        let same : Chosen others ≡ Chosen bytes =
-        sym is.holds ∙ ap (choice_of select) (same_meaning is.meaning is.means) ∙ holds in
-        cc;
-  }
+  chosen select bytes holds = search (rules, same_meaning)
 
   reason_of_file : (select : Select) (choice : Choice) → choice_of select meaning ≡ choice → (given : ExtractError) →
       MeansSuch widest file (λ m. IsReason given (choice_of select m)) → given ≡ error_of_choice choice

@@ -1,5 +1,5 @@
-use Rattle.std.proofs.Common.{◌≡◌, ◌≢◌, ◌==◌, ℕ, suc, ◌+◌, ◌/◌, ◌%◌, ◌<◌, ◌≤◌, ◌^◌, Bool, true, false, cond, List, [], ◌∷◌, ◌++◌}
-use Rattle.std.proofs.Common.{length, map, inl, inr, refl, sym, ap, subst, ◌∙◌, arith, codes, true≢false}
+use Rattle.std.proofs.Common.{◌≡◌, ◌≢◌, ℕ, suc, ◌+◌, ◌%◌, ◌<◌, ◌≤◌, ◌^◌, Bool, true, false, cond, List, [], ◌∷◌, ◌++◌, rules}
+use Rattle.std.proofs.Common.{length, map, refl, sym, ap, subst, ◌∙◌, arith, codes, true≢false}
 use Rattle.std.proofs.lemmas.Bool.{eqb-true, eqb-false, and_parts, leb-true}
 use Rattle.std.proofs.lemmas.Fmt.{decimal_injective}
 use Rattle.std.proofs.lemmas.List.{append_cancel_left}
@@ -29,10 +29,7 @@ IsGraphic byte = (0x21 ≤ byte) × (byte ≤ 0x7e)
 -- Digits are graphic.
 digits_graphic : (word : List ℕ) → IsAbove word → AreDigits word → AllByRecursion IsGraphic word
 digits_graphic [] above below = tt
-digits_graphic (byte ∷ later) above below =
-    let high = above.0 in
-    let low = below.0 in
-    ((omega (arith, high), omega (arith, low)), digits_graphic later above.1 below.1)
+digits_graphic (byte ∷ later) above below = search (rules, digits_graphic later above.1 below.1)
 
 -- No digit is a slash.
 digits_no_slash : (word : List ℕ) → IsAbove word → AllByRecursion (λ byte. byte ≢ 47) word
@@ -87,10 +84,7 @@ names_of_files files = map (λ (file : PayloadFile). file.name) files
 new_part : (index start : ℕ) (parts : List (List ℕ)) → index < start → start + length parts ≤ 2 ^ 64 →
     IsNew (part_file_name index) (names_of_files (part_files start parts))
 new_part index start [] below fits = tt
-new_part index start (part ∷ later) below fits = (
-  λ same. let e = same_part start index (omega arith) (omega arith) same in omega (arith, e),
-  new_part index (start + 1) later (omega arith) (omega arith),
-)
+new_part index start (part ∷ later) below fits = search (rules, same_part, new_part index (start + 1) later (omega arith) (omega arith))
 
 -- The files of parts have safe names, and no two of them have the same name.
 pub safe_part_names : (start : ℕ) (parts : List (List ℕ)) → start + length parts ≤ 2 ^ 64 →
@@ -107,22 +101,11 @@ safe_part_names start (part ∷ later) fits =
 
 -- The digit of a number below 16 is an ASCII byte.
 glyph_graphic : (number : ℕ) → number < 16 → IsGraphic (digit_glyph true number)
-glyph_graphic number small = elim (glyph_is_digit number small) as (λ _. IsGraphic (digit_glyph true number)) [
-  | inl digit ↦ (omega (arith, digit), omega (arith, digit))
-  | inr letter ↦ (omega (arith, letter), omega (arith, letter))
-]
+glyph_graphic number small = search (rules, glyph_is_digit)
 
 -- A byte is printed as graphic bytes.
 shown_byte_graphic : (byte : ℕ) → byte < 256 → AllByRecursion IsGraphic (shown_byte byte)
-shown_byte_graphic byte small = where_test (is_plain byte) refl
-  where
-    where_test : (p : Bool) → is_plain byte ≡ p → AllByRecursion IsGraphic (cond p (byte ∷ []) (37 ∷ digits_of_byte true byte))
-    where_test true plain =
-        let first = and_parts _ _ plain in
-        let both = and_parts _ _ first.0 in
-        ((leb-true 0x21 byte both.0, leb-true byte 0x7e both.1), tt)
-    where_test false plain =
-        ((omega arith, omega arith), (glyph_graphic (byte / 16) (omega arith), (glyph_graphic (byte % 16) (omega arith), tt)))
+shown_byte_graphic byte small = search (rules, and_parts, leb-true, glyph_graphic)
 
 -- Bytes are printed as graphic bytes.
 shown_bytes_graphic : (bytes : List ℕ) → AllByRecursion (λ byte. byte < 256) bytes → AllByRecursion IsGraphic (flat_map shown_byte bytes)
@@ -137,41 +120,23 @@ each_byte (byte ∷ later) are = (are.each 0, each_byte later (record { each = �
 
 -- A name as it is printed is graphic.
 shown_graphic : (name : List ℕ) → AreBytes name → AllByRecursion IsGraphic (shown_text name)
-shown_graphic name are = where_way (ways name)
-  where
-    where_way : ShownName name → AllByRecursion IsGraphic (shown_text name)
-    where_way (Nothing is text) = subst (AllByRecursion IsGraphic) (sym text) ((omega arith, omega arith), tt)
-    where_way (Dash is text) = subst (AllByRecursion IsGraphic) (sym text)
-        ((omega arith, omega arith), ((omega arith, omega arith), ((omega arith, omega arith), tt)))
-    where_way (Others some other text) = subst (AllByRecursion IsGraphic) (sym text) (shown_bytes_graphic name (each_byte name are))
+shown_graphic name are = search (rules, ways, shown_bytes_graphic, each_byte)
 
 -- If each byte of a text and of `%2E` has a property, each byte of the text without a first dot has it.
 kept_without_dot : (P : ℕ → Type 0) → AllByRecursion P (codes "%2E") → (text : List ℕ) → AllByRecursion P text →
     AllByRecursion P (without_first_dot text)
 kept_without_dot P escape [] each = tt
-kept_without_dot P escape (byte ∷ later) each = where_dot (byte == 46)
-  where
-    where_dot : (b : Bool) → AllByRecursion P (cond b (codes "%2E" ++ later) (byte ∷ later))
-    where_dot true = each-append P (codes "%2E") later escape each.1
-    where_dot false = each
+kept_without_dot P escape (byte ∷ later) each = search (rules, each-append)
 
 -- A text without a first dot is not empty if the text is not.
 some_without_dot : (text : List ℕ) → text ≢ [] → without_first_dot text ≢ []
 some_without_dot [] some is = some refl
-some_without_dot (byte ∷ later) some is = where_dot (byte == 46) is
-  where
-    where_dot : (b : Bool) → cond b (codes "%2E" ++ later) (byte ∷ later) ≡ [] → ⊥
-    where_dot true is = absurd cc
-    where_dot false is = absurd cc
+some_without_dot (byte ∷ later) some is = search rules
 
 -- A text without a first dot does not begin with a dot.
 no_first_dot : (text rest : List ℕ) → without_first_dot text ≢ 46 ∷ rest
 no_first_dot [] rest is = absurd cc
-no_first_dot (byte ∷ later) rest is = where_dot (byte == 46) refl is
-  where
-    where_dot : (b : Bool) → (byte == 46) ≡ b → cond b (codes "%2E" ++ later) (byte ∷ later) ≡ 46 ∷ rest → ⊥
-    where_dot true dot is = let first : 37 ≡ 46 = first_same is in omega (arith, first)
-    where_dot false other is = eqb-false byte 46 other (first_same is)
+no_first_dot (byte ∷ later) rest is = search (rules, first_same, eqb-false)
 
 -- If a name has no slash, its printed form has none.
 no_slash_shown : (text : List ℕ) → HasNoEnd is_slash text → AllByRecursion (λ byte. byte ≢ 47) text
@@ -228,18 +193,7 @@ same_without_dot : (one other : List ℕ) → HasNoEscapedDot one → HasNoEscap
 same_without_dot [] [] free also same = refl
 same_without_dot [] (b ∷ other) free also same = absurd (some_without_dot (b ∷ other) (λ is. absurd cc) (sym same))
 same_without_dot (a ∷ one) [] free also same = absurd (some_without_dot (a ∷ one) (λ is. absurd cc) same)
-same_without_dot (a ∷ one) (b ∷ other) free also same = where_dots (a == 46) (b == 46) refl refl same
-  where
-    where_dots : (p q : Bool) → (a == 46) ≡ p → (b == 46) ≡ q →
-        cond p (codes "%2E" ++ one) (a ∷ one) ≡ cond q (codes "%2E" ++ other) (b ∷ other) → a ∷ one ≡ b ∷ other
-    where_dots true true first second same =
-        let dot : a ≡ 46 = eqb-true a 46 first in
-        let dot_also : b ≡ 46 = eqb-true b 46 second in
-        let rest : one ≡ other = append_cancel_left (codes "%2E") one other same in
-        cc
-    where_dots true false first second same = absurd (also one (sym same))
-    where_dots false true first second same = absurd (free other same)
-    where_dots false false first second same = same
+same_without_dot (a ∷ one) (b ∷ other) free also same = search (rules, eqb-true, append_cancel_left)
 
 -- If two images have the same name of a file, they have the same name.
 pub same_image_file : (one other : List ℕ) → image_file_name one ≡ image_file_name other → one ≡ other

@@ -1,5 +1,5 @@
 use Rattle.std.proofs.Common.{◌≡◌, ◌↔◌, ◌+◌, ◌<◌, ◌≤◌, ℕ, List, [], ◌∷◌, ◌++◌, Bor, length, map, take, drop, get_or, refl, sym, ap, subst}
-use Rattle.std.proofs.Common.{◌∙◌}
+use Rattle.std.proofs.Common.{◌∙◌, rules}
 use Rattle.std.proofs.Common.{arith, add-one, append-nil}
 use Rattle.std.specs.List.{AllByRecursion, AllZip, concat, sum, sum_by, slice_range}
 use Rattle.std.proofs.Math.Seq.{drop-cons}
@@ -9,7 +9,7 @@ use Rattle.std.proofs.lemmas.Slice.Zip.{AllZip-long, all_zipped_more}
 use Rattle.bi_base.specs.Cells.{AreBytes}
 use Rattle.bi_base.specs.declared.fault.Cause.TheVariants.{BadPart}
 use Rattle.bi_base.specs.Slices.{bytes_of}
-use Rattle.bi_norm.specs.Cutting.{IsCut, IsCutFault, TooLong, TooShort}
+use Rattle.bi_norm.specs.Cutting.{IsCut, IsCutFault, TooLong}
 use Rattle.bi_norm.proofs.Pieces.{pieces_more}
 use Rattle.bi_commands.specs.Parts.{IsFilled, HasGivenBytes, LengthsAreCut, content_of, input_length_of, lengths_of, parts_of_lengths}
 use Rattle.bi_commands.specs.Parts.{pieces_among}
@@ -22,14 +22,8 @@ use Rattle.bi_commands.specs.declared.parts.Part.TheVariants.{Bytes, Length}
 -- The lengths together are how many bytes of the input the parts are.
 pub sum_of_lengths : (parts : List Part) → sum (lengths_of parts) ≡ sum_by input_length_of parts
 sum_of_lengths [] = refl
-sum_of_lengths (Bytes bytes ∷ parts) =
-    let more = sum_by-cons input_length_of (Bytes bytes) parts in
-    let later = sum_of_lengths parts in
-    omega (arith, more, later)
-sum_of_lengths (Length size ∷ parts) =
-    sum_by-cons (λ (n : ℕ). n) size (lengths_of parts)
-    ∙ ap (λ n. size + n) (sum_of_lengths parts)
-    ∙ sym (sum_by-cons input_length_of (Length size) parts)
+sum_of_lengths (Bytes bytes ∷ parts) = search (rules, sum_by-cons, sum_of_lengths parts)
+sum_of_lengths (Length size ∷ parts) = search (rules, sum_by-cons, sum_of_lengths parts)
 
 -- All parts, once the index is past the last one.
 pub sum_by_all : (parts : List Part) (i : ℕ) → length parts ≤ i → sum_by input_length_of (take i parts) ≡ sum_by input_length_of parts
@@ -63,9 +57,7 @@ part_too_long input parts i d within fits longer =
 
 pub too_short : (input : List ℕ) (parts : List Part) → sum_by input_length_of parts < length input
     → IsCutFault input (lengths_of parts) (record { cause = BadPart; offset = sum_by input_length_of parts })
-too_short input parts shorter =
-    let same = sum_of_lengths parts in
-    TooShort (omega (arith, same, shorter)) (ap (λ n. record { cause = BadPart; offset = n }) (sym same))
+too_short input parts shorter = search (rules, sum_of_lengths)
 
 -- The pieces among the contents of some parts and one more.
 pieces_push : (parts : List Part) (contents : List (List ℕ)) (part : Part) (content : List ℕ) → AllZip HasGivenBytes parts contents

@@ -1,4 +1,4 @@
-use Rattle.std.proofs.Common.{◌≡◌, ◌≤◌, ℕ, List, length, map, sym, ap, ◌∙◌}
+use Rattle.std.proofs.Common.{◌≡◌, ◌≤◌, ℕ, List, length, map, sym, ap, ◌∙◌, rules}
 use Rattle.std.specs.List.{concat, sum}
 use Rattle.std.proofs.lemmas.List.Concat.{concat_is, length-flat_map}
 use Rattle.std.proofs.lemmas.List.Sums.{sum-map}
@@ -59,13 +59,7 @@ is_output : (limits : Limits) (form : Form) (head : Head) (plan : PlanSpecModel)
     List ℕ)
     (contents : List (List ℕ)) (images : List ImageSpec) (text : List ℕ) → HasPayloads limits given parts input contents images →
     IsBuiltAs limits form head plan images text → IsFitOutput limits form head plan given parts input text
-is_output limits form head plan given parts input contents images text completed built = record {
-  contents = contents;
-  filled = completed.filled;
-  images = images;
-  have = completed.have;
-  built = built;
-}
+is_output limits form head plan given parts input contents images text completed built = search rules
 
 -- Images that were not built were refused, or the sink failed.
 pub not_appended : {S : Type 0} (fails : S → List ℕ → S → Error → Type 0) (limits : Limits) (form : Form) (head : Head)

@@ -1,4 +1,4 @@
-use Rattle.std.proofs.Common.{◌≡◌, ◌≢◌, ◌^◌, ◌<◌, ◌≤◌, ℕ, List, [], Result, Ok, Err, IfErr, length, refl, subst, sym, inl, inr}
+use Rattle.std.proofs.Common.{◌≡◌, ◌≢◌, ◌^◌, ◌<◌, ◌≤◌, ℕ, List, [], Result, Ok, Err, IfErr, length, refl, subst, sym, inl, inr, rules}
 use Rattle.std.specs.List.{AllByRecursion}
 use Rattle.bi_base.specs.Cells.{AreBytes}
 use Rattle.bi_base.specs.Limits.{Limits}
@@ -41,21 +41,7 @@ pub record Building (limits : Limits) (fields : Fields) (parts : List Part) (inp
 is_output : (limits : Limits) (fields : Fields) (parts : List Part) (input : List ℕ) (contents : List (List ℕ)) →
     Building limits fields parts input contents → HasNoEmitFault limits (image_of fields contents) →
     IsLegacyOutput limits fields parts input (legacy_text (image_of fields contents))
-is_output limits fields parts input contents building none =
-    let image = image_of fields contents in
-    record {
-      contents = contents;
-      are_parts = building.are_parts;
-      built = record {
-        no_fault = none;
-        is_text = refl;
-        accepted = record {
-          is_file = legacy_text_means image
-              (no_emit_fault_image image limits building.ranges building.name_bytes building.are_bytes building.small none);
-          short = none.1.1.0;
-        };
-      };
-    }
+is_output limits fields parts input contents building none = search (rules, legacy_text_means, no_emit_fault_image)
 
 -- An image that was written is the output.
 pub legacy_output_emitted : {S : Type 0} (appends : S → List ℕ → S → Type 0) (fails : S → List ℕ → S → Error → Type 0) (limits : Limits)

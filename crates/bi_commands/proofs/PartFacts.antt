@@ -1,6 +1,6 @@
-use Rattle.std.proofs.Common.{◌≡◌, ◌≢◌, ◌∙◌, ◌+◌, ◌<◌, ◌⊎◌, ℕ, List, [], ◌∷◌, ◌++◌, length, map, get_or}
+use Rattle.std.proofs.Common.{◌≡◌, ◌≢◌, ◌∙◌, ◌+◌, ◌⊎◌, ℕ, List, [], ◌∷◌, ◌++◌, length, map, get_or, rules}
 use Rattle.std.proofs.Common.{codes, lit≤, inl, inr, refl, sym, ap, subst, subst₂, arith}
-use Rattle.std.specs.List.{AllZip, concat, sum}
+use Rattle.std.specs.List.{AllZip, concat}
 use Rattle.bi_base.specs.Limits.{Limits}
 use Rattle.bi_base.specs.declared.fault.Cause.TheVariants.{BadPart}
 use Rattle.bi_base.specs.declared.fault.Fault.{Fault}
@@ -16,7 +16,7 @@ use Rattle.bi_commands.specs.BuildCommands.{AreFilled, ArePartsOf, HavePayloads,
 use Rattle.bi_commands.specs.BuildCommands.{IsLegacyOutputFault, IsWhole, NotBuilt, NotCut, NotFilled, image_fields}
 use Rattle.bi_commands.specs.KnownParts.{AreKernelAndTree, BuiltPartsAreKnown, FilledPartsAreKnown}
 use Rattle.bi_commands.specs.KnownParts.{kernel_and_tree, given_parts, mixed_parts}
-use Rattle.bi_commands.specs.Parts.{HasGivenBytes, IsFilled, lengths_of, pieces_among}
+use Rattle.bi_commands.specs.Parts.{HasGivenBytes, IsFilled}
 use Rattle.bi_commands.proofs.FitOutputs.{sum_of_cut}
 
 -- What small parts and inputs are filled with, and what is built of them.
@@ -92,17 +92,11 @@ cut_at (one ∷ other ∷ more ∷ before) piece later is = absurd (omega (arith
 
 long_fault : (fault : Fault) → IsCutFault (codes "abcd") (2 ∷ 1 ∷ []) fault → fault ≡ record { cause = BadPart; offset = 3 }
 long_fault fault (TooShort shorter is) = is
-long_fault fault (TooLong before piece later is fits longer same) = absurd (elim (cut_at before piece later is) [
-  | inl first ↦ omega (arith, subst₂ (λ b n. 4 < sum b + n) first.0 first.1 longer)
-  | inr second ↦ omega (arith, subst₂ (λ b n. 4 < sum b + n) second.0 second.1 longer)
-])
+long_fault fault (TooLong before piece later is fits longer same) = search (rules, cut_at)
 
 short_fault : (fault : Fault) → IsCutFault (codes "ab") (2 ∷ 1 ∷ []) fault → fault ≡ record { cause = BadPart; offset = 2 }
 short_fault fault (TooShort shorter is) = absurd (omega (arith, shorter))
-short_fault fault (TooLong before piece later is fits longer same) = elim (cut_at before piece later is) [
-  | inl first ↦ absurd (omega (arith, subst₂ (λ b n. 2 < sum b + n) first.0 first.1 longer))
-  | inr second ↦ same ∙ ap (λ b. record { cause = BadPart; offset = sum b }) second.0
-]
+short_fault fault (TooLong before piece later is fits longer same) = search (rules, cut_at)
 
 pub filled_parts_are_known : FilledPartsAreKnown
 filled_parts_are_known = record {
@@ -155,9 +149,7 @@ are_two payloads images have = record {
 
 -- An input of four bytes does not fill three.
 not_filled : (contents : List (List ℕ)) → IsFilled mixed_parts (codes "abcd") contents → ⊥
-not_filled contents filled =
-    let same : 3 ≡ 4 = sum_of_cut (codes "abcd") (lengths_of mixed_parts) (pieces_among mixed_parts contents) filled.cut in
-    omega (arith, same)
+not_filled contents filled = search (rules, sum_of_cut)
 
 not_parts : (contents : List (List ℕ)) → ArePartsOf mixed_parts (codes "abcd") contents → ⊥
 not_parts contents (IsWhole none is) = some_mixed none
@@ -177,9 +169,7 @@ fit_fault form head plan limits fault (NotBuilt short contents filled images hav
 built_images : (form : Form) (head : Head) (plan : PlanSpecModel) (limits : Limits) (output : List ℕ) →
     IsFitOutput limits form head plan kernel_and_tree given_parts [] output →
     (images : List ImageSpec) × AreKernelAndTree (codes "ab" ∷ codes "c" ∷ []) images × IsBuiltAs limits form head plan images output
-built_images form head plan limits output is =
-    let contents = given_contents is.contents is.filled.given in
-    (is.images, are_two _ is.images (subst (λ c. HavePayloads kernel_and_tree c is.images) contents is.have), is.built)
+built_images form head plan limits output is = search (rules, given_contents, are_two)
 
 pub built_parts_are_known : BuiltPartsAreKnown
 built_parts_are_known = record {

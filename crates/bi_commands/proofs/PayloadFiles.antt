@@ -1,7 +1,6 @@
 use Rattle.std.proofs.Common.{◌≡◌, ℕ, zero, suc, ◌+◌, ◌≤◌, ◌^◌, Bool, true, false, List, [], ◌∷◌, ◌++◌, length, map, Option, None, Some}
-use Rattle.std.specs.Prelude.{MatchBool}
 use Rattle.std.proofs.Common.{Result, Ok, Err, IfOk, OnOk, IfErr, Contains, slice_get, bytes_eq, inl, inr, refl, sym, ap, subst, ◌∙◌, arith}
-use Rattle.std.proofs.Common.{append_assoc, string_bytes}
+use Rattle.std.proofs.Common.{append_assoc, string_bytes, rules}
 use Rattle.std.proofs.lemmas.Slice.Eq.{bytes_eq-Decides}
 use Rattle.std.proofs.lemmas.List.{length-append, map-append}
 use Rattle.std.specs.List.{AllByRecursion, flat_map}
@@ -13,15 +12,13 @@ use Rattle.bi_base.specs.Limits.{Limits}
 use Rattle.bi_blob.specs.Tree.{Nodes, none, node, PropertyMap, IsNew, AreDistinct, AreNodes, names}
 use Rattle.bi_blob.specs.Lookups.{Sibling, siblings}
 use Rattle.bi_fit.specs.Content.{FitModel, ImageModel, IsHeld, payloads_of_models, tree_of}
-use Rattle.bi_fit.specs.ImageTree.{ImageTree, ArePropertiesByName, HaveByteNames, IsImageTree, children_of, nodes_or_none, image_nodes}
+use Rattle.bi_fit.specs.ImageTree.{ImageTree, ArePropertiesByName, HaveByteNames, IsImageTree, nodes_or_none, image_nodes}
 use Rattle.bi_fit.specs.Judgement.{Image, image_named, images_of, images_with}
-use Rattle.bi_fit.specs.Names.{images_name}
 use Rattle.bi_fit.proofs.FileTrees.{is_image_tree}
 use Rattle.bi_fit.proofs.Meanings.{same_in_some}
 use Rattle.bi_fit.proofs.TreeShapes.{AreNodes-children_of, bytes-children_of}
 use Rattle.bi_legacy.specs.File.{IsLegacyFile}
-use Rattle.bi_legacy.specs.Meaning.{LegacyImage, has_part_table}
-use Rattle.bi_legacy.specs.Parts.{HasPartTable, part_table}
+use Rattle.bi_legacy.specs.Meaning.{LegacyImage}
 use Rattle.bi_legacy.proofs.PartOffsets.{length-part_table}
 use Rattle.bi_norm.specs.declared.image.BootImage.{BootImage}
 use Rattle.bi_norm.specs.Meaning.{Meaning, OfLegacy, OfFit, Means}
@@ -30,7 +27,7 @@ use Rattle.bi_norm.proofs.Comparisons.{opened_means}
 use Rattle.bi_norm.proofs.NormalForms.{needs_memory}
 use Rattle.bi_common.specs.PayloadBounds.{IsOverPayloadBound}
 use Rattle.bi_commands.specs.declared.extract_all.Payload.{Payload}
-use Rattle.bi_commands.specs.Extracting.{Chosen, choice_by_name, choice_of_image, choice_of_part, choice_of_payload}
+use Rattle.bi_commands.specs.Extracting.{Chosen, choice_of_image, choice_of_part, choice_of_payload}
 use Rattle.bi_commands.specs.ExtractingAll.{PayloadFile, IsSafeFileName, AreSafeFileNames, IsExtractedFile, OfPart, OfImage}
 use Rattle.bi_commands.specs.ExtractingAll.{AreAllPayloads, EachPayloadHasItsFile, FileNamesAreSafe, IsExtractAllError}
 use Rattle.bi_commands.specs.ExtractingAll.{image_file, image_file_name, image_files, part_file_name, part_files, payload_files}
@@ -50,13 +47,8 @@ file_of name bytes = record { name = name; bytes = bytes }
 part_has_file : (start index : ℕ) (parts : List (List ℕ)) (bytes : List ℕ) → slice_get parts index ≡ Some bytes →
     slice_get (part_files start parts) index ≡ Some (record { name = part_file_name (start + index); bytes = bytes })
 part_has_file start index [] bytes is = absurd cc
-part_has_file start zero (part ∷ later) bytes is =
-    let same : part ≡ bytes = same_in_some part bytes is in
-    let at : start ≡ start + zero = omega arith in
-    ap (λ bytes. Some (file_of (part_file_name start) bytes)) same ∙ ap (λ n. Some (file_of (part_file_name n) bytes)) at
-part_has_file start (suc index) (part ∷ later) bytes is =
-    let at : start + 1 + index ≡ start + suc index = omega arith in
-    part_has_file (start + 1) index later bytes is ∙ ap (λ n. Some (file_of (part_file_name n) bytes)) at
+part_has_file start zero (part ∷ later) bytes is = search (rules, same_in_some)
+part_has_file start (suc index) (part ∷ later) bytes is = search (rules, part_has_file (start + 1) index later bytes is)
 
 -- Each file is that of a part.
 parts_extracted : (image : LegacyImage) (start : ℕ) (parts : List (List ℕ)) →
@@ -73,13 +65,7 @@ parts_extracted image start (part ∷ later) there =
 
 -- A file has at most as many parts as 32 bits count.
 parts_fit : (file : List ℕ) (image : LegacyImage) → IsLegacyFile file image → 0 + length image.parts ≤ 2 ^ 64
-parts_fit file image is = by (has_part_table image.image_type) is.parts
-  where
-    by : (b : Bool) → MatchBool b (HasPartTable image.parts is.body) (image.parts ≡ is.body ∷ []) → 0 + length image.parts ≤ 2 ^ 64
-    by true table =
-        let whole = ap length table.body_is ∙ length-append (part_table image.parts) table.rest in
-        omega (arith, whole, length-part_table image.parts, is.size)
-    by false one = let count = ap length one in omega (arith, count)
+parts_fit file image is = search (rules, length-append, length-part_table)
 
 -- ---- images
 
@@ -95,12 +81,7 @@ later_found : (head : Image) (images later : List Image) → IsNew head.entry.na
     AllByRecursion (λ (image : Image). image_named image.entry.name later ≡ Some image) images →
     AllByRecursion (λ (image : Image). image_named image.entry.name (head ∷ later) ≡ Some image) images
 later_found head [] later new found = tt
-later_found head (image ∷ images) later new found =
-    (by (bytes_eq head.entry.name image.entry.name) refl, later_found head images later new.1 found.1)
-  where
-    by : (b : Bool) → bytes_eq head.entry.name image.entry.name ≡ b → image_named image.entry.name (head ∷ later) ≡ Some image
-    by true is = absurd (new.0 (sym (same_bytes head.entry.name image.entry.name is)))
-    by false is = rw is found.0
+later_found head (image ∷ images) later new found = search (rules, same_bytes, later_found head images later new.1 found.1)
 
 -- If the names of images are distinct, each image is found by its name.
 each_found : (images : List Image) → AreDistinct (names_of_images images) →
@@ -126,12 +107,7 @@ images_extracted tree (image ∷ later) found = by image.payload refl (images_ex
 new_image : (name : List ℕ) (images : List Image) → IsNew name (names_of_images images) →
     IsNew (image_file_name name) (names_of_files (image_files images))
 new_image name [] new = tt
-new_image name (image ∷ later) new = by image.payload (new_image name later new.1)
-  where
-    by : (payload : Option (List ℕ)) → IsNew (image_file_name name) (names_of_files (image_files later)) →
-        IsNew (image_file_name name) (names_of_files (image_file image.entry.name payload ++ image_files later))
-    by None rest = rest
-    by (Some bytes) rest = (λ same. new.0 (same_image_file image.entry.name name same), rest)
+new_image name (image ∷ later) new = search (rules, same_image_file, new_image name later new.1)
 
 -- The files of images have safe names, and no two of them have the same name.
 safe_image_names : (images : List Image) → AreDistinct (names_of_images images) →
@@ -199,15 +175,7 @@ safe_images (node name own children later) (payload ∷ payloads) are bytes =
 -- The names of the image nodes of a tree are names of nodes, and consist of bytes.
 image_nodes_are : (tree : ImageTree) → IsImageTree tree →
     AreNodes ArePropertiesByName (nodes_or_none (image_nodes tree.root)) × HaveByteNames (nodes_or_none (image_nodes tree.root))
-image_nodes_are tree is = by (children_of images_name tree.root.children) refl
-  where
-    by : (found : Option (Nodes PropertyMap)) → children_of images_name tree.root.children ≡ found →
-        AreNodes ArePropertiesByName (nodes_or_none found) × HaveByteNames (nodes_or_none found)
-    by None found = (tt, tt)
-    by (Some inner) found = (
-      AreNodes-children_of ArePropertiesByName images_name tree.root.children inner found is.is_tree.children,
-      bytes-children_of images_name tree.root.children inner found is.name_bytes,
-    )
+image_nodes_are tree is = search (rules, AreNodes-children_of, bytes-children_of)
 
 -- ---- boot images
 
@@ -237,20 +205,8 @@ part_chosen (Some part) bytes is = let same : part ≡ bytes = cc in ap Some sam
 
 -- Each payload has its file.
 pub each_payload_has_its_file : EachPayloadHasItsFile
-each_payload_has_its_file limits file (OfLegacy image) means = record {
-  parts = λ index bytes is.
-      let at : 0 + index ≡ index = omega arith in
-      part_has_file 0 index image.parts bytes (part_chosen (slice_get image.parts index) bytes is)
-      ∙ ap (λ n. Some (file_of (part_file_name n) bytes)) at;
-  images = λ tree other name bytes is. absurd cc;
-}
-each_payload_has_its_file limits file (OfFit tree) means = record {
-  parts = λ index bytes is. absurd cc;
-  images = λ other same name bytes is.
-      let one : tree ≡ other = cc in
-      image_has_file name bytes (images_of tree)
-      (subst (λ (tree : ImageTree). choice_by_name tree name ≡ Chosen bytes) (sym one) is);
-}
+each_payload_has_its_file limits file (OfLegacy image) means = search (rules, part_has_file, part_chosen)
+each_payload_has_its_file limits file (OfFit tree) means = search (rules, image_has_file)
 
 -- ---- what the calls return
 
@@ -300,16 +256,7 @@ pub one_more_part : (payloads pushed : List Payload) (payload : Payload) (bytes 
     pushed ≡ payloads ++ payload ∷ [] → string_bytes payload.file_name ≡ part_file_name (length payloads) → payload.bytes.now ≡ bytes →
     map payload_file payloads ++ part_files (length payloads) (bytes ∷ later) ≡ all →
     map payload_file pushed ++ part_files (length pushed) later ≡ all
-one_more_part payloads pushed payload bytes later all is name content so_far =
-    let count : length pushed ≡ length payloads + 1 = ap length is ∙ length-append payloads (payload ∷ []) in
-    let file : payload_file payload ≡ file_of (part_file_name (length payloads)) bytes
-    = ap (λ name. file_of name payload.bytes.now) name ∙ ap (file_of (part_file_name (length payloads))) content in
-    ap (λ n. map payload_file pushed ++ part_files n later) count
-    ∙ ap (λ (list : List Payload). map payload_file list ++ part_files (length payloads + 1) later) is
-    ∙ ap (λ files. files ++ part_files (length payloads + 1) later) (map-append payload_file payloads (payload ∷ []))
-    ∙ append_assoc (map payload_file payloads) (payload_file payload ∷ []) (part_files (length payloads + 1) later)
-    ∙ ap (λ (file : PayloadFile). map payload_file payloads ++ file ∷ part_files (length payloads + 1) later) file
-    ∙ so_far
+one_more_part payloads pushed payload bytes later all is name content so_far = search (rules, length-append, map-append, append_assoc)
 
 -- These are the files of images that were read.
 abbrev pub files_of_models : List ImageModel → List PayloadFile
@@ -322,10 +269,7 @@ files_of_entries : (entries : List (Sibling PropertyMap)) (images : List ImageMo
 files_of_entries [] [] same = refl
 files_of_entries [] (image ∷ later) same = absurd cc
 files_of_entries (entry ∷ entries) [] same = absurd cc
-files_of_entries (entry ∷ entries) (image ∷ later) same =
-    let name : image.name ≡ entry.name = cc in
-    ap (λ name. image_file name image.payload ++ files_of_models later) name
-    ∙ ap (λ files. image_file entry.name image.payload ++ files) (files_of_entries entries later cc)
+files_of_entries (entry ∷ entries) (image ∷ later) same = search (rules, files_of_entries entries later cc)
 
 -- These are the images of a tree that was read.
 pub files_of_content : (content : FitModel) → IsHeld content → files_of_models content.images ≡ payload_files (OfFit (tree_of content))
@@ -336,7 +280,4 @@ files_of_content content held =
 pub one_more_image : (files new : List PayloadFile) (image : ImageModel) (later : List ImageModel) (all : List PayloadFile) →
     new ≡ files ++ image_file image.name image.payload → files ++ files_of_models (image ∷ later) ≡ all →
     new ++ files_of_models later ≡ all
-one_more_image files new image later all is so_far =
-    ap (λ files. files ++ files_of_models later) is
-    ∙ append_assoc files (image_file image.name image.payload) (files_of_models later)
-    ∙ so_far
+one_more_image files new image later all is so_far = search (rules, append_assoc)

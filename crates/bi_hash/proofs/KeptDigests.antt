@@ -1,10 +1,9 @@
 use Rattle.std.proofs.Common.{◌≡◌, ℕ, zero, suc, List, cond, Option, Some, None, refl, sym, ap, ◌∙◌}
-use Rattle.std.proofs.lemmas.Cmp.{nat_cmp_total}
 use Rattle.std.proofs.lemmas.Option.{none-some, same_Some}
 use Rattle.std.proofs.lemmas.Map.Lookups.{exact_unsigned}
 use Rattle.std.specs.declared.cmp.Ordering.{Ordering}
 use Rattle.std.specs.declared.cmp.Ordering.TheVariants.{Less, Equal, Greater}
-use Rattle.std.specs.Ordering.{nat_cmp, ordering_then, ordering_reverse, is_eq}
+use Rattle.std.specs.Ordering.{nat_cmp, ordering_then, is_eq}
 use Rattle.std.specs.BTreeMap.{BTreeMap, Updates, get}
 use Rattle.bi_hash.specs.declared.algo.Algo.{Algo}
 use Rattle.bi_hash.specs.declared.algo.Algo.TheVariants.{Crc32, Md5, Sha1, Sha256, Sha384, Sha512}
@@ -12,7 +11,7 @@ use Rattle.bi_hash.specs.declared.region_digests.Region.{Region}
 use Rattle.bi_hash.specs.Algos.{algorithm_index}
 use Rattle.bi_hash.specs.Digests.{padded_digest}
 use Rattle.bi_hash.specs.Regions.{bytes_of_region}
-use Rattle.bi_hash.specs.KeptDigests.{DigestKey, AreDigestsOf, KeepsDigest, KeepsAll, by_digest_key, digest_key}
+use Rattle.bi_hash.specs.KeptDigests.{DigestKey, AreDigestsOf, KeepsAll, by_digest_key, digest_key}
 
 -- If one more digest of a region is kept, all digests that are kept are those of their regions.
 
@@ -72,27 +71,6 @@ one_more_digest file old new region algo digest is updates kept = record {
         ∙ ap (λ a. padded_digest a (bytes_of_region file region)) (same_index algo other_algo keys.2)
         ∙ ap (padded_digest other_algo) (ap (λ begin. bytes_of_region file (record { begin = begin; length = region.length })) keys.0)
         ∙ ap (padded_digest other_algo) (ap (λ long. bytes_of_region file (record { begin = other.begin; length = long })) keys.1)
-
--- A number is equal to itself, and so is a key.
-own_number : (number : ℕ) → nat_cmp number number ≡ Equal
-own_number number = by_order (nat_cmp number number) (nat_cmp_total.antisymm number number)
-  where
-    by_order : (order : Ordering) → order ≡ ordering_reverse order → order ≡ Equal
-    by_order Less is = absurd cc
-    by_order Equal is = refl
-    by_order Greater is = absurd cc
-
-own_order : (key : DigestKey) → by_digest_key key key ≡ Equal
-own_order key =
-    ap (λ order. ordering_then (ordering_then order (nat_cmp key.1 key.1)) (nat_cmp key.2 key.2)) (own_number key.0)
-    ∙ ap (λ order. ordering_then order (nat_cmp key.2 key.2)) (own_number key.1)
-    ∙ own_number key.2
-
--- The new digest is kept.
-pub new_digest_is_kept : (old new : BTreeMap DigestKey (List ℕ)) (key : DigestKey) (digest : List ℕ) →
-    Updates by_digest_key old new key (Some digest) → KeepsDigest new key digest
-new_digest_is_kept old new key digest updates =
-    updates.0 key ∙ ap (λ order. cond (is_eq order) (Some digest) (get by_digest_key old key)) (own_order key)
 
 -- The digests that were kept still are, if none had the new key.
 pub others_are_kept : (old new : BTreeMap DigestKey (List ℕ)) (key : DigestKey) (digest : List ℕ) →

@@ -1,4 +1,4 @@
-use Rattle.std.proofs.Common.{ℕ, ◌≢◌, refl, inl, inr, lit≤, lit<, replicate, zero, suc}
+use Rattle.std.proofs.Common.{ℕ, ◌≢◌, refl, lit≤, replicate, zero, suc, rules}
 use Rattle.std.proofs.lemmas.Bool.{eqb-false}
 use Rattle.std.specs.List.{AllByRecursion}
 use Rattle.bi_base.specs.Cells.{cell}
@@ -30,27 +30,8 @@ all_nonzero (suc n) = (eqb-false _ _ refl, all_nonzero n)
 
 pub emit_faults_are_known : EmitFaultsAreKnown
 unfolding legacy_text header cell
-emit_faults_are_known = record {
-  long = inl (is_long, refl);
-  zero = inl (has_zero, refl);
-  whole_field = (record { short = lit≤ tt; no_zero = all_nonzero 32 }, (refl, (lit≤ tt, tt)));
-  two_parts = inr (k_is_name, inl (eqb-false _ _ refl, refl));
-  no_part = inr (k_is_name, inl (eqb-false _ _ refl, refl));
-  no_table_parts = (k_is_name, (tt, (lit≤ tt, tt)));
-  past_limit = inr (k_is_name, inr (tt, inl (past _ _ refl, refl)));
-  at_limit = (k_is_name, (tt, (lit≤ tt, (lit< tt, (lit< tt, tt)))));
-  empty_part = inr (k_is_name, inr (tt, inr (lit≤ tt, inr (lit≤ tt, inl (past _ _ refl, refl)))));
-  empty_part_of_script = inr (k_is_name, inr (tt, inr (lit≤ tt, inr (lit≤ tt, inl (past _ _ refl, refl)))));
-  empty_kernel = (k_is_name, (refl, (lit≤ tt, tt)));
-}
+emit_faults_are_known = search (rules, is_long, has_zero, all_nonzero, k_is_name)
 
 pub emit_checks_have_order : EmitChecksHaveOrder
 unfolding legacy_text header cell
-emit_checks_have_order = record {
-  name_before_count = inl (is_long, refl);
-  name_before_limit = inl (has_zero, refl);
-  name_before_part = inl (is_long, refl);
-  count_before_limit = inr (k_is_name, inl (eqb-false _ _ refl, refl));
-  limit_before_part = inr (k_is_name, inr (tt, inl (past _ _ refl, refl)));
-  first_before_second_part = inr (k_is_name, inr (tt, inr (lit≤ tt, inl (past _ _ refl, refl))));
-}
+emit_checks_have_order = search (rules, is_long, has_zero, k_is_name, past)

@@ -1,4 +1,4 @@
-use Rattle.std.proofs.Common.{◌≡◌, ℕ, ◌+◌, ◌*◌, ◌<◌, ◌≤◌, Bool, true, List, [], ◌++◌, length, MatchBool, if◌then◌else◌, arith, refl, sym}
+use Rattle.std.proofs.Common.{◌≡◌, ℕ, ◌+◌, ◌*◌, ◌<◌, ◌≤◌, Bool, true, List, [], length, MatchBool, if◌then◌else◌, arith, refl, sym, rules}
 use Rattle.std.proofs.Common.{ap, ◌∙◌, subst, inl, inr}
 use Rattle.std.specs.Prelude.{⊤}
 use Rattle.std.specs.Borrow.{Bor}
@@ -11,8 +11,7 @@ use Rattle.bi_legacy.specs.Emitting.{EmitPartCheck, EmitPartPasses, emit_part_fa
 use Rattle.bi_base.specs.Slices.{bytes_of}
 use Rattle.bi_legacy.specs.Emitting.{emit_part_checks, emit_checks, IsEmitFault, HasNoEmitFault}
 use Rattle.bi_legacy.specs.Meaning.{LegacyImage, IsImageName, has_part_table}
-use Rattle.bi_legacy.specs.Parts.{part_table}
-use Rattle.bi_legacy.specs.Text.{joined_parts, normal_body, legacy_text}
+use Rattle.bi_legacy.specs.Text.{normal_body, legacy_text}
 use Rattle.bi_legacy.proofs.CheckLists.{HasNoFault-map, IsFirstFault-map}
 use Rattle.bi_legacy.proofs.PartOffsets.{length-part_table}
 use Rattle.bi_legacy.proofs.NormalLength.{length-legacy_text, length-normal_body}
@@ -35,12 +34,7 @@ count-bytes_of has_table slices count =
 -- The part table is within the normal data.
 pub part_table-within : (image_type : ℕ) (slices : List (Bor (List ℕ))) → has_part_table image_type ≡ true →
     4 * (length slices + 1) ≤ length (normal_body image_type (bytes_of slices))
-part_table-within image_type slices is_table =
-    let parts = bytes_of slices in
-    let P : Bool → Type 0 = λ has_table. 4 * (length slices + 1) ≤ length
-    (if has_table then part_table parts ++ joined_parts parts else joined_parts parts) in
-    subst P (sym is_table)
-    (omega (arith, length-append (part_table parts) (joined_parts parts), length-part_table parts, length-map slices (λ slice. slice.now)))
+part_table-within image_type slices is_table = search (rules, length-append, length-part_table, length-map)
 
 -- The checks of the parts that an image of this type has.
 abbrev pub kind_checks : Bool → LegacyImage → List EmitPartCheck

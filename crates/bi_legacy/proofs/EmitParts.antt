@@ -1,4 +1,4 @@
-use Rattle.std.proofs.Common.{◌≡◌, ℕ, ◌+◌, ◌<◌, ◌≤◌, List, [], ◌∷◌, length, map, drop, get_or, arith, refl, sym, ap, ◌∙◌, subst, inl, inr}
+use Rattle.std.proofs.Common.{◌≡◌, ℕ, ◌+◌, ◌<◌, ◌≤◌, List, [], ◌∷◌, length, map, drop, get_or, arith, sym, ap, ◌∙◌, subst, rules}
 use Rattle.std.specs.Borrow.{Bor}
 use Rattle.std.proofs.lemmas.List.{drop_more, drop-map, get_or-map, length-map}
 use Rattle.bi_base.specs.Cells.{up4}
@@ -26,25 +26,18 @@ drop-bytes_of slices i d within =
 -- The sizes that are left are that of the next part and those after it.
 pub drop-sizes_of : (slices : List (Bor (List ℕ))) (i : ℕ) (d : Bor (List ℕ)) → i < length slices →
     drop i (map length (bytes_of slices)) ≡ length (get_or slices i d).now ∷ drop (i + 1) (map length (bytes_of slices))
-drop-sizes_of slices i d within =
-    drop-map length i (bytes_of slices)
-    ∙ ap (map length) (drop-bytes_of slices i d within)
-    ∙ ap (λ later. length (get_or slices i d).now ∷ later) (sym (drop-map length (i + 1) (bytes_of slices)))
+drop-sizes_of slices i d within = search (rules, drop-map, drop-bytes_of)
 
 -- An empty part is the first fault of those that are left.
 pub empty_here : (index : ℕ) (part : List ℕ) (parts later : List (List ℕ)) → parts ≡ part ∷ later → length part ≡ 0 →
     IsFirstFault EmitPartPasses emit_part_fault (emit_part_checks index parts) (emit_part_fault record { index = index; part = part })
-empty_here index part parts later e empty =
-    subst (λ (left : List (List ℕ)). IsFirstFault EmitPartPasses emit_part_fault (emit_part_checks index left)
-    (emit_part_fault record { index = index; part = part })) (sym e) (inl (λ some. omega arith, refl))
+empty_here index part parts later e empty = search rules
 
 -- After a part that is not empty, the first fault is that of the others.
 pub empty_later : (index : ℕ) (part : List ℕ) (parts later : List (List ℕ)) (fault : Fault) → parts ≡ part ∷ later → 0 < length part →
     IsFirstFault EmitPartPasses emit_part_fault (emit_part_checks (index + 1) later) fault →
     IsFirstFault EmitPartPasses emit_part_fault (emit_part_checks index parts) fault
-empty_later index part parts later fault e some rest =
-    subst (λ (left : List (List ℕ)). IsFirstFault EmitPartPasses emit_part_fault
-    (emit_part_checks index left) fault) (sym e) (inr (some, rest))
+empty_later index part parts later fault e some rest = search rules
 
 -- A part that is not empty passes, and then the others.
 pub none_empty : (index : ℕ) (part : List ℕ) (parts later : List (List ℕ)) → parts ≡ part ∷ later → 0 < length part →

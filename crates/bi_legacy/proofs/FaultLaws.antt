@@ -1,4 +1,4 @@
-use Rattle.std.proofs.Common.{◌≡◌, ℕ, ◌+◌, ◌≤◌, List, length, arith, subst, inl, inr, ◌⊎◌, ◌==◌, Contains}
+use Rattle.std.proofs.Common.{◌≡◌, ℕ, ◌+◌, ◌≤◌, List, length, arith, subst, inl, inr, ◌⊎◌, ◌==◌, Contains, rules}
 use Rattle.std.proofs.lemmas.Bool.{cases_lt, cases_eq, eqb-true}
 use Rattle.std.proofs.lemmas.List.Elements.{Contains-get_or}
 use Rattle.std.proofs.lemmas.List.Sums.{passes_at_first}
@@ -21,10 +21,7 @@ use Rattle.bi_base.proofs.NulLaws.{nul_index}
 
 -- A number is at most another or not.
 bound_decided : (a b : ℕ) → (a ≤ b) ⊎ (¬ (a ≤ b))
-bound_decided a b = elim (cases_lt b a) [
-  | inl above ↦ inr (λ within. omega arith)
-  | inr within ↦ inl within
-]
+bound_decided a b = search (rules, cases_lt)
 
 -- Numbers contain a zero or not.
 zero_decided : (numbers : List ℕ) → Contains numbers 0 ⊎ (¬ (Contains numbers 0))

@@ -1,4 +1,4 @@
-use Rattle.std.proofs.Common.{◌≡◌, ℕ, ◌+◌, ◌<◌, ◌^◌, List, ◌++◌, length, take, slice_index, arith, refl, ap, ◌∙◌}
+use Rattle.std.proofs.Common.{◌≡◌, ℕ, ◌+◌, ◌<◌, ◌^◌, List, ◌++◌, length, take, slice_index, arith, refl, ap, ◌∙◌, rules}
 use Rattle.std.proofs.lemmas.List.{take_at, drop_at, length-append}
 use Rattle.bi_base.specs.Cells.{cell, u32_at, slice}
 use Rattle.bi_base.specs.Crc.{crc32}
@@ -89,9 +89,7 @@ body_read file image is =
 pub header_without_checksum_read : (file : List ℕ) (image : LegacyImage) (is : IsLegacyFile file image) →
     header_without_checksum file ≡ header_with 0 image is.field is.body
 unfolding header cell
-header_without_checksum_read file image is =
-    ap (λ bytes. slice bytes 0 4 ++ (cell 0 ++ slice bytes 8 56)) is.file_is
-    ∙ ap (λ field. header_with 0 image field is.body) (take_at is.field (is.body ++ is.rest) 32 is.name.whole)
+header_without_checksum_read file image is = search (rules, take_at is.field (is.body ++ is.rest) 32 is.name.whole)
 
 -- A header has 64 bytes.
 pub length-header : (image : LegacyImage) (field body : List ℕ) → length field ≡ 32 → length (header image field body) ≡ 64
@@ -100,11 +98,4 @@ length-header image field body whole = omega (arith, whole)
 
 -- The file is as long as its header, its data and the rest.
 pub length-file : (file : List ℕ) (image : LegacyImage) (is : IsLegacyFile file image) → length file ≡ 64 + length is.body + length is.rest
-length-file file image is =
-    ap length is.file_is
-    ∙ omega (
-      arith,
-      length-append (header image is.field is.body) (is.body ++ is.rest),
-      length-append is.body is.rest,
-      length-header image is.field is.body is.name.whole,
-    )
+length-file file image is = search (rules, length-append, length-header)

@@ -1,4 +1,4 @@
-use Rattle.std.proofs.Common.{◌≡◌, ℕ, ◌≤◌, List, ◌++◌, [], ◌∷◌, length, take, drop, arith, sym, ap, ◌∙◌, append_assoc, slice_index}
+use Rattle.std.proofs.Common.{◌≡◌, ℕ, ◌≤◌, List, ◌++◌, [], ◌∷◌, length, drop, arith, sym, ap, ◌∙◌, append_assoc, slice_index, rules}
 use Rattle.std.proofs.lemmas.List.{drop_more, take_at, length-append}
 use Rattle.bi_base.specs.Cells.{cell, u32_at, slice, AreBytes}
 use Rattle.bi_base.specs.Crc.{crc32}
@@ -17,12 +17,7 @@ codes_and_name file =
 
 drop_codes : (file : List ℕ) → 64 ≤ length file → drop 28 file ≡ codes_and_name file ++ drop 64 file
 unfolding codes_and_name
-drop_codes file whole =
-    drop_more file 28 0 (omega arith)
-    ∙ ap (λ rest. slice_index file 28 ∷ rest) (drop_more file 29 0 (omega arith)
-    ∙ ap (λ rest. slice_index file 29 ∷ rest) (drop_more file 30 0 (omega arith)
-    ∙ ap (λ rest. slice_index file 30 ∷ rest) (drop_more file 31 0 (omega arith)
-    ∙ ap (λ rest. slice_index file 31 ∷ rest) (drop_slice file 32 32))))
+drop_codes file whole = search (rules, drop_more, drop_slice file 32 32)
 
 -- The header's bytes after its checksum.
 after_checksum : List ℕ → List ℕ
@@ -50,9 +45,7 @@ length-after_checksum file whole =
 
 -- The slice after the checksum is the cells, codes and name of its fields.
 slice_after_checksum : (file : List ℕ) → AreBytes file → 64 ≤ length file → slice file 8 56 ≡ after_checksum file
-slice_after_checksum file bytes whole =
-    ap (take 56) (drop_after_checksum file bytes whole)
-    ∙ take_at (after_checksum file) (drop 64 file) 56 (length-after_checksum file whole)
+slice_after_checksum file bytes whole = search (rules, drop_after_checksum, take_at, after_checksum, length-after_checksum)
 
 -- A header with the fields of a file, by the bytes after its checksum, where the size and the checksum of the data are right.
 header_after_checksum : (file : List ℕ) (checksum : ℕ) → length (body_of file) ≡ u32_at file 12 → crc32 (body_of file) ≡ u32_at file 24 →

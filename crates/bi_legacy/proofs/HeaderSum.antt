@@ -1,4 +1,4 @@
-use Rattle.std.proofs.Common.{◌≡◌, ℕ, ◌-◌, List, [], ◌∷◌, ◌++◌, sym, ap, ◌∙◌}
+use Rattle.std.proofs.Common.{◌≡◌, ℕ, ◌-◌, List, [], ◌∷◌, ◌++◌, rules}
 use Rattle.bi_base.specs.Cells.{cell}
 use Rattle.bi_base.specs.Crc.{crc32, crc_after}
 use Rattle.bi_base.proofs.CrcLaws.{crc_after-append}
@@ -9,7 +9,4 @@ use Rattle.bi_base.proofs.CrcLaws.{crc_after-append}
 pub sum-around_zeros : (a b : List ℕ) →
     0xFFFFFFFF - crc_after (crc_after (crc_after 0xFFFFFFFF a) (0 ∷ 0 ∷ 0 ∷ 0 ∷ [])) b ≡ crc32 (a ++ (cell 0 ++ b))
 unfolding cell crc32
-sum-around_zeros a b =
-    ap (λ register. 0xFFFFFFFF - register)
-    (sym (crc_after-append (crc_after 0xFFFFFFFF a) (0 ∷ 0 ∷ 0 ∷ 0 ∷ []) b)
-    ∙ sym (crc_after-append 0xFFFFFFFF a ((0 ∷ 0 ∷ 0 ∷ 0 ∷ []) ++ b)))
+sum-around_zeros a b = search (rules, crc_after-append)

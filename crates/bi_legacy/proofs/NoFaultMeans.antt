@@ -1,5 +1,5 @@
 use Rattle.std.proofs.Common.{◌≡◌, ℕ, ◌+◌, Bool, true, false, List, ◌++◌, [], ◌∷◌, length, drop, slice_index, refl, ap, ◌∙◌, MatchBool}
-use Rattle.std.proofs.Common.{if◌then◌else◌}
+use Rattle.std.proofs.Common.{if◌then◌else◌, rules}
 use Rattle.bi_base.specs.Cells.{slice, u32_at, AreBytes}
 use Rattle.bi_base.specs.Checks.{HasNoFault}
 use Rattle.bi_base.specs.Limits.{Limits}
@@ -21,15 +21,7 @@ use Rattle.bi_legacy.proofs.PartSlices.{ends_checked}
 
 -- The numbers that are read from bytes fit their fields.
 ranges_read : (file : List ℕ) → AreBytes file → FitsFields (read_image file)
-ranges_read file bytes = record {
-  time = u32_at-fits file 8 bytes;
-  load = u32_at-fits file 16 bytes;
-  entry = u32_at-fits file 20 bytes;
-  os = bytes.each 28;
-  arch = bytes.each 29;
-  image_type = bytes.each 30;
-  compression = bytes.each 31;
-}
+ranges_read file bytes = search (rules, u32_at-fits)
 
 -- Where the checks of the parts pass, the data holds the parts that are read from it.
 parts_held : (has_table : Bool) (body : List ℕ) → AreBytes body →

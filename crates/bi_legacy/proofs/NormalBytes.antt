@@ -1,10 +1,10 @@
-use Rattle.std.proofs.Common.{ℕ, Bool, true, false, List, ◌++◌, [], ◌∷◌, length, map, if◌then◌else◌, flat_map}
+use Rattle.std.proofs.Common.{ℕ, Bool, true, false, List, ◌++◌, [], ◌∷◌, if◌then◌else◌, flat_map, rules}
 use Rattle.std.specs.List.{AllByRecursion}
 use Rattle.bi_base.specs.Cells.{cell, AreBytes}
 use Rattle.bi_legacy.specs.File.{header}
-use Rattle.bi_legacy.specs.Meaning.{LegacyImage, FitsFields, has_part_table}
+use Rattle.bi_legacy.specs.Meaning.{LegacyImage, FitsFields}
 use Rattle.bi_legacy.specs.Parts.{part_table}
-use Rattle.bi_legacy.specs.Text.{with_zeros, joined_parts, name_field, legacy_text, IsLegacyImage}
+use Rattle.bi_legacy.specs.Text.{joined_parts, legacy_text, IsLegacyImage}
 use Rattle.bi_base.proofs.ByteLists.{AreBytes-none, AreBytes-cons, AreBytes-append, AreBytes-zeros, AreBytes-cell}
 use Rattle.bi_legacy.proofs.TableCells.{part_table-cells}
 
@@ -18,17 +18,13 @@ cells_bytes (number ∷ numbers) =
 
 -- A part table is bytes.
 part_table-bytes : (parts : List (List ℕ)) → AreBytes (part_table parts)
-part_table-bytes parts =
-    rw (part_table-cells parts) (AreBytes-append (flat_map cell (map length parts)) (cell 0)
-    (cells_bytes (map length parts)) (AreBytes-cell 0))
+part_table-bytes parts = search (rules, part_table-cells, AreBytes-append, cells_bytes, AreBytes-cell)
 
 -- Joined parts of bytes are bytes.
 joined_bytes : (parts : List (List ℕ)) → AllByRecursion AreBytes parts → AreBytes (joined_parts parts)
 joined_bytes [] are = AreBytes-none
 joined_bytes (part ∷ []) are = are.0
-joined_bytes (part ∷ next ∷ later) are =
-    AreBytes-append (with_zeros part) (joined_parts (next ∷ later)) (AreBytes-append part _ are.0 (AreBytes-zeros _))
-    (joined_bytes (next ∷ later) are.1)
+joined_bytes (part ∷ next ∷ later) are = search (rules, AreBytes-append, AreBytes-zeros, joined_bytes (next ∷ later) are.1)
 
 -- The normal data of parts of bytes, with or without a part table, is bytes.
 kind_bytes : (has_table : Bool) (parts : List (List ℕ)) → AllByRecursion AreBytes parts →
@@ -39,9 +35,7 @@ kind_bytes false parts are = joined_bytes parts are
 -- The codes of an image and its name's field are bytes.
 codes_bytes : (image : LegacyImage) (field : List ℕ) → FitsFields image → AreBytes field →
     AreBytes ((image.os ∷ image.arch ∷ image.image_type ∷ image.compression ∷ []) ++ field)
-codes_bytes image field ranges are =
-    AreBytes-cons image.os _ ranges.os (AreBytes-cons image.arch _ ranges.arch (AreBytes-cons image.image_type _ ranges.image_type
-    (AreBytes-cons image.compression field ranges.compression are)))
+codes_bytes image field ranges are = search (rules, AreBytes-cons)
 
 -- A cell before bytes is bytes.
 cell_first : (n : ℕ) (rest : List ℕ) → AreBytes rest → AreBytes (cell n ++ rest)
@@ -50,14 +44,9 @@ cell_first n rest are = AreBytes-append (cell n) rest (AreBytes-cell n) are
 -- A header is bytes.
 header_bytes : (image : LegacyImage) (field body : List ℕ) → FitsFields image → AreBytes field → AreBytes (header image field body)
 unfolding header
-header_bytes image field body ranges are =
-    cell_first _ _ (cell_first _ _ (cell_first _ _ (cell_first _ _ (cell_first _ _ (cell_first _ _ (cell_first _ _
-    (codes_bytes image field ranges are)))))))
+header_bytes image field body ranges are = search (rules, cell_first, codes_bytes)
 
 -- The normal text of an image that fits the format is bytes.
 pub legacy_text_bytes : (image : LegacyImage) → IsLegacyImage image → AreBytes (legacy_text image)
 unfolding legacy_text
-legacy_text_bytes image is =
-    AreBytes-append _ _ (header_bytes image (name_field image.name) _ is.ranges
-    (AreBytes-append image.name _ is.name_bytes (AreBytes-zeros _)))
-    (kind_bytes (has_part_table image.image_type) image.parts is.parts_bytes)
+legacy_text_bytes image is = search (rules, AreBytes-append, header_bytes, AreBytes-zeros, kind_bytes)

@@ -1,4 +1,4 @@
-use Rattle.std.proofs.Common.{List, ℕ}
+use Rattle.std.proofs.Common.{List, ℕ, rules}
 use Rattle.bi_base.specs.Limits.{Limits}
 use Rattle.bi_legacy.specs.Meaning.{LegacyImage}
 use Rattle.bi_legacy.specs.File.{LegacyMeans}
@@ -11,9 +11,4 @@ use Rattle.bi_legacy.proofs.TextMeans.{text_means_same, legacy_texts_differ}
 
 -- The image that a file means within the limits has a normal form within them.
 pub has_normal_form : (file : List ℕ) (image : LegacyImage) (limits : Limits) → LegacyMeans limits file image → HasNormalForm limits image
-has_normal_form file image limits means = record {
-  can_be_written = no_emit_fault file image limits means.is_file means.short;
-  text_means_image = text_means_same file image limits means;
-  only_image = λ other_file other is_other same.
-      legacy_texts_differ other image (image_of_file other_file other is_other) (image_of_file file image means.is_file) same;
-}
+has_normal_form file image limits means = search (rules, no_emit_fault, text_means_same, legacy_texts_differ, image_of_file)

@@ -1,11 +1,10 @@
-use Rattle.std.proofs.Common.{◌≡◌, ℕ, ◌+◌, ◌-◌, ◌≤◌, Bool, true, false, List, ◌++◌, [], ◌∷◌, length, replicate, map, arith, sym, ap, subst}
+use Rattle.std.proofs.Common.{◌≡◌, ℕ, ◌+◌, ◌-◌, ◌≤◌, Bool, true, false, List, ◌++◌, [], ◌∷◌, length, map, arith, sym, ap, rules}
 use Rattle.std.proofs.Common.{◌∙◌, MatchBool, if◌then◌else◌}
 use Rattle.std.proofs.lemmas.List.{length-append, length-replicate}
 use Rattle.bi_base.specs.Cells.{up4}
 use Rattle.bi_legacy.specs.Meaning.{LegacyImage, IsImageName, has_part_table}
 use Rattle.bi_legacy.specs.Parts.{part_table, HasPartTable, HoldsParts, parts_end_from, parts_end}
 use Rattle.bi_legacy.specs.Text.{with_zeros, joined_parts, normal_body, name_field, legacy_text}
-use Rattle.bi_legacy.specs.File.{header}
 use Rattle.bi_legacy.proofs.HeaderReads.{length-header}
 use Rattle.bi_legacy.proofs.TableParts.{part_table-aligned, table_parts_at}
 use Rattle.bi_legacy.proofs.PartOffsets.{ArePartsAt, up4-up4}
@@ -14,9 +13,7 @@ use Rattle.bi_legacy.proofs.PartOffsets.{ArePartsAt, up4-up4}
 
 -- A padded part ends at the next multiple of four.
 pub length-padded : (part : List ℕ) → length (with_zeros part) ≡ up4 (length part)
-length-padded part =
-    length-append part (replicate (up4 (length part) - length part) 0)
-    ∙ omega (arith, length-replicate {A = ℕ} (up4 (length part) - length part) 0)
+length-padded part = search (rules, length-append, length-replicate)
 
 -- Parts after an end are also those after its next multiple of four.
 parts_end_from-up4 : (end size : ℕ) (sizes : List ℕ) → parts_end_from (up4 end) (size ∷ sizes) ≡ parts_end_from end (size ∷ sizes)
@@ -62,9 +59,7 @@ end_within end (part ∷ later) body starts at_offsets = end_within (up4 end + l
 body_parts_end : (has_table : Bool) (parts : List (List ℕ)) (body : List ℕ) →
     MatchBool has_table (HasPartTable parts body) (parts ≡ body ∷ []) →
     parts_end_from (if has_table then length (part_table parts) else 0) (map length parts) ≤ length body
-body_parts_end true parts body holds =
-    end_within (length (part_table parts)) parts body (omega (arith, ap length holds.body_is, length-append (part_table parts) holds.rest))
-    (subst (λ (at : ℕ). ArePartsAt at parts body) (sym (part_table-aligned parts)) (table_parts_at parts body holds))
+body_parts_end true parts body holds = search (rules, end_within, length-append, part_table-aligned, table_parts_at)
 body_parts_end false parts body holds = rw holds (omega arith)
 
 -- The last part ends within the data that holds the parts.
@@ -74,19 +69,10 @@ parts_end_in image_type parts body holds = body_parts_end (has_part_table image_
 
 -- The name's field has 32 bytes.
 pub length-name_field : (name : List ℕ) → length name ≤ 32 → length (name_field name) ≡ 32
-length-name_field name short =
-    length-append name (replicate (32 - length name) 0)
-    ∙ omega (arith, length-replicate {A = ℕ} (32 - length name) 0)
+length-name_field name short = search (rules, length-append, length-replicate)
 
 -- The length of the normal text, by the end of the last part.
 pub length-legacy_text : (image : LegacyImage) → IsImageName image.name →
     length (legacy_text image) ≡ 64 + parts_end image.image_type image.parts
 unfolding legacy_text
-length-legacy_text image name =
-    let body = normal_body image.image_type image.parts in
-    length-append (header image (name_field image.name) body) body
-    ∙ omega (
-      arith,
-      length-header image (name_field image.name) body (length-name_field image.name name.short),
-      length-normal_body image.image_type image.parts,
-    )
+length-legacy_text image name = search (rules, length-append, length-header, length-name_field, length-normal_body)

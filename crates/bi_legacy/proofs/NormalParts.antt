@@ -1,5 +1,5 @@
 use Rattle.std.proofs.Common.{◌≡◌, ℕ, ◌-◌, Bool, true, false, List, ◌++◌, [], ◌∷◌, length, replicate, arith, refl, sym, ◌∙◌, append_assoc}
-use Rattle.std.proofs.Common.{append-nil, MatchBool, if◌then◌else◌}
+use Rattle.std.proofs.Common.{append-nil, MatchBool, if◌then◌else◌, rules}
 use Rattle.std.specs.List.{AllByRecursion}
 use Rattle.std.proofs.lemmas.List.{length-append}
 use Rattle.bi_base.specs.Cells.{up4}
@@ -27,12 +27,7 @@ joined_parts-padded (part ∷ next ∷ later) =
 normal_holds : (has_table : Bool) (parts : List (List ℕ)) → MatchBool has_table (AllByRecursion IsTablePart parts) (length parts ≡ 1) →
     let body = if has_table then part_table parts
     ++ joined_parts parts else joined_parts parts in MatchBool has_table (HasPartTable parts body) (parts ≡ body ∷ [])
-normal_holds true parts are = record {
-  rest = joined_parts parts;
-  body_is = refl;
-  are_table_parts = are;
-  padded_parts = joined_parts-padded parts;
-}
+normal_holds true parts are = search (rules, joined_parts-padded)
 normal_holds false [] are = absurd (omega arith)
 normal_holds false (part ∷ []) are = refl
 normal_holds false (part ∷ next ∷ later) are = absurd (omega arith)

@@ -1,4 +1,4 @@
-use Rattle.std.proofs.Common.{◌≡◌, ℕ, ◌+◌, List, [], ◌∷◌, length, map, slice_get, Option, Some, None, refl, sym, ap, ◌∙◌}
+use Rattle.std.proofs.Common.{◌≡◌, ℕ, ◌+◌, List, [], ◌∷◌, length, map, slice_get, Option, Some, None, refl, sym, ap, ◌∙◌, rules}
 use Rattle.std.specs.Option.{option_map}
 use Rattle.std.proofs.lemmas.Option.{slice_get-map}
 use Rattle.bi_base.specs.Cells.{up4}
@@ -40,6 +40,4 @@ nth_bytes image index result e =
 pub nth_place : (image : LegacyImage) (index : ℕ) (result : Option Part) →
     option_map part_model result ≡ slice_get (placed_parts image) index →
     option_map (λ (part : Part). part.place) result ≡ slice_get (part_places image) index
-nth_place image index result e =
-    sym (found-place result) ∙ ap (option_map (λ (part : PartModel). part.place)) e
-    ∙ sym (slice_get-map (λ (part : PartModel). part.place) (placed_parts image) index)
+nth_place image index result e = search (rules, found-place, slice_get-map)

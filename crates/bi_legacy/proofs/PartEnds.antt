@@ -1,5 +1,5 @@
 use Rattle.std.proofs.Common.{◌≡◌, ℕ, ◌+◌, ◌*◌, List, [], ◌∷◌, length, map, slice_index, Bool, true, false, if◌then◌else◌, refl, ap, ◌∙◌}
-use Rattle.std.proofs.Common.{suc}
+use Rattle.std.proofs.Common.{suc, rules}
 use Rattle.bi_base.specs.Cells.{up4}
 use Rattle.bi_base.specs.Limits.{Limits}
 use Rattle.bi_base.specs.Checks.{HasNoFault}
@@ -31,9 +31,7 @@ first_offset_is body ends =
 pub end_in_table : (body : List ℕ) → FitWithin (length body) (first_offset body) (table_sizes body) →
     parts_end_from (length (part_table (parts_in_table body))) (map length (parts_in_table body))
     ≡ parts_end_from (first_offset body) (table_sizes body)
-end_in_table body ends =
-    ap (λ at. parts_end_from at (map length (parts_in_table body))) (first_offset_is body ends)
-    ∙ ap (parts_end_from (first_offset body)) (length-slices body (first_offset body) (table_sizes body) ends)
+end_in_table body ends = search (rules, first_offset_is, length-slices)
 
 -- The same for data with or without a part table.
 end_found : (has_table : Bool) (body : List ℕ) → HasNoFault (TablePasses body) (if has_table then table_checks body else []) →

@@ -1,5 +1,5 @@
 use Rattle.std.proofs.Common.{◌≡◌, ℕ, ◌+◌, ◌-◌, ◌*◌, ◌≤◌, List, ◌++◌, [], ◌∷◌, length, take, drop, flat_map, refl, arith, sym, ap, ◌∙◌}
-use Rattle.std.proofs.Common.{subst₂, append_assoc}
+use Rattle.std.proofs.Common.{subst₂, append_assoc, rules}
 use Rattle.std.proofs.Math.Seq.{drop-append_seam}
 use Rattle.std.proofs.lemmas.List.{length-append, take-append-drop}
 use Rattle.bi_base.specs.Cells.{cell, slice, up4}
@@ -15,15 +15,11 @@ up4_of_four n = omega arith
 -- The cells of the lengths of parts are four bytes each.
 length-part_cells : (parts : List (List ℕ)) → length (flat_map (λ (part : List ℕ). cell (length part)) parts) ≡ 4 * length parts
 length-part_cells [] = refl
-length-part_cells (part ∷ later) =
-    length-append (cell (length part)) (flat_map (λ (other : List ℕ). cell (length other)) later)
-    ∙ omega (arith, length-cell (length part), length-part_cells later)
+length-part_cells (part ∷ later) = search (rules, length-append, length-cell, length-part_cells later)
 
 -- The part table has a cell for each part, and one more.
 pub length-part_table : (parts : List (List ℕ)) → length (part_table parts) ≡ 4 * (length parts + 1)
-length-part_table parts =
-    length-append (flat_map (λ (part : List ℕ). cell (length part)) parts) (cell 0)
-    ∙ omega (arith, length-part_cells parts, length-cell 0)
+length-part_table parts = search (rules, length-append, length-part_cells, length-cell)
 
 -- The next multiple of four is a multiple of four.
 pub up4-up4 : (n : ℕ) → up4 (up4 n) ≡ up4 n
@@ -56,9 +52,7 @@ padded_front front part padding after =
 pub padded_parts-at : (front : List ℕ) (parts : List (List ℕ)) (bytes : List ℕ) → up4 (length front) ≡ length front →
     ArePaddedParts parts bytes → ArePartsAt (length front) parts (front ++ bytes)
 padded_parts-at front [] bytes aligned turn = tt
-padded_parts-at front (part ∷ []) bytes aligned turn =
-    let after = turn.0 in
-    rw turn.1 (omega (arith, length-append front (part ++ after), length-append part after), slice-append front part after, tt)
+padded_parts-at front (part ∷ []) bytes aligned turn = search (rules, length-append, slice-append)
 padded_parts-at front (part ∷ next ∷ later) bytes aligned turn =
     let padding = turn.0 in
     let after = turn.1 in
@@ -76,9 +70,7 @@ padded_parts-at front (part ∷ next ∷ later) bytes aligned turn =
 -- The slice right after a front is the first of the bytes there.
 first_part-at : (front bytes part : List ℕ) → slice (front ++ bytes) (length front) (length part) ≡ part →
     bytes ≡ part ++ drop (length part) bytes
-first_part-at front bytes part at_offsets =
-    sym (take-append-drop (length part) bytes)
-    ∙ ap (λ first. first ++ drop (length part) bytes) (ap (take (length part)) (sym (drop-append_seam front bytes)) ∙ at_offsets)
+first_part-at front bytes part at_offsets = search (rules, take-append-drop, drop-append_seam)
 
 -- Parts at these offsets after an aligned front are padded parts in order.
 pub padded_parts-from : (front : List ℕ) (parts : List (List ℕ)) (bytes : List ℕ) → up4 (length front) ≡ length front →

@@ -1,4 +1,4 @@
-use Rattle.std.proofs.Common.{◌≡◌, ℕ, ◌+◌, ◌<◌, ◌≤◌, List, [], ◌∷◌, length, drop, arith, suc, sym, ap, ◌∙◌, subst, refl, inl, inr}
+use Rattle.std.proofs.Common.{◌≡◌, ℕ, ◌+◌, ◌<◌, ◌≤◌, List, [], ◌∷◌, length, drop, arith, suc, sym, ap, ◌∙◌, subst, refl, inr, rules}
 use Rattle.std.proofs.lemmas.List.{length-drop, drop_more}
 use Rattle.bi_base.specs.declared.fault.Fault.{Fault}
 use Rattle.bi_base.specs.Cells.{up4}
@@ -23,9 +23,7 @@ parts_end_from-one end size sizes later e = ap (parts_end_from end) e
 -- The first fault is that of the first part where it does not fit.
 pub first-here : (body : List ℕ) (index at size : ℕ) (sizes later : List ℕ) → sizes ≡ size ∷ later → ¬ (at + size ≤ length body) →
     IsFirstFault (TablePasses body) table_fault (part_checks index at sizes) (table_fault (HasPart index (at + size)))
-first-here body index at size sizes later e fails =
-    subst (λ (left : List ℕ). IsFirstFault (TablePasses body) table_fault (part_checks index at left)
-    (table_fault (HasPart index (at + size)))) (sym e) (inl (fails, refl))
+first-here body index at size sizes later e fails = search rules
 
 -- Where it fits, the first fault is that of the others.
 pub first-later : (body : List ℕ) (index at size : ℕ) (sizes later : List ℕ) (fault : Fault) → sizes ≡ size ∷ later →

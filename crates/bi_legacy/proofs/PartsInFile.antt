@@ -1,5 +1,5 @@
 use Rattle.std.proofs.Common.{◌≡◌, ℕ, ◌+◌, ◌-◌, ◌≤◌, List, [], ◌∷◌, length, take, Bool, true, false, MatchBool, if◌then◌else◌, arith, sym}
-use Rattle.std.proofs.Common.{ap, ◌∙◌, subst}
+use Rattle.std.proofs.Common.{ap, ◌∙◌, rules}
 use Rattle.std.proofs.Math.Seq.{take-length}
 use Rattle.bi_base.specs.Cells.{slice, up4}
 use Rattle.bi_base.proofs.CellLaws.{slice-first, slice-rest}
@@ -37,9 +37,7 @@ body_parts-in_file : (has_table : Bool) (file body : List ℕ) (parts : List (Li
     AreAtOffsets file (placed_parts_from (if has_table then length (part_table parts) else 0) parts)
 body_parts-in_file true file body parts there held = parts_at-in_file file body (length (part_table parts)) parts there
     (table_parts_at parts body held)
-body_parts-in_file false file body parts there alone =
-    subst (λ (them : List (List ℕ)). AreAtOffsets file (placed_parts_from 0 them)) (sym alone)
-    (parts_at-in_file file body 0 (body ∷ []) there (omega arith, take-length body, tt))
+body_parts-in_file false file body parts there alone = search (rules, parts_at-in_file, take-length)
 
 -- The parts of an image are in its file at their offsets.
 pub parts_at_offsets : (file : List ℕ) (image : LegacyImage) → IsLegacyFile file image → AreAtOffsets file (placed_parts image)

@@ -1,10 +1,10 @@
-use Rattle.std.proofs.Common.{◌≡◌, ℕ, ◌+◌, List, [], ◌∷◌, length, Bool, true, false, if◌then◌else◌, refl, sym, ap, ◌∙◌}
+use Rattle.std.proofs.Common.{◌≡◌, ℕ, ◌+◌, List, [], ◌∷◌, length, Bool, true, false, if◌then◌else◌, refl, ap, rules}
 use Rattle.std.proofs.Math.Seq.{take-length}
-use Rattle.bi_base.specs.Cells.{slice, up4}
+use Rattle.bi_base.specs.Cells.{up4}
 use Rattle.bi_base.proofs.CellLaws.{length-slice}
 use Rattle.bi_legacy.specs.Meaning.{has_part_table}
 use Rattle.bi_legacy.specs.Parts.{part_table, parts_start}
-use Rattle.bi_legacy.specs.PlacedParts.{PartModel, placed_parts_from}
+use Rattle.bi_legacy.specs.PlacedParts.{placed_parts_from}
 use Rattle.bi_legacy.specs.PartRanges.{FitWithin, placed_slices, first_part_offset, part_sizes, part_slices}
 use Rattle.bi_legacy.specs.ReadImage.{parts_of_body}
 use Rattle.bi_legacy.proofs.TableParts.{first_offset, parts_in_table}
@@ -16,19 +16,14 @@ use Rattle.bi_legacy.proofs.PartEnds.{length-part_slices, first_offset_is}
 placed_slices-fit : (body : List ℕ) (at : ℕ) (sizes : List ℕ) → FitWithin (length body) at sizes →
     placed_slices body at sizes ≡ placed_parts_from at (part_slices body at sizes)
 placed_slices-fit body at [] fit = refl
-placed_slices-fit body at (size ∷ sizes) fit =
-    ap (λ (later : List PartModel). record { place = 64 + at; bytes = slice body at size } ∷ later)
-    (placed_slices-fit body (up4 (at + size)) sizes fit.1
-    ∙ ap (λ n. placed_parts_from (up4 (at + n)) (part_slices body (up4 (at + size)) sizes)) (sym (length-slice body at size fit.0)))
+placed_slices-fit body at (size ∷ sizes) fit = search (rules, length-slice, placed_slices-fit body (up4 (at + size)) sizes fit.1)
 
 -- The same for data with or without a part table.
 placed_with : (has_table : Bool) (body : List ℕ) → FitWithin (length body) (first_part_offset has_table body) (part_sizes has_table body) →
     let parts = if has_table then parts_in_table body else body
     ∷ [] in placed_slices body (first_part_offset has_table body) (part_sizes has_table body)
     ≡ placed_parts_from (if has_table then length (part_table parts) else 0) parts
-placed_with true body fit =
-    placed_slices-fit body (first_offset body) _ fit
-    ∙ ap (λ at. placed_parts_from at (parts_in_table body)) (sym (first_offset_is body fit))
+placed_with true body fit = search (rules, placed_slices-fit, first_offset_is)
 placed_with false body fit =
     ap (λ (bytes : List ℕ). record { place = 64; bytes = bytes } ∷ []) (take-length body)
 

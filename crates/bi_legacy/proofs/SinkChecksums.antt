@@ -1,4 +1,4 @@
-use Rattle.std.proofs.Common.{◌≡◌, ℕ, ◌-◌, List, refl, ap, ◌∙◌, Result, Ok, Err, IsOk}
+use Rattle.std.proofs.Common.{◌≡◌, ℕ, ◌-◌, List, refl, Result, Ok, Err, IsOk, rules}
 use Rattle.bi_base.specs.Crc.{crc32, crc_after}
 use Rattle.bi_base.specs.CrcSink.{AddsToCrc}
 use Rattle.bi_base.specs.Sinks.{Wrote}
@@ -16,9 +16,7 @@ register_after start bytes (Err error) register wrote = absurd wrote
 pub sum_of_put : (start : ℕ) (bytes : List ℕ) (result : Result (Unit {0}) Error) (register sum : ℕ) → start ≡ 0xFFFFFFFF →
     Wrote AddsToCrc (λ _ _ _ _. ⊥) start bytes result register → sum ≡ 0xFFFFFFFF - register → sum ≡ crc32 bytes
 unfolding crc32
-sum_of_put start bytes result register sum new wrote finished =
-    finished
-    ∙ ap (λ after. 0xFFFFFFFF - after) (register_after start bytes result register wrote ∙ ap (λ from. crc_after from bytes) new)
+sum_of_put start bytes result register sum new wrote finished = search (rules, register_after)
 
 -- Writing to a running CRC-32 succeeds.
 pub put_succeeds : (start : ℕ) (bytes : List ℕ) (result : Result (Unit {0}) Error) (register : ℕ) →

@@ -1,5 +1,5 @@
-use Rattle.std.proofs.Common.{◌≡◌, ◌≢◌, ◌==◌, ℕ, ◌+◌, ◌*◌, ◌<◌, ◌≤◌, ◌^◌, List, ◌++◌, [], ◌∷◌, length, take, drop, map, get_or, arith, refl}
-use Rattle.std.proofs.Common.{ap, ◌∙◌, append_assoc, append-nil, suc, zero, inl, inr, flat_map, Contains}
+use Rattle.std.proofs.Common.{◌≡◌, ◌≢◌, ◌==◌, ℕ, ◌+◌, ◌*◌, ◌<◌, ◌≤◌, ◌^◌, List, ◌++◌, [], ◌∷◌, length, take, drop, map, arith, refl, rules}
+use Rattle.std.proofs.Common.{ap, ◌∙◌, append_assoc, append-nil, suc, zero, flat_map, Contains}
 use Rattle.std.specs.Int.{from_be_bytes, w32}
 use Rattle.std.specs.List.{AllByRecursion, before_first}
 use Rattle.std.proofs.lemmas.Bool.{cases_lt, eqb-true, eqb-false}
@@ -53,10 +53,7 @@ IsSize size = (0 < size) × (size < 2 ^ 32)
 pub cells_of-flat_map : (sizes later : List ℕ) → AllByRecursion IsSize sizes →
     cells_of (flat_map cell sizes ++ later) ≡ sizes ++ cells_of later
 cells_of-flat_map [] later are = refl
-cells_of-flat_map (size ∷ sizes) later are =
-    ap cells_of (append_assoc (cell size) (flat_map cell sizes) later)
-    ∙ cells_of-cell size (flat_map cell sizes ++ later) are.0.1
-    ∙ ap (λ list. size ∷ list) (cells_of-flat_map sizes later are.1)
+cells_of-flat_map (size ∷ sizes) later are = search (rules, append_assoc, cells_of-cell, cells_of-flat_map sizes later are.1)
 
 -- A part table is the cells of the sizes and a cell of zero.
 pub part_table-cells : (parts : List (List ℕ)) → part_table parts ≡ flat_map cell (map length parts) ++ cell 0
@@ -69,10 +66,7 @@ part_table-cells parts = ap (λ list. list ++ cell 0) (of_lengths parts)
 -- The first numbers of a part table and more bytes are the sizes and a zero.
 sizes_read : (sizes after : List ℕ) → AllByRecursion IsSize sizes →
     cells_of ((flat_map cell sizes ++ cell 0) ++ after) ≡ sizes ++ 0 ∷ cells_of after
-sizes_read sizes after are =
-    ap cells_of (append_assoc (flat_map cell sizes) (cell 0) after)
-    ∙ cells_of-flat_map sizes (cell 0 ++ after) are
-    ∙ ap (λ list. sizes ++ list) (cells_of-cell 0 after (omega arith))
+sizes_read sizes after are = search (rules, append_assoc, cells_of-flat_map, cells_of-cell)
 
 -- The sizes that are read from a part table are its sizes.
 pub table_sizes-cells : (sizes after : List ℕ) → AllByRecursion IsSize sizes →
@@ -93,11 +87,7 @@ part_table-ends sizes after are =
 
 -- Numbers that contain a zero have a first one.
 pub zero_within : (numbers : List ℕ) → Contains numbers 0 → nul_index numbers < length numbers
-zero_within numbers there = elim (cases_lt (nul_index numbers) (length numbers)) [
-  | inl within ↦ within
-  | inr past ↦ absurd (eqb-false (get_or numbers there.0 0) 0
-      (fails_before_first (λ number. number == 0) numbers there.0 0 (omega (arith, there.1))) there.2)
-]
+zero_within numbers there = search (rules, cases_lt, eqb-false, fails_before_first)
 
 -- Data with a zero among its cells is the part table that is read from it, and the bytes after the table.
 pub part_table-split : (body : List ℕ) → AreBytes body → Contains (cells_of body) 0 →

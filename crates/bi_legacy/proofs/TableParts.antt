@@ -1,4 +1,4 @@
-use Rattle.std.proofs.Common.{◌≡◌, ℕ, ◌+◌, ◌*◌, ◌<◌, ◌^◌, List, ◌++◌, length, map, drop, sym, ap, ◌∙◌, subst, flat_map, Contains}
+use Rattle.std.proofs.Common.{◌≡◌, ℕ, ◌+◌, ◌*◌, ◌<◌, ◌^◌, List, ◌++◌, length, map, drop, sym, ap, ◌∙◌, subst, flat_map, Contains, rules}
 use Rattle.std.proofs.lemmas.List.{length-map}
 use Rattle.std.specs.List.{AllByRecursion}
 use Rattle.bi_base.specs.Cells.{cell, up4, AreBytes}
@@ -26,13 +26,7 @@ table_parts_at parts body is =
 -- Data with the part table of some parts, and these parts at their offsets, holds them.
 pub parts_at_table : (parts : List (List ℕ)) (body after : List ℕ) → body ≡ part_table parts ++ after → AllByRecursion IsTablePart parts →
     ArePartsAt (length (part_table parts)) parts body → HasPartTable parts body
-parts_at_table parts body after list are at_offsets = record {
-  rest = after;
-  body_is = list;
-  are_table_parts = are;
-  padded_parts = padded_parts-from (part_table parts) parts after (part_table-aligned parts)
-      (subst (ArePartsAt (length (part_table parts)) parts) list at_offsets);
-}
+parts_at_table parts body after list are at_offsets = search (rules, padded_parts-from, part_table-aligned)
 
 -- The offset of the first part in data with a part table.
 abbrev pub first_offset : List ℕ → ℕ
@@ -78,9 +72,7 @@ table_has_end parts body fits is =
 -- The parts begin where the part table ends.
 pub table_first_offset : (parts : List (List ℕ)) (body : List ℕ) → length body < 2 ^ 32 → HasPartTable parts body →
     first_offset body ≡ length (part_table parts)
-table_first_offset parts body fits is =
-    ap (λ sizes. 4 * (length sizes + 1)) (table_sizes_are parts body fits is)
-    ∙ ap (λ n. 4 * (n + 1)) (length-map parts length) ∙ sym (length-part_table parts)
+table_first_offset parts body fits is = search (rules, table_sizes_are parts body fits is, length-map parts length, length-part_table parts)
 
 -- The parts that are read from data that holds these parts are these.
 pub table_parts_are : (parts : List (List ℕ)) (body : List ℕ) → length body < 2 ^ 32 → HasPartTable parts body → parts_in_table body ≡ parts

@@ -1,5 +1,5 @@
-use Rattle.std.proofs.Common.{◌≡◌, ◌≢◌, ◌==◌, ℕ, ◌+◌, ◌*◌, ◌/◌, ◌<◌, ◌≤◌, List, [], ◌∷◌, length, take, drop, get_or, zero, suc, arith, refl}
-use Rattle.std.proofs.Common.{sym, ap, ◌∙◌, Bool, true, false}
+use Rattle.std.proofs.Common.{◌≡◌, ◌≢◌, ◌==◌, ℕ, ◌+◌, ◌*◌, ◌/◌, ◌<◌, ◌≤◌, List, [], ◌∷◌, length, drop, get_or, zero, suc, arith, refl}
+use Rattle.std.proofs.Common.{ap, ◌∙◌, Bool, true, false, rules}
 use Rattle.std.specs.List.{position_or_len}
 use Rattle.std.proofs.lemmas.List.Sums.{position_or_len_is}
 use Rattle.std.proofs.lemmas.List.{length-take, length-take-le, get_or-take, drop_more}
@@ -41,9 +41,7 @@ first_zero_is body count before within ends =
 -- There are as many sizes as cells before it.
 pub length-table_sizes : (body : List ℕ) (count : ℕ) → ((k : ℕ) → k < count → get_or (cells_of body) k 0 ≢ 0) →
     4 * (count + 1) ≤ length body → u32_at body (4 * count) ≡ 0 → count ≡ length (table_sizes body)
-length-table_sizes body count before within ends =
-    sym (ap (λ n. length (take n (cells_of body))) (first_zero_is body count before within ends)
-    ∙ length-take-le count (cells_of body) (omega (arith, length-cells body)))
+length-table_sizes body count before within ends = search (rules, first_zero_is, length-take-le, length-cells)
 
 -- A size is the number at its offset in the part table.
 pub drop-table_sizes : (body : List ℕ) (i : ℕ) → 4 * (i + 1) ≤ length body → i < length (table_sizes body) →

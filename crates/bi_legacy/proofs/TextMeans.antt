@@ -1,9 +1,9 @@
-use Rattle.std.proofs.Common.{◌≡◌, ◌-◌, ℕ, List, ◌++◌, [], length, replicate, refl, sym, ap, arith, zero, suc, append-nil}
+use Rattle.std.proofs.Common.{◌≡◌, ◌-◌, ℕ, List, replicate, refl, zero, suc, append-nil, rules}
 use Rattle.bi_base.specs.Limits.{Limits}
 use Rattle.bi_base.specs.Strings.{IsEmptyOrBeginsWithNul}
-use Rattle.bi_legacy.specs.File.{header, HoldsName, IsLegacyFile, LegacyMeans}
+use Rattle.bi_legacy.specs.File.{HoldsName, IsLegacyFile, LegacyMeans}
 use Rattle.bi_legacy.specs.Meaning.{LegacyImage, IsImageName}
-use Rattle.bi_legacy.specs.Text.{normal_body, name_field, legacy_text, IsLegacyImage}
+use Rattle.bi_legacy.specs.Text.{name_field, legacy_text, IsLegacyImage}
 use Rattle.bi_legacy.proofs.ImageOfFile.{image_of_file, text_no_longer}
 use Rattle.bi_legacy.proofs.NormalBytes.{legacy_text_bytes}
 use Rattle.bi_legacy.proofs.NormalLength.{length-name_field}
@@ -19,38 +19,17 @@ zeros_begin_with_nul (suc n) = refl
 
 -- The normal field of a name holds the name.
 name_field_holds : (name : List ℕ) → IsImageName name → HoldsName (name_field name) name
-name_field_holds name is = record {
-  padding = replicate (32 - length name) 0;
-  field_is = refl;
-  padding_is = zeros_begin_with_nul (32 - length name);
-  whole = length-name_field name is.short;
-  is_name = is;
-}
+name_field_holds name is = search (rules, zeros_begin_with_nul, length-name_field)
 
 -- The normal text of an image is a file that means this image.
 pub legacy_text_means : (image : LegacyImage) → IsLegacyImage image → IsLegacyFile (legacy_text image) image
 unfolding legacy_text
-legacy_text_means image is =
-    let body = normal_body image.image_type image.parts in
-    record {
-      field = name_field image.name;
-      body = body;
-      rest = [];
-      file_is = ap (λ list. header image (name_field image.name) body ++ list) (sym (append-nil body));
-      ranges = is.ranges;
-      name = name_field_holds image.name is.name;
-      size = is.size;
-      parts = normal_body_holds image.image_type image.parts is.parts;
-      bytes = legacy_text_bytes image is;
-    }
+legacy_text_means image is = search (rules, append-nil, name_field_holds, normal_body_holds, legacy_text_bytes)
 
 -- The normal text of the image that a file means within the limits means it within them.
 pub text_means_same : (file : List ℕ) (image : LegacyImage) (limits : Limits) → LegacyMeans limits file image →
     LegacyMeans limits (legacy_text image) image
-text_means_same file image limits means = record {
-  is_file = legacy_text_means image (image_of_file file image means.is_file);
-  short = omega (arith, text_no_longer file image means.is_file, means.short);
-}
+text_means_same file image limits means = search (rules, legacy_text_means, image_of_file, text_no_longer)
 
 -- Two images that fit the format and have the same normal text are the same.
 pub legacy_texts_differ : (a b : LegacyImage) → IsLegacyImage a → IsLegacyImage b → legacy_text a ≡ legacy_text b → a ≡ b

@@ -1,5 +1,5 @@
 use Rattle.std.proofs.Common.{◌≡◌, ℕ, ◌-◌, ◌<◌, ◌≤◌, List, [], ◌∷◌, ◌++◌, length, take, drop, get_or, replicate, flat_map, append-nil}
-use Rattle.std.proofs.Common.{append_assoc, zero, suc, arith, refl, sym, ap, ◌∙◌}
+use Rattle.std.proofs.Common.{append_assoc, zero, suc, arith, refl, sym, ap, ◌∙◌, rules}
 use Rattle.std.specs.Borrow.{Bor}
 use Rattle.std.proofs.lemmas.List.{length-append, length-map, get_or-map, map-append, take-replicate, drop-replicate}
 use Rattle.std.proofs.lemmas.List.Folds.{flat_map-map}
@@ -17,18 +17,12 @@ use Rattle.bi_legacy.specs.Text.{with_zeros, joined_parts}
 joined_parts-last : (before : List (List ℕ)) (last : List ℕ) → joined_parts (before ++ (last ∷ [])) ≡ flat_map with_zeros before ++ last
 joined_parts-last [] last = refl
 joined_parts-last (part ∷ []) last = ap (λ l. l ++ last) (sym (append-nil (with_zeros part)))
-joined_parts-last (part ∷ next ∷ later) last =
-    ap (λ l. with_zeros part ++ l) (joined_parts-last (next ∷ later) last)
-    ∙ sym (append_assoc (with_zeros part) (flat_map with_zeros (next ∷ later)) last)
+joined_parts-last (part ∷ next ∷ later) last = search (rules, append_assoc, joined_parts-last (next ∷ later) last)
 
 -- The same for slices.
 pub joined_parts-bytes_of : (slices before : List (Bor (List ℕ))) (last : Bor (List ℕ)) → slices ≡ before ++ (last ∷ []) →
     joined_parts (bytes_of slices) ≡ flat_map (λ slice. with_zeros slice.now) before ++ last.now
-joined_parts-bytes_of slices before last e =
-    ap (λ l. joined_parts (bytes_of l)) e
-    ∙ ap joined_parts (map-append (λ slice. slice.now) before (last ∷ []))
-    ∙ joined_parts-last (bytes_of before) last.now
-    ∙ ap (λ l. l ++ last.now) (flat_map-map with_zeros (λ slice. slice.now) before)
+joined_parts-bytes_of slices before last e = search (rules, map-append, joined_parts-last, flat_map-map)
 
 -- The part table of slices.
 pub part_table-bytes_of : (slices : List (Bor (List ℕ))) →
@@ -41,12 +35,7 @@ part_within : (parts : List (List ℕ)) (i : ℕ) (d : List ℕ) → i < length 
 part_within [] i d within = absurd (omega arith)
 part_within (part ∷ []) zero d within = omega arith
 part_within (part ∷ []) (suc i) d within = absurd (omega arith)
-part_within (part ∷ next ∷ later) zero d within =
-    omega (
-      arith,
-      length-append (with_zeros part) (joined_parts (next ∷ later)),
-      length-append part (replicate (up4 (length part) - length part) 0),
-    )
+part_within (part ∷ next ∷ later) zero d within = search (rules, length-append)
 part_within (part ∷ next ∷ later) (suc i) d within =
     omega (arith, length-append (with_zeros part) (joined_parts (next ∷ later)), part_within (next ∷ later) i d (omega arith))
 
@@ -81,6 +70,4 @@ header_pieces checksum size sum image field = refl
 pub header_made : (image : LegacyImage) (field body : List ℕ) (size sum checksum : ℕ) → size ≡ length body → sum ≡ crc32 body →
     checksum ≡ crc32 (header_cells 0 size sum image field) → header_cells checksum size sum image field ≡ header image field body
 unfolding header
-header_made image field body size sum checksum size_is sum_is checksum_is =
-    let made : ℕ → ℕ → List ℕ = λ n s. header_cells (crc32 (header_cells 0 n s image field)) n s image field in
-    ap (λ c. header_cells c size sum image field) checksum_is ∙ ap (λ n. made n sum) size_is ∙ ap (made (length body)) sum_is
+header_made image field body size sum checksum size_is sum_is checksum_is = search rules

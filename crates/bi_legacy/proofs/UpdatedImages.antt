@@ -1,4 +1,4 @@
-use Rattle.std.proofs.Common.{◌^◌, ◌<◌, ℕ, List, refl, arith}
+use Rattle.std.proofs.Common.{◌^◌, ◌<◌, ℕ, List, arith, rules}
 use Rattle.bi_base.specs.Limits.{Limits}
 use Rattle.bi_legacy.specs.Meaning.{LegacyImage, with_new_time}
 use Rattle.bi_legacy.specs.File.{LegacyMeans}
@@ -13,36 +13,11 @@ use Rattle.bi_legacy.proofs.TextMeans.{legacy_text_means}
 -- An image with a new time has this time and is otherwise as it was, and has a normal form within the limits if a file means it.
 
 pub updated_has_new_time : UpdatedHasNewTime
-updated_has_new_time image time = record {
-  time_is = refl;
-  load = refl;
-  entry = refl;
-  os = refl;
-  arch = refl;
-  image_type = refl;
-  compression = refl;
-  name = refl;
-  parts = refl;
-}
+updated_has_new_time image time = search rules
 
 -- An image with another time fits the format.
 is_updated_image : (image : LegacyImage) (time : ℕ) → time < 2 ^ 32 → IsLegacyImage image → IsLegacyImage (with_new_time time image)
-is_updated_image image time small is = record {
-  ranges = record {
-    time = small;
-    load = is.ranges.load;
-    entry = is.ranges.entry;
-    os = is.ranges.os;
-    arch = is.ranges.arch;
-    image_type = is.ranges.image_type;
-    compression = is.ranges.compression;
-  };
-  name = is.name;
-  name_bytes = is.name_bytes;
-  parts = is.parts;
-  parts_bytes = is.parts_bytes;
-  size = is.size;
-}
+is_updated_image image time small is = search rules
 
 -- Its normal text means it within the limits of the file.
 updated_text_means : (file : List ℕ) (image : LegacyImage) (limits : Limits) (time : ℕ) → time < 2 ^ 32 → LegacyMeans limits file image →

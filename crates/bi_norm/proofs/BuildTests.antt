@@ -1,4 +1,4 @@
-use Rattle.std.proofs.Common.{◌≡◌, ℕ, Bool, true, not, List, Option, None, Some, IsSome, length, refl}
+use Rattle.std.proofs.Common.{◌≡◌, ℕ, Bool, true, not, List, Option, None, Some, IsSome, length, refl, rules}
 use Rattle.std.specs.Prelude.{◌==◌, ◌&&◌, nat_le, IsTrue}
 use Rattle.std.specs.Bool.{Decides}
 use Rattle.std.specs.List.{AllByRecursion, list_all}
@@ -10,7 +10,6 @@ use Rattle.bi_blob.proofs.CheckDecisions.{le_decides, eq_decides, both_decide, a
 use Rattle.bi_blob.proofs.CheckDecisions.{is_new_decides}
 use Rattle.bi_blob.proofs.CheckDecisions.{is_child_name, is_child_name_decides, first_failing, fault_by_test}
 use Rattle.bi_fit.specs.declared.form.Form.{Form}
-use Rattle.bi_fit.specs.declared.key.Key.{Key}
 use Rattle.bi_fit.specs.declared.key.Key.TheVariants.{Kernel, Fdt, Ramdisk, Firmware, Loadables, Script}
 use Rattle.bi_fit.specs.declared.building.Head.{Head}
 use Rattle.bi_fit.specs.Building.{ConfigurationSpecModel, configuration_names}
@@ -35,15 +34,7 @@ has_names image =
     && (is_some (name_of_code type_names image.image_type) && is_some (name_of_code compression_names image.compression))
 
 has_names_decides : (image : ImageSpec) → Decides (has_names image) (HasNames image)
-has_names_decides image =
-    let first = both_decide _ _ (has_value_decides (name_of_code arch_names image.arch))
-    (has_value_decides (name_of_code os_names image.os)) in
-    let second = both_decide _ _ (has_value_decides (name_of_code type_names image.image_type))
-    (has_value_decides (name_of_code compression_names image.compression)) in
-    let all = both_decide _ _ first second in (
-      (λ e. let has = all.0 e in record { arch = has.0.0; os = has.0.1; image_type = has.1.0; compression = has.1.1 }),
-      (λ has. all.1 ((has.arch, has.os), (has.image_type, has.compression))),
-    )
+has_names_decides image = search (rules, both_decide, has_value_decides)
 
 -- The same, if no texts are given.
 abbrev has_names_if_needed : ImageSpec → Option ImageTextsModel → Bool
@@ -61,13 +52,7 @@ are_texts texts =
     (lacks_byte 0 texts.image_type && lacks_byte 0 texts.arch) && (lacks_byte 0 texts.os && lacks_byte 0 texts.compression)
 
 are_texts_decides : (texts : ImageTextsModel) → Decides (are_texts texts) (AreTexts texts)
-are_texts_decides texts =
-    let first = both_decide _ _ (lacks_byte_decides 0 texts.image_type) (lacks_byte_decides 0 texts.arch) in
-    let second = both_decide _ _ (lacks_byte_decides 0 texts.os) (lacks_byte_decides 0 texts.compression) in
-    let all = both_decide _ _ first second in (
-      (λ e. let are = all.0 e in record { image_type = are.0.0; arch = are.0.1; os = are.1.0; compression = are.1.1 }),
-      (λ are. all.1 ((are.image_type, are.arch), (are.os, are.compression))),
-    )
+are_texts_decides texts = search (rules, both_decide, lacks_byte_decides)
 
 -- Whether the texts of an image have no zero byte, or, if it has none, its type is not multi.
 abbrev has_type_or_texts : ImageSpec → Option ImageTextsModel → Bool
@@ -98,26 +83,7 @@ lists_only others configuration =
 
 lists_only_decides : (others : List (List ℕ)) (configuration : ConfigurationSpecModel) →
     Decides (lists_only others configuration) (ListsOnly others configuration)
-lists_only_decides others configuration =
-    let all = both_decide _ _ (both_decide _ _ (under Kernel) (both_decide _ _ (under Fdt) (under Ramdisk)))
-    (both_decide _ _ (under Firmware) (both_decide _ _ (under Loadables) (under Script))) in (
-      (λ e key.
-          let are = all.0 e in
-          elim key as (λ key. AllByRecursion (λ name. IsTrue (is_among name others)) (configuration.lists key)) [
-            | Kernel ↦ are.0.0
-            | Fdt ↦ are.0.1.0
-            | Ramdisk ↦ are.0.1.1
-            | Firmware ↦ are.1.0
-            | Loadables ↦ are.1.1.0
-            | Script ↦ are.1.1.1
-          ]),
-      (λ is. all.1 ((is Kernel, (is Fdt, is Ramdisk)), (is Firmware, (is Loadables, is Script)))),
-    )
-  where
-    under : (key : Key) →
-        Decides (are_among others (configuration.lists key))
-        (AllByRecursion (λ name. IsTrue (is_among name others)) (configuration.lists key))
-    under key = are_among_decides others (configuration.lists key)
+lists_only_decides others configuration = search (rules, both_decide, are_among_decides)
 
 -- Whether the default, if it is given, is one of these configurations.
 abbrev has_known_default : List ConfigurationSpecModel → Option (List ℕ) → Bool

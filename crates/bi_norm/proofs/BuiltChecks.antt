@@ -1,5 +1,5 @@
 use Rattle.std.proofs.Common.{◌≡◌, ◌<◌, ◌≤◌, ◌^◌, ℕ, true, List, [], ◌∷◌, ◌++◌, map, length, Option, None, Some, refl, sym, ap, subst}
-use Rattle.std.proofs.Common.{◌∙◌, inl, inr, append-nil}
+use Rattle.std.proofs.Common.{◌∙◌, inl, append-nil, rules}
 use Rattle.std.specs.Prelude.{◌||◌}
 use Rattle.std.specs.List.{AllByRecursion}
 use Rattle.std.proofs.lemmas.Slice.Eq.{bytes_eq-Decides}
@@ -23,7 +23,7 @@ use Rattle.bi_fit.proofs.BuiltConfigurations.{by_types_is_plan}
 use Rattle.bi_norm.specs.declared.fit_building.ImageSpec.{ImageSpec}
 use Rattle.bi_norm.specs.FitBuilding.{PlanSpecModel, GivenImage, given_images, spec_model, spec_models, whole_plan, plan_of_tree}
 use Rattle.bi_norm.specs.FitBuilding.{BuildCheck}
-use Rattle.bi_norm.specs.FitBuilding.{HasDefault, FitsLimit, HasKnownDefault, BuildPasses, build_fault, spec_checks, configuration_checks}
+use Rattle.bi_norm.specs.FitBuilding.{HasDefault, HasKnownDefault, BuildPasses, build_fault, spec_checks, configuration_checks}
 use Rattle.bi_norm.specs.FitBuilding.{names_of_specs, early_checks, first_image_checks, IsBuildFaultAs, IsBuildErrorAs}
 use Rattle.bi_norm.specs.BuildChecks.{AllPass, IsFirstFailure, IsImagesError}
 use Rattle.bi_norm.proofs.ImageChecks.{names_of_given, names-given_images}
@@ -66,10 +66,7 @@ pub plan_is : (plan : PlanSpecModel) (images : List ImageSpec) →
     AllByRecursion (IsConfigurationSpec (names_of_specs images)) plan.configurations →
     AreDistinct (configuration_names plan.configurations) → HasKnownDefault plan.configurations plan.default →
     length plan.algorithms < 2 ^ 64 → IsPlanFor (names_of_images (spec_models plan images)) (plan_of_tree plan images)
-plan_is plan images each distinct known few =
-    whole_is_plan plan.configurations plan.default plan.algorithms (spec_models plan images)
-    (subst (λ names. AllByRecursion (IsConfigurationSpec names) plan.configurations) (sym (names-spec_models plan images)) each)
-    distinct known few
+plan_is plan images each distinct known few = search (rules, whole_is_plan, names-spec_models)
 
 -- Checks of the first image pass where all checks of images do.
 pub first_of_images : (limits : Limits) (form : Form) (head : Head) (plan : PlanSpecModel) (all : List ImageSpec) (given : List GivenImage)
@@ -110,26 +107,12 @@ module _ (limits : Limits) (form : Form) (head : Head) (plan : PlanSpecModel) (i
     later_fault : (fault : Fault) →
         IsFirstFault Passes (build_fault limits plan) (of_images ++ (of_configurations ++ HasDefault ∷ [])) fault →
         IsBuildFaultAs limits form head plan images fault
-    later_fault fault first =
-        inr (
-          few,
-          inr (
-            few_configurations,
-            inr (
-              text,
-              IsFirstFault-front Passes (build_fault limits plan) (of_images ++ (of_configurations ++ HasDefault ∷ []))
-                  (FitsLimit ∷ []) fault first,
-            ),
-          ),
-        )
+    later_fault fault first = search (rules, IsFirstFault-front)
 
     -- An error of the checks of images.
     pub image_error : (error : Error) → IsImagesError (given_images plan.texts images) error →
         IsBuildErrorAs limits form head plan images error
-    image_error (Refused fault) is =
-        later_fault fault
-        (IsFirstFault-front Passes (build_fault limits plan) of_images (of_configurations ++ HasDefault ∷ []) fault
-        (is limits form head plan images))
+    image_error (Refused fault) is = search (rules, later_fault, IsFirstFault-front)
     image_error OutOfMemory is = (few, (few_configurations, (text, is limits form head plan images)))
     image_error ReadFailed is = is
     image_error WriteFailed is = is
@@ -138,12 +121,7 @@ module _ (limits : Limits) (form : Form) (head : Head) (plan : PlanSpecModel) (i
       -- An error of those of configurations.
       pub configuration_error : (error : Error) → IsFaultOrNoMemory (IsFirstFailure of_configurations) error →
           IsBuildErrorAs limits form head plan images error
-      configuration_error (Refused fault) is =
-          later_fault fault
-          (IsFirstFault-after Passes (build_fault limits plan) of_images (of_configurations ++ HasDefault ∷ []) fault
-          (pass limits form head plan images)
-          (IsFirstFault-front Passes (build_fault limits plan) of_configurations (HasDefault ∷ []) fault
-          (is limits form head plan images)))
+      configuration_error (Refused fault) is = search (rules, later_fault, IsFirstFault-after, IsFirstFault-front)
       configuration_error OutOfMemory is = (
         few,
         (

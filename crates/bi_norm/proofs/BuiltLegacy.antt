@@ -1,4 +1,4 @@
-use Rattle.std.proofs.Common.{◌≡◌, ◌++◌, ◌^◌, ◌<◌, ℕ, Bool, true, false, List, [], ◌∷◌, Ok, Err, subst, sym, inl, inr}
+use Rattle.std.proofs.Common.{◌≡◌, ◌++◌, ◌^◌, ◌<◌, ℕ, Bool, true, false, List, [], ◌∷◌, Ok, Err, subst, sym, inl, inr, rules}
 use Rattle.std.specs.Prelude.{if◌then◌else◌}
 use Rattle.std.specs.List.{AllByRecursion}
 use Rattle.bi_base.specs.Cells.{cell, AreBytes}
@@ -8,9 +8,8 @@ use Rattle.bi_base.specs.declared.fault.Error.TheVariants.{Refused, OutOfMemory}
 use Rattle.bi_base.proofs.ByteLists.{AreBytes-left, AreBytes-right}
 use Rattle.bi_legacy.specs.Emitting.{WroteImage, HasNoEmitFault}
 use Rattle.bi_legacy.specs.File.{header, LegacyMeans}
-use Rattle.bi_legacy.specs.Meaning.{LegacyImage, FitsFields, has_part_table}
-use Rattle.bi_legacy.specs.Parts.{part_table}
-use Rattle.bi_legacy.specs.Text.{with_zeros, joined_parts, normal_body, name_field, legacy_text}
+use Rattle.bi_legacy.specs.Meaning.{LegacyImage, FitsFields}
+use Rattle.bi_legacy.specs.Text.{with_zeros, joined_parts, legacy_text}
 use Rattle.bi_legacy.proofs.NoEmitFault.{no_emit_fault_image}
 use Rattle.bi_legacy.proofs.TextMeans.{legacy_text_means}
 use Rattle.bi_norm.specs.LegacyBuilding.{IsBuiltLegacy, IsBuildLegacyError}
@@ -42,18 +41,11 @@ parts_in_body false table joined bytes = bytes
 -- The name and the parts in a text of bytes are bytes.
 name_bytes : (image : LegacyImage) → AreBytes (legacy_text image) → AreBytes image.name
 unfolding legacy_text
-name_bytes image bytes =
-    let body = normal_body image.image_type image.parts in
-    AreBytes-left image.name _ (name_in_header image (name_field image.name) body
-    (AreBytes-left (header image (name_field image.name) body) body bytes))
+name_bytes image bytes = search (rules, AreBytes-left, name_in_header)
 
 parts_bytes : (image : LegacyImage) → AreBytes (legacy_text image) → AllByRecursion AreBytes image.parts
 unfolding legacy_text
-parts_bytes image bytes =
-    let body = normal_body image.image_type image.parts in
-    joined_bytes image.parts
-    (parts_in_body (has_part_table image.image_type) (part_table image.parts) (joined_parts image.parts)
-    (AreBytes-right (header image (name_field image.name) body) body bytes))
+parts_bytes image bytes = search (rules, joined_bytes, parts_in_body, AreBytes-right)
 
 -- A text that was written means its image.
 pub is_built : (limits : Limits) (image : LegacyImage) (text : List ℕ) → FitsFields image → limits.file < 2 ^ 32 →

@@ -1,4 +1,4 @@
-use Rattle.std.proofs.Common.{◌≡◌, ◌≤◌, List, [], ◌∷◌, ◌++◌, length, sym, subst, inl, arith, ℕ}
+use Rattle.std.proofs.Common.{◌≡◌, ◌≤◌, List, [], ◌∷◌, length, sym, subst, arith, ℕ, rules}
 use Rattle.bi_base.specs.declared.fault.Error.{Error}
 use Rattle.bi_base.specs.declared.fault.Error.TheVariants.{Refused, OutOfMemory, ReadFailed, WriteFailed}
 use Rattle.bi_base.specs.Checks.{HasNoFault}
@@ -18,8 +18,8 @@ use Rattle.bi_fit.specs.Text.{fit_text}
 use Rattle.bi_fit.proofs.BuiltVerdicts.{built_is_accepted, built_has_good_payloads}
 use Rattle.bi_fit.proofs.BuiltConfigurations.{built_has_configurations, built_by_types_has_configuration}
 use Rattle.bi_norm.specs.declared.fit_building.ImageSpec.{ImageSpec}
-use Rattle.bi_norm.specs.FitBuilding.{PlanSpecModel, given_images, spec_models, plan_of_tree, tree_of_images, BuildPasses, build_fault}
-use Rattle.bi_norm.specs.FitBuilding.{HasDefault, FitsLimit, configuration_checks, names_of_specs, early_checks, checks_without_memory}
+use Rattle.bi_norm.specs.FitBuilding.{PlanSpecModel, spec_models, plan_of_tree, tree_of_images, BuildPasses}
+use Rattle.bi_norm.specs.FitBuilding.{FitsLimit, early_checks, checks_without_memory}
 use Rattle.bi_norm.specs.FitBuilding.{IsBuiltAs, IsBuildErrorAs}
 use Rattle.bi_norm.proofs.BuiltChecks.{first_of_images}
 
@@ -29,17 +29,7 @@ use Rattle.bi_norm.proofs.BuiltChecks.{first_of_images}
 without_memory : (limits : Limits) (form : Form) (head : Head) (plan : PlanSpecModel) (images : List ImageSpec) →
     HasNoFault (BuildPasses limits form head plan images) (early_checks plan images) →
     HasNoFault (BuildPasses limits form head plan images) (checks_without_memory plan images)
-without_memory limits form head plan images fine = (
-  fine.0,
-  (
-    fine.1.0,
-    (
-      fine.1.1.0,
-      first_of_images limits form head plan images (given_images plan.texts images)
-          (configuration_checks (names_of_specs images) 0 [] plan.configurations ++ HasDefault ∷ []) fine.1.1.1,
-    ),
-  ),
-)
+without_memory limits form head plan images fine = search (rules, first_of_images)
 
 module _ (limits : Limits) (form : Form) (head : Head) (plan : PlanSpecModel) (images : List ImageSpec)
     (fine : HasNoFault (BuildPasses limits form head plan images) (early_checks plan images))
@@ -66,9 +56,7 @@ module _ (limits : Limits) (form : Form) (head : Head) (plan : PlanSpecModel) (i
   -- An error of laying out the text is one of building.
   pub text_build_error : (error : Error) → IsFaultOrNoMemory (IsTextFault limits form (tree_of_images head plan images)) error →
       IsBuildErrorAs limits form head plan images error
-  text_build_error (Refused fault) is =
-      IsFirstFault-after (BuildPasses limits form head plan images) (build_fault limits plan) (early_checks plan images)
-      (FitsLimit ∷ []) fault fine (inl ((λ fits. omega (arith, fits, is.1)), is.0))
+  text_build_error (Refused fault) is = search (rules, IsFirstFault-after)
   text_build_error OutOfMemory is = without_memory limits form head plan images fine
   text_build_error ReadFailed is = is
   text_build_error WriteFailed is = is

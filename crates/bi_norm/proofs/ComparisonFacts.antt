@@ -1,4 +1,4 @@
-use Rattle.std.proofs.Common.{◌≡◌, ◌∙◌, ℕ, List, inl, inr, lit≤, refl, sym, ap, subst, arith}
+use Rattle.std.proofs.Common.{◌≡◌, ◌∙◌, ℕ, List, inl, inr, lit≤, refl, sym, ap, subst, arith, rules}
 use Rattle.bi_base.specs.Cells.{cell, u32_at}
 use Rattle.bi_base.specs.declared.fault.Fault.{Fault}
 use Rattle.bi_base.specs.declared.fault.Error.TheVariants.{Refused}
@@ -53,10 +53,7 @@ type_of other = 0
 
 module _ (one_legacy : OneLegacyMeaning) where
   pub only_image : (file : List ℕ) (image : LegacyImage) → LegacyMeans widest file image → MeansOnly widest file (OfLegacy image)
-  only_image file image means = record {
-    means = means;
-    only = λ other other_means. one_file_meaning one_legacy widest widest file other (OfLegacy image) other_means means;
-  }
+  only_image file image means = search (rules, one_file_meaning)
 
   pub compared_files_are_known : ComparedFilesAreKnown
   compared_files_are_known = record {

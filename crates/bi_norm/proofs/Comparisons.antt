@@ -1,4 +1,4 @@
-use Rattle.std.proofs.Common.{◌≡◌, ◌↔◌, ℕ, List, Bool, IsTrue, Result, Ok, Err, IfOk, IfErr, subst, sym, inl, inr}
+use Rattle.std.proofs.Common.{◌≡◌, ◌↔◌, ℕ, List, Bool, IsTrue, Result, Ok, Err, IfOk, IfErr, subst, sym, inl, inr, rules}
 use Rattle.bi_base.specs.declared.fault.Error.{Error}
 use Rattle.bi_base.specs.declared.fault.Error.TheVariants.{Refused, OutOfMemory, ReadFailed, WriteFailed}
 use Rattle.bi_base.specs.Limits.{Limits}
@@ -19,13 +19,7 @@ opened_means limits file (Fit content) opened = record { means = opened.means; o
 -- Whether two files that were read mean the same.
 are_compared : (limits : Limits) (one other : List ℕ) (image other_image : BootImage) (same : Bool) → IsReadBootImage limits one image →
     IsReadBootImage limits other other_image → IsTrue same ↔ (meaning_of image ≡ meaning_of other_image) → AreCompared limits one other same
-are_compared limits one other image other_image same opened other_opened is = record {
-  meaning = meaning_of image;
-  other_meaning = meaning_of other_image;
-  means = opened_means limits one image opened;
-  other_means = opened_means limits other other_image other_opened;
-  is_same = is;
-}
+are_compared limits one other image other_image same opened other_opened is = search (rules, opened_means)
 
 -- An error of reading the first file, and of reading the second one.
 pub error_of_first : (limits : Limits) (one other : List ℕ) (error : Error) → IsBootImageReadError limits one error →

@@ -1,5 +1,5 @@
 use Rattle.std.proofs.Common.{◌≡◌, ℕ, ◌+◌, ◌<◌, ◌≤◌, Bool, true, List, [], ◌∷◌, ◌++◌, take, drop, get_or, length, bytes_eq, refl, sym, ap}
-use Rattle.std.proofs.Common.{subst, ◌∙◌, inl, inr, arith}
+use Rattle.std.proofs.Common.{subst, ◌∙◌, inl, inr, arith, rules}
 use Rattle.std.specs.Prelude.{◌||◌, IsTrue}
 use Rattle.std.specs.Borrow.{Bor}
 use Rattle.std.specs.BTreeSet.{BTreeSet}
@@ -15,11 +15,11 @@ use Rattle.bi_blob.specs.Tree.{IsChildName, IsNew}
 use Rattle.bi_fit.specs.declared.building.ConfigurationSpec.{ConfigurationSpec}
 use Rattle.bi_fit.specs.declared.key.Key.TheVariants.{Kernel, Fdt, Ramdisk, Firmware, Loadables, Script}
 use Rattle.bi_fit.specs.Building.{ConfigurationSpecModel, configuration_names, IsConfigurationSpec}
-use Rattle.bi_fit.specs.NamedImages.{names_listed, configuration_spec_model, configuration_spec_models}
+use Rattle.bi_fit.specs.NamedImages.{configuration_spec_model, configuration_spec_models}
 use Rattle.bi_norm.specs.FitBuilding.{BuildCheck, ListsImages, HasNewConfigurationName, IndexedConfiguration, configuration_checks}
 use Rattle.bi_norm.specs.FitBuilding.{ListsOnly}
 use Rattle.bi_norm.specs.BuildChecks.{AllPass, IsFirstFailure, holds_name}
-use Rattle.bi_norm.proofs.LeftChecks.{AreLeftChecks, all_checks_left, fails_first, left_after}
+use Rattle.bi_norm.proofs.LeftChecks.{AreLeftChecks, fails_first, left_after}
 
 -- If the configurations before one pass their checks, a fault of it is the first of all, and otherwise the configurations after it decide.
 
@@ -52,10 +52,6 @@ module _ (image_names : List (List ℕ)) (configurations : List ConfigurationSpe
     pub can : AllByRecursion (IsConfigurationSpec image_names) (drop index configurations) →
         AllByRecursion (IsConfigurationSpec image_names) configurations
 
-  -- None was made.
-  pub no_configuration_passed : ConfigurationsPassedTo 0
-  no_configuration_passed = record { left = all_checks_left all; can = λ each. each }
-
   module _ (index : ℕ) (d : ConfigurationSpecModel) (within : index < length configurations) (passed : ConfigurationsPassedTo index) where
     abbrev configuration : ConfigurationSpecModel
     configuration = get_or configurations index d
@@ -72,11 +68,7 @@ module _ (image_names : List (List ℕ)) (configurations : List ConfigurationSpe
         ListsImages at ∷ HasNewConfigurationName at ∷ []
 
     first_checks : from_index index ≡ own_checks ++ from_index (index + 1)
-    first_checks =
-        ap (configuration_checks image_names index (configuration_names (take index configurations)))
-        (drop_more configurations index d within)
-        ∙ ap (λ names. own_checks ++ configuration_checks image_names (index + 1) names (drop (index + 1) configurations))
-        (sym (configuration_names_more configurations index d within))
+    first_checks = search (rules, drop_more, configuration_names_more)
 
     left : AreLeftChecks all (own_checks ++ from_index (index + 1))
     left = subst (AreLeftChecks all) first_checks passed.left
@@ -121,11 +113,6 @@ module _ (image_names : List (List ℕ)) (configurations : List ConfigurationSpe
 
 -- ---- names in a set
 
--- A name is in a set if and only if it is among those that the set holds.
-holds_name-is_among : (set : BTreeSet (Bor (List ℕ))) (held : List (List ℕ)) → HoldsNames set held → (name : Bor (List ℕ)) →
-    holds_name set name ≡ is_among name.now held
-holds_name-is_among set held holds name = holds.each name
-
 -- The same for all names.
 all_among : (set : BTreeSet (Bor (List ℕ))) (held : List (List ℕ)) → HoldsNames set held → (names : List (Bor (List ℕ))) →
     list_all (holds_name set) names ≡ true → AllByRecursion (λ name. IsTrue (is_among name held)) (bytes_of names)
@@ -153,21 +140,7 @@ module _ (set : BTreeSet (Bor (List ℕ))) (held : List (List ℕ)) (holds : Hol
 
   -- If the test is true, a configuration lists only names in the set,
   pub lists_only_is : lists_only set configuration ≡ true → ListsOnly held (configuration_spec_model configuration)
-  lists_only_is are key =
-      let kernel = and_parts (In configuration.kernel) _ are in
-      let fdt = and_parts (In configuration.fdt) _ kernel.1 in
-      let ramdisk = and_parts (In configuration.ramdisk) _ fdt.1 in
-      let firmware = and_parts (In configuration.firmware) _ ramdisk.1 in
-      let loadables = and_parts (In configuration.loadables) _ firmware.1 in
-      let script = and_parts (In configuration.script) _ loadables.1 in
-      elim key as (λ key. AllByRecursion (λ name. IsTrue (is_among name held)) (names_listed configuration key)) [
-        | Kernel ↦ all_among set held holds configuration.kernel.now kernel.0
-        | Fdt ↦ all_among set held holds configuration.fdt.now fdt.0
-        | Ramdisk ↦ all_among set held holds configuration.ramdisk.now ramdisk.0
-        | Firmware ↦ all_among set held holds configuration.firmware.now firmware.0
-        | Loadables ↦ all_among set held holds configuration.loadables.now loadables.0
-        | Script ↦ all_among set held holds configuration.script.now script.0
-      ]
+  lists_only_is are key = search (rules, and_parts, all_among)
 
   -- and the other way round.
   pub lists_only_back : ListsOnly held (configuration_spec_model configuration) → lists_only set configuration ≡ true

@@ -1,4 +1,4 @@
-use Rattle.std.proofs.Common.{◌≡◌, ◌≤◌, ℕ, List, [], ◌∷◌, length, ap, subst, sym, ◌∙◌, arith}
+use Rattle.std.proofs.Common.{◌≡◌, ◌≤◌, ℕ, List, [], ◌∷◌, length, ap, subst, sym, ◌∙◌, arith, rules}
 use Rattle.bi_base.specs.declared.fault.Error.{Error}
 use Rattle.bi_base.specs.declared.fault.Error.TheVariants.{Refused, OutOfMemory, ReadFailed, WriteFailed}
 use Rattle.bi_base.specs.Limits.{Limits}
@@ -29,10 +29,7 @@ conversion_can_be_built limits file image head images means same are =
 
 pub tree_is : (image : LegacyImage) (head : HeadModel) (images : List ImageSpecModel) → head ≡ head_of_image image →
     images ≡ converted_images image → built_tree head (plan_by_types (Sha256 ∷ []) images) images ≡ fit_of image
-tree_is image head images same are =
-    let images_of = converted_images image in
-    ap (λ (images : List ImageSpecModel). built_tree head (plan_by_types (Sha256 ∷ []) images) images) are
-    ∙ ap (λ (head : HeadModel). built_tree head (plan_by_types (Sha256 ∷ []) images_of) images_of) same
+tree_is image head images same are = search rules
 
 -- The text of this tree is that of the converted file.
 pub is_converted : (limits : Limits) (file : List ℕ) (parsed : LegacyModel) (tree : ImageTree) (text : List ℕ) →

@@ -1,5 +1,5 @@
 use Rattle.std.proofs.Common.{◌≡◌, ℕ, ◌≤◌, Bool, true, false, List, [], ◌∷◌, length, map, flat_map, Option, Some, refl, sym, ap, ◌∙◌, subst}
-use Rattle.std.proofs.Common.{arith}
+use Rattle.std.proofs.Common.{arith, rules}
 use Rattle.std.proofs.Common.{if◌then◌else◌}
 use Rattle.std.specs.Prelude.{◌==◌, unwrap_or}
 use Rattle.std.specs.List.{AllByRecursion}
@@ -18,10 +18,10 @@ use Rattle.bi_fit.proofs.BuiltTrees.{tested_child}
 use Rattle.bi_fit.proofs.TreeContents.{tested_name}
 use Rattle.bi_hash.specs.declared.algo.Algo.TheVariants.{Sha256}
 use Rattle.bi_hash.specs.declared.verdicts.Verdict.TheVariants.{Good}
-use Rattle.bi_legacy.specs.Codes.{CodeName, os_names, type_names, arch_names, compression_names, name_of_code}
+use Rattle.bi_legacy.specs.Codes.{CodeName, os_names, arch_names, compression_names, name_of_code}
 use Rattle.bi_legacy.specs.Meaning.{LegacyImage}
 use Rattle.bi_legacy.specs.Text.{IsLegacyImage}
-use Rattle.bi_norm.specs.Converting.{Conversion, conversions, keys_in, keys_of_type, image_name, code_name, later_images, images_of_parts}
+use Rattle.bi_norm.specs.Converting.{Conversion, keys_in, keys_of_type, image_name, code_name, later_images, images_of_parts}
 use Rattle.bi_norm.specs.Converting.{converted_images, ConvertedIsAccepted, head_of_image, ConvertedHasItsParts}
 
 -- The images of a legacy image can be built, and their tree has the parts as its payloads and a text that is accepted.
@@ -45,55 +45,13 @@ code_text (entry ∷ later) code each =
 
 -- Each name of the tables is a text.
 pub os_texts : AllByRecursion (λ (entry : CodeName). IsText entry.name) os_names
-os_texts = (
-  tested_text _ (tested_name _ refl),
-  (tested_text _ (tested_name _ refl), (tested_text _ (tested_name _ refl), (tested_text _ (tested_name _ refl), tt))),
-)
-
-pub type_texts : AllByRecursion (λ (entry : CodeName). IsText entry.name) type_names
-type_texts = (
-  tested_text _ (tested_name _ refl),
-  (
-    tested_text _ (tested_name _ refl),
-    (
-      tested_text _ (tested_name _ refl),
-      (
-        tested_text _ (tested_name _ refl),
-        (tested_text _ (tested_name _ refl), (tested_text _ (tested_name _ refl), (tested_text _ (tested_name _ refl), tt))),
-      ),
-    ),
-  ),
-)
+os_texts = search (rules, tested_text, tested_name)
 
 pub arch_texts : AllByRecursion (λ (entry : CodeName). IsText entry.name) arch_names
-arch_texts = (
-  tested_text _ (tested_name _ refl),
-  (
-    tested_text _ (tested_name _ refl),
-    (
-      tested_text _ (tested_name _ refl),
-      (
-        tested_text _ (tested_name _ refl),
-        (tested_text _ (tested_name _ refl), (tested_text _ (tested_name _ refl), (tested_text _ (tested_name _ refl), tt))),
-      ),
-    ),
-  ),
-)
+arch_texts = search (rules, tested_text, tested_name)
 
 pub compression_texts : AllByRecursion (λ (entry : CodeName). IsText entry.name) compression_names
-compression_texts = (
-  tested_text _ (tested_name _ refl),
-  (
-    tested_text _ (tested_name _ refl),
-    (
-      tested_text _ (tested_name _ refl),
-      (
-        tested_text _ (tested_name _ refl),
-        (tested_text _ (tested_name _ refl), (tested_text _ (tested_name _ refl), (tested_text _ (tested_name _ refl), tt))),
-      ),
-    ),
-  ),
-)
+compression_texts = search (rules, tested_text, tested_name)
 
 -- The name of an image node may be that of a child.
 name_is_child : (key : Key) → IsChildName (image_name key)
@@ -194,28 +152,10 @@ keys_distinct_in : (all : List Conversion) (image_type : ℕ) →
     AllByRecursion (λ (conversion : Conversion). AreDistinct (map image_name conversion.keys)) all →
     AreDistinct (map image_name (keys_in all image_type))
 keys_distinct_in [] image_type each = tt
-keys_distinct_in (conversion ∷ later) image_type each =
-    choice_distinct (conversion.image_type == image_type) conversion.keys (keys_in later image_type) each.0
-    (keys_distinct_in later image_type each.1)
+keys_distinct_in (conversion ∷ later) image_type each = search (rules, choice_distinct, keys_distinct_in later image_type each.1)
 
 keys_distinct : (image_type : ℕ) → AreDistinct (map image_name (keys_of_type image_type))
-keys_distinct image_type =
-    keys_distinct_in conversions image_type (
-      (tt, tt),
-      (
-        (tt, tt),
-        (
-          (tt, tt),
-          (
-            (
-              (other_bytes _ _ refl, (other_bytes _ _ refl, tt)),
-              ((other_bytes _ _ refl, tt), (tt, tt)),
-            ),
-            ((tt, tt), ((tt, tt), ((tt, tt), tt))),
-          ),
-        ),
-      ),
-    )
+keys_distinct image_type = search (rules, keys_distinct_in, other_bytes)
 
 -- The payload of an image to be built.
 abbrev payload_of : ImageSpecModel → Option (List ℕ)
@@ -244,11 +184,7 @@ all_good (image ∷ images) = (refl, all_good images)
 
 -- The images of a legacy image can be built.
 pub converted_can_be_built : (image : LegacyImage) → IsLegacyImage image → CanBeBuilt (head_of_image image) (converted_images image)
-converted_can_be_built image is = record {
-  description = record { bytes = is.name_bytes; no_zero = is.name.no_zero };
-  each = each_can image (keys_of_type image.image_type) image.parts is.parts_bytes;
-  distinct = images_distinct image (keys_of_type image.image_type) image.parts (keys_distinct image.image_type);
-}
+converted_can_be_built image is = search (rules, each_can, images_distinct, keys_distinct)
 
 -- The tree of a converted image has the parts as its payloads.
 pub converted_has_its_parts : ConvertedHasItsParts

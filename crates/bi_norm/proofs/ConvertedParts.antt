@@ -1,4 +1,4 @@
-use Rattle.std.proofs.Common.{◌≡◌, ◌<◌, ◌≤◌, ℕ, List, [], ◌∷◌, ◌++◌, length, map, get_or, refl, ap, sym, ◌∙◌, subst, append_assoc}
+use Rattle.std.proofs.Common.{◌≡◌, ◌<◌, ◌≤◌, ℕ, List, [], ◌∷◌, ◌++◌, length, map, get_or, refl, ap, sym, ◌∙◌, subst, append_assoc, rules}
 use Rattle.std.proofs.Common.{append-nil, zero, suc, false, arith}
 use Rattle.std.specs.Prelude.{◌==◌}
 use Rattle.std.proofs.lemmas.List.{map-append, length-map, length-append}
@@ -98,11 +98,7 @@ has_key images placed later parts most same few =
 all_parts : (images : List NamedImage) (next : NamedImage) (placed : PartModel) (later : List PartModel) (parts : List (List ℕ)) →
     part_of next ≡ placed.bytes → payloads_of_images images ++ map bytes_of_part (placed ∷ later) ≡ parts →
     payloads_of_images (more images next) ++ map bytes_of_part later ≡ parts
-all_parts images next placed later parts is same =
-    ap (λ l. l ++ map bytes_of_part later) (map-append part_of images (next ∷ []))
-    ∙ append_assoc (payloads_of_images images) (part_of next ∷ []) (map bytes_of_part later)
-    ∙ ap (λ part. payloads_of_images images ++ (part ∷ map bytes_of_part later)) is
-    ∙ same
+all_parts images next placed later parts is same = search (rules, map-append, append_assoc)
 
 -- No parts have no images.
 no_images : (image : LegacyImage) (keys : List Key) → [] ≡ images_of_parts image keys []
@@ -129,26 +125,15 @@ pub after_first : (image : LegacyImage) (keys : List Key) (images : List NamedIm
     (next : NamedImage) (d : Key) → IsPartWay image keys images (placed ∷ left) → length image.parts ≤ length keys → length images ≡ 0 →
     named_model next ≡ first_image image (get_or keys (length images) d) placed.bytes → part_of next ≡ placed.bytes →
     IsPartWay image keys (more images next) left
-after_first image keys images placed left next d way few none is part = record {
-  are_all = all_parts images next placed left image.parts part way.are_all;
-  are_images = converted_first image keys images next d none (omega (arith, key_of_next image keys images placed left way few))
-      (is ∙ ap (first_image image (get_or keys (length images) d)) (sym part));
-}
+after_first image keys images placed left next d way few none is part = search (rules, all_parts, converted_first, key_of_next)
 
 pub after_later : (image : LegacyImage) (keys : List Key) (images : List NamedImage) (placed : PartModel) (left : List PartModel)
     (next : NamedImage) (d : Key) → IsPartWay image keys images (placed ∷ left) → length image.parts ≤ length keys → 0 < length images →
     named_model next ≡ later_image image (get_or keys (length images) d) placed.bytes → part_of next ≡ placed.bytes →
     IsPartWay image keys (more images next) left
-after_later image keys images placed left next d way few some is part = record {
-  are_all = all_parts images next placed left image.parts part way.are_all;
-  are_images = converted_later image keys images next d some (key_of_next image keys images placed left way few) way.are_images
-      (is ∙ ap (later_image image (get_or keys (length images) d)) (sym part));
-}
+after_later image keys images placed left next d way few some is part = search (rules, all_parts, converted_later, key_of_next)
 
 -- At the end.
 pub ends : (image : LegacyImage) (keys : List Key) (images : List NamedImage) → keys ≡ keys_of_type image.image_type →
     IsPartWay image keys images [] → named_models images ≡ converted_images image
-ends image keys images same way =
-    way.are_images
-    ∙ ap (λ parts. images_of_parts image keys parts) (sym (append-nil (payloads_of_images images)) ∙ way.are_all)
-    ∙ ap (λ keys. images_of_parts image keys image.parts) same
+ends image keys images same way = search (rules, append-nil)

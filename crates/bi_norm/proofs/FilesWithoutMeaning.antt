@@ -1,8 +1,7 @@
-use Rattle.std.proofs.Common.{◌≡◌, ◌≢◌, ◌⊎◌, ℕ, ◌<◌, ◌≤◌, List, length, eqb, true, false, inl, inr, arith, refl, sym, ap, subst}
+use Rattle.std.proofs.Common.{◌≡◌, ◌≢◌, ◌⊎◌, ℕ, ◌<◌, ◌≤◌, List, length, inl, inr, arith, refl, sym, ap, subst, rules}
 use Rattle.std.proofs.lemmas.Bool.{cases_lt}
 use Rattle.std.proofs.lemmas.Bool.Decides.{eqb_tells}
 use Rattle.bi_base.specs.Reading.{too_large}
-use Rattle.bi_legacy.specs.File.{legacy_magic}
 use Rattle.bi_norm.specs.Converting.{IsFileConvertFault, NotLegacy}
 use Rattle.bi_norm.specs.Faults.{IsFileFault, OfLegacyImage, OfTree}
 use Rattle.bi_base.specs.declared.fault.Cause.TheVariants.{BadMagic}
@@ -10,7 +9,6 @@ use Rattle.bi_base.specs.declared.fault.Error.{Error}
 use Rattle.bi_base.specs.declared.fault.Error.TheVariants.{Refused, OutOfMemory, ReadFailed, WriteFailed}
 use Rattle.bi_base.specs.declared.fault.Fault.{Fault}
 use Rattle.bi_base.specs.Limits.{Limits}
-use Rattle.bi_base.specs.Cells.{u32_at}
 use Rattle.bi_blob.specs.BlobFaults.{HasNoFaultBeforeTree, InHeader}
 use Rattle.bi_fit.specs.ImageTree.{ImageTree}
 use Rattle.bi_fit.specs.File.{FitMeans}
@@ -31,21 +29,11 @@ use Rattle.bi_norm.specs.Reading.{IsBootImageReadError, NeedsMemory, ForTree}
 
 -- A number is at most another or not.
 nat_le_decided : (a b : ℕ) → (a ≤ b) ⊎ ¬ (a ≤ b)
-nat_le_decided a b = by (cases_lt b a) where
-  by : (b < a) ⊎ (a ≤ b) → (a ≤ b) ⊎ ¬ (a ≤ b)
-  by (inl less) = inr (λ most. omega (arith, less, most))
-  by (inr most) = inl most
+nat_le_decided a b = search (rules, cases_lt)
 
 -- A file begins as a legacy image or not.
 pub legacy_or_not : (file : List ℕ) → BeginsAs file Legacy ⊎ ¬ (BeginsAs file Legacy)
-legacy_or_not file = by (nat_le_decided 4 (length file)) (eqb_tells (u32_at file 0) legacy_magic) where
-  by : (4 ≤ length file) ⊎ ¬ (4 ≤ length file)
-      → ((eqb (u32_at file 0) legacy_magic ≡ true) × (u32_at file 0 ≡ legacy_magic))
-      ⊎ ((eqb (u32_at file 0) legacy_magic ≡ false) × (u32_at file 0 ≢ legacy_magic))
-      → BeginsAs file Legacy ⊎ ¬ (BeginsAs file Legacy)
-  by (inr short) magic = inr (λ begins. short begins.whole)
-  by (inl whole) (inl magic) = inl (record { whole = whole; magic = magic.1 })
-  by (inl whole) (inr other) = inr (λ begins. other.1 begins.magic)
+legacy_or_not file = search (rules, nat_le_decided, eqb_tells)
 
 -- A file that means a legacy image begins with its magic number.
 pub means_legacy : (limits : Limits) (file : List ℕ) (image : LegacyImage) → LegacyMeans limits file image → BeginsAs file Legacy
@@ -59,11 +47,7 @@ means_tree limits file tree means begins =
 
 -- The fault of a file that is too long.
 pub too_long_is_file_fault : (limits : Limits) (file : List ℕ) → limits.file < length file → IsFileFault limits file (too_large limits.file)
-too_long_is_file_fault limits file longer =
-    elim (legacy_or_not file) [
-      | inl begins ↦ OfLegacyImage begins (inl (λ short. omega (arith, longer, short), refl))
-      | inr other ↦ OfTree other (InBlob (InHeader (inl (λ short. omega (arith, longer, short), refl))))
-    ]
+too_long_is_file_fault limits file longer = grind (arith, legacy_or_not)
 
 -- It is not converted.
 pub too_long_is_not_converted : (limits : Limits) (file : List ℕ) → limits.file < length file →

@@ -1,5 +1,5 @@
 use Rattle.std.proofs.Common.{◌≡◌, ℕ, zero, suc, ◌+◌, ◌<◌, ◌≤◌, List, [], ◌∷◌, ◌++◌, map, take, drop, get_or, slice_get, length, Option}
-use Rattle.std.proofs.Common.{None, Some}
+use Rattle.std.proofs.Common.{None, Some, rules}
 use Rattle.std.proofs.Common.{refl, sym, ap, subst, ◌∙◌, inl, inr, arith}
 use Rattle.std.specs.Prelude.{unwrap_or}
 use Rattle.std.specs.List.{AllByRecursion}
@@ -11,14 +11,14 @@ use Rattle.bi_base.specs.declared.fault.Fault.{Fault}
 use Rattle.bi_base.specs.declared.fault.Cause.TheVariants.{DuplicateNode}
 use Rattle.bi_blob.specs.Tree.{IsNew}
 use Rattle.bi_fit.specs.declared.building.NamedImage.{NamedImage}
-use Rattle.bi_fit.specs.Building.{ImageSpecModel, IsImageSpec}
+use Rattle.bi_fit.specs.Building.{IsImageSpec}
 use Rattle.bi_fit.specs.NamedImages.{named_model, named_models}
 use Rattle.bi_norm.specs.declared.fit_building.ImageSpec.{ImageSpec}
 use Rattle.bi_norm.specs.declared.fit_building.ImageTexts.{ImageTexts}
 use Rattle.bi_norm.specs.FitBuilding.{ImageTextsModel, image_texts_model, texts_models, GivenImage, given_images, spec_model, BuildCheck}
 use Rattle.bi_norm.specs.FitBuilding.{HasFields, HasCodeNames, HasNewName, spec_checks, first_image_checks, names_of_specs}
 use Rattle.bi_norm.specs.BuildChecks.{AllPass, IsFirstFailure, at_index, given_image, fields_and_names}
-use Rattle.bi_norm.proofs.LeftChecks.{AreLeftChecks, all_checks_left, fails_first, left_after}
+use Rattle.bi_norm.proofs.LeftChecks.{AreLeftChecks, fails_first, left_after}
 
 -- If the images before one pass their checks, a fault of its fields, codes or name is the first of all, and otherwise the images after it
 -- decide.
@@ -78,13 +78,7 @@ found_texts (Some texts) = refl
 pub given_here : (texts : List (Option ImageTexts)) (images : List ImageSpec) (index : ℕ) (found : Option ImageTexts) →
     index < length images → found ≡ unwrap_or (slice_get texts index) None →
     given_image (get_or images index no_spec) found ≡ get_or (given_images (texts_models texts) images) index no_given
-given_here texts images index found within is =
-    let spec = get_or images index no_spec in
-    ap (given_image spec) is
-    ∙ ap (λ (texts : Option ImageTextsModel). record { spec = spec; texts = texts })
-    (sym (found_texts (slice_get texts index))
-    ∙ ap (λ o. unwrap_or o None) (sym (slice_get-map (option_map image_texts_model) texts index)))
-    ∙ sym (given_at (texts_models texts) images index within)
+given_here texts images index found within is = search (rules, found_texts, slice_get-map, given_at)
 
 -- ---- the checks from one image on
 
@@ -98,14 +92,6 @@ pub record ArePassedTo (images : List GivenImage) (index : ℕ) : Type 0 where
   pub can : AllByRecursion (λ image. IsImageSpec (spec_model image)) (drop index images) →
       AllByRecursion (λ image. IsImageSpec (spec_model image)) images
   pub first : 0 < index → AllPass (first_image_checks images)
-
--- None was made.
-pub passed_none : (images : List GivenImage) → ArePassedTo images 0
-passed_none images = record {
-  left = all_checks_left (spec_checks 0 [] images);
-  can = λ all. all;
-  first = λ some. absurd (omega (arith, some));
-}
 
 -- The checks of an image that look at no other, if it is the first.
 first_fine : (images : List GivenImage) (index : ℕ) (d : GivenImage) → index < length images → index ≡ 0 →
@@ -134,9 +120,7 @@ module _ (images : List GivenImage) (index : ℕ) (d : GivenImage) (within : ind
       HasFields at ∷ HasCodeNames at ∷ HasNewName at ∷ []
 
   first_checks : checks_from images index ≡ own_checks ++ checks_from images (index + 1)
-  first_checks =
-      ap (spec_checks index (names_of_given (take index images))) (drop_more images index d within)
-      ∙ ap (λ names. own_checks ++ spec_checks (index + 1) names (drop (index + 1) images)) (sym image_names_more)
+  first_checks = search (rules, drop_more, image_names_more)
 
   left : AreLeftChecks (spec_checks 0 [] images) (own_checks ++ checks_from images (index + 1))
   left = subst (AreLeftChecks (spec_checks 0 [] images)) first_checks passed.left
@@ -178,9 +162,7 @@ module _ (images : List GivenImage) (index : ℕ) (d : GivenImage) (within : ind
 
 -- After the last image none are left.
 pub passed_all : (images : List GivenImage) (index : ℕ) → length images ≤ index → AllPass (checks_from images index)
-passed_all images index past =
-    subst (λ left. AllPass (spec_checks index (names_of_given (take index images)) left))
-    (sym (drop_all index images past)) (λ limits form head plan all. tt)
+passed_all images index past = search (rules, left, drop_all)
 
 pub can_all : (images : List GivenImage) (index : ℕ) → length images ≤ index →
     AllByRecursion (λ image. IsImageSpec (spec_model image)) (drop index images)
@@ -191,8 +173,4 @@ pub named_more : (images : List GivenImage) (index : ℕ) (d : GivenImage) → i
     (named : List NamedImage) (next : NamedImage) →
     named_models named ≡ map spec_model (take index images) → named_model next ≡ spec_model (get_or images index d) →
     named_models (named ++ next ∷ []) ≡ map spec_model (take (index + 1) images)
-named_more images index d within named next same is =
-    map-append named_model named (next ∷ [])
-    ∙ ap (λ (l : List ImageSpecModel). l ++ (named_model next ∷ [])) same
-    ∙ ap (λ (model : ImageSpecModel). map spec_model (take index images) ++ (model ∷ [])) is
-    ∙ sym (ap (map spec_model) (take_more images index d within) ∙ map-append spec_model (take index images) (get_or images index d ∷ []))
+named_more images index d within named next same is = search (rules, map-append, take_more images index d within)

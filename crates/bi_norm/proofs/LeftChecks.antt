@@ -12,10 +12,6 @@ pub record AreLeftChecks (all left : List BuildCheck) : Type 0 where
   pub passes : AllPass left → AllPass all
   pub fails : (fault : Fault) → IsFirstFailure left fault → IsFirstFailure all fault
 
--- At first all are left.
-pub all_checks_left : (all : List BuildCheck) → AreLeftChecks all all
-all_checks_left all = record { passes = λ pass. pass; fails = λ fault first. first }
-
 -- A fault of the first that are left is that of all.
 pub fails_first : (all front left : List BuildCheck) (fault : Fault) → AreLeftChecks all (front ++ left) → IsFirstFailure front fault →
     IsFirstFailure all fault

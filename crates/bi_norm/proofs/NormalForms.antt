@@ -1,4 +1,4 @@
-use Rattle.std.proofs.Common.{◌≡◌, ◌≤◌, ◌⊎◌, ◌↔◌, ℕ, List, ◌∷◌, length, refl, sym, ap, subst, ◌∙◌, inl, inr, arith}
+use Rattle.std.proofs.Common.{◌≡◌, ◌≤◌, ◌⊎◌, ◌↔◌, ℕ, List, ◌∷◌, length, refl, sym, ap, subst, ◌∙◌, inl, inr, arith, rules}
 use Rattle.bi_base.specs.Cells.{cell, u32_at}
 use Rattle.bi_base.specs.Commands.{AppendFailed, WasRefused, SinkFailed}
 use Rattle.bi_base.specs.Limits.{Limits}
@@ -129,10 +129,7 @@ distinguishes_tree limits form file tree is short other_file (OfFit other) means
       (file_means_image_tree other_file other means.is_file) short).0 (sym same))),
   λ same. ap (normal_text form) same,
 )
-distinguishes_tree limits form file tree is short other_file (OfLegacy image) means = (
-  λ same. absurd (texts_differ form image tree same),
-  λ same. ap (normal_text form) same,
-)
+distinguishes_tree limits form file tree is short other_file (OfLegacy image) means = search (rules, texts_differ)
 
 -- The normal text of a flattened image tree is the normal form of a file that means it, if it is no longer than the limit.
 unfoldable pub normal_form_of_tree : (limits : Limits) (form : Form) (file : List ℕ) (tree : ImageTree) → FitMeans limits file tree →

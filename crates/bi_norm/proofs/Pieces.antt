@@ -1,4 +1,4 @@
-use Rattle.std.proofs.Common.{◌≡◌, ◌+◌, ◌<◌, ◌-◌, ◌≤◌, ℕ, List, [], ◌∷◌, ◌++◌, length, map, take, drop, get_or, sym, ap, ◌∙◌, arith}
+use Rattle.std.proofs.Common.{◌≡◌, ◌+◌, ◌<◌, ◌-◌, ◌≤◌, ℕ, List, [], ◌∷◌, ◌++◌, length, map, take, drop, get_or, sym, ap, ◌∙◌, arith, rules}
 use Rattle.std.proofs.Common.{add-one, append-nil}
 use Rattle.std.specs.List.{concat, sum, slice_range}
 use Rattle.std.proofs.Math.Seq.{take-add, drop-cons}
@@ -21,11 +21,7 @@ lengths_around lengths i within = sym (take-append-drop i lengths)
 -- The lengths of the pieces, and one more.
 pub lengths_more : (pieces : List (List ℕ)) (piece : List ℕ) (lengths : List ℕ) (i : ℕ) → i < length lengths →
     map length pieces ≡ take i lengths → length piece ≡ get_or lengths i 0 → map length (pieces ++ piece ∷ []) ≡ take (i + 1) lengths
-lengths_more pieces piece lengths i within same is =
-    map-append length pieces (piece ∷ [])
-    ∙ ap (λ l. l ++ (length piece ∷ [])) same
-    ∙ ap (λ n. take i lengths ++ (n ∷ [])) is
-    ∙ sym (take_more lengths i 0 within)
+lengths_more pieces piece lengths i within same is = search (rules, map-append, take_more)
 
 -- The pieces together, and one more.
 pub pieces_more : (pieces : List (List ℕ)) (input : List ℕ) (start end : ℕ) → start ≤ end → concat pieces ≡ take start input →

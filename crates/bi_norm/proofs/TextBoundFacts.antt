@@ -1,4 +1,4 @@
-use Rattle.std.proofs.Common.{◌≤◌, ◌<◌, ℕ, length, ap, subst, arith}
+use Rattle.std.proofs.Common.{◌≤◌, ◌<◌, ℕ, length, ap, subst, arith, rules}
 use Rattle.bi_blob.specs.Tree.{depth_of}
 use Rattle.bi_fit.specs.declared.form.Form.{Form}
 use Rattle.bi_fit.specs.declared.form.Form.TheVariants.{Embedded, External}
@@ -30,11 +30,7 @@ shared_means limit holds =
 
 shared_is_too_long : (limit : ℕ) (form : Form) → 1244 ≤ limit → limit < length (fit_text form (shared_tree shared_region))
     → IsTooLong (limited_to limit) form (shared_file 0 1000)
-shared_is_too_long limit form holds longer = record {
-  tree = shared_tree shared_region;
-  means = shared_means limit holds;
-  longer = longer;
-}
+shared_is_too_long limit form holds longer = search (rules, shared_means)
 
 -- It means nothing else, so no other text counts.
 shared_is_within : (limit : ℕ) (form : Form) → length (fit_text form (shared_tree shared_region)) ≤ limit
