@@ -1,5 +1,5 @@
 use Rattle.std.proofs.Common.{◌≡◌, ◌≢◌, ℕ, ◌+◌, ◌<◌, ◌≤◌, Bool, true, List, [], ◌∷◌, ◌++◌, length, IsTrue, ◌↔◌, refl, sym, subst, arith}
-use Rattle.std.proofs.Common.{inl, inr, ◌⊎◌}
+use Rattle.std.proofs.Common.{inl, inr, ◌⊎◌, rules}
 use Rattle.std.proofs.lemmas.Bool.{cases_lt}
 use Rattle.bi_base.proofs.ListMembers.{each-append, each-front, each-back}
 use Rattle.bi_blob.specs.Tree.{IsNew}
@@ -18,13 +18,7 @@ knows-none name depth is_new (node ∷ outer) less = (λ is. absurd (omega arith
 -- A name is new among children with one more if and only if it is new among these and differs from that one.
 new-push : (name child : List ℕ) (children : List (List ℕ)) (old new : Bool) → IsTrue old ↔ IsNew name children →
     IsTrue new ↔ ((old ≡ true) × (child ≢ name)) → IsTrue new ↔ IsNew name (children ++ child ∷ [])
-new-push name child children old new before after = (
-  λ is. each-append (λ other. other ≢ name) children (child ∷ []) (before.0 (after.0 is).0) ((after.0 is).1, tt),
-  λ each. after.1 (
-    before.1 (each-front (λ other. other ≢ name) children (child ∷ []) each),
-    (each-back (λ other. other ≢ name) children (child ∷ []) each).0,
-  ),
-)
+new-push name child children old new before after = search (rules, each-append, each-front, each-back)
 
 -- What is known where a node begins.
 pub knows-begun : (name child : List ℕ) (depth scan_depth : ℕ) (old new : Bool) (stage : Stage)

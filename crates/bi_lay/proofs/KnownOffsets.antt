@@ -1,6 +1,5 @@
-use Rattle.std.proofs.Common.{◌≡◌, ℕ, ◌<◌, Bool, true, false, List, [], ◌∷◌, ◌++◌, length, get_or, set, Option, Some, None, bytes_eq}
+use Rattle.std.proofs.Common.{◌≡◌, ℕ, ◌<◌, Bool, true, false, List, length, get_or, set, Option, Some, None, rules}
 use Rattle.std.proofs.Common.{refl, sym, ap, subst, ◌∙◌, eqb, Result, Ok, Err, OnOk, IfErr, true≢false}
-use Rattle.std.specs.Prelude.{◌||◌}
 use Rattle.std.proofs.lemmas.Grind.{get_or-set_at}
 use Rattle.std.proofs.lemmas.List.Folds.{list_any-append}
 use Rattle.std.proofs.lemmas.Bool.Decides.{Decides-eqb}
@@ -30,22 +29,7 @@ offset_among-added names name =
 -- A name that is found has the same offset after another was added.
 offset_among-stays : (names : List (List ℕ)) (name other : List ℕ) (offset : ℕ) → offset_among names name ≡ Some offset →
     offset_among (with_name names other) name ≡ Some offset
-offset_among-stays names name other offset found = by (is_among other names) refl
-  where
-    there : (offset ≡ saturated_usize (offset_in names name)) × (is_among name names ≡ true)
-    there = look_up-some names name offset found
-
-    by : (b : Bool) → is_among other names ≡ b → offset_among (with_name names other) name ≡ Some offset
-    by true is = rw is found
-    by false is =
-        rw is (
-        look_up-there (names ++ other ∷ []) name among-push
-        ∙ ap (λ n. Some (saturated_usize n)) (offset_in-stays names name other there.1)
-        ∙ ap Some (sym there.0)
-        )
-      where
-        among-push : is_among name (names ++ other ∷ []) ≡ true
-        among-push = list_any-append (λ one. bytes_eq one name) names (other ∷ []) ∙ ap (λ b. b || (bytes_eq other name || false)) there.1
+offset_among-stays names name other offset found = search (rules, look_up-some, look_up-there, offset_in-stays, list_any-append)
 
 -- Offsets that are known stay known after a use of any name.
 known-with_use : (names : NumberedNames) (name : List ℕ) (offsets : List (Option ℕ)) → AreKnownOffsets names offsets →
@@ -105,11 +89,4 @@ pub known-stored : (names : NumberedNames) (offsets : List (Option ℕ)) (number
     AreKnownOffsets names offsets → new ≡ with_name names.in_block (name_numbered names.by_number number) →
     offset ≡ saturated_usize (offset_in new (name_numbered names.by_number number)) →
     AreKnownOffsets (record names { in_block = new }) (set offsets number (Some offset))
-known-stored names offsets number offset new within known is is_offset =
-    known-set (record names { in_block = new }) offsets number offset within
-    (subst (λ l. AreKnownOffsets (record names { in_block = l }) offsets) (sym is)
-    (known-with_use names (name_numbered names.by_number number) offsets known))
-    (subst (λ l. offset_among l (name_numbered names.by_number number)
-    ≡ Some (saturated_usize (offset_in l (name_numbered names.by_number number))))
-    (sym is) (offset_among-added names.in_block (name_numbered names.by_number number))
-    ∙ ap Some (sym is_offset))
+known-stored names offsets number offset new within known is is_offset = search (rules, known-set, known-with_use, offset_among-added)

@@ -1,4 +1,4 @@
-use Rattle.std.proofs.Common.{◌≡◌, ℕ, List, ◌++◌, subst, Result}
+use Rattle.std.proofs.Common.{◌≡◌, ℕ, List, ◌++◌, Result, rules}
 use Rattle.bi_base.specs.Sinks.{AppendsInTurn, FailsAfter, FailsBefore, Wrote}
 use Rattle.bi_base.specs.declared.fault.Error.{Error}
 use Rattle.bi_base.proofs.SinkLaws.{wrote_after}
@@ -11,20 +11,13 @@ module _ {S : Type 0} (appends : S → List ℕ → S → Type 0) (fails : S →
     (first second third whole : List ℕ) (is_whole : (first ++ second) ++ third ≡ whole) where
   -- The first call fails.
   pub first_fails : (old new : S) (error : Error) → fails old first new error → fails old whole new error
-  first_fails old new error failed =
-      subst (λ bytes. fails old bytes new error) is_whole
-      (before old new (first ++ second) third error (before old new first second error failed))
+  first_fails old new error failed = search rules
 
   -- The second call fails.
   pub second_fails : (old mid new : S) (error : Error) → appends old first mid → fails mid second new error → fails old whole new error
-  second_fails old mid new error appended failed =
-      subst (λ bytes. fails old bytes new error) is_whole
-      (before old new (first ++ second) third error (after old mid new first second error appended failed))
+  second_fails old mid new error appended failed = search rules
 
   -- The third call is made.
   pub third_writes : {V : Type 0} (old mid last new : S) (result : Result V Error) → appends old first mid → appends mid second last →
       Wrote appends fails last third result new → Wrote appends fails old whole result new
-  third_writes old mid last new result one two wrote =
-      subst (λ bytes. Wrote appends fails old bytes result new) is_whole
-      (wrote_after appends fails in_turn after old last new (first ++ second) third result
-      (in_turn old mid last first second one two) wrote)
+  third_writes old mid last new result one two wrote = search (rules, wrote_after)

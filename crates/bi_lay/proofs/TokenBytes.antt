@@ -1,4 +1,4 @@
-use Rattle.std.proofs.Common.{◌≡◌, ℕ, ◌+◌, ◌-◌, ◌/◌, ◌%◌, ◌^◌, List, [], ◌∷◌, ◌++◌, length, replicate, flat_map, refl, sym, ap, ◌∙◌, arith}
+use Rattle.std.proofs.Common.{◌≡◌, ℕ, ◌+◌, ◌-◌, ◌%◌, ◌^◌, List, [], ◌∷◌, ◌++◌, length, replicate, flat_map, refl, ap, ◌∙◌, arith, rules}
 use Rattle.std.proofs.Common.{length-append}
 use Rattle.bi_base.specs.Cells.{cell, up4}
 use Rattle.bi_blob.specs.Tokens.{BeginNode, Prop, token_bytes}
@@ -10,26 +10,12 @@ use Rattle.bi_blob.proofs.Blobs.TreeTokens.{length-Prop}
 
 -- The token that begins a node: its number, the name with its zero byte, and the padding.
 pub begin_bytes : (name : List ℕ) → (cell 1 ++ (name ++ 0 ∷ [])) ++ padding_to 4 (length name + 5) ≡ encoding (BeginNode name)
-begin_bytes name = ap (λ n. (cell 1 ++ (name ++ 0 ∷ [])) ++ padding_to 4 n) (sym is_length) where
-  is_length : length (token_bytes (BeginNode name)) ≡ length name + 5
-  is_length = length-append (cell 1) (name ++ 0 ∷ []) ∙ omega (arith, length-cell 1, length-append name (0 ∷ []))
+begin_bytes name = search (rules, length-append, length-cell)
 
 -- A cell has the low 32 bits of a number.
 pub cell-low : (n : ℕ) → cell (n % 2 ^ 32) ≡ cell n
 unfolding cell
-cell-low n = λ j. first j ∷ second j ∷ third j ∷ fourth j ∷ []
-  where
-    first : n % 2 ^ 32 / 16777216 % 256 ≡ n / 16777216 % 256
-    first = omega arith
-
-    second : n % 2 ^ 32 / 65536 % 256 ≡ n / 65536 % 256
-    second = omega arith
-
-    third : n % 2 ^ 32 / 256 % 256 ≡ n / 256 % 256
-    third = omega arith
-
-    fourth : n % 2 ^ 32 % 256 ≡ n % 256
-    fourth = omega arith
+cell-low n = search rules
 
 -- The cells of a property and its value are its token without the padding.
 property_cells : (size offset : ℕ) (value : List ℕ) →

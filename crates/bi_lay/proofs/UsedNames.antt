@@ -1,4 +1,4 @@
-use Rattle.std.proofs.Common.{◌≡◌, ℕ, Bool, true, false, cond, List, [], ◌∷◌, ◌++◌, Contains, refl, sym, ap, ◌∙◌, true≢false}
+use Rattle.std.proofs.Common.{◌≡◌, ℕ, Bool, true, false, List, [], ◌∷◌, ◌++◌, Contains, refl, sym, ap, ◌∙◌, rules}
 use Rattle.std.specs.List.{AllByRecursion}
 use Rattle.std.proofs.lemmas.List.Elements.{Contains-push, Contains-append_left}
 use Rattle.bi_blob.specs.Tree.{Property}
@@ -16,28 +16,12 @@ use Rattle.bi_lay.proofs.NameOffsets.{offset_in-stays}
 
 -- A name is among the distinct names if and only if it is among the names.
 pub is_among-distinct : (names : List (List ℕ)) (name : List ℕ) → is_among name (distinct_names names) ≡ is_among name names
-is_among-distinct names name = by (is_among name names) refl (is_among name (distinct_names names)) refl
-  where
-    by : (p : Bool) → is_among name names ≡ p → (q : Bool) → is_among name (distinct_names names) ≡ q →
-        is_among name (distinct_names names) ≡ is_among name names
-    by true is true among = among ∙ sym is
-    by false is false among = among ∙ sym is
-    by true is false among =
-        absurd (true≢false (sym (found_among (distinct_names names) name
-        (distinct_names-all names name (among_found names name is))) ∙ among))
-    by false is true among =
-        absurd (true≢false (sym (found_among names name
-        (distinct_names-only names name (among_found (distinct_names names) name among))) ∙ is))
+is_among-distinct names name = search (rules, found_among, distinct_names-all, among_found, distinct_names-only)
 
 -- The names of events with one more property are those with its name.
 pub names-push : (events : List Event) (property : Property) →
     distinct_names (used_names (events ++ NodeProperty property ∷ [])) ≡ with_name (distinct_names (used_names events)) property.0
-names-push events property =
-    ap distinct_names (used_names-push events property) ∙ distinct_names-push names property.0
-    ∙ ap (λ b. cond b (distinct_names names) (distinct_names names ++ property.0 ∷ [])) (sym (is_among-distinct names property.0))
-  where
-    names : List (List ℕ)
-    names = used_names events
+names-push events property = search (rules, used_names-push, distinct_names-push, is_among-distinct)
 
 -- A name is among names with it.
 pub with_name-has : (names : List (List ℕ)) (name : List ℕ) → Contains (with_name names name) name
