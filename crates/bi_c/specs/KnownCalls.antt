@@ -27,7 +27,8 @@ use Rattle.bi_c.specs.Answers.{Answers, FillsBuffer, IsFailure, Sets}
 use Rattle.bi_c.specs.Arguments.{HasChanges, HasForm, HasLayout, checker_of}
 use Rattle.bi_c.specs.Calls.{HasKinds, IsCauseName, IsFailureOfTwo, IsKindNumber, IsNoCause, IsSame}
 use Rattle.bi_c.specs.Calls.{IsTextOnly, IsTextWithFlag}
-use Rattle.bi_c.specs.ConcernElements.{IsConcernElement, algorithm_in, concern_element, hash_name_in}
+use Rattle.bi_c.specs.ConcernElements.{IsConcernElement, algorithm_in}
+use Rattle.bi_c.specs.ConcernElements.{concern_element, hash_name_in}
 use Rattle.bi_c.specs.ConcernElements.{name_in}
 use Rattle.bi_c.specs.Extracting.{IsChosenAt, IsNamedOffset}
 use Rattle.bi_c.specs.Extracting.{IsOffset, IsPayloadOffset}

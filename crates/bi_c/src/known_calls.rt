@@ -1,9 +1,11 @@
 //! What calls return for small files and concerns. Each function does nothing: what it ensures is a
-//! fact about the definitions. One of them calls the function of a law, from which its facts follow.
+//! fact about the definitions. One of them calls the function of a law, from which its facts
+//! follow.
 
 ghost use Rattle.bi_c.specs.KnownCalls.{ConcernElementsAreKnown, ConcernTextsAreKnown};
 ghost use Rattle.bi_c.specs.KnownCalls.{OffsetsOfPayloadsAreKnown, CallNumbersAreKnown};
-ghost use Rattle.bi_c.specs.KnownCalls.{CallAnswersAreKnown, ArgumentBoundsAreKnown, PiecesAreKnown};
+ghost use Rattle.bi_c.specs.KnownCalls.{CallAnswersAreKnown, ArgumentBoundsAreKnown};
+ghost use Rattle.bi_c.specs.KnownCalls.{PiecesAreKnown};
 
 /// The element of a concern of each kind is known.
 pub fn concern_elements_are_known()
