@@ -4,6 +4,7 @@ pub mod CheckedFiles
 pub mod ComparedFiles
 pub mod ConcernFiles
 pub mod ElementFacts
+pub mod CallFacts
 pub mod ExtractedFiles
 pub mod FitElements
 pub mod FitFiles

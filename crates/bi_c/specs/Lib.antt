@@ -6,6 +6,7 @@ pub mod Extracting
 pub mod FitElements
 pub mod ImageElements
 pub mod KnownElements
+pub mod KnownCalls
 pub mod KnownNumbers
 pub mod KnownPaths
 pub mod LegacyElements

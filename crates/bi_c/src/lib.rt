@@ -16,6 +16,7 @@ mod fit;
 mod fit_building;
 mod images;
 mod kind;
+mod known_calls;
 mod known_elements;
 mod known_numbers;
 mod known_paths;

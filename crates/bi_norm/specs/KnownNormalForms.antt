@@ -72,7 +72,8 @@ pub record KeptOfNormalFormsIsKnown : Type 0 where
   pub external :
       IsNormaliseKept widest External (kept (Some 4096) 0) (three_aligned 4096 4096) three_external
   pub signed :
-      IsNormaliseKept widest Embedded (record (kept None 0) { signatures = 1 }) signed_file signed_file
+      IsNormaliseKept widest Embedded (record (kept None 0) { signatures = 1 })
+      signed_file signed_file
 
 -- Normalising the file in this form fails with these errors, and with no others.
 abbrev pub FailsNormalising : Limits → Form → List ℕ → (Error → Type 0) → Type 0

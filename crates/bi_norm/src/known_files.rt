@@ -102,8 +102,8 @@ pub fn normal_forms_are_known()
 }
 
 /// Normalising small files fails with known errors, and with no others: with one for a file that is
-/// refused, by running out of memory for one that is accepted, and with either if the normal text is
-/// longer than the limit.
+/// refused, by running out of memory for one that is accepted, and with either if the normal text
+/// is longer than the limit.
 pub fn normalise_errors_are_known()
     ensures { NormaliseErrorsAreKnown }
 {}

@@ -37,14 +37,15 @@ use Rattle.bootimg.specs.declared.failure.Failure.{Failure}
 
 -- ---- images in files
 
-file_was_read : (files : KnownFiles) (limits : Limits) (old new : Inputs) (image : List ℕ) (source : ImageSource) (name : Bor (List ℕ)) →
-    source ≡ File name → IsImageRead files limits old new image source → IsFileRead files limits name.now image old.steps new.steps
+pub file_was_read : (files : KnownFiles) (limits : Limits) (old new : Inputs) (image : List ℕ) (source : ImageSource)
+    (name : Bor (List ℕ)) → source ≡ File name → IsImageRead files limits old new image source →
+    IsFileRead files limits name.now image old.steps new.steps
 file_was_read files limits old new image source name is (InputRead read same) = absurd cc
 file_was_read files limits old new image source name is (FileRead other read same) =
     let names : other ≡ name = cc in
     subst (λ (n : Bor (List ℕ)). IsFileRead files limits n.now image old.steps new.steps) names read
 
-file_was_not_read : (files : KnownFiles) (limits : Limits) (old new : Inputs) (failure : Failure) (source : ImageSource)
+pub file_was_not_read : (files : KnownFiles) (limits : Limits) (old new : Inputs) (failure : Failure) (source : ImageSource)
     (name : Bor (List ℕ)) → source ≡ File name → IsImageNotRead files limits old new failure source →
     IsFileNotRead files limits name.now failure old.steps new.steps
 file_was_not_read files limits old new failure source name is (InputNotRead read same) = absurd cc
@@ -58,7 +59,7 @@ about : (name : List ℕ) (failure : Failure) (source : ImageSource) (work : Wor
 about name failure source work named failed = subst (FailsAbout name) (sym failed.outcome) named
 
 -- The steps if the first file is not opened.
-first_step : (new : Option (List FileStep)) (step : FileStep) → TookSteps (Some []) new (step ∷ []) →
+pub first_step : (new : Option (List FileStep)) (step : FileStep) → TookSteps (Some []) new (step ∷ []) →
     IfSome new (λ steps. steps ≡ step ∷ [])
 first_step None step took = tt
 first_step (Some after) step took =
@@ -66,7 +67,7 @@ first_step (Some after) step took =
     took.2 ∙ ap (λ before. before ++ step ∷ []) none
 
 -- The input of a file with known bytes.
-input_of_file : (remaining : Option (List ℕ)) (bytes input : List ℕ) → remaining ≡ Some bytes → IsInput remaining input → bytes ≡ input
+pub input_of_file : (remaining : Option (List ℕ)) (bytes input : List ℕ) → remaining ≡ Some bytes → IsInput remaining input → bytes ≡ input
 input_of_file remaining bytes input is has = subst (λ r. IsInput r input) is has
 
 -- ---- compare

@@ -27,4 +27,5 @@ pub mod FirstFailureFacts
 pub mod RunEnds
 pub mod InputFacts
 pub mod OrderFacts
+pub mod WorkFacts
 pub mod AllRuns

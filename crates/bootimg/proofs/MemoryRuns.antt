@@ -8,7 +8,7 @@ use Rattle.bootimg.proofs.LeftFiles.{run_leaves}
 
 -- What a run leaves of files whose steps are recorded.
 
-same_steps : (one other : List FileStep) → Some one ≡ Some other → one ≡ other
+pub same_steps : (one other : List FileStep) → Some one ≡ Some other → one ≡ other
 same_steps one other same = cc
 
 pub memory_run_leaves : (old new : KnownFiles) (old_steps new_steps : Option (List FileStep)) (arguments : List (List ℕ)) (run : Run)

@@ -28,9 +28,9 @@ use Rattle.bootimg.proofs.RequestFacts.{all_requests_are_known, file_is_named, f
 -- What whole command lines request, or why they request nothing, is known.
 
 -- The command that a command line names.
-named : (line name : List ℕ) (options : ArgMatches) → Gives (words_of_line line) name options → (wanted : List ℕ) →
+pub command_is : (line name : List ℕ) (options : ArgMatches) → Gives (words_of_line line) name options → (wanted : List ℕ) →
     option_map (λ (command : Text × List Row). command.0) (subcommand_of program_app (words_of_line line)) ≡ Some wanted → name ≡ wanted
-named line name options is wanted given =
+command_is line name options is wanted given =
     let same : Some name ≡ Some wanted =
     sym (ap (option_map (λ (command : Text × List Row). command.0)) is.given) ∙ given in
     cc
@@ -71,7 +71,7 @@ pub requests_are_known : RequestsAreKnown
 unfolding program_app clap_on_literals
 requests_are_known = record {
   list = λ request is.
-      let name = named list_line is.name is.options is.given (codes "list") refl in
+      let name = command_is list_line is.name is.options is.given (codes "list") refl in
       let gives = subst (λ n. Gives (words_of_line list_line) n is.options) name is.given in
       let limit : limit_of is.options ≡ codes "64" =
       value_is list_line (codes "list") is.options gives (codes "limit") (codes "2147483647") ∙ refl in
@@ -96,14 +96,14 @@ update_rejected : (line : List ℕ) →
     ((options : ArgMatches) → Gives (words_of_line line) (codes "update") options → (job : Job) → ¬ (IsJob (codes "update") options job)) →
     IsRejectedFor line NoChange
 update_rejected line name only none failure (NoJob other options is fails) =
-    let same = named line other options is (codes "update") name in
+    let same = command_is line other options is (codes "update") name in
     inl (only options (subst (λ n. Gives (words_of_line line) n options) same is) failure
     (subst (λ n. IsTaskFailure n options failure) same fails))
 update_rejected line name only none failure (NoLimits other options job is is_job bad) =
-    let same = named line other options is (codes "update") name in
+    let same = command_is line other options is (codes "update") name in
     absurd (none options (subst (λ n. Gives (words_of_line line) n options) same is) job (subst (λ n. IsJob n options job) same is_job))
 update_rejected line name only none failure (NotAll options is all fails) =
-    absurd (other_bytes (codes "extract") (codes "update") refl (named line (codes "extract") options is (codes "update") name))
+    absurd (other_bytes (codes "extract") (codes "update") refl (command_is line (codes "extract") options is (codes "update") name))
 update_rejected line name only none failure (NoMemory is) = inr is
 
 -- No job is an update without a change.
@@ -147,11 +147,11 @@ scan_rejected : IsRejectedFor (codes "scan --limit 1") BadValue
 unfolding program_app clap_on_literals
 scan_rejected failure (NoJob name options is fails) =
     inl (scan_failure options failure
-    (subst (λ n. IsTaskFailure n options failure) (named (codes "scan --limit 1") name options is (codes "scan") refl) fails))
+    (subst (λ n. IsTaskFailure n options failure) (command_is (codes "scan --limit 1") name options is (codes "scan") refl) fails))
 scan_rejected failure (NoLimits name options job is is_job bad) = inl bad.0
 scan_rejected failure (NotAll options is all fails) =
     absurd (other_bytes (codes "extract") (codes "scan") refl
-    (named (codes "scan --limit 1") (codes "extract") options is (codes "scan") refl))
+    (command_is (codes "scan --limit 1") (codes "extract") options is (codes "scan") refl))
 scan_rejected failure (NoMemory is) = inr is
 
 -- Each failure of `extract --all` but that of its own options is that of a bad value.
@@ -173,7 +173,7 @@ all_rejected : IsRejectedFor (codes "extract --all in") BadValue
 unfolding program_app clap_on_literals
 all_rejected failure (NoJob name options is fails) =
     let line = codes "extract --all in" in
-    let same = named line name options is (codes "extract") refl in
+    let same = command_is line name options is (codes "extract") refl in
     let gives = subst (λ n. Gives (words_of_line line) n options) same is in
     inl (all_failure options (flag_is line (codes "extract") options gives (codes "all") ∙ refl) failure
     (subst (λ n. IsTaskFailure n options failure) same fails))

@@ -22,3 +22,4 @@ pub mod KnownBuildRequests
 pub mod KnownRuns
 pub mod KnownInputs
 pub mod KnownOrders
+pub mod KnownWorks

@@ -11,6 +11,7 @@ mod failure;
 mod jobs;
 mod known_requests;
 mod known_runs;
+mod known_works;
 mod no_input;
 mod numbers;
 mod reports;

@@ -1,0 +1,5 @@
+use Rattle.bootimg.proofs.WorkFacts.{task_outputs_are_known}
+use Rattle.bootimg.proofs.known_works.task_outputs_are_known.Goals as goal
+
+pub returns : goal.returns
+returns c = task_outputs_are_known

@@ -1,0 +1,54 @@
+//! What tasks and jobs do with small files. Each function does nothing: what it ensures is a fact
+//! about the definitions.
+
+ghost use Rattle.bootimg.specs.KnownWorks.{TaskOutputsAreKnown, TaskFailuresAreKnown};
+ghost use Rattle.bootimg.specs.KnownWorks.{ExplainWorkIsKnown, ExplainRunsAreKnown};
+ghost use Rattle.bootimg.specs.KnownWorks.{ImageWorksAreKnown, OutputsInFilesAreKnown};
+ghost use Rattle.bootimg.specs.KnownWorks.{PartsOfFilesAreKnown, FitPlansAreKnown};
+ghost use Rattle.bootimg.specs.KnownWorks.{AllWorksAreKnown};
+
+/// The output and the answer of `normalise` and of `convert` for a kernel image are known, at an
+/// offset too, and so is the answer of `scan`.
+pub fn task_outputs_are_known()
+    ensures { TaskOutputsAreKnown }
+{}
+
+/// The failures of tasks for a file without a magic number, and those of calls, are known.
+pub fn task_failures_are_known()
+    ensures { TaskFailuresAreKnown }
+{}
+
+/// What `explain` writes for a cause is known, and why it fails.
+pub fn explain_work_is_known()
+    ensures { ExplainWorkIsKnown }
+{}
+
+/// A whole run of `explain` over plain streams is known.
+pub fn explain_runs_are_known()
+    ensures { ExplainRunsAreKnown }
+{}
+
+/// What `normalise` does with standard input, with a file and without one is known.
+pub fn image_works_are_known()
+    ensures { ImageWorksAreKnown }
+{}
+
+/// What `normalise` does with an output in a file is known, and how it fails.
+pub fn outputs_in_files_are_known()
+    ensures { OutputsInFilesAreKnown }
+{}
+
+/// The files of parts are read in their order, and known parts are made of them.
+pub fn parts_of_files_are_known()
+    ensures { PartsOfFilesAreKnown }
+{}
+
+/// The plan of a tree has the fields that the options give.
+pub fn fit_plans_are_known()
+    ensures { FitPlansAreKnown }
+{}
+
+/// `extract --all` without its file fails in a known way.
+pub fn all_works_are_known()
+    ensures { AllWorksAreKnown }
+{}
