@@ -76,18 +76,30 @@ legacy_listed parsed bytes =
     let count : Words = codes "parts" ∷ decimal (length image.parts) ∷ [] in
     let fields : List Words = (codes "kind" ∷ codes "legacy" ∷ []) ∷ field_words image in
     both (flat_map line fields) (flat_map line (code_words image) ++ (parts_lines image ++ line unused))
-    (ascii_lines fields
-    ((by_test (codes "kind") refl, (by_test (codes "legacy") refl, tt)),
-    ((by_test (codes "name") refl, (name_shown image.name bytes, tt)),
-    ((by_test (codes "time") refl, (decimal_shown image.time, tt)),
-    ((by_test (codes "load") refl, (address image.load, tt)),
-    ((by_test (codes "entry") refl, (address image.entry, tt)), tt))))))
+    (ascii_lines fields (
+      (by_test (codes "kind") refl, (by_test (codes "legacy") refl, tt)),
+      (
+        (by_test (codes "name") refl, (name_shown image.name bytes, tt)),
+        (
+          (by_test (codes "time") refl, (decimal_shown image.time, tt)),
+          (
+            (by_test (codes "load") refl, (address image.load, tt)),
+            ((by_test (codes "entry") refl, (address image.entry, tt)), tt),
+          ),
+        ),
+      ),
+    ))
     (both (flat_map line (code_words image)) (parts_lines image ++ line unused)
-    (ascii_lines (code_words image)
-    ((by_test (codes "os") refl, (code_named os_names refl image.os, tt)),
-    ((by_test (codes "arch") refl, (code_named arch_names refl image.arch, tt)),
-    ((by_test (codes "type") refl, (code_named type_names refl image.image_type, tt)),
-    ((by_test (codes "compression") refl, (code_named compression_names refl image.compression, tt)), tt)))))
+    (ascii_lines (code_words image) (
+      (by_test (codes "os") refl, (code_named os_names refl image.os, tt)),
+      (
+        (by_test (codes "arch") refl, (code_named arch_names refl image.arch, tt)),
+        (
+          (by_test (codes "type") refl, (code_named type_names refl image.image_type, tt)),
+          ((by_test (codes "compression") refl, (code_named compression_names refl image.compression, tt)), tt),
+        ),
+      ),
+    ))
     (both (parts_lines image) (line unused)
     (then count (part_lines 0 (placed_parts image)) (by_test (codes "parts") refl, (decimal_shown (length image.parts), tt))
     (parts_listed 0 (placed_parts image)))
