@@ -1,38 +1,30 @@
-use Rattle.std.proofs.Common.{◌≡◌, ◌≤◌, ◌<◌, ℕ, true, List, [], ◌∷◌, length, codes, ltb, refl, sym, ap, subst, ◌∙◌, true≢false, inl, inr}
+use Rattle.std.proofs.Common.{◌≡◌, ◌≤◌, ◌<◌, ℕ, List, [], ◌∷◌, length, codes, refl, sym, ap, subst, ◌∙◌, true≢false, inl, inr}
 use Rattle.std.proofs.Common.{lit≤, lit<, le_refl, lt_irrefl}
 use Rattle.std.specs.Borrow.{Bor}
-use Rattle.std.specs.List.{list_all}
 use Rattle.bi_base.specs.declared.fault.Error.TheVariants.{Refused}
-use Rattle.bi_base.specs.Checks.{HasNoFault}
 use Rattle.bi_base.specs.Limits.{widest}
 use Rattle.bi_base.specs.Reading.{too_large}
-use Rattle.bi_base.proofs.ByteLists.{bytes_by_test}
 use Rattle.bi_base.proofs.ListMembers.{Contains-first, Contains-others}
-use Rattle.bi_blob.proofs.CheckDecisions.{is_child_name, is_child_name_decides, is_new, is_new_decides, is_property_name, lacks_byte}
-use Rattle.bi_blob.proofs.CheckDecisions.{lacks_byte_decides, pass_by_test}
 use Rattle.bi_hash.specs.declared.algo.Algo.TheVariants.{Crc32, Sha1, Sha256, Sha512}
 use Rattle.bi_fit.specs.declared.form.Form.TheVariants.{Embedded}
-use Rattle.bi_fit.specs.Building.{CanBeBuilt, ImageSpecModel, IsImageSpec, IsText, built_tree, plan_by_types}
 use Rattle.bi_fit.specs.ImageTree.{ImageTree}
-use Rattle.bi_fit.specs.KnownBuilds.{known_head, known_images, known_kernel, known_ramdisk, known_text}
+use Rattle.bi_fit.specs.KnownBuilds.{known_text}
 use Rattle.bi_fit.specs.KnownFiles.{shared_file, shared_region, shared_tree}
-use Rattle.bi_fit.specs.Text.{fit_text}
 use Rattle.bi_fit.proofs.BuildFacts.{built_is_known}
-use Rattle.bi_fit.proofs.BuiltConfigurations.{by_types_is_plan}
 use Rattle.bi_fit.proofs.FileFacts.{shared_region_is_repeated}
 use Rattle.bi_fit.proofs.Meanings.{one_fit_meaning}
 use Rattle.bi_legacy.specs.KnownFaults.{limited_to}
-use Rattle.bi_norm.specs.FitBuilding.{BuildPasses, IsBuilt, build_fault, early_checks, plain_plan, spec_models, tree_of_images}
+use Rattle.bi_norm.specs.FitBuilding.{IsBuilt, plain_plan}
 use Rattle.bi_norm.specs.KnownBuildFaults.{head_like}
+use Rattle.bi_norm.specs.KnownBuiltTexts.{kernel_and_ramdisk}
 use Rattle.bi_norm.specs.Meaning.{Meaning, Means, OfFit, OfLegacy}
-use Rattle.bi_norm.proofs.BuildTests.{build_test, build_test_decides}
-use Rattle.bi_norm.proofs.BuiltTexts.{text_is_built}
+use Rattle.bi_norm.proofs.BuiltTextFacts.{built_text_is_known}
 use Rattle.bi_norm.proofs.TextBoundFacts.{shared_means}
 use Rattle.bi_common.specs.PayloadBounds.{IsOverPayloadBound, payloads_length}
 use Rattle.bi_report.specs.CheckedFiles.{HoldsTooMuch, IsCheckError}
 use Rattle.bi_report.specs.Checking.{nothing_allowed}
 use Rattle.bi_report.specs.CleanFiles.{HasStrongAlgorithm, IsBuiltClean, ProtectImages}
-use Rattle.bi_report.specs.KnownChecks.{BuiltTextIsKnown, PayloadBoundIsKnown, ProtectionIsKnown, kernel_and_ramdisk}
+use Rattle.bi_report.specs.KnownChecks.{BuiltCheckIsKnown, PayloadBoundIsKnown, ProtectionIsKnown}
 use Rattle.bi_report.proofs.CleanLaws.BuiltIsClean.{strong_passes}
 use Rattle.bi_report.proofs.CleanLaws.BuiltTextIsClean.{built_text_is_clean}
 
@@ -71,72 +63,19 @@ protection_is_known = record {
 
 -- ---- what is built
 
-text_by_test : (text : List ℕ) → list_all (λ byte. ltb byte 256) text ≡ true → lacks_byte 0 text ≡ true → IsText text
-text_by_test text bytes lacks = record { bytes = bytes_by_test text bytes; no_zero = (lacks_byte_decides 0 text).0 lacks }
-
-kernel_can : IsImageSpec known_kernel
-unfolding lacks_byte is_child_name is_property_name
-kernel_can = record {
-  is_name = (is_child_name_decides (codes "kernel-1")).0 refl;
-  name_bytes = bytes_by_test (codes "kernel-1") refl;
-  image_type = text_by_test (codes "kernel") refl refl;
-  arch = text_by_test (codes "arm") refl refl;
-  os = text_by_test (codes "linux") refl refl;
-  compression = text_by_test (codes "none") refl refl;
-  payload_bytes = bytes_by_test (codes "hello") refl;
-}
-
-ramdisk_can : IsImageSpec known_ramdisk
-unfolding lacks_byte is_child_name is_property_name
-ramdisk_can = record {
-  is_name = (is_child_name_decides (codes "ramdisk-1")).0 refl;
-  name_bytes = bytes_by_test (codes "ramdisk-1") refl;
-  image_type = text_by_test (codes "ramdisk") refl refl;
-  arch = text_by_test (codes "arm") refl refl;
-  os = text_by_test (codes "linux") refl refl;
-  compression = text_by_test (codes "none") refl refl;
-  payload_bytes = bytes_by_test (codes "abc") refl;
-}
-
-known_can : CanBeBuilt known_head known_images
-unfolding lacks_byte is_new
-known_can = record {
-  description = text_by_test (codes "k") refl refl;
-  each = (kernel_can, (ramdisk_can, tt));
-  distinct = ((is_new_decides (codes "kernel-1") (codes "ramdisk-1" ∷ [])).0 refl, (tt, tt));
-}
-
 known_short : length known_text ≤ 0x7fffffff
 known_short = subst (λ n. n ≤ 0x7fffffff) (sym built_is_known.is_length) (lit≤ tt)
 
 module _ (any : Bor (List ℕ)) where
-  same_images : known_images ≡ spec_models plain_plan (kernel_and_ramdisk any)
-  same_images = refl
-
-  same_tree : built_tree known_head (plan_by_types (Sha256 ∷ []) known_images) known_images
-      ≡ tree_of_images (head_like any (codes "k")) plain_plan (kernel_and_ramdisk any)
-  same_tree = ap (λ (images : List ImageSpecModel). built_tree known_head (plan_by_types (Sha256 ∷ []) images) images) same_images
-
-  passes : HasNoFault (BuildPasses widest Embedded (head_like any (codes "k")) plain_plan (kernel_and_ramdisk any))
-      (early_checks plain_plan (kernel_and_ramdisk any))
-  unfolding build_test lacks_byte is_new is_child_name is_property_name
-  passes = pass_by_test (BuildPasses widest Embedded (head_like any (codes "k")) plain_plan (kernel_and_ramdisk any))
-      (build_fault widest plain_plan)
-      (build_test widest Embedded (head_like any (codes "k")) plain_plan (kernel_and_ramdisk any))
-      (build_test_decides widest Embedded (head_like any (codes "k")) plain_plan (kernel_and_ramdisk any))
-      (early_checks plain_plan (kernel_and_ramdisk any)) refl
-
   is_built : IsBuilt widest Embedded (head_like any (codes "k")) (kernel_and_ramdisk any) known_text
-  is_built = text_is_built widest Embedded (head_like any (codes "k")) plain_plan (kernel_and_ramdisk any) passes known_can
-      (by_types_is_plan (Sha256 ∷ []) known_images (lit< tt)) (le_refl 0x7fffffff) known_text
-      (record { is_text = ap (fit_text Embedded) same_tree; short = known_short })
+  is_built = (built_text_is_known any known_text).1 refl
 
   checked : IsBuiltClean nothing_allowed widest (kernel_and_ramdisk any) (Sha256 ∷ []) known_text
   checked = built_text_is_clean nothing_allowed widest widest Embedded (head_like any (codes "k")) plain_plan (kernel_and_ramdisk any)
       known_text is_built (lit≤ tt) known_short (le_refl 0x7fffffff)
 
-pub built_text_is_known : BuiltTextIsKnown
-built_text_is_known any = record {
+pub built_check_is_known : BuiltCheckIsKnown
+built_check_is_known any = record {
   is_built = is_built any;
   is_clean = (checked any).is_clean.1 (inr strong_protects);
   error = (checked any).error;

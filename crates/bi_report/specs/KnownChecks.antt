@@ -1,4 +1,4 @@
-use Rattle.std.specs.Prelude.{◌≡◌, ℕ, true, List, [], ◌∷◌, None, codes}
+use Rattle.std.specs.Prelude.{◌≡◌, ℕ, true, List, [], ◌∷◌, codes}
 use Rattle.std.specs.Borrow.{Bor}
 use Rattle.bi_base.specs.declared.fault.Error.{Error}
 use Rattle.bi_base.specs.declared.fault.Error.TheVariants.{OutOfMemory, Refused}
@@ -9,9 +9,9 @@ use Rattle.bi_fit.specs.declared.form.Form.TheVariants.{Embedded}
 use Rattle.bi_fit.specs.KnownBuilds.{known_text}
 use Rattle.bi_fit.specs.KnownFiles.{shared_file}
 use Rattle.bi_legacy.specs.KnownFaults.{limited_to}
-use Rattle.bi_norm.specs.declared.fit_building.ImageSpec.{ImageSpec}
 use Rattle.bi_norm.specs.FitBuilding.{IsBuilt}
-use Rattle.bi_norm.specs.KnownBuildFaults.{head_like, kernel_like, slice_like}
+use Rattle.bi_norm.specs.KnownBuildFaults.{head_like}
+use Rattle.bi_norm.specs.KnownBuiltTexts.{kernel_and_ramdisk}
 use Rattle.bi_report.specs.CheckedFiles.{HoldsTooMuch, IsCheckError}
 use Rattle.bi_report.specs.Checking.{nothing_allowed}
 use Rattle.bi_report.specs.CleanFiles.{IsClean, ProtectImages}
@@ -19,20 +19,8 @@ use Rattle.bi_report.specs.CleanFiles.{IsClean, ProtectImages}
 -- Small image trees with what checking them finds: one that is built, and one whose payloads are too
 -- long together, by which a reader can judge the definitions.
 
--- The kernel `kernel-1` and the ramdisk `ramdisk-1`, wherever their slices are.
-abbrev pub kernel_and_ramdisk : Bor (List ℕ) → List ImageSpec
-kernel_and_ramdisk any =
-    record (kernel_like any (codes "kernel-1")) { payload = slice_like any (codes "hello") }
-    ∷ record (kernel_like any (codes "ramdisk-1")) {
-      image_type = 3;
-      load = None;
-      entry = None;
-      payload = slice_like any (codes "abc");
-    }
-    ∷ []
-
--- A text of 824 bytes is built of these images. It is clean, and checking it has no error but that
--- memory runs out.
+-- A text of 824 bytes is built of a kernel and a ramdisk. It is clean, and checking it has no error
+-- but that memory runs out.
 pub record IsBuiltText (any : Bor (List ℕ)) : Type 0 where
   pub is_built :
       IsBuilt widest Embedded (head_like any (codes "k")) (kernel_and_ramdisk any) known_text
@@ -40,8 +28,8 @@ pub record IsBuiltText (any : Bor (List ℕ)) : Type 0 where
   pub error : (error : Error) → IsCheckError widest known_text error → error ≡ OutOfMemory
 
 -- It is built so, wherever the slices of the arguments are.
-abbrev pub BuiltTextIsKnown : Type 0
-BuiltTextIsKnown = (any : Bor (List ℕ)) → IsBuiltText any
+abbrev pub BuiltCheckIsKnown : Type 0
+BuiltCheckIsKnown = (any : Bor (List ℕ)) → IsBuiltText any
 
 -- A strong algorithm protects images, alone or after a weak one. Weak algorithms alone, or none, do
 -- so only if that is allowed.

@@ -2,7 +2,7 @@
 //! nothing: what it ensures is a fact about the definitions. Some of them call the function of a
 //! law, from which their facts follow.
 
-ghost use Rattle.bi_report.specs.KnownChecks.{BuiltTextIsKnown, PayloadBoundIsKnown, ProtectionIsKnown};
+ghost use Rattle.bi_report.specs.KnownChecks.{BuiltCheckIsKnown, PayloadBoundIsKnown, ProtectionIsKnown};
 ghost use Rattle.bi_report.specs.KnownConcerns.{ConcernsAreKnown, StrongAlgorithmsAreKnown};
 ghost use Rattle.bi_report.specs.KnownConcerns.{TrailingBytesAreKnown, LegacyConcernsAreKnown};
 ghost use Rattle.bi_report.specs.KnownConcerns.{AllowedKindsAreKnown};
@@ -73,8 +73,8 @@ pub fn allowed_kinds_are_known()
 
 /// A small image tree with SHA-256 is built, and its text is clean: checking it can only run out of
 /// memory.
-pub fn built_text_is_known()
-    ensures { BuiltTextIsKnown }
+pub fn built_check_is_known()
+    ensures { BuiltCheckIsKnown }
 {}
 
 /// Some algorithms of hash nodes protect images, and others do so only if what is missing is

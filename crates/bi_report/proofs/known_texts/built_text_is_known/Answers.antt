@@ -1,5 +1,0 @@
-use Rattle.bi_report.proofs.CheckFacts.{built_text_is_known}
-use Rattle.bi_report.proofs.known_texts.built_text_is_known.Goals as goal
-
-pub returns : goal.returns
-returns c = built_text_is_known
