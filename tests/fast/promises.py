@@ -24,7 +24,7 @@ import re
 import sys
 
 sys.dont_write_bytecode = True
-from workspace import crates_of, files_of, read
+from workspace import crates_of, files_of, read, without_mutual
 
 FUNCTION = re.compile(r'^[ \t]*(?P<pub>pub(?:\(crate\))? )?(?P<export>extern "C" )?fn (?P<name>\w+)', re.M)
 BLOCK = re.compile(r"^(?:pub )?(?P<kind>impl|trait)\b(?P<head>[^{]*)\{.*?^\}", re.M | re.S)
@@ -142,7 +142,7 @@ class Crate:
                 self.exported.add(key)
 
     def read_definitions(self, path, module):
-        text = read(path)
+        text = without_mutual(read(path))
         uses, comment, name = uses_of(text), [], None
         for line in text.splitlines():
             match = DECLARATION.match(line)

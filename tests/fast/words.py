@@ -19,7 +19,7 @@ import sys
 from collections import defaultdict, namedtuple
 
 sys.dont_write_bytecode = True
-from workspace import crates_of, files_of, read
+from workspace import crates_of, files_of, read, without_mutual
 
 Definition = namedtuple("Definition", "crate part module name public kind statement first last path")
 PROOF_OF_FUNCTION = {"Answers", "Invariants", "Proof"}
@@ -43,7 +43,7 @@ def indent(line):
 
 def definitions_of(crate, part, module, path):
     """The definitions of a module, at its top or in a `module _` with parameters, which are then part of their statements."""
-    lines = read(path).splitlines()
+    lines = without_mutual(read(path)).splitlines()
     column, parameters = 0, ""
     i = 0
     while i < len(lines):

@@ -1,14 +1,28 @@
 """Reads the files of a workspace, for the other modules beside it."""
 
 import os
+import re
 
 # The parts of a crate, and how the names of their files end.
 PARTS = {"src": ".rt", "specs": ".antt", "proofs": ".antt"}
 
 
+MUTUAL = re.compile(r"^(abbrev |unfoldable )?mutual\n(?:(?:  .*)?\n)+", re.M)
+
+
 def read(path):
     with open(path, encoding="utf-8") as file:
         return file.read()
+
+
+def without_mutual(text):
+    """The text of a module, in which the members of each `mutual` block stand at the top, marked as the block is."""
+
+    def members(block):
+        lines = [line[2:] for line in block[0].split("\n")[1:]]
+        return "\n".join([""] + [re.sub(r"^((?:pub )?[^\s:()]+ :)", (block[1] or "") + r"\1", line) for line in lines])
+
+    return MUTUAL.sub(members, text)
 
 
 def crates_of(root):

@@ -2,6 +2,7 @@ use Rattle.std.proofs.Common.{◌≡◌, ℕ, ◌==◌, ◌||◌, Bool, true, fa
 use Rattle.std.proofs.Common.{arith}
 use Rattle.std.proofs.Common.{◌∙◌, ◌&&◌}
 use Rattle.std.proofs.lemmas.Bool.Decides.{nat_tests}
+use Rattle.std.specs.Fmt.{digits}
 use Rattle.bi_common.specs.JsonGrammar.{IsSpace, NoSpace, Space, is_space, IsStructural, is_unescaped, is_first_digit}
 use Rattle.bi_common.specs.JsonGrammar.{AreCharacters, NoCharacter, Unescaped, Escaped, ByNumber}
 use Rattle.bi_common.specs.JsonGrammar.{IsDigits, Digit, Digits, is_digit, IsInteger, Zero, OneDigit, FirstDigit}
@@ -9,8 +10,8 @@ use Rattle.bi_common.specs.JsonGrammar.{IsSign, NoMinus, Minus, IsFraction, NoFr
 use Rattle.bi_common.specs.JsonGrammar.{PlusOrMinus, IsJsonNumber, Quoted, IsJson}
 use Rattle.bi_common.specs.JsonGrammar.{IsJsonValue, Number, String, EmptyArray, Array, EmptyObject, Object, True, False, Null}
 use Rattle.bi_common.specs.JsonGrammar.{LastValue, NextValue, AreJsonMembers, LastMember, NextMember, IsJsonMember, Named}
-use Rattle.bi_common.specs.KnownJson.{JsonIsKnown, IsNoJson}
-use Rattle.bi_common.proofs.JsonLines.{plain_structural}
+use Rattle.bi_common.specs.KnownJson.{JsonIsKnown, JsonTextsAreKnown, IsNoJson}
+use Rattle.bi_common.proofs.JsonTexts.{plain_structural}
 
 -- These lemmas prove the known facts on JSON.
 
@@ -314,3 +315,8 @@ json_is_known = record {
   control_character = control_character;
   quote_inside = quote_inside;
 }
+
+-- Values have known texts.
+pub json_texts_are_known : JsonTextsAreKnown
+unfolding digits
+json_texts_are_known = record { values = refl; escaped = refl; before_first = refl; after_last = refl }

@@ -1,5 +1,5 @@
 use Rattle.std.proofs.Common.{◌≡◌, ℕ, suc, ◌==◌, ◌-◌, ◌≤◌, Bool, true, false, ◌&&◌, cond, List, [], ◌∷◌, ◌++◌, flat_map, length, map, take}
-use Rattle.std.proofs.Common.{nat_eq, refl, sym, ap, ◌∙◌, arith, append_assoc, rules}
+use Rattle.std.proofs.Common.{nat_eq, refl, sym, ap, ◌∙◌, arith, append_assoc}
 use Rattle.std.specs.List.{ends_with, join_with_byte, list_all}
 use Rattle.std.proofs.lemmas.Bool.{and_parts, eqb-true}
 use Rattle.bi_fit.specs.Judgement.{listed_names, with_byte}
@@ -7,7 +7,7 @@ use Rattle.bi_fit.proofs.NameLists.{ends_later}
 use Rattle.bi_common.specs.DescribedValues.{end_texts, quoted_byte, quoted_texts}
 use Rattle.bi_common.specs.ValueTexts.{is_printable, is_quotable, are_quotable_texts, escaped_byte, quoted_text, value_words}
 use Rattle.bi_common.specs.ValueTexts.{hexadecimal_digits}
-use Rattle.bi_common.proofs.FitLines.{joined_after}
+use Rattle.bi_common.proofs.JoinedWords.{joined_after}
 
 -- The words of a value are its texts in quotes if it is texts that can be quoted, and otherwise its bytes in hexadecimal digits.
 
@@ -15,7 +15,10 @@ use Rattle.bi_common.proofs.FitLines.{joined_after}
 pub before_last : (value : List ℕ) → 1 ≤ length value → ends_with nat_eq value (0 ∷ []) ≡ true →
     value ≡ take (length value - 1) value ++ 0 ∷ []
 before_last [] some ends = absurd (omega arith)
-before_last (byte ∷ []) some ends = search (rules, nat_eq, eqb-true, and_parts)
+before_last (byte ∷ []) some ends = ap (λ b. b ∷ []) (zero_byte byte ends)
+  where
+    zero_byte : (byte : ℕ) → ends_with nat_eq (byte ∷ []) (0 ∷ []) ≡ true → byte ≡ 0
+    zero_byte byte ends = sym (eqb-true 0 byte (and_parts (0 == byte) true ends).0)
 before_last (byte ∷ next ∷ later) some ends =
     let rest = before_last (next ∷ later) (omega arith) (sym (ends_later byte next later) ∙ ends) in
     let count : length (byte ∷ next ∷ later) - 1 ≡ suc (length (next ∷ later) - 1) = omega arith in
@@ -74,7 +77,9 @@ texts_decide : (bytes : List ℕ) →
     (ok_after (listed_names (bytes ++ 0 ∷ [])) ≡ end_texts true (bytes ++ 0 ∷ []))
     × (list_all is_quotable (listed_names (bytes ++ 0 ∷ [])) ≡ end_texts false (bytes ++ 0 ∷ []))
 texts_decide [] = (refl, refl)
-texts_decide (byte ∷ later) = search (rules, texts_more, texts_begin, texts_decide later)
+texts_decide (byte ∷ later) =
+    let rest = texts_decide later in
+    (texts_more byte later rest.0 rest.1 (byte == 0) refl, texts_begin byte later rest.0 (byte == 0) refl)
 
 -- What follows the first quote of texts.
 abbrev after_quote : List (List ℕ) → List ℕ
@@ -83,8 +88,19 @@ after_quote (first ∷ others) = (flat_map escaped_byte first ++ 34 ∷ []) ++ f
 
 quotes_more : (byte : ℕ) (later : List ℕ) → after_quote (listed_names (later ++ 0 ∷ [])) ≡ flat_map quoted_byte later ++ 34 ∷ []
     → (b : Bool) → byte == 0 ≡ b → after_quote (listed_names (byte ∷ (later ++ 0 ∷ []))) ≡ flat_map quoted_byte (byte ∷ later) ++ 34 ∷ []
-quotes_more byte later is true is_zero = search (rules, has_first_name later)
-quotes_more byte later is false other = search (rules, has_first_name later, append_assoc)
+quotes_more byte later is true is_zero =
+    let rest = has_first_name later in
+    rw (is_zero, rest.are) (ap (λ bytes. 34 ∷ 32 ∷ 34 ∷ bytes) (sym (ap after_quote rest.are) ∙ is))
+quotes_more byte later is false other =
+    let rest = has_first_name later in
+    rw other
+    (ap (λ names. after_quote (with_byte byte names)) rest.are
+    ∙ ap (λ bytes. bytes ++ flat_map (λ word. 32 ∷ word) (map quoted_text rest.others))
+    (append_assoc (escaped_byte byte) (flat_map escaped_byte rest.first) (34 ∷ []))
+    ∙ append_assoc (escaped_byte byte) (flat_map escaped_byte rest.first ++ 34 ∷ [])
+    (flat_map (λ word. 32 ∷ word) (map quoted_text rest.others))
+    ∙ ap (λ bytes. escaped_byte byte ++ bytes) (sym (ap after_quote rest.are) ∙ is)
+    ∙ sym (append_assoc (escaped_byte byte) (flat_map quoted_byte later) (34 ∷ [])))
 
 quotes : (bytes : List ℕ) → after_quote (listed_names (bytes ++ 0 ∷ [])) ≡ flat_map quoted_byte bytes ++ 34 ∷ []
 quotes [] = refl
@@ -127,19 +143,13 @@ words_of_texts (byte ∷ later) some texts =
     ∙ ap (λ v. join_with_byte 32 (map quoted_text (listed_names v))) is
     ∙ quoted_listed bytes
 
--- The words of any other value.
-pub words_of_bytes : (value : List ℕ) → 1 ≤ length value → are_quotable_texts value ≡ false →
-    join_with_byte 32 (value_words value) ≡ 48 ∷ 120 ∷ hexadecimal_digits value
-words_of_bytes [] some texts = absurd (omega arith)
-words_of_bytes (byte ∷ later) some texts = search rules
-
 -- The words of a value that is not empty: a first one and others.
 pub record SomeWords (value : List ℕ) : Type 0 where
   pub first : List ℕ
   pub others : List (List ℕ)
   pub are : value_words value ≡ first ∷ others
 
-words_of_one : (value : List ℕ) → 1 ≤ length value → (texts : Bool) → are_quotable_texts value ≡ texts → SomeWords value
+pub words_of_one : (value : List ℕ) → 1 ≤ length value → (texts : Bool) → are_quotable_texts value ≡ texts → SomeWords value
 words_of_one [] some texts is = absurd (omega arith)
 words_of_one (byte ∷ later) some false is = record {
   first = 48 ∷ 120 ∷ hexadecimal_digits (byte ∷ later);
@@ -156,8 +166,3 @@ words_of_one (byte ∷ later) some true is =
           ∙ ap (λ v. map quoted_text (listed_names v)) (before_last value some (ends_so value (ends_with nat_eq value (0 ∷ [])) refl is))
           ∙ ap (map quoted_text) names.are;
     }
-
--- All words for a value may replace one word after others.
-pub joined_words : (before last value : List ℕ) → 1 ≤ length value →
-    before ++ (32 ∷ (last ++ (32 ∷ join_with_byte 32 (value_words value)))) ≡ before ++ (32 ∷ join_with_byte 32 (last ∷ value_words value))
-joined_words before last value some = search (rules, words_of_one value some (are_quotable_texts value) refl)

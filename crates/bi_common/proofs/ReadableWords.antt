@@ -4,3 +4,4 @@ pub mod ShownNames
 pub mod QuotedValues
 pub mod WordLines
 pub mod Numbers
+pub mod Lines

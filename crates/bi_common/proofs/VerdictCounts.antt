@@ -1,11 +1,10 @@
 use Rattle.std.proofs.Common.{◌≡◌, ◌==◌, suc, ℕ, Option, ap₂, ◌+◌, ◌&&◌, Bool, true, false, List, [], ◌∷◌, ◌++◌, refl, sym, ap, ◌∙◌, arith}
-use Rattle.std.proofs.Common.{rules}
 use Rattle.std.specs.List.{list_all}
 use Rattle.std.proofs.Math.Dec.{eqb-suc-zero}
 use Rattle.bi_blob.specs.Lookups.{Sibling, siblings}
 use Rattle.bi_blob.specs.Tree.{FileNode}
 use Rattle.bi_fit.specs.Content.{ImageModel}
-use Rattle.bi_fit.specs.HashNodes.{file_hash, file_hashes, file_verdicts}
+use Rattle.bi_fit.specs.HashNodes.{file_hashes, file_verdicts}
 use Rattle.bi_fit.specs.Judgement.{CheckedHash}
 use Rattle.bi_fit.specs.Names.{is_hash_name}
 use Rattle.bi_hash.specs.declared.verdicts.Verdict.{Verdict}
@@ -24,7 +23,15 @@ same_counts one other a b c d e = rw (a, b, c, d, e) refl
 -- A hash node is counted before the later ones.
 pub counted_first : (counts : Counts) (hash : CheckedHash) (later : List CheckedHash) →
     plus_hashes counts (hash ∷ later) ≡ plus_hashes (one_more_verdict hash.verdict counts) later
-counted_first counts hash later = search (rules, same_counts)
+counted_first counts hash later = by hash.verdict refl
+  where
+    by : (verdict : Verdict) → hash.verdict ≡ verdict →
+        plus_hashes counts (hash ∷ later) ≡ plus_hashes (one_more_verdict verdict counts) later
+    by Good is = rw is (same_counts _ _ (omega arith) (omega arith) (omega arith) (omega arith) (omega arith))
+    by Bad is = rw is (same_counts _ _ (omega arith) (omega arith) (omega arith) (omega arith) (omega arith))
+    by UnknownAlgo is = rw is (same_counts _ _ (omega arith) (omega arith) (omega arith) (omega arith) (omega arith))
+    by NoPayload is = rw is (same_counts _ _ (omega arith) (omega arith) (omega arith) (omega arith) (omega arith))
+    by Malformed is = rw is (same_counts _ _ (omega arith) (omega arith) (omega arith) (omega arith) (omega arith))
 
 -- It is one more.
 pub total_first : (verdict : Verdict) (counts : Counts) → total (one_more_verdict verdict counts) ≡ total counts + 1
@@ -71,29 +78,38 @@ third_fails a d = ap (λ b. b && d) (last_fails a)
 pub good_counts : (hashes : List CheckedHash) →
     are_good (hash_counts hashes) ≡ list_all (λ (hash : CheckedHash). is_verdict Good hash.verdict) hashes
 good_counts [] = refl
-good_counts (hash ∷ later) = search (rules, not_zero, second_fails, third_fails, good_counts later)
+good_counts (hash ∷ later) = by hash.verdict refl (good_counts later)
+  where
+    good : CheckedHash → Bool
+    good other = is_verdict Good other.verdict
 
--- A child of an image node that is a hash node is counted,
-pub node_counted : (image : List ℕ) (payload : Option (List ℕ)) (entry : Sibling FileNode) (counts : Counts) (verdict : Verdict) →
-    is_hash_name entry.name ≡ true → verdict ≡ (file_hash image payload entry).verdict →
-    one_more_verdict verdict counts ≡ plus_hashes counts (file_hashes image payload (entry ∷ []))
-node_counted image payload entry counts verdict is judged = search (rules, counted_first, counted_none)
-
--- and any other is not.
-pub node_passed : (image : List ℕ) (payload : Option (List ℕ)) (entry : Sibling FileNode) (counts : Counts) →
-    is_hash_name entry.name ≡ false → counts ≡ plus_hashes counts (file_hashes image payload (entry ∷ []))
-node_passed image payload entry counts is = search (rules, counted_none)
+    by : (verdict : Verdict) → hash.verdict ≡ verdict → are_good (hash_counts later) ≡ list_all good later →
+        are_good (hash_counts (hash ∷ later)) ≡ list_all good (hash ∷ later)
+    by Good is rest = rw is rest
+    by Bad is rest = rw (is, not_zero) refl
+    by UnknownAlgo is rest = rw (is, not_zero) (second_fails _ _ _)
+    by NoPayload is rest = rw (is, not_zero) (third_fails _ _)
+    by Malformed is rest = rw (is, not_zero) (last_fails _)
 
 -- The hash nodes among the first child and the later ones.
 first_child : (image : List ℕ) (payload : Option (List ℕ)) (entry : Sibling FileNode) (later : List (Sibling FileNode)) →
     file_hashes image payload (entry ∷ later) ≡ file_hashes image payload (entry ∷ []) ++ file_hashes image payload later
-first_child image payload entry later = search rules
+first_child image payload entry later = by (is_hash_name entry.name) refl
+  where
+    by : (b : Bool) → is_hash_name entry.name ≡ b →
+        file_hashes image payload (entry ∷ later) ≡ file_hashes image payload (entry ∷ []) ++ file_hashes image payload later
+    by true is = rw is refl
+    by false is = rw is refl
 
 -- One more child is counted.
 pub one_child_counted : (image : List ℕ) (payload : Option (List ℕ)) (entry : Sibling FileNode) (left later : List (Sibling FileNode))
     (counts next all : Counts) → left ≡ entry ∷ later → next ≡ plus_hashes counts (file_hashes image payload (entry ∷ [])) →
     plus_hashes counts (file_hashes image payload left) ≡ all → plus_hashes next (file_hashes image payload later) ≡ all
-one_child_counted image payload entry left later counts next all is more so_far = search (rules, counted_before, first_child)
+one_child_counted image payload entry left later counts next all is more so_far =
+    ap (λ (c : Counts). plus_hashes c (file_hashes image payload later)) more
+    ∙ sym (counted_before counts (file_hashes image payload (entry ∷ [])) (file_hashes image payload later))
+    ∙ ap (plus_hashes counts) (sym (ap (file_hashes image payload) is ∙ first_child image payload entry later))
+    ∙ so_far
 
 -- The hash nodes of one more image are counted.
 pub one_image_counted : (entry : Sibling FileNode) (left later : List (Sibling FileNode)) (image : ImageModel)
@@ -108,7 +124,3 @@ one_image_counted entry left later image images others payload counts next all i
     ∙ sym (counted_before counts hashes (file_verdicts later others))
     ∙ ap (plus_hashes counts) (sym (ap₂ file_verdicts is are))
     ∙ so_far
-
--- Nothing is left to count.
-pub all_counted : (counts all : Counts) (left : List CheckedHash) → left ≡ [] → plus_hashes counts left ≡ all → counts ≡ all
-all_counted counts all left is so_far = sym (counted_none counts) ∙ ap (plus_hashes counts) (sym is) ∙ so_far

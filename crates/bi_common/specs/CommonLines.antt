@@ -1,14 +1,12 @@
-use Rattle.std.specs.Prelude.{ℕ, List, [], ◌∷◌, Option, None, Some, map, codes, unwrap_or}
+use Rattle.std.specs.Prelude.{ℕ, List, [], ◌∷◌, ◌++◌, Option, None, Some, map, codes, unwrap_or}
 use Rattle.bi_blob.specs.Blob.{Reservation}
 use Rattle.bi_legacy.specs.Codes.{CodeName, os_names, arch_names, type_names, compression_names}
 use Rattle.bi_legacy.specs.Codes.{name_of_code}
 use Rattle.bi_legacy.specs.Meaning.{LegacyImage}
 use Rattle.std.specs.Fmt.{decimal}
-use Rattle.bi_common.specs.Shown.{hexadecimal_64, shown_text, line, hexadecimal, Words}
-use Rattle.bi_common.specs.Json.{JsonText, Member, json_string, json_number, json_array}
-use Rattle.bi_common.specs.Json.{json_object}
-use Rattle.bi_common.specs.declared.format.Format.{Format}
-use Rattle.bi_common.specs.declared.format.Format.TheVariants.{Lines, Json}
+use Rattle.bi_common.specs.Json.{Json, Member, json_string, json_number, json_array, json_object}
+use Rattle.bi_common.specs.Lines.{Line, Field, Text, Name, Decimal, Hexadecimal, Hexadecimal64}
+use Rattle.bi_common.specs.Shown.{hexadecimal_64, shown_text}
 
 -- What listings and descriptions share: the lines and the JSON of a header and of memory
 -- reservations (profile of this project).
@@ -17,39 +15,52 @@ use Rattle.bi_common.specs.declared.format.Format.TheVariants.{Lines, Json}
 abbrev pub code_word : List CodeName → ℕ → List ℕ
 code_word names code = unwrap_or (name_of_code names code) (decimal code)
 
--- The lines of the name and the numbers of a legacy image.
-abbrev pub field_words : LegacyImage → List Words
-field_words image =
-    (codes "name" ∷ shown_text image.name ∷ [])
-    ∷ (codes "time" ∷ decimal image.time ∷ [])
-    ∷ (codes "load" ∷ hexadecimal image.load ∷ [])
-    ∷ (codes "entry" ∷ hexadecimal image.entry ∷ []) ∷ []
+-- This word, as a value.
+abbrev pub named_field : Option (List ℕ) → (code : ℕ) → Field
+named_field None code = Decimal code
+named_field (Some name) code = Text name
+
+-- The line for a code, by the list of the names of such codes.
+abbrev pub code_line : (key : List ℕ) → List CodeName → (code : ℕ) → Line
+code_line key names code = Text key ∷ named_field (name_of_code names code) code ∷ []
+
+-- The lines of the kind, the name and the numbers of a legacy image.
+abbrev pub header_field_lines : LegacyImage → List Line
+header_field_lines image =
+    (Text (codes "kind") ∷ Text (codes "legacy") ∷ [])
+    ∷ (Text (codes "name") ∷ Name image.name ∷ [])
+    ∷ (Text (codes "time") ∷ Decimal image.time ∷ [])
+    ∷ (Text (codes "load") ∷ Hexadecimal image.load ∷ [])
+    ∷ (Text (codes "entry") ∷ Hexadecimal image.entry ∷ []) ∷ []
 
 -- The lines of its codes.
-abbrev pub code_words : LegacyImage → List Words
-code_words image =
-    (codes "os" ∷ code_word os_names image.os ∷ [])
-    ∷ (codes "arch" ∷ code_word arch_names image.arch ∷ [])
-    ∷ (codes "type" ∷ code_word type_names image.image_type ∷ [])
-    ∷ (codes "compression" ∷ code_word compression_names image.compression ∷ []) ∷ []
+abbrev pub header_code_lines : LegacyImage → List Line
+header_code_lines image =
+    code_line (codes "os") os_names image.os
+    ∷ code_line (codes "arch") arch_names image.arch
+    ∷ code_line (codes "type") type_names image.image_type
+    ∷ code_line (codes "compression") compression_names image.compression ∷ []
+
+-- The lines for the kind and the fields of its header.
+abbrev pub header_lines : LegacyImage → List Line
+header_lines image = header_field_lines image ++ header_code_lines image
+
+-- The memory reservation of this address and this size.
+abbrev pub reservation_of : ℕ × ℕ → Reservation
+reservation_of numbers = record { address = numbers.0; size = numbers.1 }
 
 -- The line of a memory reservation.
-abbrev pub reservation_words : Reservation → Words
-reservation_words reservation =
-    codes "reservation" ∷ hexadecimal_64 reservation.address ∷ hexadecimal_64 reservation.size ∷ []
-
--- The line of a memory reservation.
-abbrev pub reservation_line : Reservation → List ℕ
+abbrev pub reservation_line : Reservation → Line
 reservation_line reservation =
-    line (codes "reservation" ∷ hexadecimal_64 reservation.address ∷ hexadecimal_64 reservation.size
-    ∷ [])
+    Text (codes "reservation") ∷ Hexadecimal64 reservation.address
+    ∷ Hexadecimal64 reservation.size ∷ []
 
 -- A member whose value is a name as it is printed.
 abbrev pub name_member : (member : List ℕ) → (name : List ℕ) → Member
 name_member member name = (member, json_string (shown_text name))
 
 -- A code by its name, or by its number if it has none.
-abbrev pub named_code : Option (List ℕ) → (code : ℕ) → JsonText
+abbrev pub named_code : Option (List ℕ) → (code : ℕ) → Json
 named_code None code = json_number code
 named_code (Some name) code = json_string name
 
@@ -71,7 +82,7 @@ header_members image =
     ∷ code_member (codes "compression") compression_names image.compression ∷ []
 
 -- A memory reservation.
-abbrev pub reservation_object : Reservation → JsonText
+abbrev pub reservation_object : Reservation → Json
 reservation_object reservation =
     json_object
     ((codes "address", json_string (hexadecimal_64 reservation.address))
@@ -81,8 +92,3 @@ reservation_object reservation =
 abbrev pub reservations_member : List Reservation → Member
 reservations_member reservations =
     (codes "reservations", json_array (map reservation_object reservations))
-
--- The text of a memory reservation.
-abbrev pub reservation_text : Format → Reservation → List ℕ
-reservation_text Lines reservation = reservation_line reservation
-reservation_text Json reservation = reservation_object reservation

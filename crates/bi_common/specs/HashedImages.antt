@@ -4,11 +4,11 @@ use Rattle.bi_blob.specs.Tree.{FileNode}
 use Rattle.bi_fdt.specs.Views.{node_of}
 use Rattle.bi_fit.specs.Content.{FitModel, ImageModel}
 use Rattle.bi_fdt.specs.declared.node.NodeRef.{NodeRef}
+use Rattle.bi_fit.specs.ImagesWithNodes.{models_left, nodes_left}
 use Rattle.bi_fit.specs.HashNodes.{file_hash, file_hashes, file_images, flat_map_pairs}
 use Rattle.bi_fit.specs.Judgement.{CheckedHash}
 use Rattle.bi_fit.specs.JudgementCalls.{checked_hash_of}
 use Rattle.bi_fit.specs.Names.{is_hash_name}
-use Rattle.bi_fit.specs.Siblings.{siblings_left}
 use Rattle.bi_fit.specs.declared.hashes.Checked.{Checked}
 use Rattle.bi_hash.specs.Regions.{bytes_of_region}
 use Rattle.bi_common.specs.declared.hash_nodes.HashNodes.{HashNodes}
@@ -81,4 +81,4 @@ image_value image = record {
 
 -- The images that are left, as the code has them.
 abbrev pub hashed_left : HashedImages → List HashedImage
-hashed_left left = hashed_images (siblings_left left.nodes) left.images
+hashed_left left = hashed_images (nodes_left left.images) (models_left left.images)

@@ -1,7 +1,6 @@
 use Rattle.std.specs.Prelude.{ℕ, ◌≡◌, ◌==◌, ◌&&◌, ◌||◌, Bool, true, nat_le, List, [], ◌∷◌, ◌++◌}
 use Rattle.std.specs.Prelude.{codes}
 use Rattle.std.specs.List.{list_all}
-use Rattle.bi_common.specs.Json.{json_line}
 
 -- The grammar of JSON (RFC 8259), rule by rule: `IsRule text rest` says that the text begins with
 -- what the rule describes, and that `rest` comes after it. The characters are those of ASCII, each
@@ -171,4 +170,4 @@ pub record IsJsonLine (text : List ℕ) : Type 0 where
   pub json : List ℕ
   pub is_json : IsJson json
   pub is_one_line : list_all (nat_le 0x20) json ≡ true
-  pub is_line : text ≡ json_line json
+  pub is_line : text ≡ json ++ 10 ∷ []

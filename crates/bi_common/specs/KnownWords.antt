@@ -1,6 +1,7 @@
-use Rattle.std.specs.Prelude.{◌≡◌, [], ◌∷◌, ◌++◌, codes, ℕ, List}
-use Rattle.std.specs.FinMap.{empty}
+use Rattle.std.specs.Prelude.{◌≡◌, [], ◌∷◌, ◌++◌, codes, ℕ, List, None, Some}
 use Rattle.bi_common.specs.ValueTexts.{value_words}
+use Rattle.bi_common.specs.Lines.{text_of_lines, Text, Name, Decimal, Hexadecimal, Hexadecimal64}
+use Rattle.bi_common.specs.Lines.{Digits, Path, Value, digits_or_dash, field_text, name_or_dash}
 use Rattle.bi_common.specs.Shown.{shown_text}
 
 -- Names and values as they are printed, by which a reader can judge the definitions.
@@ -23,6 +24,22 @@ pub record NamesAreShown : Type 0 where
 abbrev pub lines : List (List ℕ) → List ℕ
 lines [] = []
 lines (text ∷ later) = text ++ 10 ∷ lines later
+
+-- Lines of words are printed with a space between each two words, and a newline. An empty value has
+-- no word.
+pub record LinesAreShown : Type 0 where
+  pub line : text_of_lines
+      ((Text (codes "image") ∷ Name (codes "a b") ∷ Decimal 10 ∷ Hexadecimal 10 ∷ []) ∷ [])
+      ≡ codes "image a%20b 10 0x0000000a\n"
+  pub lines : text_of_lines ((Path [] ∷ []) ∷ (Path (codes "a" ∷ codes "b" ∷ []) ∷ []) ∷ [])
+      ≡ codes "/\n/a/b\n"
+  pub value : text_of_lines
+      ((Value (codes "x" ++ 0 ∷ codes "y" ++ 0 ∷ []) ∷ Digits (1 ∷ []) ∷ []) ∷ [])
+      ≡ codes "\"x\" \"y\" 01\n"
+  pub no_name : field_text (name_or_dash None) ≡ codes "-"
+  pub no_digits : field_text (digits_or_dash (Some [])) ≡ codes "-"
+  pub no_value : text_of_lines ((Text (codes "v") ∷ Value [] ∷ Hexadecimal64 10 ∷ []) ∷ [])
+      ≡ codes "v 0x000000000000000a\n"
 
 -- Values of properties as they are printed. A text is in quotes if it has a byte, if each of its
 -- bytes is one of 0x20 to 0x7e, and if a zero follows it.

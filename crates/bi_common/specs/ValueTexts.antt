@@ -1,6 +1,5 @@
 use Rattle.std.specs.Prelude.{ℕ, ◌==◌, ◌&&◌, ◌||◌, Bool, not, nat_le, nat_eq, List, [], ◌∷◌, ◌++◌}
-use Rattle.std.specs.Prelude.{codes, flat_map, map, bytes_eq, false, if◌then◌else◌, Option, None}
-use Rattle.std.specs.Prelude.{Some}
+use Rattle.std.specs.Prelude.{codes, flat_map, map, bytes_eq, false, if◌then◌else◌}
 use Rattle.std.specs.List.{ends_with, list_all}
 use Rattle.bi_fit.specs.Judgement.{listed_names}
 use Rattle.bi_common.specs.Shown.{digits_of_byte}
@@ -44,8 +43,3 @@ value_words value =
     if bytes_eq value [] then [] else
     if are_quotable_texts value then map quoted_text (listed_names value) else
     (codes "0x" ++ hexadecimal_digits value) ∷ []
-
--- A value in hexadecimal digits of lower case: `-` if it is empty or not there.
-abbrev pub value_word : Option (List ℕ) → List ℕ
-value_word None = codes "-"
-value_word (Some value) = if bytes_eq value [] then codes "-" else hexadecimal_digits value

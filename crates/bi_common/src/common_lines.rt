@@ -1,35 +1,35 @@
-//! Lines that listings and descriptions share.
+//! Lines and JSON that listings and descriptions share.
 
-ghost use Rattle.std.specs.Prelude.{◌≡◌, ◌∷◌, [], codes, false, flat_map, map, unwrap_or};
-ghost use Rattle.std.specs.List.{join_with_byte};
-ghost use Rattle.std.specs.Fmt.{decimal};
+ghost use Rattle.std.specs.Prelude.{◌≡◌, ◌<◌, [], get_or, length, map};
 ghost use Rattle.std.specs.Option.{option_map};
-ghost use Rattle.bi_base.specs.Sinks.{Wrote};
-ghost use Rattle.bi_blob.specs.Blob.{Reservation};
+ghost use Rattle.bi_blob.specs.Blob.{end_pair};
 ghost use Rattle.bi_legacy.specs.Meaning.{image_of};
-ghost use Rattle.bi_common.specs.CommonLines.{code_words, field_words, reservation_words};
-ghost use Rattle.bi_common.specs.Formats.{in_turn};
-ghost use Rattle.bi_common.specs.Json.{member_text};
-ghost use Rattle.bi_common.specs.JsonValues.{value_json};
-ghost use Rattle.bi_common.specs.CommonLines.{header_members, named_code, reservation_object};
-ghost use Rattle.bi_common.specs.CommonLines.{reservation_text};
-ghost use Rattle.bi_common.specs.Shown.{line};
-ghost use Rattle.bi_common.specs.Fields.{field_text};
+ghost use Rattle.bi_common.specs.CommonLines.{header_code_lines, header_field_lines, header_lines};
+ghost use Rattle.bi_common.specs.CommonLines.{header_members, named_code, named_field};
+ghost use Rattle.bi_common.specs.CommonLines.{reservation_line, reservation_object, reservation_of};
+ghost use Rattle.bi_common.specs.JsonTokens.{member_tokens, json_tokens, value_tokens};
+ghost use Rattle.bi_common.specs.LineTokens.{line_tokens, tokens_of_lines};
+ghost use Rattle.bi_common.specs.MadeFields.{value_json, field_of};
 
-use crate::fields::{Field, put_line, put_lines};
-use crate::format::Format;
-use crate::json::{JsonValue, put_comma, put_members, put_object};
-use bi_base::{Error, Sink};
+use crate::fields::Field;
+use crate::json_writer::{JsonPen, JsonValue, put_members, put_object};
+use crate::lines::{LinePen, put_line, put_lines};
 use bi_fdt::Blob;
 use bi_legacy::Fields;
 use bi_legacy::codes::{arch_name, compression_name, os_name, type_name};
 
-/// Appends the lines of the kind, the name and the numbers. Fails as the sink does.
-pub fn put_kind_and_fields<S: Sink>(fields: Fields, sink: &mut S) -> Result<(), Error>
-    ensures { let image = image_of fields.entry [] in
-        Wrote S.appends S.fails sink.old
-        (flat_map line ((codes "kind" ∷ codes "legacy" ∷ []) ∷ field_words image)) result
-        sink.new }
+/// Puts the lines of a legacy image for its kind and the fields of its header.
+pub fn put_header_lines<L: LinePen>(fields: Fields, pen: &mut L)
+    ensures { L.puts pen.old (tokens_of_lines (header_lines (image_of fields.entry []))) pen.new }
+{
+    put_field_lines(fields, pen);
+    put_code_lines(fields, pen);
+}
+
+/// Puts the lines of the kind, the name and the numbers.
+fn put_field_lines<L: LinePen>(fields: Fields, pen: &mut L)
+    ensures { L.puts pen.old (tokens_of_lines (header_field_lines (image_of fields.entry [])))
+        pen.new }
 {
     put_lines(
         &[
@@ -39,14 +39,14 @@ pub fn put_kind_and_fields<S: Sink>(fields: Fields, sink: &mut S) -> Result<(), 
             [Field::Text(b"load"), Field::Hexadecimal(fields.load)],
             [Field::Text(b"entry"), Field::Hexadecimal(fields.entry)],
         ],
-        sink,
-    )
+        pen,
+    );
 }
 
-/// Appends the lines of the codes. Fails as the sink does.
-pub fn put_codes<S: Sink>(fields: Fields, sink: &mut S) -> Result<(), Error>
-    ensures { let image = image_of fields.entry [] in
-        Wrote S.appends S.fails sink.old (flat_map line (code_words image)) result sink.new }
+/// Puts the lines of the codes.
+fn put_code_lines<L: LinePen>(fields: Fields, pen: &mut L)
+    ensures { L.puts pen.old (tokens_of_lines (header_code_lines (image_of fields.entry [])))
+        pen.new }
 {
     let os = code_word(os_name(fields.os), fields.os);
     let arch = code_word(arch_name(fields.arch), fields.arch);
@@ -59,14 +59,13 @@ pub fn put_codes<S: Sink>(fields: Fields, sink: &mut S) -> Result<(), Error>
             [Field::Text(b"type"), image_type],
             [Field::Text(b"compression"), compression],
         ],
-        sink,
-    )
+        pen,
+    );
 }
 
 /// Returns the word for a code: its name, or its number if it has none.
 fn code_word(name: Option<&'static str>, code: u8) -> Field<'static, 'static>
-    ensures { field_text result
-        ≡ unwrap_or (option_map (λ name. name.now) name.entry) (decimal code) }
+    ensures { field_of result ≡ named_field (option_map (λ name. name.now) name.entry) code }
 {
     match name {
         Some(name) => Field::Text(name.as_bytes()),
@@ -74,15 +73,13 @@ fn code_word(name: Option<&'static str>, code: u8) -> Field<'static, 'static>
     }
 }
 
-/// Appends the members for the fields of a header in JSON. Fails as the sink does.
-pub fn put_header_members<S: Sink>(fields: Fields, sink: &mut S) -> Result<(), Error>
-    ensures { let image = image_of fields.entry [] in
-        Wrote S.appends S.fails sink.old
-        (join_with_byte 44 (map member_text (header_members image))) result sink.new }
+/// Puts the members for the fields of a header.
+pub fn put_header_members<J: JsonPen>(fields: Fields, json: &mut J)
+    ensures { J.puts json.old (member_tokens (header_members (image_of fields.entry []))) json.new }
 {
     let members = [
-        ("kind", JsonValue::Text(b"legacy")),
-        ("name", JsonValue::Shown(fields.name)),
+        ("kind", JsonValue::String(Field::Text(b"legacy"))),
+        ("name", JsonValue::String(Field::Shown(fields.name))),
         ("time", JsonValue::Number(u64::from(fields.time))),
         ("load", JsonValue::Number(u64::from(fields.load))),
         ("entry", JsonValue::Number(u64::from(fields.entry))),
@@ -97,83 +94,70 @@ pub fn put_header_members<S: Sink>(fields: Fields, sink: &mut S) -> Result<(), E
             code_json(compression_name(fields.compression), fields.compression),
         ),
     ];
-    put_members(&members, sink)
+    put_members(&members, json);
 }
 
 /// Returns the value for a code in JSON: a string of its name, or its number if it has none.
-fn code_json(name: Option<&'static str>, code: u8) -> JsonValue<'static>
+fn code_json(name: Option<&'static str>, code: u8) -> JsonValue<'static, 'static>
     ensures { value_json result ≡ named_code (option_map (λ name. name.now) name.entry) code }
 {
     match name {
-        Some(name) => JsonValue::Text(name.as_bytes()),
+        Some(name) => JsonValue::String(Field::Text(name.as_bytes())),
         None => JsonValue::Number(u64::from(code)),
     }
 }
 
-/// Appends a line for each memory reservation. Fails as the sink does.
-pub fn put_reservation_lines<S: Sink>(blob: &Blob, sink: &mut S) -> Result<(), Error>
-    ensures { Wrote S.appends S.fails sink.old
-        (flat_map line (map reservation_words blob.now.reservations)) result sink.new }
-{
-    put_reservations(blob, Format::Lines, sink)
-}
-
-/// Appends each memory reservation, in a form. Fails as the sink does.
-pub fn put_reservations<S: Sink>(blob: &Blob, format: Format, sink: &mut S) -> Result<(), Error>
-    ensures { Wrote S.appends S.fails sink.old
-        (in_turn format false (map (reservation_text format) blob.now.reservations)) result
-        sink.new }
+/// Puts a line for each memory reservation.
+pub fn put_reservation_lines<L: LinePen>(blob: &Blob, pen: &mut L)
+    ensures { L.puts pen.old (tokens_of_lines (map reservation_line blob.now.reservations))
+        pen.new }
 {
     for index in 0..blob.reservation_count() {
-        if let Some((address, size)) = blob.reservation(index) {
-            put_reservation(address, size, format, index != 0, sink)?;
-        }
-    }
-    Ok(())
-}
-
-/// Appends a memory reservation, in a form. Fails as the sink does.
-fn put_reservation<S: Sink>(
-    address: u64,
-    size: u64,
-    format: Format,
-    is_later: bool,
-    sink: &mut S,
-) -> Result<(), Error>
-    ensures { let reservation : Reservation = record { address = address; size = size } in
-        Wrote S.appends S.fails sink.old
-        (in_turn format is_later (reservation_text format reservation ∷ [])) result sink.new }
-{
-    match format {
-        Format::Lines => put_reservation_line(address, size, sink),
-        Format::Json => {
-            put_comma(is_later, sink)?;
-            put_reservation_object(address, size, sink)
-        }
+        put_reservation_line(reservation_at(blob, index), pen);
     }
 }
 
-/// Appends the object of a memory reservation. Fails as the sink does.
-fn put_reservation_object<S: Sink>(address: u64, size: u64, sink: &mut S) -> Result<(), Error>
-    ensures { let reservation : Reservation = record { address = address; size = size } in
-        Wrote S.appends S.fails sink.old (reservation_object reservation) result sink.new }
+/// Returns the address and the size of a memory reservation. Requires: there is one at this index.
+fn reservation_at(blob: &Blob, index: usize) -> (u64, u64)
+    requires { index < length blob.now.reservations }
+    ensures { reservation_of result ≡ get_or blob.now.reservations index end_pair }
 {
+    blob.reservation(index).unwrap_or_default()
+}
+
+/// Puts the line of a memory reservation.
+fn put_reservation_line<L: LinePen>(numbers: (u64, u64), pen: &mut L)
+    ensures { L.puts pen.old (line_tokens (reservation_line (reservation_of numbers))) pen.new }
+{
+    let (address, size) = numbers;
+    put_line(
+        &[
+            Field::Text(b"reservation"),
+            Field::Hexadecimal64(address),
+            Field::Hexadecimal64(size),
+        ],
+        pen,
+    );
+}
+
+/// Puts an object for each memory reservation, as the values of an array.
+pub fn put_reservations<J: JsonPen>(blob: &Blob, json: &mut J)
+    ensures { J.puts json.old (value_tokens (map reservation_object blob.now.reservations))
+        json.new }
+{
+    for index in 0..blob.reservation_count() {
+        put_reservation_object(reservation_at(blob, index), json);
+    }
+}
+
+/// Puts the object of a memory reservation.
+fn put_reservation_object<J: JsonPen>(numbers: (u64, u64), json: &mut J)
+    ensures { J.puts json.old (json_tokens (reservation_object (reservation_of numbers))) json.new }
+{
+    let (address, size) = numbers;
     let members = [
-        ("address", JsonValue::Hexadecimal64(address)),
-        ("size", JsonValue::Hexadecimal64(size)),
+        ("address", JsonValue::String(Field::Hexadecimal64(address))),
+        ("size", JsonValue::String(Field::Hexadecimal64(size))),
     ];
-    put_object(&members, sink)
-}
-
-/// Appends the line of a memory reservation. Fails as the sink does.
-fn put_reservation_line<S: Sink>(address: u64, size: u64, sink: &mut S) -> Result<(), Error>
-    ensures { let reservation : Reservation = record { address = address; size = size } in
-        Wrote S.appends S.fails sink.old (line (reservation_words reservation)) result sink.new }
-{
-    let words = [
-        Field::Text(b"reservation"),
-        Field::Hexadecimal64(address),
-        Field::Hexadecimal64(size),
-    ];
-    put_line(&words, sink)
+    put_object(&members, json);
 }

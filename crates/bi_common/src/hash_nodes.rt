@@ -8,16 +8,17 @@ ghost use Rattle.bi_blob.specs.Lookups.{siblings, siblings_from};
 ghost use Rattle.bi_fdt.specs.Views.{node_of};
 ghost use Rattle.bi_fit.specs.Content.{AreAtTheirPlaces, IsAtItsPlace, image_model};
 ghost use Rattle.bi_fit.specs.HashNodes.{file_hash, file_hashes};
+ghost use Rattle.bi_fit.specs.ImagesWithNodes.{models_left};
 ghost use Rattle.bi_fit.specs.JudgementCalls.{checked_hash_of};
 ghost use Rattle.bi_fit.specs.Names.{is_hash_name};
 ghost use Rattle.bi_hash.specs.Regions.{IsRegionOf, bytes_of_region};
+ghost use Rattle.bi_common.specs.PlacedImages.{places-prop};
 
 use bi_base::text_before_nul;
 use bi_fdt::NodeRef;
-use bi_fit::nodes::Siblings;
+use bi_fit::nodes::ImagesWithNodes;
 use bi_fit::{Checked, Fit, Image};
 use bi_hash::{Region, RegionDigests};
-use std::marker::Model;
 
 /// The hash nodes that are left of an image, with the verdicts on them, in their order in the file.
 /// Each verdict is found when the iterator comes to it, by digests that are kept.
@@ -151,54 +152,13 @@ pub struct HashedImage<'a, 'b> {
     pub hashes: HashNodes<'a, 'b>,
 }
 
-/// Images whose payloads are regions of the file of these digests. Contracts see them as a list of
-/// images.
-#[derive(Drop)]
-struct PlacedImages<'a, 'b> {
-    images: &'b [Image<'a>],
-    digests: &'b RegionDigests<'a>,
-}
-
-impl<'a, 'b> Model for PlacedImages<'a, 'b> {
-    ghost use Rattle.std.specs.Prelude.{List, map};
-    ghost use Rattle.bi_fit.specs.Content.{AreAtTheirPlaces, ImageModel, image_model};
-
-    ghost Value = { List ImageModel };
-
-    ghost view = { λ placed. map image_model placed.images.now };
-
-    ghost invariant = { λ placed. AreAtTheirPlaces placed.digests.now
-        (map image_model placed.images.now) };
-}
-
-impl<'a, 'b> PlacedImages<'a, 'b> {
-    ghost use Rattle.std.specs.Prelude.{◌∷◌, [], MatchOption};
-    ghost use Rattle.bi_fit.specs.Content.{ImageModel};
-    ghost use Rattle.bi_common.specs.HashedImages.{hashed_image, image_value};
-
-    /// Takes the first image, which is that of this node. Returns None if none is left.
-    fn next_at(&mut self, node: NodeRef<'a, 'b>) -> Option<HashedImage<'a, 'b>>
-        ensures { MatchOption result ((self.old ≡ []) × (self.new ≡ []))
-            (λ first. (image : ImageModel) × (self.old ≡ image ∷ self.new)
-            × (image_value first ≡ hashed_image (node_of node.entry) image)) }
-    {
-        let [image, later @ ..] = self.images else {
-            return None;
-        };
-        self.images = later;
-        Some(HashedImage {
-            node,
-            payload: image.payload,
-            hashes: HashNodes::new(node, image, self.digests),
-        })
-    }
-}
-
 /// The images that are left of a flattened image tree, in their order in the file.
 #[derive(Drop)]
 pub struct HashedImages<'a, 'b> {
-    nodes: Siblings<'a, 'b>,
-    images: PlacedImages<'a, 'b>,
+    images: ImagesWithNodes<'a, 'b>,
+    digests: &'b RegionDigests<'a>,
+    // The payloads are regions of the file.
+    ghost placed: { AreAtTheirPlaces digests.now (models_left images) } by { places-prop _ _ },
 }
 
 impl<'a, 'b> HashedImages<'a, 'b> {
@@ -211,11 +171,8 @@ impl<'a, 'b> HashedImages<'a, 'b> {
         ensures { hashed_left result ≡ images_of_blob fit.entry.now }
     {
         HashedImages {
-            nodes: fit.image_nodes(),
-            images: PlacedImages {
-                images: fit.images(),
-                digests,
-            },
+            images: fit.images_with_nodes(),
+            digests,
         }
     }
 }
@@ -231,10 +188,11 @@ impl<'a, 'b> Iterator for HashedImages<'a, 'b> {
     ghost remaining = { item_count hashed_left };
 
     fn next(&mut self) -> Option<HashedImage<'a, 'b>> {
-        let node = self.nodes.next()?;
-        match self.images.next_at(node) {
-            Some(image) => Some(image),
-            None => None,
-        }
+        let (node, image) = self.images.next()?;
+        Some(HashedImage {
+            node,
+            payload: image.payload,
+            hashes: HashNodes::new(node, image, self.digests),
+        })
     }
 }

@@ -1,23 +1,31 @@
-use Rattle.std.proofs.Common.{◌≡◌, ◌≢◌, ◌↔◌, ◌⊎◌, ◌∙◌, ℕ, List, [], ◌∷◌, Bool, true, false, IsTrue, bytes_eq, rules}
-use Rattle.std.proofs.Common.{if◌then◌else◌, inl, inr, refl, sym, ap, subst}
+use Rattle.std.proofs.Common.{◌≡◌, ◌≢◌, ◌↔◌, ◌⊎◌, ◌∙◌, ◌++◌, ℕ, List, [], ◌∷◌, Bool, true, false, IsTrue, inl, inr, refl, sym, ap, subst}
+use Rattle.std.proofs.Common.{codes}
+use Rattle.std.proofs.Common.{arith, length, length-append, true≢false}
 use Rattle.bi_base.specs.declared.fault.Error.{Error}
 use Rattle.bi_base.specs.declared.fault.Error.TheVariants.{Refused, OutOfMemory as NoMemory, ReadFailed, WriteFailed}
 use Rattle.bi_base.specs.declared.fault.Fault.{Fault}
 use Rattle.bi_base.specs.Limits.{Limits}
+use Rattle.bi_fit.specs.Content.{FitModel, tree_of}
+use Rattle.bi_fit.specs.ImageTree.{ImageTree}
+use Rattle.bi_legacy.specs.Meaning.{LegacyImage}
+use Rattle.bi_legacy.specs.Reading.{LegacyModel}
 use Rattle.bi_norm.specs.declared.image.BootImage.{BootImage}
+use Rattle.bi_norm.specs.declared.image.BootImage.TheVariants.{Legacy, Fit}
 use Rattle.bi_norm.specs.Comparing.{AreCompared}
 use Rattle.bi_norm.specs.Meaning.{Meaning, OfLegacy, OfFit}
 use Rattle.bi_norm.specs.Reading.{IsBootImageReadError, NeedsMemory, meaning_of, IsReadBootImage}
 use Rattle.bi_norm.proofs.NormalForms.{needs_memory}
-use Rattle.bi_common.specs.declared.format.Format.TheVariants.{Lines, Json}
-use Rattle.bi_common.specs.Json.{json_line}
+use Rattle.bi_common.specs.declared.format.Format.{Format}
+use Rattle.bi_common.specs.declared.format.Format.TheVariants.{Lines}
 use Rattle.bi_describe.specs.declared.compare.CompareError.{CompareError}
 use Rattle.bi_describe.specs.declared.compare.CompareError.TheVariants.{OutOfMemory}
-use Rattle.bi_describe.specs.ComparisonJson.{comparison_object}
-use Rattle.bi_describe.specs.Comparing.{AreTheSame, AreDifferent, IsComparison, IsReadingError, IsDescribingError, IsComparisonError}
-use Rattle.bi_describe.specs.Comparing.{comparison, other_order_line, other_payloads_line}
-use Rattle.bi_describe.specs.Differences.{differences}
+use Rattle.bi_describe.specs.declared.compare.signed_lines.Sign.TheVariants.{Removed, Added}
+use Rattle.bi_describe.specs.Comparing.{AreTheSame, AreDifferent, IsComparison, IsComparisonOf, IsReadingError, IsDescribingError}
+use Rattle.bi_describe.specs.Comparing.{IsComparisonError, comparison, comparison_text, compared_description, differences_or_reason}
+use Rattle.bi_describe.specs.Comparing.{lines_or, reason}
+use Rattle.bi_describe.specs.Descriptions.{description}
 use Rattle.bi_describe.specs.Describing.{CanBeDescribed}
+use Rattle.bi_describe.specs.Differences.{SignedLine, differences, sign_text, signed_text, text_of_differences}
 use Rattle.bi_norm.proofs.Comparisons.{opened_means}
 
 -- Two files that were read have no differences if they mean the same, and otherwise those of their meanings. An error of reading or
@@ -84,68 +92,81 @@ pub error_of_other : (limits : Limits) (image other_image : BootImage) (error : 
 error_of_other limits image other_image error described (inl memory) = inl memory
 error_of_other limits image other_image error described (inr describing) = inr (describing (meaning_of image) described)
 
-false_is_not_true : IsTrue false → ⊥
-false_is_not_true is = cc
+-- What differs between two images of one kind.
+two_legacy : (one other : LegacyImage) → differences_or_reason (OfLegacy one) (OfLegacy other) ≡ comparison (OfLegacy one) (OfLegacy other)
+two_legacy one other = refl
+
+two_fit : (one other : ImageTree) → differences_or_reason (OfFit one) (OfFit other) ≡ comparison (OfFit one) (OfFit other)
+two_fit one other = refl
+
+of_two : (one other same same_other : Meaning) → one ≡ same → other ≡ same_other →
+    differences_or_reason same same_other ≡ comparison same same_other → differences_or_reason one other ≡ comparison one other
+of_two one other same same_other is other_is known = subst (λ one. differences_or_reason one other ≡ comparison one other) (sym is)
+    (subst (λ other. differences_or_reason same other ≡ comparison same other) (sym other_is) known)
+
+pub both_legacy : (image other : BootImage) (parsed other_parsed : LegacyModel) → image ≡ Legacy parsed → other ≡ Legacy other_parsed →
+    differences_or_reason (meaning_of image) (meaning_of other) ≡ comparison (meaning_of image) (meaning_of other)
+both_legacy image other parsed other_parsed is other_is = of_two (meaning_of image) (meaning_of other) (OfLegacy parsed.image)
+    (OfLegacy other_parsed.image) (ap meaning_of is) (ap meaning_of other_is) (two_legacy parsed.image other_parsed.image)
+
+pub both_fit : (image other : BootImage) (content other_content : FitModel) → image ≡ Fit content → other ≡ Fit other_content →
+    differences_or_reason (meaning_of image) (meaning_of other) ≡ comparison (meaning_of image) (meaning_of other)
+both_fit image other content other_content is other_is = of_two (meaning_of image) (meaning_of other) (OfFit (tree_of content))
+    (OfFit (tree_of other_content)) (ap meaning_of is) (ap meaning_of other_is) (two_fit (tree_of content) (tree_of other_content))
+
+-- The text of lines is not empty.
+some_text : (line : SignedLine) (later : List SignedLine) → text_of_differences (line ∷ later) ≢ []
+some_text line later empty = absurd (omega (
+  arith,
+  ap length empty,
+  length-append (signed_text line) (text_of_differences later),
+  length-append (sign_text line.sign) (line.text ++ 10 ∷ []),
+  length-append line.text (10 ∷ []),
+))
+
+some_or : (lines : List SignedLine) (line : SignedLine) → text_of_differences (lines_or lines line) ≢ []
+some_or [] line = some_text line []
+some_or (first ∷ later) line = some_text first later
 
 -- What differs is not nothing.
-not_empty : (differences reason : List ℕ) → reason ≢ [] → (if bytes_eq differences [] then reason else differences) ≢ []
-not_empty [] reason some = some
-not_empty (byte ∷ later) reason some = λ empty. cc
+some_comparison : (one other : Meaning) → text_of_differences (comparison one other) ≢ []
+some_comparison (OfLegacy one) (OfFit other) =
+    some_text (record { sign = Removed; text = codes "kind legacy" }) (record { sign = Added; text = codes "kind fit" } ∷ [])
+some_comparison (OfFit one) (OfLegacy other) =
+    some_text (record { sign = Removed; text = codes "kind fit" }) (record { sign = Added; text = codes "kind legacy" } ∷ [])
+some_comparison (OfLegacy one) (OfLegacy other) =
+    some_or (differences (compared_description (OfLegacy one)) (compared_description (OfLegacy other)))
+    (reason (description (OfLegacy one)) (description (OfLegacy other)))
+some_comparison (OfFit one) (OfFit other) =
+    some_or (differences (compared_description (OfFit one)) (compared_description (OfFit other)))
+    (reason (description (OfFit one)) (description (OfFit other)))
 
-reason_is_not_empty : (same_text : Bool) → (if same_text then other_payloads_line else other_order_line) ≢ []
-reason_is_not_empty true = λ empty. cc
-reason_is_not_empty false = λ empty. cc
+-- Two meanings that are the same have no differences.
+pub same_compared : (format : Format) (limits : Limits) (one other : Meaning) (text : List ℕ) → text ≡ comparison_text format true [] →
+    IsComparisonOf format limits one other true text
+same_compared format limits one other text is =
+    record { lines = []; differences = AreTheSame refl; empty = (λ empty. refl, λ is_same. refl); is_text = is }
 
-comparison_is_not_empty : (one other : Meaning) → comparison one other ≢ []
-comparison_is_not_empty (OfLegacy one) (OfFit other) = λ empty. cc
-comparison_is_not_empty (OfFit one) (OfLegacy other) = λ empty. cc
-comparison_is_not_empty (OfLegacy one) (OfLegacy other) = search (rules, not_empty, reason_is_not_empty)
-comparison_is_not_empty (OfFit one) (OfFit other) = search (rules, not_empty, reason_is_not_empty)
-
--- Two files that mean the same have no differences.
-pub compared_same : (limits : Limits) (one other : List ℕ) (image other_image : BootImage) (same : Bool) (text : List ℕ) →
-    IsReadBootImage limits one image → IsReadBootImage limits other other_image → IsTrue same ↔ (meaning_of image ≡ meaning_of other_image)
-    → same ≡ true → text ≡ [] → IsComparison Lines limits one other true text
-compared_same limits one other image other_image same text opened other_opened is is_true is_empty = record {
-  compared = are_compared limits one other image other_image true opened other_opened
-      (subst (λ b. IsTrue b ↔ (meaning_of image ≡ meaning_of other_image)) is_true is);
-  lines = text;
-  differences = AreTheSame is_empty;
-  empty = ((λ empty. refl), (λ is_same. is_empty));
-  is_text = refl;
-}
-
--- The differences of two files that do not mean the same.
-pub compared_different : (limits : Limits) (one other : List ℕ) (image other_image : BootImage) (same : Bool) (text : List ℕ) →
-    IsReadBootImage limits one image → IsReadBootImage limits other other_image → IsTrue same ↔ (meaning_of image ≡ meaning_of other_image)
-    → same ≡ false → CanBeDescribed Lines limits (meaning_of image) → CanBeDescribed Lines limits (meaning_of other_image) →
-    text ≡ comparison (meaning_of image) (meaning_of other_image) → IsComparison Lines limits one other false text
-compared_different limits one other image other_image same text opened other_opened is is_false described other_described is_text = record {
-  compared = are_compared limits one other image other_image false opened other_opened
-      (false_compared limits one other image other_image same opened other_opened is is_false);
-  lines = text;
-  differences = AreDifferent described other_described is_text;
+-- The differences of two meanings that are not the same.
+pub different_compared : (format : Format) (limits : Limits) (one other : Meaning) (text : List ℕ) (lines : List SignedLine) →
+    CanBeDescribed Lines limits one → CanBeDescribed Lines limits other → lines ≡ comparison one other →
+    text ≡ comparison_text format false lines → IsComparisonOf format limits one other false text
+different_compared format limits one other text lines described other_described is is_text = record {
+  lines = lines;
+  differences = AreDifferent described other_described is;
   empty = (
-    (λ empty. absurd (comparison_is_not_empty (meaning_of image) (meaning_of other_image) (sym is_text ∙ empty))),
-    (λ is_same. absurd (false_is_not_true is_same)),
+    (λ empty. absurd (some_comparison one other (ap text_of_differences (sym is) ∙ empty))),
+    (λ is_same. absurd (true≢false (sym is_same))),
   );
-  is_text = refl;
+  is_text = is_text;
 }
 
--- The JSON of a comparison.
-pub compared_in_json : (limits : Limits) (one other : List ℕ) (same : Bool) (lines text : List ℕ) →
-    IsComparison Lines limits one other same lines → text ≡ json_line (comparison_object same lines) →
-    IsComparison Json limits one other same text
-compared_in_json limits one other same lines text is json = record {
-  compared = is.compared;
-  lines = is.lines;
-  differences = is.differences;
-  empty = is.empty;
-  is_text = json ∙ ap (λ differences. json_line (comparison_object same differences)) is.is_text;
+-- What differs between two files that were read.
+pub files_compared : (format : Format) (limits : Limits) (one other : List ℕ) (image other_image : BootImage) (same known : Bool)
+    (text : List ℕ) → IsReadBootImage limits one image → IsReadBootImage limits other other_image →
+    IsTrue same ↔ (meaning_of image ≡ meaning_of other_image) → same ≡ known →
+    IsComparisonOf format limits (meaning_of image) (meaning_of other_image) known text → IsComparison format limits one other same text
+files_compared format limits one other image other_image same known text opened other_opened is is_known differs = record {
+  compared = are_compared limits one other image other_image same opened other_opened is;
+  differs = subst (λ b. IsComparisonOf format limits (meaning_of image) (meaning_of other_image) b text) (sym is_known) differs;
 }
-
--- Memory may run out after two files were compared.
-pub memory_after_comparing : (limits : Limits) (one other : List ℕ) (same : Bool) (text : List ℕ) (error : CompareError) →
-    IsComparison Lines limits one other same text → error ≡ OutOfMemory → IsComparisonError limits one other error
-memory_after_comparing limits one other same text error is memory =
-    subst (IsComparisonError limits one other) (sym memory) (inl (needs_memory limits one is.compared.meaning is.compared.means.means))

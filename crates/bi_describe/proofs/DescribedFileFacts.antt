@@ -1,4 +1,5 @@
-use Rattle.std.proofs.Common.{◌≡◌, ◌++◌, ◌↔◌, ◌≤◌, ◌<◌, ℕ, Bool, true, false, IsTrue, List, [], ◌∷◌, codes, length, None, refl, sym, ap, subst}
+use Rattle.std.proofs.Common.{◌≡◌, ◌++◌, ◌↔◌, ◌≤◌, ◌<◌, ℕ, Bool, true, false, IsTrue, List, [], ◌∷◌, codes, length, None, refl, sym, ap}
+use Rattle.std.proofs.Common.{subst}
 use Rattle.std.proofs.Common.{◌∙◌, rules}
 use Rattle.std.proofs.Common.{lit≤, true≢false, arith}
 use Rattle.std.specs.Fmt.{digits}
@@ -14,13 +15,16 @@ use Rattle.bi_norm.proofs.KindLaws.{one_file_meaning}
 use Rattle.bi_common.specs.declared.format.Format.{Format}
 use Rattle.bi_common.specs.declared.format.Format.TheVariants.{Lines}
 use Rattle.bi_common.specs.KnownWords.{lines}
+use Rattle.bi_common.specs.Lines.{Line, text_of_lines}
+use Rattle.bi_describe.specs.declared.compare.signed_lines.Sign.TheVariants as sign
+use Rattle.bi_describe.specs.Differences.{SignedLine}
 use Rattle.bi_describe.specs.Comparing.{AreDifferent, AreTheSame, IsComparison, comparison}
 use Rattle.bi_common.specs.PayloadBounds.{payloads_length}
 use Rattle.bi_describe.specs.DescriptionJson.{description_json}
-use Rattle.bi_describe.specs.Descriptions.{description, description_lines, description_texts}
+use Rattle.bi_describe.specs.Descriptions.{description_lines}
 use Rattle.bi_describe.specs.Describing.{CanBeDescribed}
 use Rattle.bi_describe.specs.KnownDescribedFiles.{ComparedTextsAreKnown, DescribedFilesAreKnown}
-use Rattle.bi_describe.proofs.DifferenceFacts.{lines_of_texts, written_as}
+use Rattle.bi_describe.proofs.DifferenceFacts.{comparison_as, image_lines, tree_with}
 
 -- Whole descriptions and comparisons of small files.
 
@@ -31,31 +35,23 @@ smallest_tree = plain_tree [] []
 abbrev bare_tree : ImageTree
 bare_tree = plain_tree (codes "a" ∷ []) (None ∷ [])
 
--- Their descriptions.
-abbrev smallest_lines : List (List ℕ)
-smallest_lines = codes "kind fit" ∷ codes "boot-cpu 0" ∷ codes "node /" ∷ codes "node /images" ∷ []
+-- Their lines.
+abbrev smallest_lines : List Line
+smallest_lines = tree_with [] [] []
 
-abbrev bare_lines : List (List ℕ)
-bare_lines =
-    codes "kind fit" ∷ codes "boot-cpu 0" ∷ codes "node /" ∷ codes "node /images" ∷ codes "node /images/a"
-    ∷ codes "payload /images/a none" ∷ []
+abbrev bare_lines : List Line
+bare_lines = tree_with [] [] (image_lines (codes "a"))
 
-smallest_texts : description_texts (OfFit smallest_tree) ≡ smallest_lines
-unfolding digits
-smallest_texts = rw no_entries refl
+smallest_are : description_lines (OfFit smallest_tree) ≡ smallest_lines
+smallest_are = rw no_entries refl
 
-bare_texts : description_texts (OfFit bare_tree) ≡ bare_lines
-unfolding digits
-bare_texts = rw no_entries refl
-
-description_of : (tree : ImageTree) (texts : List (List ℕ)) → description_texts (OfFit tree) ≡ texts →
-    description (OfFit tree) ≡ lines texts
-description_of tree texts are = lines_of_texts (description_lines (OfFit tree)) ∙ ap lines are
+bare_are : description_lines (OfFit bare_tree) ≡ bare_lines
+bare_are = rw no_entries refl
 
 -- They can be described.
-can_be : (tree : ImageTree) (texts : List (List ℕ)) → description_texts (OfFit tree) ≡ texts → length (lines texts) ≤ 0x7fffffff →
+can_be : (tree : ImageTree) (lines : List Line) → description_lines (OfFit tree) ≡ lines → length (text_of_lines lines) ≤ 0x7fffffff →
     ¬ (0x7fffffff < payloads_length tree.payloads) → CanBeDescribed Lines widest (OfFit tree)
-can_be tree texts are short few = search (rules, description_of)
+can_be tree lines are short few = search rules
 
 -- How many images a meaning has.
 abbrev images_in : Meaning → ℕ
@@ -93,47 +89,60 @@ module _ (one_legacy : OneLegacyMeaning) where
     is_same = (λ no. absurd (true≢false (sym no)), λ same. absurd (omega (arith, ap images_in same)));
   }
 
-  abbrev new_lines : List ℕ
-  new_lines = lines (codes "+node /images/a" ∷ codes "+payload /images/a none" ∷ [])
+  abbrev new_lines : List SignedLine
+  new_lines =
+      record { sign = sign.Added; text = codes "node /images/a" }
+      ∷ record { sign = sign.Added; text = codes "payload /images/a none" } ∷ []
 
   both_differ : new_lines ≡ comparison (OfFit smallest_tree) (OfFit bare_tree)
-  both_differ = sym (written_as smallest_tree bare_tree smallest_texts bare_texts ∙ refl)
+  unfolding digits
+  both_differ = sym (comparison_as smallest_tree bare_tree smallest_are bare_are ∙ refl)
 
   small : CanBeDescribed Lines widest (OfFit smallest_tree)
-  small = can_be smallest_tree smallest_lines smallest_texts (lit≤ tt) (λ over. omega (arith, over))
+  unfolding digits
+  small = can_be smallest_tree smallest_lines smallest_are (lit≤ tt) (λ over. omega (arith, over))
 
   bare : CanBeDescribed Lines widest (OfFit bare_tree)
-  bare = can_be bare_tree bare_lines bare_texts (lit≤ tt) (λ over. omega (arith, over))
+  unfolding digits
+  bare = can_be bare_tree bare_lines bare_are (lit≤ tt) (λ over. omega (arith, over))
 
   pub compared_texts_are_known : ComparedTextsAreKnown
   compared_texts_are_known = record {
     same = record {
       compared = are_same;
-      lines = [];
-      differences = AreTheSame refl;
-      empty = (λ _. refl, λ _. refl);
-      is_text = refl;
+      differs = record {
+        lines = [];
+        differences = AreTheSame refl;
+        empty = (λ _. refl, λ _. refl);
+        is_text = refl;
+      };
     };
     same_json = record {
       compared = are_same;
-      lines = [];
-      differences = AreTheSame refl;
-      empty = (λ _. refl, λ _. refl);
-      is_text = refl;
+      differs = record {
+        lines = [];
+        differences = AreTheSame refl;
+        empty = (λ _. refl, λ _. refl);
+        is_text = refl;
+      };
     };
     different = record {
       compared = are_different;
-      lines = new_lines;
-      differences = AreDifferent small bare both_differ;
-      empty = (λ none. absurd cc, λ no. absurd (true≢false (sym no)));
-      is_text = refl;
+      differs = record {
+        lines = new_lines;
+        differences = AreDifferent small bare both_differ;
+        empty = (λ none. absurd cc, λ no. absurd (true≢false (sym no)));
+        is_text = refl;
+      };
     };
     different_json = record {
       compared = are_different;
-      lines = new_lines;
-      differences = AreDifferent small bare both_differ;
-      empty = (λ none. absurd cc, λ no. absurd (true≢false (sym no)));
-      is_text = refl;
+      differs = record {
+        lines = new_lines;
+        differences = AreDifferent small bare both_differ;
+        empty = (λ none. absurd cc, λ no. absurd (true≢false (sym no)));
+        is_text = refl;
+      };
     };
     no_sign = refl;
     signs = refl;
@@ -147,12 +156,13 @@ module _ (one_legacy : OneLegacyMeaning) where
   json_is = rw no_entries refl
 
   pub described_files_are_known : DescribedFilesAreKnown
+  unfolding digits
   described_files_are_known = record {
     text = record {
       meaning = OfFit smallest_tree;
       means = only_smallest;
       within = small;
-      is_text = sym (description_of smallest_tree smallest_lines smallest_texts);
+      is_text = sym (ap text_of_lines smallest_are ∙ refl);
     };
     json = record {
       meaning = OfFit smallest_tree;

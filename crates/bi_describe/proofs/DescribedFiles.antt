@@ -8,7 +8,7 @@ use Rattle.bi_norm.specs.Reading.{IsBootImageReadError, meaning_of, IsReadBootIm
 use Rattle.bi_norm.proofs.NormalForms.{needs_memory}
 use Rattle.bi_common.specs.declared.format.Format.{Format}
 use Rattle.bi_describe.specs.Describing.{CanBeDescribed, IsDescription, IsDescribeError, IsImageError, description_text}
-use Rattle.bi_describe.specs.ReadDescription.{IsDescriptionOf}
+use Rattle.bi_describe.specs.DescribedImages.{IsDescriptionOf}
 use Rattle.bi_norm.proofs.Comparisons.{opened_means}
 
 -- The description of what was read from a file is that of the file.

@@ -1,21 +1,40 @@
-use Rattle.std.proofs.Common.{◌≡◌, ◌+◌, ◌≤◌, ℕ, Bool, true, false, List, [], ◌∷◌, ◌++◌, Option, Some, codes, length, map, bytes_eq, rules}
+use Rattle.std.proofs.Common.{◌≡◌, ◌+◌, ◌≤◌, ℕ, inr, Bool, true, false, List, [], ◌∷◌, ◌++◌, Option, Some, codes, length, map, bytes_eq}
+use Rattle.std.proofs.Common.{rules}
 use Rattle.std.proofs.Common.{flat_map, refl, sym, ap, subst, ◌∙◌, arith, length-append}
 use Rattle.std.specs.FinMap.{entries}
 use Rattle.std.specs.List.{AllZip}
 use Rattle.std.proofs.lemmas.Grind.{flat_map-append}
 use Rattle.std.proofs.lemmas.Slice.Eq.{bytes_eq-Decides}
+use Rattle.bi_base.specs.declared.fault.Error.{Error}
+use Rattle.bi_base.specs.declared.fault.Error.TheVariants as error
+use Rattle.bi_base.specs.Errors.{IsFaultOrNoMemory}
+use Rattle.bi_base.specs.Limits.{Limits}
+use Rattle.bi_base.specs.Reading.{too_large}
+use Rattle.bi_fdt.specs.Content.{root_of}
 use Rattle.bi_blob.specs.Tree.{Nodes, none, node, names, as_nodes, with_each, AreNodes, IsNew, Property, PropertyMap}
+use Rattle.bi_fit.specs.Content.{FitModel, IsHeld, tree_of}
 use Rattle.bi_fit.specs.ImageTree.{ImageTree, IsImageTree, IsApart, ArePropertiesByName, children_of, each_own}
-use Rattle.bi_fit.specs.LongNames.{name_if_long}
+use Rattle.bi_fit.specs.LongNames.{HasLongerNames, name_if_long}
 use Rattle.bi_fit.specs.Names.{images_name}
-use Rattle.bi_fit.proofs.LongNames.{length-name_if_long, names_of_nodes, names_of_nodes-first}
+use Rattle.bi_fit.proofs.FileTrees.{is_image_tree}
+use Rattle.bi_fit.proofs.LongNames.{length-name_if_long, long_names_of_tree, names_of_nodes, names_of_nodes-first}
 use Rattle.bi_fit.proofs.Meanings.{same_in_some}
+use Rattle.bi_fit.proofs.NormalTrees.{held_means}
 use Rattle.bi_norm.specs.Meaning.{OfFit}
+use Rattle.bi_common.specs.declared.format.Format.{Format}
+use Rattle.bi_common.specs.declared.format.Format.TheVariants as forms
+use Rattle.bi_common.specs.Json.{Json, JsonMembers, JsonValues, json_members, json_text, json_values, members_text, string_byte}
+use Rattle.bi_common.specs.Json.{values_text}
+use Rattle.bi_common.specs.Json.{json_null, json_bool, json_number, json_string, array_of, object_of, no_value, next_value, no_member}
+use Rattle.bi_common.specs.Json.{next_member}
+use Rattle.bi_common.specs.Lines.{Line, line_text, text_of_lines}
 use Rattle.bi_common.specs.Shown.{Words, path, line, shown_byte, shown_text}
 use Rattle.bi_common.specs.ValueTexts.{value_words}
-use Rattle.bi_common.proofs.FitLines.{joined_after}
-use Rattle.bi_describe.specs.Descriptions.{DescribedNode, plain_node, described_images, described_children, described_nodes, description}
-use Rattle.bi_describe.specs.Descriptions.{node_lines, own_lines, property_words, tree_lines}
+use Rattle.bi_describe.specs.Describing.{IsImageError, description_text}
+use Rattle.bi_describe.specs.DescriptionJson.{description_json, fit_object, node_members, node_objects, property_object}
+use Rattle.bi_describe.specs.Descriptions.{DescribedNode, NodePayload, NotAnImage, OfImage, plain_node, described_images}
+use Rattle.bi_describe.specs.Descriptions.{described_children}
+use Rattle.bi_describe.specs.Descriptions.{described_nodes, description, node_lines, own_lines, property_line, tree_lines}
 
 -- The description of an image tree is at least as long as the long names of its properties together.
 
@@ -33,7 +52,8 @@ shown_as_long name = search (rules, bytes_eq-Decides, bytes_shown)
 
 -- A line is at least as long as its third word.
 third_word : (first second third : List ℕ) (later : Words) → length third ≤ length (line (first ∷ second ∷ third ∷ later))
-third_word first second third later = search (rules, joined_after, length-append)
+third_word first second third [] = search (rules, length-append)
+third_word first second third (word ∷ later) = search (rules, length-append)
 
 -- How many bytes these names have together, as far as they are long.
 abbrev pub long_bytes : List (List ℕ) → ℕ
@@ -50,41 +70,41 @@ pub long_bytes_of_node : (name : List ℕ) (own : PropertyMap) (children later :
 long_bytes_of_node name own children later = search (rules, names_of_nodes-first, long_bytes-append)
 
 -- The lines of properties are at least as long as their long names.
-properties_long : (path : List ℕ) (properties : List Property) →
-    long_bytes (map (λ property. property.0) properties) ≤ length (flat_map line (map (property_words path) properties))
-properties_long path [] = omega arith
-properties_long path (property ∷ later) =
-    let written = property_words path property in
-    let names = length-append (name_if_long property.0) (flat_map name_if_long (map (λ property. property.0) later)) in
-    let lines = length-append (line written) (flat_map line (map (property_words path) later)) in
+properties_long : (names : List (List ℕ)) (properties : List Property) →
+    long_bytes (map (λ property. property.0) properties) ≤ length (text_of_lines (map (property_line names) properties))
+properties_long names [] = omega arith
+properties_long names (property ∷ later) =
+    let written = line_text (property_line names property) in
+    let of_names = length-append (name_if_long property.0) (flat_map name_if_long (map (λ property. property.0) later)) in
+    let lines = length-append written (text_of_lines (map (property_line names) later)) in
     let short = length-name_if_long property.0 in
     let shown = shown_as_long property.0 in
-    let one = third_word (codes "property") path (shown_text property.0) (value_words property.1) in
-    let rest = properties_long path later in
-    omega (arith, names, lines, short, shown, one, rest)
+    let one = third_word (codes "property") (path names) (shown_text property.0) (value_words property.1 ++ []) in
+    let rest = properties_long names later in
+    omega (arith, of_names, lines, short, shown, one, rest)
 
 -- So are the lines of a node: of what it has itself,
-own_long : (path : List ℕ) (own : DescribedNode) →
-    long_bytes (map (λ property. property.0) (entries own.properties)) ≤ length (flat_map line (own_lines path own))
-own_long path own = search (rules, length-append, flat_map-append, properties_long)
+own_long : (names : List (List ℕ)) (own : DescribedNode) →
+    long_bytes (map (λ property. property.0) (entries own.properties)) ≤ length (text_of_lines (own_lines names own))
+own_long names own = search (rules, length-append, flat_map-append, properties_long)
 
 -- and with those of all nodes below it.
 abbrev pub properties_by_node : Nodes DescribedNode → Nodes PropertyMap
 properties_by_node nodes = with_each (λ (own : DescribedNode). own.properties) nodes
 
 nodes_long : (above : List (List ℕ)) (nodes : Nodes DescribedNode) →
-    long_bytes (names_of_nodes (properties_by_node nodes)) ≤ length (flat_map line (node_lines above nodes))
+    long_bytes (names_of_nodes (properties_by_node nodes)) ≤ length (text_of_lines (node_lines above nodes))
 nodes_long above none = omega arith
 nodes_long above (node name own children later) =
     let inner : List (List ℕ) = above ++ name ∷ [] in
-    let own_ones : List Words = own_lines (path inner) own in
-    let below : List Words = node_lines inner children in
-    let after : List Words = node_lines above later in
-    let lines = ap length (flat_map-append line own_ones (below ++ after))
-    ∙ length-append (flat_map line own_ones) (flat_map line (below ++ after)) in
-    let more = ap length (flat_map-append line below after) ∙ length-append (flat_map line below) (flat_map line after) in
+    let own_ones : List Line = own_lines inner own in
+    let below : List Line = node_lines inner children in
+    let after : List Line = node_lines above later in
+    let lines = ap length (flat_map-append line_text own_ones (below ++ after))
+    ∙ length-append (text_of_lines own_ones) (text_of_lines (below ++ after)) in
+    let more = ap length (flat_map-append line_text below after) ∙ length-append (text_of_lines below) (text_of_lines after) in
     let names = long_bytes_of_node name own.properties (properties_by_node children) (properties_by_node later) in
-    let one = own_long (path inner) own in
+    let one = own_long inner own in
     let two = nodes_long inner children in
     let three = nodes_long above later in
     omega (arith, lines, more, names, one, two, three)
@@ -143,23 +163,132 @@ properties_shown IsOwn (node name own children later) images payloads are has ap
     where_images false is has rest =
         rw is (same_node name own _ _ _ _ (plain_properties children) (rest (rw is at has)))
 
+all_shown : (tree : ImageTree) → IsImageTree tree →
+    properties_by_node (described_nodes tree.root.children tree.payloads) ≡ tree.root.children
+all_shown tree is = properties_shown ArePropertiesByName tree.root.children is.images tree.payloads is.is_tree.children is.has_images
+    is.apart
+
 -- The lines of a tree are at least as long as the long names of its properties,
-tree_long : (tree : ImageTree) → IsImageTree tree →
-    long_bytes (names_of_nodes (as_nodes tree.root)) ≤ length (flat_map line (tree_lines tree))
+abbrev long_bytes_of : ImageTree → ℕ
+long_bytes_of tree = long_bytes (names_of_nodes (as_nodes tree.root))
+
+tree_long : (tree : ImageTree) → IsImageTree tree → long_bytes_of tree ≤ length (text_of_lines (tree_lines tree))
 tree_long tree is =
     let nodes : Nodes DescribedNode = described_nodes tree.root.children tree.payloads in
-    let own : List Words = own_lines (path []) (plain_node tree.root.own) in
-    let below : List Words = node_lines [] nodes in
-    let shown = properties_shown ArePropertiesByName tree.root.children is.images tree.payloads
-    is.is_tree.children is.has_images is.apart in
-    let same = ap (λ nodes. long_bytes (names_of_nodes nodes)) shown in
-    let lines = ap length (flat_map-append line own below) ∙ length-append (flat_map line own) (flat_map line below) in
+    let own : List Line = own_lines [] (plain_node tree.root.own) in
+    let below : List Line = node_lines [] nodes in
+    let same = ap (λ nodes. long_bytes (names_of_nodes nodes)) (all_shown tree is) in
+    let lines = ap length (flat_map-append line_text own below) ∙ length-append (text_of_lines own) (text_of_lines below) in
     let names = long_bytes_of_node [] tree.root.own tree.root.children none in
-    let one = own_long (path []) (plain_node tree.root.own) in
+    let one = own_long [] (plain_node tree.root.own) in
     let two = nodes_long [] nodes in
     omega (arith, same, lines, names, one, two)
 
--- and so is the description.
-pub long_names_described : (tree : ImageTree) → IsImageTree tree →
-    long_bytes (names_of_nodes (as_nodes tree.root)) ≤ length (description (OfFit tree))
-long_names_described tree is = search (rules, length-append, flat_map-append, tree_long)
+-- and so is the description,
+lines_long : (tree : ImageTree) → IsImageTree tree → long_bytes_of tree ≤ length (description (OfFit tree))
+lines_long tree is = search (rules, length-append, flat_map-append, tree_long)
+
+-- ---- also in JSON
+
+-- How long the strings of a value are together, without the names of members.
+abbrev mutual
+  strings_length : Json → ℕ
+  strings_length (json_string bytes) = length bytes
+  strings_length (array_of values) = values_length values
+  strings_length (object_of members) = members_length members
+  strings_length value = 0
+
+  values_length : JsonValues → ℕ
+  values_length no_value = 0
+  values_length (next_value value later) = strings_length value + values_length later
+
+  members_length : JsonMembers → ℕ
+  members_length no_member = 0
+  members_length (next_member name value later) = strings_length value + members_length later
+
+string_byte_long : (byte : ℕ) → 1 ≤ length (string_byte byte)
+string_byte_long byte = search rules
+
+string_long : (bytes : List ℕ) → length bytes ≤ length (flat_map string_byte bytes)
+string_long [] = omega arith
+string_long (byte ∷ later) = search (rules, length-append, string_byte_long, string_long later)
+
+mutual
+  value_long : (value : Json) → strings_length value ≤ length (json_text value)
+  value_long json_null = omega arith
+  value_long (json_bool value) = omega arith
+  value_long (json_number number) = omega arith
+  value_long (json_string bytes) = search (rules, length-append, string_long)
+  value_long (array_of values) = search (rules, length-append, values_long false values)
+  value_long (object_of members) = search (rules, length-append, members_long false members)
+
+  values_long : (is_later : Bool) (values : JsonValues) → values_length values ≤ length (values_text is_later values)
+  values_long is_later no_value = omega arith
+  values_long is_later (next_value value later) = search (rules, length-append, value_long value, values_long true later)
+
+  members_long : (is_later : Bool) (members : JsonMembers) → members_length members ≤ length (members_text is_later members)
+  members_long is_later no_member = omega arith
+  members_long is_later (next_member name value later) = search (rules, length-append, value_long value, members_long true later)
+
+properties_in_json : (properties : List Property) →
+    long_bytes (map (λ property. property.0) properties) ≤ values_length (json_values (map property_object properties))
+properties_in_json [] = omega arith
+properties_in_json (property ∷ later) =
+    let names = length-append (name_if_long property.0) (flat_map name_if_long (map (λ property. property.0) later)) in
+    let short = length-name_if_long property.0 in
+    let shown = shown_as_long property.0 in
+    let rest = properties_in_json later in
+    omega (arith, names, short, shown, rest)
+
+own_in_json : (own : DescribedNode) (children : List Json) →
+    values_length (json_values (map property_object (entries own.properties))) + values_length (json_values children)
+    ≤ members_length (json_members (node_members own children))
+own_in_json own children = by own.payload
+  where
+    by : (payload : NodePayload) →
+        values_length (json_values (map property_object (entries own.properties))) + values_length (json_values children)
+        ≤ members_length (json_members (node_members (record own { payload = payload }) children))
+    by NotAnImage = omega arith
+    by (OfImage payload) = omega arith
+
+nodes_in_json : (nodes : Nodes DescribedNode) →
+    long_bytes (names_of_nodes (properties_by_node nodes)) ≤ values_length (json_values (node_objects nodes))
+nodes_in_json none = omega arith
+nodes_in_json (node name own children later) =
+    let names = long_bytes_of_node name own.properties (properties_by_node children) (properties_by_node later) in
+    let first = own_in_json own (node_objects children) in
+    let one = properties_in_json (entries own.properties) in
+    let two = nodes_in_json children in
+    let three = nodes_in_json later in
+    omega (arith, names, first, one, two, three)
+
+json_long : (tree : ImageTree) → IsImageTree tree → long_bytes_of tree ≤ length (description_json (OfFit tree))
+json_long tree is =
+    let nodes : Nodes DescribedNode = described_nodes tree.root.children tree.payloads in
+    let same = ap (λ nodes. long_bytes (names_of_nodes nodes)) (all_shown tree is) in
+    let names = long_bytes_of_node [] tree.root.own tree.root.children none in
+    let root = own_in_json (plain_node tree.root.own) (node_objects nodes) in
+    let one = properties_in_json (entries tree.root.own) in
+    let two = nodes_in_json nodes in
+    let text = value_long (fit_object tree) in
+    let line = length-append (json_text (fit_object tree)) (10 ∷ []) in
+    omega (arith, same, names, root, one, two, text, line)
+
+-- An image with different long names that are together longer than the limit is too long to describe, in any form.
+pub refused_names : (format : Format) (limits : Limits) (content : FitModel) (limit : ℕ) (e : Error) → IsHeld content →
+    limit ≡ limits.file →
+    IsFaultOrNoMemory (λ fault. (fault ≡ too_large limit) × HasLongerNames limit (root_of content.blob)) e
+    → IsImageError format limits (OfFit (tree_of content)) e
+refused_names format limits content limit (error.Refused fault) held is (is_fault, (names, distinct, are, longer)) =
+    let of_file = long_names_of_tree content names distinct are in
+    let good = is_image_tree content.blob.file (tree_of content) (held_means content held) in
+    let described = by format good in
+    (inr (omega (arith, is, longer, of_file, described)), is_fault ∙ ap too_large is)
+  where
+    by : (form : Format) → IsImageTree (tree_of content) →
+        long_bytes_of (tree_of content) ≤ length (description_text form (OfFit (tree_of content)))
+    by forms.Lines good = lines_long (tree_of content) good
+    by forms.Json good = json_long (tree_of content) good
+refused_names format limits content limit error.OutOfMemory held is failed = tt
+refused_names format limits content limit error.ReadFailed held is failed = absurd failed
+refused_names format limits content limit error.WriteFailed held is failed = absurd failed

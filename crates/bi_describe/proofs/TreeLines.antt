@@ -1,37 +1,43 @@
-use Rattle.std.proofs.Common.{◌≡◌, ℕ, ◌-◌, List, [], ◌∷◌, ◌++◌, codes, take, length, map, refl, sym, ap, ◌∙◌, arith, append_assoc, rules}
+use Rattle.std.proofs.Common.{◌≡◌, ℕ, ◌-◌, List, [], ◌∷◌, ◌++◌, take, length, map, refl, sym, ap, ◌∙◌, arith, append_assoc}
 use Rattle.std.proofs.Common.{append-nil, length-append}
 use Rattle.std.specs.FinMap.{entries}
+use Rattle.std.proofs.lemmas.Grind.{flat_map-append}
 use Rattle.std.proofs.lemmas.List.{take-append-le}
 use Rattle.std.proofs.Math.Seq.{take-length}
 use Rattle.bi_blob.specs.Tree.{Nodes, none, node, Property}
+use Rattle.bi_fdt.specs.Content.{Blob}
 use Rattle.bi_fit.specs.ImageTree.{ImageTree}
-use Rattle.bi_common.specs.Shown.{Words, path}
-use Rattle.bi_describe.specs.Descriptions.{DescribedNode, NodePayload, NotAnImage, OfImage, described_nodes, node_lines, payload_words}
-use Rattle.bi_describe.specs.Descriptions.{property_words, tree_lines}
-use Rattle.bi_describe.specs.ReadDescription.{root_lines}
-use Rattle.bi_describe.specs.TreeEntries.{EntryModel, NodeEnds, PropertyEntry, entry_lines, node_entries, own_entries, payload_entries}
-use Rattle.bi_describe.specs.TreeEntries.{tree_entries}
+use Rattle.bi_common.specs.CommonLines.{reservation_line}
+use Rattle.bi_common.specs.LineTokens.{LineToken, line_tokens, tokens_of_lines}
+use Rattle.bi_common.specs.Lines.{Line}
+use Rattle.bi_describe.specs.ReadDescription.{read_lines, root_lines}
+use Rattle.bi_describe.specs.Descriptions.{DescribedNode, head_lines, NodePayload, NotAnImage, OfImage, described_nodes, node_line}
+use Rattle.bi_describe.specs.Descriptions.{node_lines}
+use Rattle.bi_describe.specs.Descriptions.{payload_lines, property_line, tree_lines}
+use Rattle.bi_describe.specs.TreeEntries.{EntryModel, NodeEnds, PropertyEntry, ChildrenBegin, entry_lines, node_entries, own_entries}
+use Rattle.bi_describe.specs.TreeEntries.{payload_entries, property_entries, tree_entries}
 
 -- The lines of a flattened image tree are those of its entries.
 
 -- The lines of properties and of the entries after them.
-property_lines : (names : List (List ℕ)) (properties : List Property) (later : List EntryModel)
-    → entry_lines names (map PropertyEntry properties ++ later) ≡ map (property_words (path names)) properties ++ entry_lines names later
-property_lines names [] later = refl
-property_lines names (property ∷ properties) later = ap (λ lines. property_words (path names) property ∷ lines)
-    (property_lines names properties later)
-
--- The lines of a payload and of the entries after it.
-payload_lines : (names : List (List ℕ)) (payload : NodePayload) (later : List EntryModel)
-    → entry_lines names (payload_entries payload ++ later) ≡ payload_words (path names) payload ++ entry_lines names later
-payload_lines names NotAnImage later = refl
-payload_lines names (OfImage payload) later = refl
+properties_before : (names : List (List ℕ)) (properties : List Property) (later : List EntryModel)
+    → entry_lines names ((map PropertyEntry properties ++ ChildrenBegin ∷ []) ++ later)
+    ≡ map (property_line names) properties ++ entry_lines names later
+properties_before names [] later = refl
+properties_before names (property ∷ properties) later =
+    ap (λ (lines : List Line). property_line names property ∷ lines) (properties_before names properties later)
 
 -- The lines of what a node has itself, and of the entries after it.
-own_entry_lines : (names : List (List ℕ)) (own : DescribedNode) (later : List EntryModel)
+own_before : (names : List (List ℕ)) (own : DescribedNode) (later : List EntryModel)
     → entry_lines names (own_entries own ++ later)
-    ≡ (payload_words (path names) own.payload ++ map (property_words (path names)) (entries own.properties)) ++ entry_lines names later
-own_entry_lines names own later = search (rules, append_assoc, payload_lines, property_lines)
+    ≡ (payload_lines names own.payload ++ map (property_line names) (entries own.properties)) ++ entry_lines names later
+own_before names own later = by own.payload
+  where
+    by : (payload : NodePayload) → entry_lines names ((payload_entries payload ++ property_entries own.properties) ++ later)
+        ≡ (payload_lines names payload ++ map (property_line names) (entries own.properties)) ++ entry_lines names later
+    by NotAnImage = properties_before names (entries own.properties) later
+    by (OfImage payload) =
+        ap (λ (lines : List Line). payload_lines names (OfImage payload) ++ lines) (properties_before names (entries own.properties) later)
 
 -- After the end of a node, the nodes above it are open.
 closed : (above : List (List ℕ)) (name : List ℕ) → take (length (above ++ name ∷ []) - 1) (above ++ name ∷ []) ≡ above
@@ -47,28 +53,37 @@ lines_of_nodes : (above : List (List ℕ)) (nodes : Nodes DescribedNode) (rest :
 lines_of_nodes above none rest = refl
 lines_of_nodes above (node name own children later) rest =
     let inner : List (List ℕ) = above ++ name ∷ [] in
-    let head : Words = codes "node" ∷ path inner ∷ [] in
-    let own_ones : List Words = payload_words (path inner) own.payload ++ map (property_words (path inner)) (entries own.properties) in
-    let below : List Words = node_lines inner children in
-    let after : List Words = node_lines above later in
-    let left : List Words = entry_lines above rest in
+    let own_ones : List Line = payload_lines inner own.payload ++ map (property_line inner) (entries own.properties) in
+    let below : List Line = node_lines inner children in
+    let after : List Line = node_lines above later in
+    let left : List Line = entry_lines above rest in
     let after_end : List EntryModel = NodeEnds ∷ (node_entries later ++ rest) in
-    ap (λ lines. head ∷ lines)
+    ap (λ (lines : List Line). node_line inner ∷ lines)
     (ap (entry_lines inner) (append_assoc (own_entries own) (node_entries children ++ (NodeEnds ∷ node_entries later)) rest
     ∙ ap (λ others. own_entries own ++ others) (append_assoc (node_entries children) (NodeEnds ∷ node_entries later) rest))
-    ∙ own_entry_lines inner own (node_entries children ++ after_end)
-    ∙ ap (λ lines. own_ones ++ lines)
+    ∙ own_before inner own (node_entries children ++ after_end)
+    ∙ ap (λ (lines : List Line). own_ones ++ lines)
     (lines_of_nodes inner children after_end
-    ∙ ap (λ lines. below ++ lines) (ap (λ names. entry_lines names (node_entries later ++ rest)) (closed above name)
+    ∙ ap (λ (lines : List Line). below ++ lines) (ap (λ names. entry_lines names (node_entries later ++ rest)) (closed above name)
     ∙ lines_of_nodes above later rest))
-    ∙ sym (append_assoc own_ones (below ++ after) left ∙ ap (λ lines. own_ones ++ lines) (append_assoc below after left)))
+    ∙ sym (append_assoc own_ones (below ++ after) left ∙ ap (λ (lines : List Line). own_ones ++ lines) (append_assoc below after left)))
 
 -- The lines of a tree are those of its entries.
 pub lines_of_tree : (tree : ImageTree) → root_lines (tree_entries tree) ≡ tree_lines tree
 lines_of_tree tree =
     let nodes : Nodes DescribedNode = described_nodes tree.root.children tree.payloads in
-    let own : List Words = map (property_words (path [])) (entries tree.root.own) in
-    ap (λ lines. (codes "node" ∷ codes "/" ∷ []) ∷ lines)
-    (property_lines [] (entries tree.root.own) (node_entries nodes)
-    ∙ ap (λ lines. own ++ lines) (ap (entry_lines []) (sym (append-nil (node_entries nodes))) ∙ lines_of_nodes [] nodes []
+    let own : List Line = map (property_line []) (entries tree.root.own) in
+    ap (λ (lines : List Line). node_line [] ∷ lines)
+    (properties_before [] (entries tree.root.own) (node_entries nodes)
+    ∙ ap (λ (lines : List Line). own ++ lines) (ap (entry_lines []) (sym (append-nil (node_entries nodes))) ∙ lines_of_nodes [] nodes []
     ∙ append-nil (node_lines [] nodes)))
+
+-- The lines of a flattened image tree are put in three parts.
+pub lines_in_parts : (blob : Blob) (entries : List EntryModel) → tokens_of_lines (read_lines blob entries)
+    ≡ tokens_of_lines (head_lines blob.cpu)
+    ++ (tokens_of_lines (map reservation_line blob.reservations) ++ tokens_of_lines (root_lines entries))
+lines_in_parts blob entries =
+    let reservations : List Line = map reservation_line blob.reservations in
+    flat_map-append line_tokens (head_lines blob.cpu) (reservations ++ root_lines entries)
+    ∙ ap (λ (tokens : List LineToken). tokens_of_lines (head_lines blob.cpu) ++ tokens)
+    (flat_map-append line_tokens reservations (root_lines entries))

@@ -1,5 +1,5 @@
-use Rattle.std.specs.Prelude.{ℕ, ◌≡◌, ◌↔◌, ◌⊎◌, Bool, true, false, IsTrue, List, [], codes}
-use Rattle.std.specs.Prelude.{bytes_eq, if◌then◌else◌}
+use Rattle.std.specs.Prelude.{ℕ, ◌≡◌, ◌↔◌, ◌⊎◌, Bool, true, false, IsTrue, List, [], ◌∷◌, codes}
+use Rattle.std.specs.Prelude.{bytes_eq, map, if◌then◌else◌}
 use Rattle.bi_base.specs.declared.fault.Error.TheVariants.{Refused}
 use Rattle.bi_base.specs.Limits.{Limits}
 use Rattle.bi_base.specs.Reading.{too_large}
@@ -11,62 +11,91 @@ use Rattle.bi_common.specs.declared.format.Format.TheVariants.{Lines, Json}
 use Rattle.bi_common.specs.Json.{json_line}
 use Rattle.bi_describe.specs.declared.compare.CompareError.{CompareError}
 use Rattle.bi_describe.specs.declared.compare.CompareError.TheVariants.{One, Other, OutOfMemory}
+use Rattle.bi_describe.specs.declared.compare.signed_lines.Sign.TheVariants as sign
 use Rattle.bi_describe.specs.ComparisonJson.{comparison_object}
-use Rattle.bi_describe.specs.Descriptions.{description, description_texts}
+use Rattle.bi_describe.specs.Descriptions.{description, description_lines}
 use Rattle.bi_describe.specs.Describing.{CanBeDescribed, IsTooLongToDescribe}
-use Rattle.bi_describe.specs.Differences.{differences}
+use Rattle.bi_describe.specs.Differences.{ComparedLine, SignedLine, differences}
+use Rattle.bi_describe.specs.Differences.{line_to_compare, text_of_differences}
 
 -- Comparing what two boot images mean (profile of this project).
 
 -- The line that is written if each line of one description is a line of the other, and the
 -- descriptions differ.
-abbrev pub other_order_line : List ℕ
-other_order_line = codes "the same lines in another order or number\n"
+abbrev pub other_order_line : SignedLine
+other_order_line =
+    record { sign = sign.None; text = codes "the same lines in another order or number" }
 
 -- The line that is written if the descriptions are the same, and the meanings are not.
-abbrev pub other_payloads_line : List ℕ
-other_payloads_line = codes "payloads differ that have the same size and SHA-256\n"
+abbrev pub other_payloads_line : SignedLine
+other_payloads_line =
+    record { sign = sign.None; text = codes "payloads differ that have the same size and SHA-256" }
+
+-- Why two meanings of these descriptions differ, if no line does.
+abbrev pub reason : (text other_text : List ℕ) → SignedLine
+reason text other_text =
+    if bytes_eq text other_text then other_payloads_line else other_order_line
+
+-- These lines, or another one if there are none.
+abbrev pub lines_or : List SignedLine → SignedLine → List SignedLine
+lines_or [] line = line ∷ []
+lines_or (first ∷ later) line = first ∷ later
+
+-- The lines of a description, as they are compared.
+abbrev pub compared_description : Meaning → List ComparedLine
+compared_description meaning = map line_to_compare (description_lines meaning)
 
 -- The differences of two descriptions, or, if there are none, the line with the reason why the
 -- meanings still differ.
-abbrev pub differences_or_reason : (one other : Meaning) → List ℕ
+abbrev pub differences_or_reason : (one other : Meaning) → List SignedLine
 differences_or_reason one other =
-    if bytes_eq (differences (description_texts one) (description_texts other)) []
-    then (if bytes_eq (description one) (description other)
-    then other_payloads_line else other_order_line)
-    else differences (description_texts one) (description_texts other)
+    lines_or (differences (compared_description one) (compared_description other))
+    (reason (description one) (description other))
+
+-- The lines for meanings of these different kinds.
+abbrev pub kinds_differ : (kind other_kind : List ℕ) → List SignedLine
+kinds_differ kind other_kind =
+    record { sign = sign.Removed; text = kind } ∷ record { sign = sign.Added; text = other_kind }
+    ∷ []
 
 -- What differs between two meanings that are not the same. If they are of different kinds, that is
 -- all.
-abbrev pub comparison : (one other : Meaning) → List ℕ
-comparison (OfLegacy one) (OfFit other) = codes "-kind legacy\n+kind fit\n"
-comparison (OfFit one) (OfLegacy other) = codes "-kind fit\n+kind legacy\n"
+abbrev pub comparison : (one other : Meaning) → List SignedLine
+comparison (OfLegacy one) (OfFit other) = kinds_differ (codes "kind legacy") (codes "kind fit")
+comparison (OfFit one) (OfLegacy other) = kinds_differ (codes "kind fit") (codes "kind legacy")
 comparison one other = differences_or_reason one other
 
--- The text is what differs between two meanings: nothing if they are the same. If they are not,
--- both can be described.
-pub data IsTextOfDifferences (limits : Limits) (one other : Meaning) (text : List ℕ)
+-- The lines are what differs between two meanings: none if they are the same. If they are not, both
+-- can be described.
+pub data AreDifferences (limits : Limits) (one other : Meaning) (lines : List SignedLine)
     : (same : Bool) → Type 0
   where
-    AreTheSame : text ≡ [] → IsTextOfDifferences limits one other text true
+    AreTheSame : lines ≡ [] → AreDifferences limits one other lines true
     AreDifferent : CanBeDescribed Lines limits one → CanBeDescribed Lines limits other
-        → text ≡ comparison one other → IsTextOfDifferences limits one other text false
+        → lines ≡ comparison one other → AreDifferences limits one other lines false
 
 -- The text of a comparison, in a form. In JSON it says whether the meanings are the same, too.
-abbrev pub comparison_text : Format → (same : Bool) → (differences : List ℕ) → List ℕ
-comparison_text Lines same differences = differences
+abbrev pub comparison_text : Format → (same : Bool) → (differences : List SignedLine) → List ℕ
+comparison_text Lines same differences = text_of_differences differences
 comparison_text Json same differences = json_line (comparison_object same differences)
 
+-- The text is what differs between two meanings, in a form. There are differences if and only if
+-- the meanings are not the same.
+pub record IsComparisonOf (format : Format) (limits : Limits) (one other : Meaning) (same : Bool)
+    (text : List ℕ) : Type 0
+  where
+    pub lines : List SignedLine
+    pub differences : AreDifferences limits one other lines same
+    pub empty : (text_of_differences lines ≡ []) ↔ IsTrue same
+    pub is_text : text ≡ comparison_text format same lines
+
 -- The text is what differs between two files, in a form, and `same` is whether they mean the same.
--- There are differences if and only if they do not.
 pub record IsComparison (format : Format) (limits : Limits) (one other : List ℕ) (same : Bool)
     (text : List ℕ) : Type 0
   where
     pub compared : AreCompared limits one other same
-    pub lines : List ℕ
-    pub differences : IsTextOfDifferences limits compared.meaning compared.other_meaning lines same
-    pub empty : (lines ≡ []) ↔ IsTrue same
-    pub is_text : text ≡ comparison_text format same lines
+    pub differs :
+        IsComparisonOf format limits compared.meaning compared.other_meaning same text
 
 -- The error that reading two files can have: the fault of the first one, or else of the second one,
 -- or that memory ran out. The error names the file.

@@ -6,7 +6,7 @@ use Rattle.bi_fit.specs.ImageTree.{ImageTree}
 use Rattle.bi_fit.specs.Judgement.{listed_names}
 use Rattle.bi_legacy.specs.Meaning.{LegacyImage}
 use Rattle.bi_norm.specs.Meaning.{Meaning, OfLegacy, OfFit}
-use Rattle.bi_common.specs.Json.{JsonText, Member, json_string, json_number, json_null}
+use Rattle.bi_common.specs.Json.{Json, Member, json_string, json_number, json_null}
 use Rattle.bi_common.specs.Json.{json_array, json_object, json_line}
 use Rattle.bi_common.specs.CommonLines.{header_members, name_member, reservations_member}
 use Rattle.bi_common.specs.ValueTexts.{are_quotable_texts, hexadecimal_digits}
@@ -17,14 +17,14 @@ use Rattle.bi_describe.specs.Descriptions.{described_nodes}
 -- The JSON that `describe` writes: it depends on the meaning alone (profile of this project).
 
 -- A payload, or a part of a legacy image: its size and its SHA-256.
-abbrev pub digest_object : PayloadDigest → JsonText
+abbrev pub digest_object : PayloadDigest → Json
 digest_object digest =
     json_object
     ((codes "size", json_number digest.size)
     ∷ (codes "sha256", json_string (hexadecimal_digits digest.sha256)) ∷ [])
 
 -- A legacy image.
-abbrev pub legacy_object : LegacyImage → JsonText
+abbrev pub legacy_object : LegacyImage → Json
 legacy_object image =
     json_object
     (header_members image
@@ -43,12 +43,12 @@ value_member value =
     else (codes "hex", json_string (hexadecimal_digits value))
 
 -- A property.
-abbrev pub property_object : Property → JsonText
+abbrev pub property_object : Property → Json
 property_object property =
     json_object (name_member (codes "name") property.0 ∷ value_member property.1 ∷ [])
 
 -- The payload of an image, if it has one.
-abbrev pub payload_or_null : Option PayloadDigest → JsonText
+abbrev pub payload_or_null : Option PayloadDigest → Json
 payload_or_null None = json_null
 payload_or_null (Some digest) = digest_object digest
 
@@ -59,21 +59,21 @@ payload_members (OfImage payload) = (codes "payload", payload_or_null payload) �
 
 -- The members of a node after its name, if it has children with these values. Its properties are in
 -- byte order of their names.
-abbrev pub node_members : DescribedNode → (children : List JsonText) → List Member
+abbrev pub node_members : DescribedNode → (children : List Json) → List Member
 node_members own children =
     payload_members own.payload
     ++ (codes "properties", json_array (map property_object (entries own.properties)))
     ∷ (codes "children", json_array children) ∷ []
 
 -- These nodes, each with those below it.
-abbrev pub node_objects : Nodes DescribedNode → List JsonText
+abbrev pub node_objects : Nodes DescribedNode → List Json
 node_objects none = []
 node_objects (node name own children later) =
     json_object (name_member (codes "name") name ∷ node_members own (node_objects children))
     ∷ node_objects later
 
 -- A flattened image tree.
-abbrev pub fit_object : ImageTree → JsonText
+abbrev pub fit_object : ImageTree → Json
 fit_object tree =
     json_object
     ((codes "kind", json_string (codes "fit"))
@@ -87,7 +87,7 @@ fit_object tree =
     ) ∷ [])
 
 -- What a boot image means.
-abbrev pub meaning_object : Meaning → JsonText
+abbrev pub meaning_object : Meaning → Json
 meaning_object (OfLegacy image) = legacy_object image
 meaning_object (OfFit tree) = fit_object tree
 

@@ -1,6 +1,5 @@
 use Rattle.std.specs.Prelude.{ℕ, ◌+◌, List, [], ◌∷◌, ◌++◌, Option, Some, None, length, map}
 use Rattle.std.specs.Prelude.{flat_map, codes, bytes_eq, option_map, if◌then◌else◌}
-use Rattle.std.specs.Fmt.{decimal}
 use Rattle.std.specs.FinMap.{entries}
 use Rattle.std.specs.List.{join_with_byte}
 use Rattle.bi_blob.specs.Tree.{Nodes, none, node, Property, PropertyMap, with_each}
@@ -10,9 +9,9 @@ use Rattle.bi_hash.specs.declared.algo.Algo.TheVariants.{Sha256}
 use Rattle.bi_hash.specs.Digests.{digest_of}
 use Rattle.bi_legacy.specs.Meaning.{LegacyImage}
 use Rattle.bi_norm.specs.Meaning.{Meaning, OfLegacy, OfFit}
-use Rattle.bi_common.specs.Shown.{line, shown_text, Words, path}
-use Rattle.bi_common.specs.ValueTexts.{value_words, hexadecimal_digits}
-use Rattle.bi_common.specs.CommonLines.{code_words, field_words, reservation_words}
+use Rattle.bi_common.specs.CommonLines.{header_lines, reservation_line}
+use Rattle.bi_common.specs.Lines.{Line, Text, Name, Decimal, Digits, Path, Value, field_texts}
+use Rattle.bi_common.specs.Lines.{text_of_lines}
 
 -- The description of what a boot image means: lines that depend on the meaning alone, and not on
 -- the layout, the form, padding, versions or the order of properties (profile of this project).
@@ -27,21 +26,22 @@ digest_of_payload payload =
     record { size = length payload; sha256 = digest_of Sha256 payload }
 
 -- The words for its size and its SHA-256.
-abbrev pub digest_words : PayloadDigest → Words
+abbrev pub digest_words : PayloadDigest → Line
 digest_words digest =
-    codes "size" ∷ decimal digest.size ∷ codes "sha256" ∷ hexadecimal_digits digest.sha256 ∷ []
+    Text (codes "size") ∷ Decimal digest.size ∷ Text (codes "sha256") ∷ Digits digest.sha256 ∷ []
+
+-- The line of part `index`.
+abbrev pub part_line : (index : ℕ) → PayloadDigest → Line
+part_line index part = Text (codes "part") ∷ Decimal index ∷ digest_words part
 
 -- The lines of these parts, the first of which is part `index`.
-abbrev pub part_words : (index : ℕ) → List PayloadDigest → List Words
-part_words index [] = []
-part_words index (part ∷ later) =
-    (codes "part" ∷ decimal index ∷ digest_words part) ∷ part_words (index + 1) later
+abbrev pub part_lines : (index : ℕ) → List PayloadDigest → List Line
+part_lines index [] = []
+part_lines index (part ∷ later) = part_line index part ∷ part_lines (index + 1) later
 
 -- The lines of a legacy image.
-abbrev pub legacy_lines : LegacyImage → List Words
-legacy_lines image =
-    (codes "kind" ∷ codes "legacy" ∷ [])
-    ∷ (field_words image ++ (code_words image ++ part_words 0 (map digest_of_payload image.parts)))
+abbrev pub legacy_lines : LegacyImage → List Line
+legacy_lines image = header_lines image ++ part_lines 0 (map digest_of_payload image.parts)
 
 -- Whether a node is an image node, and the payload of an image node, if it has one.
 pub data NodePayload : Type 0 where
@@ -79,55 +79,68 @@ described_nodes (node name own children later) payloads =
     node name (plain_node own) (described_children name children payloads)
     (described_nodes later payloads)
 
+-- The line of a node. A node is named by the names of the nodes on the way to it.
+abbrev pub node_line : (names : List (List ℕ)) → Line
+node_line names = Text (codes "node") ∷ Path names ∷ []
+
 -- The line of a property.
-abbrev pub property_words : (path : List ℕ) → Property → Words
-property_words path property =
-    codes "property" ∷ path ∷ shown_text property.0 ∷ value_words property.1
+abbrev pub property_line : (names : List (List ℕ)) → Property → Line
+property_line names property =
+    Text (codes "property") ∷ Path names ∷ Name property.0 ∷ Value property.1 ∷ []
+
+-- The words for the payload of an image node, if it has one.
+abbrev pub payload_words : Option PayloadDigest → Line
+payload_words None = Text (codes "none") ∷ []
+payload_words (Some digest) = digest_words digest
 
 -- The line of the payload of an image node. Any other node has none.
-abbrev pub payload_words : (path : List ℕ) → NodePayload → List Words
-payload_words path NotAnImage = []
-payload_words path (OfImage None) = (codes "payload" ∷ path ∷ codes "none" ∷ []) ∷ []
-payload_words path (OfImage (Some digest)) =
-    (codes "payload" ∷ path ∷ digest_words digest) ∷ []
+abbrev pub payload_lines : (names : List (List ℕ)) → NodePayload → List Line
+payload_lines names NotAnImage = []
+payload_lines names (OfImage payload) =
+    (Text (codes "payload") ∷ Path names ∷ payload_words payload) ∷ []
 
 -- The lines of a node without those of its children: its properties are in byte order of their
 -- names.
-abbrev pub own_lines : (path : List ℕ) → DescribedNode → List Words
-own_lines path own =
-    (codes "node" ∷ path ∷ [])
-    ∷ (payload_words path own.payload ++ map (property_words path) (entries own.properties))
+abbrev pub own_lines : (names : List (List ℕ)) → DescribedNode → List Line
+own_lines names own =
+    node_line names
+    ∷ (payload_lines names own.payload ++ map (property_line names) (entries own.properties))
 
 -- The lines of nodes, each before those of its children. `above` are the names on the way from the
 -- root to the parent of the nodes.
-abbrev pub node_lines : (above : List (List ℕ)) → Nodes DescribedNode → List Words
+abbrev pub node_lines : (above : List (List ℕ)) → Nodes DescribedNode → List Line
 node_lines above none = []
 node_lines above (node name own children later) =
-    own_lines (path (above ++ name ∷ [])) own
+    own_lines (above ++ name ∷ []) own
     ++ (node_lines (above ++ name ∷ []) children ++ node_lines above later)
 
 -- The lines of the nodes of a flattened image tree, the root first.
-abbrev pub tree_lines : ImageTree → List Words
+abbrev pub tree_lines : ImageTree → List Line
 tree_lines tree =
-    own_lines (path []) (plain_node tree.root.own)
+    own_lines [] (plain_node tree.root.own)
     ++ node_lines [] (described_nodes tree.root.children tree.payloads)
 
+-- The first two lines of a flattened image tree.
+abbrev pub head_lines : (cpu : ℕ) → List Line
+head_lines cpu =
+    (Text (codes "kind") ∷ Text (codes "fit") ∷ []) ∷ (Text (codes "boot-cpu") ∷ Decimal cpu ∷ [])
+    ∷ []
+
 -- The lines of a flattened image tree.
-abbrev pub fit_lines : ImageTree → List Words
+abbrev pub fit_lines : ImageTree → List Line
 fit_lines tree =
-    (codes "kind" ∷ codes "fit" ∷ [])
-    ∷ (codes "boot-cpu" ∷ decimal tree.cpu ∷ [])
-    ∷ (map reservation_words tree.reservations ++ tree_lines tree)
+    head_lines tree.cpu ++ (map reservation_line tree.reservations ++ tree_lines tree)
 
 -- The lines of the description of a meaning.
-abbrev pub description_lines : Meaning → List Words
+abbrev pub description_lines : Meaning → List Line
 description_lines (OfLegacy image) = legacy_lines image
 description_lines (OfFit tree) = fit_lines tree
 
 -- The description of a meaning: its lines, each ended by a newline.
 abbrev pub description : Meaning → List ℕ
-description meaning = flat_map line (description_lines meaning)
+description meaning = text_of_lines (description_lines meaning)
 
 -- The texts of its lines, each without the newline.
 abbrev pub description_texts : Meaning → List (List ℕ)
-description_texts meaning = map (λ words. join_with_byte 32 words) (description_lines meaning)
+description_texts meaning =
+    map (λ line. join_with_byte 32 (flat_map field_texts line)) (description_lines meaning)

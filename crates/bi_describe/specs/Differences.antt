@@ -1,82 +1,119 @@
-use Rattle.std.specs.Prelude.{ℕ, ◌==◌, ◌&&◌, ◌||◌, Bool, false, not, List, [], ◌∷◌, ◌++◌}
-use Rattle.std.specs.Prelude.{Option, Some, None, codes, take, flat_map, bytes_eq, if◌then◌else◌}
-use Rattle.std.specs.List.{find, join_with_byte, list_any, slice_split, starts_with}
-use Rattle.std.specs.Prelude.{nat_eq}
+use Rattle.std.specs.Prelude.{ℕ, ◌&&◌, ◌||◌, Bool, false, List, [], ◌∷◌, ◌++◌, codes, take}
+use Rattle.std.specs.Prelude.{Option, Some, None, flat_map, bytes_eq, if◌then◌else◌}
+use Rattle.std.specs.List.{join_with_byte, list_any}
+use Rattle.bi_common.specs.Lines.{Field, Line, Text, field_texts}
+use Rattle.bi_describe.specs.declared.compare.signed_lines.Sign.{Sign}
+use Rattle.bi_describe.specs.declared.compare.signed_lines.Sign.TheVariants as sign
 
--- The differences of two lists of lines (profile of this project). A line is given as its bytes
--- without the newline.
+-- The differences of two lists of lines (profile of this project).
 
--- The words of a line: the pieces between its spaces.
-abbrev pub words_of_line : List ℕ → List (List ℕ)
-words_of_line line = slice_split (λ byte. byte == 32) line
+-- The text of a line, without the newline.
+abbrev pub line_bytes : Line → List ℕ
+line_bytes words = join_with_byte 32 (flat_map field_texts words)
 
--- The first words of a line, with the spaces between them: all of it if it has no more words than
--- that.
-abbrev pub first_words : (count : ℕ) → List ℕ → List ℕ
-first_words count line = join_with_byte 32 (take count (words_of_line line))
+-- How many words the key of a line has, by its first word.
+abbrev pub words_of_key_named : (first : List ℕ) → ℕ
+words_of_key_named word =
+    if bytes_eq word (codes "property") || bytes_eq word (codes "reservation") then 3 else
+    if bytes_eq word (codes "node") || (bytes_eq word (codes "payload")
+    || bytes_eq word (codes "part")) then 2 else 1
 
--- The line begins with this word and a space.
-abbrev pub begins_with_word : List ℕ → List ℕ → Bool
-begins_with_word word line = starts_with nat_eq line (word ++ 32 ∷ [])
+abbrev pub words_of_key : (first : Field) → ℕ
+words_of_key (Text word) = words_of_key_named word
+words_of_key word = 1
 
 -- The key of a line, which names what the line is about: of `property` the first three words, of
--- `node`, `payload` and `part` the first two, of `reservation` the whole line, of any other the
--- first word.
-abbrev pub key_of_line : List ℕ → List ℕ
-key_of_line line =
-    if begins_with_word (codes "property") line then first_words 3 line else
-    if begins_with_word (codes "node") line
-    || begins_with_word (codes "payload") line
-    || begins_with_word (codes "part") line then first_words 2 line else
-    if begins_with_word (codes "reservation") line then line else
-    first_words 1 line
+-- `node`, `payload` and `part` the first two, of `reservation` all three, of any other the first
+-- word.
+abbrev pub key_of_line : Line → Line
+key_of_line [] = []
+key_of_line (first ∷ later) = take (words_of_key first) (first ∷ later)
 
--- One of these lines is this one.
-abbrev pub has_line : List (List ℕ) → List ℕ → Bool
-has_line lines line = list_any (bytes_eq line) lines
+-- A line as it is compared: its text without the newline, and that of its key.
+pub record ComparedLine : Type 0 where
+  pub text : List ℕ
+  pub key : List ℕ
 
--- The counterpart of a line of the first list: the first line of the second list that has its key
--- and is not a line of the first list. There is none if the second list has the line itself.
-abbrev pub counterpart : (one other : List (List ℕ)) → List ℕ → Option (List ℕ)
-counterpart one other line =
-    if has_line other line then None
-    else find (λ found. bytes_eq (key_of_line found) (key_of_line line) && not (has_line one found))
-    other
+abbrev pub line_to_compare : Line → ComparedLine
+line_to_compare line = record { text = line_bytes line; key = line_bytes (key_of_line line) }
 
--- A line of the differences: a sign, the line and a newline.
-abbrev pub signed_line : (sign : ℕ) → List ℕ → List ℕ
-signed_line sign line = sign ∷ (line ++ 10 ∷ [])
+-- A line of the differences: its sign, and its text without the newline.
+pub record SignedLine : Type 0 where
+  pub sign : Sign
+  pub text : List ℕ
+
+-- Its sign as it is printed. Two lines have none: they say why two meanings differ if no line does.
+abbrev pub sign_text : Sign → List ℕ
+sign_text sign.None = []
+sign_text sign.Removed = codes "-"
+sign_text sign.Added = codes "+"
+
+abbrev pub signed_text : SignedLine → List ℕ
+signed_text line = sign_text line.sign ++ (line.text ++ codes "\n")
+
+-- The text of the differences.
+abbrev pub text_of_differences : List SignedLine → List ℕ
+text_of_differences lines = flat_map signed_text lines
+
+-- One of these lines has this text.
+abbrev pub has_text : List ComparedLine → List ℕ → Bool
+has_text lines text = list_any (λ line. bytes_eq line.text text) lines
+
+-- One of these lines has this key.
+abbrev pub has_line_key : List ComparedLine → List ℕ → Bool
+has_line_key lines key = list_any (λ line. bytes_eq line.key key) lines
+
+-- The line, if it is not found by its text.
+abbrev pub only_line : (has_text : List ℕ → Bool) → ComparedLine → List ComparedLine
+only_line has_text line = if has_text line.text then [] else line ∷ []
+
+-- The lines of the first list that the second one has not. Lines are compared by their texts.
+abbrev pub lines_only_in : (lines others : List ComparedLine) → List ComparedLine
+lines_only_in lines others = flat_map (only_line (has_text others)) lines
+
+-- The text of the first of these lines that has this key, if there is one.
+abbrev pub first_text : List ComparedLine → (key : List ℕ) → Option (List ℕ)
+first_text [] key = None
+first_text (line ∷ later) key =
+    if bytes_eq line.key key then Some line.text else first_text later key
 
 -- The line with the sign `+`, if there is one.
-abbrev pub added_line : Option (List ℕ) → List ℕ
+abbrev pub added_line : Option (List ℕ) → List SignedLine
 added_line None = []
-added_line (Some line) = signed_line 43 line
+added_line (Some text) = record { sign = sign.Added; text = text } ∷ []
 
--- What is written for a line of the first list: nothing if the second list has it; or else the line
--- with the sign `-`, and after it its counterpart with the sign `+`.
-abbrev pub lines_for_first : (one other : List (List ℕ)) → List ℕ → List ℕ
-lines_for_first one other line =
-    if has_line other line then []
-    else signed_line 45 line ++ added_line (counterpart one other line)
+-- What is written for a line that was removed: the line with the sign `-`, and after it its
+-- counterpart with the sign `+`, if it has one. `first` is the text of the first line that was
+-- added, by its key.
+abbrev pub removed_lines : (first : List ℕ → Option (List ℕ)) → ComparedLine → List SignedLine
+removed_lines first line =
+    record { sign = sign.Removed; text = line.text } ∷ added_line (first line.key)
 
--- This line is the one that was found.
+-- This text is the one that was found.
 abbrev pub is_found : Option (List ℕ) → List ℕ → Bool
-is_found None line = false
-is_found (Some found) line = bytes_eq found line
+is_found None text = false
+is_found (Some found) text = bytes_eq found text
 
--- The line is the counterpart of a line of the first list.
-abbrev pub is_counterpart : (one other : List (List ℕ)) → List ℕ → Bool
-is_counterpart one other line = list_any (λ first. is_found (counterpart one other first) line) one
+-- The line that was added is a counterpart: `has_line_key` is whether a line with a key was
+-- removed.
+abbrev pub is_counterpart_by : (has_line_key : List ℕ → Bool) → (first : List ℕ → Option (List ℕ))
+    → ComparedLine → Bool
+is_counterpart_by has_line_key first line =
+    has_line_key line.key && is_found (first line.key) line.text
 
--- What is written for a line of the second list: nothing if the first list has it, or if it is a
--- counterpart, so that it was written before; or else the line with the sign `+`. Lines are
--- compared by their bytes. In a description only reservation lines can come twice, and these are
--- not counterparts, so this is the same as by place.
-abbrev pub lines_for_second : (one other : List (List ℕ)) → List ℕ → List ℕ
-lines_for_second one other line =
-    if has_line one line || is_counterpart one other line then [] else signed_line 43 line
+-- What is written for a line that was added: nothing if it is a counterpart, so that it was written
+-- before; or else the line with the sign `+`.
+abbrev pub added_lines : (has_line_key : List ℕ → Bool) → (first : List ℕ → Option (List ℕ))
+    → ComparedLine → List SignedLine
+added_lines has_line_key first line =
+    if is_counterpart_by has_line_key first line then [] else added_line (Some line.text)
+
+-- What is written for lines that were removed, and for lines that were added.
+abbrev pub signed_lines : (removed added : List ComparedLine) → List SignedLine
+signed_lines removed added =
+    flat_map (removed_lines (first_text added)) removed
+    ++ flat_map (added_lines (has_line_key removed) (first_text added)) added
 
 -- The differences of two lists of lines.
-abbrev pub differences : (one other : List (List ℕ)) → List ℕ
-differences one other =
-    flat_map (lines_for_first one other) one ++ flat_map (lines_for_second one other) other
+abbrev pub differences : (one other : List ComparedLine) → List SignedLine
+differences one other = signed_lines (lines_only_in one other) (lines_only_in other one)

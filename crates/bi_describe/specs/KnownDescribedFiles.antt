@@ -5,7 +5,8 @@ use Rattle.bi_fit.specs.KnownFiles.{bare_file}
 use Rattle.bi_common.specs.declared.format.Format.{Format}
 use Rattle.bi_common.specs.declared.format.Format.TheVariants.{Lines, Json}
 use Rattle.bi_common.specs.KnownWords.{lines}
-use Rattle.bi_describe.specs.Comparing.{IsComparison, comparison_text}
+use Rattle.bi_describe.specs.Comparing.{IsComparison, comparison_text, kinds_differ}
+use Rattle.bi_describe.specs.Comparing.{other_order_line}
 use Rattle.bi_describe.specs.Describing.{IsDescription}
 
 -- Whole outputs of `describe` and `compare` on small files, as text and as JSON, with the value
@@ -32,11 +33,10 @@ pub record ComparedTextsAreKnown : Type 0 where
   pub different_json : IsComparison Json widest smallest_text bare_file false
       (codes "{\"same\":false,\"differences\":[{\"sign\":\"+\",\"line\":\"node /images/a\"},"
       ++ lines (codes "{\"sign\":\"+\",\"line\":\"payload /images/a none\"}]}" ∷ []))
-  pub no_sign : comparison_text Json false
-      (lines (codes "the same lines in another order or number" ∷ []))
+  pub no_sign : comparison_text Json false (other_order_line ∷ [])
       ≡ codes "{\"same\":false,\"differences\":[{\"sign\":\"\",\"line\":"
       ++ lines (codes "\"the same lines in another order or number\"}]}" ∷ [])
-  pub signs : comparison_text Json false (lines (codes "-kind fit" ∷ codes "+kind legacy" ∷ []))
+  pub signs : comparison_text Json false (kinds_differ (codes "kind fit") (codes "kind legacy"))
       ≡ codes "{\"same\":false,\"differences\":[{\"sign\":\"-\",\"line\":\"kind fit\"},"
       ++ lines (codes "{\"sign\":\"+\",\"line\":\"kind legacy\"}]}" ∷ [])
   pub one : (format other_format : Format) (limits : Limits) (file other_file : List ℕ)

@@ -1,5 +1,6 @@
-use Rattle.std.specs.Prelude.{◌≡◌, ℕ, List, [], ◌∷◌, codes, None}
+use Rattle.std.specs.Prelude.{◌≡◌, ℕ, ◌==◌, List, [], ◌∷◌, codes, map, None}
 use Rattle.std.specs.FinMap.{empty, from_sorted}
+use Rattle.std.specs.List.{slice_split}
 use Rattle.bi_blob.specs.Blob.{Reservation}
 use Rattle.bi_blob.specs.Tree.{none, node, Property, PropertyMap}
 use Rattle.bi_fit.specs.ImageTree.{ImageTree}
@@ -7,13 +8,28 @@ use Rattle.bi_fit.specs.KnownFiles.{plain_tree}
 use Rattle.bi_fit.specs.Names.{images_name}
 use Rattle.bi_legacy.specs.KnownImages.{firmware_image}
 use Rattle.bi_legacy.specs.Meaning.{LegacyImage}
-use Rattle.bi_norm.specs.Meaning.{OfLegacy, OfFit}
+use Rattle.bi_norm.specs.Meaning.{Meaning, OfLegacy, OfFit}
 use Rattle.bi_common.specs.KnownWords.{lines}
+use Rattle.bi_common.specs.Lines.{Text}
 use Rattle.bi_describe.specs.Comparing.{comparison}
-use Rattle.bi_describe.specs.Differences.{differences}
+use Rattle.bi_describe.specs.Differences.{ComparedLine, differences, line_to_compare}
+use Rattle.bi_describe.specs.Differences.{text_of_differences}
 
 -- The differences of small lists of lines and of small boot images, by which a reader can judge the
 -- definitions.
+
+-- The line of this text, as it is compared. Its words are between the spaces.
+abbrev pub line_of_text : List ℕ → ComparedLine
+line_of_text text = line_to_compare (map Text (slice_split (λ byte. byte == 32) text))
+
+-- The text of the differences of lines of these texts.
+abbrev pub differences_of : (one other : List (List ℕ)) → List ℕ
+differences_of one other =
+    text_of_differences (differences (map line_of_text one) (map line_of_text other))
+
+-- The text of what differs between two meanings that are not the same.
+abbrev pub text_of_comparison : (one other : Meaning) → List ℕ
+text_of_comparison one other = text_of_differences (comparison one other)
 
 -- No lines.
 abbrev pub no_lines : List (List ℕ)
@@ -45,12 +61,12 @@ new_properties =
 -- first one of any other but a reservation, which has no counterpart. The other lines of the second
 -- list are last.
 pub record DifferencesAreKnown : Type 0 where
-  pub same : differences old_properties old_properties ≡ []
-  pub other_order : differences
+  pub same : differences_of old_properties old_properties ≡ []
+  pub other_order : differences_of
       (codes "node /a" ∷ codes "node /b" ∷ [])
       (codes "node /b" ∷ codes "node /a" ∷ [])
       ≡ []
-  pub properties : differences old_properties new_properties
+  pub properties : differences_of old_properties new_properties
       ≡ lines
       (codes "-property / a 0x01"
       ∷ codes "+property / a 0x02"
@@ -61,7 +77,7 @@ pub record DifferencesAreKnown : Type 0 where
       ∷ codes "+property / d"
       ∷ codes "+property / f 0x01"
       ∷ [])
-  pub payloads : differences
+  pub payloads : differences_of
       (codes "payload /images/a none" ∷ codes "payload /images/b none" ∷ [])
       (codes "payload /images/a size 0 sha256 e3b0c442" ∷ [])
       ≡ lines
@@ -69,7 +85,7 @@ pub record DifferencesAreKnown : Type 0 where
       ∷ codes "+payload /images/a size 0 sha256 e3b0c442"
       ∷ codes "-payload /images/b none"
       ∷ [])
-  pub parts : differences
+  pub parts : differences_of
       (codes "part 0 size 5 sha256 2cf24dba" ∷ codes "part 1 size 3 sha256 ba7816bf" ∷ [])
       (codes "part 0 size 3 sha256 ba7816bf" ∷ [])
       ≡ lines
@@ -77,12 +93,12 @@ pub record DifferencesAreKnown : Type 0 where
       ∷ codes "+part 0 size 3 sha256 ba7816bf"
       ∷ codes "-part 1 size 3 sha256 ba7816bf"
       ∷ [])
-  pub nodes : differences
+  pub nodes : differences_of
       (codes "node /a" ∷ codes "node /c" ∷ [])
       (codes "node /b" ∷ codes "node /d" ∷ [])
       ≡ lines
       (codes "-node /a" ∷ codes "-node /c" ∷ codes "+node /b" ∷ codes "+node /d" ∷ [])
-  pub reservations : differences
+  pub reservations : differences_of
       (codes "reservation 0x1000 0x20" ∷ codes "reservation 0x1000 0x30" ∷ [])
       (codes "reservation 0x1000 0x40" ∷ [])
       ≡ lines
@@ -90,21 +106,21 @@ pub record DifferencesAreKnown : Type 0 where
       ∷ codes "-reservation 0x1000 0x30"
       ∷ codes "+reservation 0x1000 0x40"
       ∷ [])
-  pub line_twice : differences
+  pub line_twice : differences_of
       (codes "reservation 0x1000 0x0" ∷ codes "reservation 0x1000 0x0" ∷ [])
       no_lines
       ≡ lines
       (codes "-reservation 0x1000 0x0" ∷ codes "-reservation 0x1000 0x0" ∷ [])
-  pub new_line_twice : differences
+  pub new_line_twice : differences_of
       no_lines
       (codes "reservation 0x1000 0x0" ∷ codes "reservation 0x1000 0x0" ∷ [])
       ≡ lines
       (codes "+reservation 0x1000 0x0" ∷ codes "+reservation 0x1000 0x0" ∷ [])
-  pub other_number : differences
+  pub other_number : differences_of
       (codes "reservation 0x1000 0x0" ∷ [])
       (codes "reservation 0x1000 0x0" ∷ codes "reservation 0x1000 0x0" ∷ [])
       ≡ []
-  pub fields : differences
+  pub fields : differences_of
       (codes "time 0" ∷ codes "load 0x8000" ∷ codes "os linux" ∷ [])
       (codes "arch arm" ∷ codes "time 5" ∷ codes "load 0x9000" ∷ codes "type kernel" ∷ [])
       ≡ lines
@@ -165,11 +181,11 @@ image_without_parts = record firmware_image { image_type = 4; parts = [] }
 -- reservation is there once more. No two payloads are known that differ with the same size and
 -- SHA-256, so the last two are those of an image beside itself.
 pub record ComparisonsAreKnown : Type 0 where
-  pub legacy_and_fit : comparison (OfLegacy image_without_parts) (OfFit bare_tree)
+  pub legacy_and_fit : text_of_comparison (OfLegacy image_without_parts) (OfFit bare_tree)
       ≡ lines (codes "-kind legacy" ∷ codes "+kind fit" ∷ [])
-  pub fit_and_legacy : comparison (OfFit bare_tree) (OfLegacy image_without_parts)
+  pub fit_and_legacy : text_of_comparison (OfFit bare_tree) (OfLegacy image_without_parts)
       ≡ lines (codes "-kind fit" ∷ codes "+kind legacy" ∷ [])
-  pub fields : comparison
+  pub fields : text_of_comparison
       (OfLegacy image_without_parts)
       (OfLegacy (record image_without_parts { time = 5; entry = 0x8000 }))
       ≡ lines
@@ -178,18 +194,18 @@ pub record ComparisonsAreKnown : Type 0 where
       ∷ codes "-entry 0x00008040"
       ∷ codes "+entry 0x00008000"
       ∷ [])
-  pub properties : comparison (OfFit bare_tree) (OfFit tree_with_names)
+  pub properties : text_of_comparison (OfFit bare_tree) (OfFit tree_with_names)
       ≡ lines (codes "+property / filename 0x01" ∷ codes "+property / name 0x02" ∷ [])
-  pub reservations : comparison (OfFit reserved_twice) (OfFit bare_tree)
+  pub reservations : text_of_comparison (OfFit reserved_twice) (OfFit bare_tree)
       ≡ lines
       (codes "-reservation 0x0000000000001000 0x0000000000000000"
       ∷ codes "-reservation 0x0000000000001000 0x0000000000000000"
       ∷ [])
-  pub other_number : comparison (OfFit reserved_once) (OfFit reserved_twice)
+  pub other_number : text_of_comparison (OfFit reserved_once) (OfFit reserved_twice)
       ≡ lines (codes "the same lines in another order or number" ∷ [])
-  pub other_order : comparison (OfFit images_in_order) (OfFit images_exchanged)
+  pub other_order : text_of_comparison (OfFit images_in_order) (OfFit images_exchanged)
       ≡ lines (codes "the same lines in another order or number" ∷ [])
-  pub other_parts : comparison (OfLegacy image_without_parts) (OfLegacy image_without_parts)
+  pub other_parts : text_of_comparison (OfLegacy image_without_parts) (OfLegacy image_without_parts)
       ≡ lines (codes "payloads differ that have the same size and SHA-256" ∷ [])
-  pub other_payloads : comparison (OfFit bare_tree) (OfFit bare_tree)
+  pub other_payloads : text_of_comparison (OfFit bare_tree) (OfFit bare_tree)
       ≡ lines (codes "payloads differ that have the same size and SHA-256" ∷ [])

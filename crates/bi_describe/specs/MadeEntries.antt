@@ -1,5 +1,4 @@
-use Rattle.std.specs.Prelude.{ℕ, List, [], ◌∷◌, ◌++◌, Option, map, option_map}
-use Rattle.std.specs.FinMap.{entries}
+use Rattle.std.specs.Prelude.{ℕ, List, [], ◌∷◌, ◌++◌, Option, option_map}
 use Rattle.bi_blob.specs.Tree.{Nodes, PropertyMap, FileNode, with_each}
 use Rattle.bi_blob.specs.Lookups.{Sibling}
 use Rattle.bi_fit.specs.NormalNodes.{nodes_by_name, properties_by_name}
@@ -8,13 +7,9 @@ use Rattle.bi_fit.specs.Names.{images_name}
 use Rattle.bi_describe.specs.Descriptions.{digest_of_payload, described_images, described_nodes}
 use Rattle.bi_describe.specs.Descriptions.{plain_node}
 use Rattle.bi_describe.specs.TreeEntries.{EntryModel, NodeBegins, NodeEnds, PayloadEntry}
-use Rattle.bi_describe.specs.TreeEntries.{PropertyEntry, node_entries}
+use Rattle.bi_describe.specs.TreeEntries.{node_entries, property_entries}
 
 -- The entries of the nodes of a file.
-
--- The entries of properties, in byte order of their names.
-abbrev pub property_entries : PropertyMap → List EntryModel
-property_entries properties = map PropertyEntry (entries properties)
 
 -- The entries of nodes that are not image nodes.
 abbrev pub plain_entries : Nodes FileNode → List EntryModel

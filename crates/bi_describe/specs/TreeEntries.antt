@@ -1,25 +1,34 @@
 use Rattle.std.specs.Prelude.{ℕ, ◌+◌, ◌-◌, List, [], ◌∷◌, ◌++◌, Option, length, map, max, take}
-use Rattle.std.specs.Prelude.{codes, option_map}
+use Rattle.std.specs.Prelude.{option_map}
 use Rattle.std.specs.FinMap.{entries}
-use Rattle.bi_blob.specs.Tree.{Nodes, none, node, Property}
+use Rattle.bi_blob.specs.Tree.{Nodes, none, node, Property, PropertyMap}
 use Rattle.bi_fit.specs.ImageTree.{ImageTree}
-use Rattle.bi_common.specs.Shown.{Words, path}
+use Rattle.bi_common.specs.Lines.{Line}
 use Rattle.bi_describe.specs.declared.describe.entries.Entry.{Entry}
 use Rattle.bi_describe.specs.declared.describe.entries.Entry.TheVariants as entry
 use Rattle.bi_describe.specs.declared.describe.entries.PayloadDigest as made
 use Rattle.bi_describe.specs.Descriptions.{PayloadDigest, NodePayload, NotAnImage, OfImage}
-use Rattle.bi_describe.specs.Descriptions.{DescribedNode, described_nodes, property_words}
-use Rattle.bi_describe.specs.Descriptions.{payload_words}
+use Rattle.bi_describe.specs.Descriptions.{DescribedNode, described_nodes, node_line}
+use Rattle.bi_describe.specs.Descriptions.{payload_lines, property_line}
 
--- The lines of a tree as a flat list: what each line after that of the root has besides its path.
+-- A tree as a flat list: what begins and ends, and what each line after that of the root has
+-- besides the names of its node.
 
--- A node begins or ends; the payload of an image node, if it has one; or a property. The last two
--- are about the innermost open node.
+-- A node begins or ends; the payload of an image node, if it has one; its properties begin; a
+-- property; or its properties end, and its children begin. All but the first are about the
+-- innermost open node.
 pub data EntryModel : Type 0 where
   NodeBegins : (name : List ℕ) → EntryModel
   NodeEnds : EntryModel
   PayloadEntry : (payload : Option PayloadDigest) → EntryModel
+  PropertiesBegin : EntryModel
   PropertyEntry : (property : Property) → EntryModel
+  ChildrenBegin : EntryModel
+
+-- The entries of properties, in byte order of their names.
+abbrev pub property_entries : PropertyMap → List EntryModel
+property_entries properties =
+    PropertiesBegin ∷ (map PropertyEntry (entries properties) ++ ChildrenBegin ∷ [])
 
 -- The entry for the payload of an image node. Any other node has none.
 abbrev pub payload_entries : NodePayload → List EntryModel
@@ -28,7 +37,7 @@ payload_entries (OfImage payload) = PayloadEntry payload ∷ []
 
 -- The entries of a node without itself and its children.
 abbrev pub own_entries : DescribedNode → List EntryModel
-own_entries own = payload_entries own.payload ++ map PropertyEntry (entries own.properties)
+own_entries own = payload_entries own.payload ++ property_entries own.properties
 
 -- The entries of nodes, each before those of its children.
 abbrev pub node_entries : Nodes DescribedNode → List EntryModel
@@ -40,25 +49,24 @@ node_entries (node name own children later) =
 -- The entries of a tree: the properties of the root, and the nodes below it.
 abbrev pub tree_entries : ImageTree → List EntryModel
 tree_entries tree =
-    map PropertyEntry (entries tree.root.own)
+    property_entries tree.root.own
     ++ node_entries (described_nodes tree.root.children tree.payloads)
 
 -- The names of the open nodes after an entry, if these are open before it. The root is left out.
 abbrev pub open_after : (names : List (List ℕ)) → EntryModel → List (List ℕ)
 open_after names (NodeBegins name) = names ++ name ∷ []
 open_after names NodeEnds = take (length names - 1) names
-open_after names (PayloadEntry payload) = names
-open_after names (PropertyEntry property) = names
+open_after names entry = names
 
 -- The lines of an entry, if these nodes are open after it.
-abbrev pub lines_of_entry : (names : List (List ℕ)) → EntryModel → List Words
-lines_of_entry names (NodeBegins name) = (codes "node" ∷ path names ∷ []) ∷ []
-lines_of_entry names NodeEnds = []
-lines_of_entry names (PayloadEntry payload) = payload_words (path names) (OfImage payload)
-lines_of_entry names (PropertyEntry property) = property_words (path names) property ∷ []
+abbrev pub lines_of_entry : (names : List (List ℕ)) → EntryModel → List Line
+lines_of_entry names (NodeBegins name) = node_line names ∷ []
+lines_of_entry names (PayloadEntry payload) = payload_lines names (OfImage payload)
+lines_of_entry names (PropertyEntry property) = property_line names property ∷ []
+lines_of_entry names entry = []
 
 -- The lines of entries, if these nodes are open before them.
-abbrev pub entry_lines : (names : List (List ℕ)) → List EntryModel → List Words
+abbrev pub entry_lines : (names : List (List ℕ)) → List EntryModel → List Line
 entry_lines names [] = []
 entry_lines names (entry ∷ later) =
     lines_of_entry (open_after names entry) entry ++ entry_lines (open_after names entry) later
@@ -67,8 +75,7 @@ entry_lines names (entry ∷ later) =
 abbrev pub count_after : (count : ℕ) → EntryModel → ℕ
 count_after count (NodeBegins name) = count + 1
 count_after count NodeEnds = count - 1
-count_after count (PayloadEntry payload) = count
-count_after count (PropertyEntry property) = count
+count_after count entry = count
 
 -- How many nodes are open at most, if so many are open before these entries.
 abbrev pub most_open : (count : ℕ) → List EntryModel → ℕ
@@ -84,4 +91,6 @@ abbrev pub as_entry : Entry → EntryModel
 as_entry (entry.Begin name) = NodeBegins name.now
 as_entry entry.End = NodeEnds
 as_entry (entry.Payload payload) = PayloadEntry (option_map digest_made payload)
+as_entry entry.Properties = PropertiesBegin
 as_entry (entry.Property name value) = PropertyEntry (name.now, value.now)
+as_entry entry.Children = ChildrenBegin

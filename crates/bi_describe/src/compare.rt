@@ -2,28 +2,37 @@
 
 mod differences;
 mod json;
-mod texts;
+mod kept_lines;
+mod line_keeper;
+mod reasons;
+mod signed_lines;
 
-ghost use Rattle.std.specs.Prelude.{◌≡◌, ◌↔◌, ◌⊎◌, IsTrue, List, ℕ, IfOk, OnOk, IfErr};
-ghost use Rattle.std.specs.Prelude.{string_bytes};
+ghost use Rattle.std.specs.Prelude.{◌≡◌, ◌↔◌, ◌⊎◌, IsTrue, List, ℕ, IfOk, OnOk, IfErr, false};
+ghost use Rattle.std.specs.Prelude.{codes, string_bytes};
 ghost use Rattle.bi_base.specs.Limits.{Limits};
 ghost use Rattle.bi_norm.specs.Comparing.{AreCompared};
 ghost use Rattle.bi_norm.specs.Meaning.{Meaning, Means};
 ghost use Rattle.bi_norm.specs.Reading.{IsBootImageReadError, meaning_of, IsReadBootImage};
 ghost use Rattle.bi_common.specs.declared.format.Format.TheVariants.{Lines, Json};
 ghost use Rattle.bi_common.specs.HeldImages.{IsHeldImage};
-ghost use Rattle.bi_describe.specs.Comparing.{IsComparison, IsComparisonError};
+ghost use Rattle.bi_describe.specs.Comparing.{IsComparison, IsComparisonError, IsComparisonOf};
 ghost use Rattle.bi_describe.specs.Comparing.{IsReadingError, IsDescribingError, comparison};
-ghost use Rattle.bi_describe.specs.Descriptions.{description};
-ghost use Rattle.bi_describe.specs.Describing.{CanBeDescribed};
+ghost use Rattle.bi_describe.specs.Comparing.{comparison_text};
+ghost use Rattle.bi_describe.specs.Describing.{CanBeDescribed, IsImageError};
+ghost use Rattle.bi_describe.specs.Descriptions.{description_lines};
+ghost use Rattle.bi_describe.specs.KeptLines.{KeepsLines};
+ghost use Rattle.bi_describe.specs.MadeLines.{made_lines};
 
-use crate::describe::describe_image;
+use crate::describe::{describe_image, description_is_ascii};
 use bi_base::{Error, Fault, Limits};
 use bi_common::format::Format;
 use bi_norm::BootImage;
 use json::comparison_json;
+use kept_lines::KeptLines;
+use reasons::{differences_or_reason, kinds_differ};
+pub use signed_lines::Sign;
+use signed_lines::{SignedLine, text_of_lines};
 use std::alloc::{AllocError, Global};
-use texts::compare_texts;
 
 /// Why two boot images were not compared.
 #[derive(Clone, Copy, Debug, PartialEq, Eq, thiserror::Error)]
@@ -99,20 +108,7 @@ pub fn compare(
         comparison.same (string_bytes comparison.differences)) }
     ensures failed { IfErr result (IsComparisonError limits one.now other.now) }
 {
-    let image = read_one(alloc, one, limits)?;
-    let other_image = read_other(alloc, other, limits)?;
-    if mean_the_same(alloc, &image, &other_image)? {
-        return Ok(Comparison {
-            same: true,
-            differences: String::new(alloc),
-        });
-    }
-    let text = describe_one(alloc, &image, limits)?;
-    let other_text = describe_other(alloc, &other_image, limits)?;
-    Ok(Comparison {
-        same: false,
-        differences: compare_images(alloc, &image, &other_image, &text, &other_text)?,
-    })
+    compare_as(alloc, one, other, limits, Format::Lines)
 }
 
 /// Returns whether two boot images mean the same, and what differs between them, as one text of
@@ -128,12 +124,7 @@ pub fn compare_json(
         comparison.same (string_bytes comparison.differences)) }
     ensures failed { IfErr result (IsComparisonError limits one.now other.now) }
 {
-    let comparison = compare(alloc, one, other, limits)?;
-    let same = comparison.same;
-    Ok(Comparison {
-        same,
-        differences: comparison_json(alloc, same, &comparison.differences)?,
-    })
+    compare_as(alloc, one, other, limits, Format::Json)
 }
 
 impl From<AllocError> for CompareError {
@@ -197,67 +188,145 @@ fn mean_the_same(
     }
 }
 
-/// Describes the image of the first file. Requires: the image was read.
-fn describe_one(
+/// Compares two files, in a form.
+fn compare_as(
+    alloc: Global,
+    one: &[u8],
+    other: &[u8],
+    limits: Limits,
+    format: Format,
+) -> Result<Comparison, CompareError>
+    ensures compared { IfOk result (λ comparison. IsComparison format limits one.now other.now
+        comparison.same (string_bytes comparison.differences)) }
+    ensures failed { IfErr result (IsComparisonError limits one.now other.now) }
+{
+    let image = read_one(alloc, one, limits)?;
+    let other_image = read_other(alloc, other, limits)?;
+    let same = mean_the_same(alloc, &image, &other_image)?;
+    if same {
+        return Ok(Comparison {
+            same,
+            differences: print(alloc, format, true, &[])?,
+        });
+    }
+    let differences = compare_images(alloc, &image, &other_image, limits, format)?;
+    Ok(Comparison { same, differences })
+}
+
+/// Returns the text of what differs between two images that do not mean the same, in a form.
+/// Requires: the images were read.
+fn compare_images(
     alloc: Global,
     image: &BootImage<'_>,
+    other: &BootImage<'_>,
     limits: Limits,
+    format: Format,
 ) -> Result<String, CompareError>
     requires held { IsHeldImage image.now }
+    requires other_held { IsHeldImage other.now }
+    ensures compared { IfOk result (λ text. IsComparisonOf format limits (meaning_of image.now)
+        (meaning_of other.now) false (string_bytes text)) }
+    ensures failed { IfErr result (λ error. (error ≡ CompareError.OutOfMemory)
+        ⊎ IsDescribingError limits (meaning_of image.now) (meaning_of other.now) error) }
+{
+    let kept = keep_one(alloc, image, limits)?;
+    let other_kept = keep_other(alloc, other, limits)?;
+    let lines = differing_lines(alloc, image, other, &kept, &other_kept)?;
+    Ok(print(alloc, format, false, &lines)?)
+}
+
+/// Keeps the lines of the first image. Requires: the image was read.
+fn keep_one(alloc: Global, image: &BootImage<'_>, limits: Limits) -> Result<KeptLines, CompareError>
+    requires held { IsHeldImage image.now }
     ensures within { OnOk result (CanBeDescribed Lines limits (meaning_of image.now)) }
-    ensures described { IfOk result (λ text. string_bytes text
-        ≡ description (meaning_of image.now)) }
+    ensures kept { IfOk result (KeepsLines (description_lines (meaning_of image.now))) }
     ensures failed { IfErr result (λ error. (error ≡ CompareError.OutOfMemory)
         ⊎ ((other : Meaning) → IsDescribingError limits (meaning_of image.now) other error)) }
 {
-    match describe_image(alloc, image, limits, Format::Lines) {
-        Ok(text) => Ok(text),
+    match keep_lines(alloc, image, limits) {
+        Ok(kept) => Ok(kept),
         Err(Error::Refused(fault)) => Err(CompareError::One(fault)),
         Err(_) => Err(CompareError::OutOfMemory),
     }
 }
 
-/// Describes the image of the second file. Requires: the image was read.
-fn describe_other(
+/// Keeps the lines of the second image. Requires: the image was read.
+fn keep_other(
     alloc: Global,
     image: &BootImage<'_>,
     limits: Limits,
-) -> Result<String, CompareError>
+) -> Result<KeptLines, CompareError>
     requires held { IsHeldImage image.now }
     ensures within { OnOk result (CanBeDescribed Lines limits (meaning_of image.now)) }
-    ensures described { IfOk result (λ text. string_bytes text
-        ≡ description (meaning_of image.now)) }
+    ensures kept { IfOk result (KeepsLines (description_lines (meaning_of image.now))) }
     ensures failed { IfErr result (λ error. (error ≡ CompareError.OutOfMemory)
         ⊎ ((one : Meaning) → CanBeDescribed Lines limits one
         → IsDescribingError limits one (meaning_of image.now) error)) }
 {
-    match describe_image(alloc, image, limits, Format::Lines) {
-        Ok(text) => Ok(text),
+    match keep_lines(alloc, image, limits) {
+        Ok(kept) => Ok(kept),
         Err(Error::Refused(fault)) => Err(CompareError::Other(fault)),
         Err(_) => Err(CompareError::OutOfMemory),
     }
 }
 
-/// Compares two images that do not mean the same, whose descriptions are given.
-fn compare_images(
+/// Keeps the lines of the description of an image. Requires: the image was read.
+///
+/// Errors: TooLarge at the limit, if the payloads or the description are longer; OutOfMemory.
+fn keep_lines(alloc: Global, image: &BootImage<'_>, limits: Limits) -> Result<KeptLines, Error>
+    requires held { IsHeldImage image.now }
+    ensures within { OnOk result (CanBeDescribed Lines limits (meaning_of image.now)) }
+    ensures kept { IfOk result (KeepsLines (description_lines (meaning_of image.now))) }
+    ensures failed { IfErr result (IsImageError Lines limits (meaning_of image.now)) }
+{
+    let mut described = describe_image(alloc, image, limits, Format::Lines)?;
+    description_is_ascii(image, Format::Lines);
+    Ok(KeptLines::new(alloc, &mut described)?)
+}
+
+/// Returns what differs between two images that do not mean the same, whose lines are kept.
+///
+/// Fails only if memory runs out.
+fn differing_lines<'a>(
     alloc: Global,
     image: &BootImage<'_>,
     other: &BootImage<'_>,
-    text: &str,
-    other_text: &str,
-) -> Result<String, AllocError>
-    ensures { IfOk result (λ differences. text.now ≡ description (meaning_of image.now)
-        → other_text.now ≡ description (meaning_of other.now)
-        → string_bytes differences ≡ comparison (meaning_of image.now) (meaning_of other.now)) }
+    kept: &'a KeptLines,
+    other_kept: &'a KeptLines,
+) -> Result<Vec<SignedLine<'a>>, AllocError>
+    ensures { IfOk result (λ lines.
+        KeepsLines (description_lines (meaning_of image.now)) kept.entry.now
+        → KeepsLines (description_lines (meaning_of other.now)) other_kept.entry.now
+        → made_lines lines.items ≡ comparison (meaning_of image.now) (meaning_of other.now)) }
 {
     match (image, other) {
         (BootImage::Legacy(_), BootImage::Fit(_)) => {
-            "-kind legacy\n+kind fit\n".to_string(alloc)
+            kinds_differ(alloc, "kind legacy", "kind fit")
         }
         (BootImage::Fit(_), BootImage::Legacy(_)) => {
-            "-kind fit\n+kind legacy\n".to_string(alloc)
+            kinds_differ(alloc, "kind fit", "kind legacy")
         }
-        (BootImage::Legacy(_), BootImage::Legacy(_)) => compare_texts(alloc, text, other_text),
-        (BootImage::Fit(_), BootImage::Fit(_)) => compare_texts(alloc, text, other_text),
+        (BootImage::Legacy(_), BootImage::Legacy(_)) => {
+            differences_or_reason(alloc, kept, other_kept)
+        }
+        (BootImage::Fit(_), BootImage::Fit(_)) => differences_or_reason(alloc, kept, other_kept),
+    }
+}
+
+/// Returns the text of a comparison, in a form.
+///
+/// Fails only if memory runs out.
+fn print(
+    alloc: Global,
+    format: Format,
+    same: bool,
+    lines: &[SignedLine],
+) -> Result<String, AllocError>
+    ensures { IfOk result (λ text. string_bytes text
+        ≡ comparison_text format same (made_lines lines.now)) }
+{
+    match format {
+        Format::Lines => text_of_lines(alloc, lines),
+        Format::Json => comparison_json(alloc, same, lines),
     }
 }

@@ -3,14 +3,19 @@
 ghost use Rattle.std.specs.Prelude.{◌≡◌, ⊤, IfOk, OnOk, IfErr, IsAscii, string_bytes};
 ghost use Rattle.bi_base.specs.Commands.{Appended, AppendFailed};
 ghost use Rattle.bi_base.specs.Pipes.{IsPiped};
+ghost use Rattle.bi_norm.specs.Meaning.{Meaning};
 ghost use Rattle.bi_norm.specs.Reading.{meaning_of};
 ghost use Rattle.bi_common.specs.declared.format.Format.TheVariants.{Lines, Json};
 ghost use Rattle.bi_common.specs.HeldImages.{IsHeldImage};
+ghost use Rattle.bi_common.specs.LineTokens.{tokens_of_lines};
+ghost use Rattle.bi_common.specs.PayloadBounds.{IsOverPayloadBound};
+ghost use Rattle.bi_describe.specs.DescribedImages.{IsDescribed, IsDescriptionOf};
+ghost use Rattle.bi_describe.specs.DescribedImages.{described_lines, described_tokens};
 ghost use Rattle.bi_describe.specs.Describing.{CanBeDescribed, IsImageError, description_text};
 ghost use Rattle.bi_describe.specs.Describing.{IsDescription, IsDescribeError};
 ghost use Rattle.bi_describe.specs.Describing.{describe_promise, describe_laws};
-ghost use Rattle.bi_describe.specs.ReadDescription.{IsDescriptionOf};
 
+mod bounded_pen;
 mod digests;
 mod entries;
 mod fit;
@@ -18,16 +23,18 @@ mod image_nodes;
 mod image_payload;
 mod json;
 mod legacy;
-mod limited_sink;
 mod lines;
 mod nodes;
 mod properties;
 
-use bi_base::{Command, Error, Limits, Sink, VecSink, are_bytes, pipe_to};
+use bi_base::{Command, Error, Limits, MemoryPen, Pen, Sink, SinkPen, are_bytes, pipe_to};
 use bi_common::format::Format;
+use bi_common::json_writer::{JsonPen, JsonWriter};
+use bi_common::lines::{LinePen, LineWriter};
 use bi_norm::BootImage;
-use fit::describe_fit;
-use legacy::describe_legacy;
+use bounded_pen::BoundedPen;
+use fit::DescribedFit;
+use legacy::DescribedLegacy;
 use std::alloc::Global;
 use std::io::{Read, Write};
 
@@ -76,7 +83,30 @@ fn describe_as(alloc: Global, file: &[u8], limits: Limits, format: Format) -> Re
     ensures failed { IfErr result (IsDescribeError format limits file.now) }
 {
     let image = BootImage::read(alloc, file, limits)?;
-    describe_image(alloc, &image, limits, format)
+    text_of_image(alloc, &image, limits, format)
+}
+
+/// Returns the description of a boot image, in a form. Requires: the image was read.
+fn text_of_image(
+    alloc: Global,
+    image: &BootImage,
+    limits: Limits,
+    format: Format,
+) -> Result<String, Error>
+    requires held { IsHeldImage image.now }
+    ensures within { OnOk result (CanBeDescribed format limits (meaning_of image.now)) }
+    ensures described { IfOk result (λ text. string_bytes text
+        ≡ description_text format (meaning_of image.now)) }
+    ensures failed { IfErr result (IsImageError format limits (meaning_of image.now)) }
+{
+    let mut described = describe_image(alloc, image, limits, format)?;
+    let mut pen = MemoryPen::new(alloc);
+    described.put(format, &mut pen);
+    description_is_ascii(image, format);
+    match String::from_utf8(pen.into_vec()?) {
+        Ok(text) => Ok(text),
+        Err(_) => unreachable!(),
+    }
 }
 
 /// Describing, as a command: `describe`, or `describe_json`.
@@ -152,33 +182,105 @@ pub fn describe_json_to<R: Read, W: Write>(
     pipe_to(alloc, &describer, reader, writer, limits)
 }
 
-/// Returns the description of what a boot image means, in a form. Requires: the image was read.
+/// What the description of a boot image is made from.
+#[derive(Drop)]
+pub(crate) enum DescribedImage<'a, 'b> {
+    /// Of a legacy image.
+    Legacy(DescribedLegacy<'a>),
+    /// Of a flattened image tree.
+    Fit(DescribedFit<'a, 'b>),
+}
+
+impl<'a, 'b> DescribedImage<'a, 'b> {
+    /// Returns what the description of a boot image is made from. Requires: the image was read.
+    ///
+    /// Errors: TooLarge at the limit, if the payloads are longer, or if the description is, which
+    /// need not be found here; OutOfMemory.
+    fn new(
+        alloc: Global,
+        image: &'b BootImage<'a>,
+        limits: Limits,
+    ) -> Result<DescribedImage<'a, 'b>, Error>
+        requires held { IsHeldImage image.now }
+        ensures within { OnOk result (¬ (IsOverPayloadBound limits (meaning_of image.now))) }
+        ensures described { IfOk result (IsDescribed (meaning_of image.entry.now)) }
+        ensures failed { IfErr result (λ error. (format : Format)
+            → IsImageError format limits (meaning_of image.now) error) }
+    {
+        match image {
+            BootImage::Legacy(image) => {
+                Ok(DescribedImage::Legacy(DescribedLegacy::new(alloc, image)?))
+            }
+            BootImage::Fit(fit) => {
+                Ok(DescribedImage::Fit(DescribedFit::new(alloc, fit, limits)?))
+            }
+        }
+    }
+
+    /// Puts the lines of the description.
+    pub(crate) fn put_lines<L: LinePen>(&mut self, pen: &mut L)
+        ensures put { L.puts pen.old (tokens_of_lines (described_lines self.old)) pen.new }
+        ensures same { (meaning : Meaning) → IsDescribed meaning self.old
+            → IsDescribed meaning self.new }
+    {
+        match self {
+            DescribedImage::Legacy(image) => image.put_lines(pen),
+            DescribedImage::Fit(fit) => fit.put_lines(pen),
+        }
+    }
+
+    /// Puts the object of the description.
+    fn put_object<J: JsonPen>(&self, json: &mut J)
+        ensures { J.puts json.old (described_tokens self.now) json.new }
+    {
+        match self {
+            DescribedImage::Legacy(image) => image.put_object(json),
+            DescribedImage::Fit(fit) => fit.put_object(json),
+        }
+    }
+
+    /// Puts the description, in a form.
+    fn put<P: Pen>(&mut self, format: Format, pen: &mut P)
+        ensures put { (meaning : Meaning) → IsDescribed meaning self.old
+            → P.puts pen.old (description_text format meaning) pen.new }
+        ensures same { (meaning : Meaning) → IsDescribed meaning self.old
+            → IsDescribed meaning self.new }
+    {
+        match format {
+            Format::Lines => self.put_lines(&mut LineWriter::new(pen)),
+            Format::Json => {
+                self.put_object(&mut JsonWriter::new(pen));
+                pen.put(b"\n");
+            }
+        }
+    }
+}
+
+/// Returns what the description of a boot image is made from, which is no longer than the limit in
+/// a form. Requires: the image was read.
 ///
 /// Errors: TooLarge at the limit, if the payloads or the description are longer; OutOfMemory.
-pub(crate) fn describe_image(
+pub(crate) fn describe_image<'a, 'b>(
     alloc: Global,
-    image: &BootImage,
+    image: &'b BootImage<'a>,
     limits: Limits,
     format: Format,
-) -> Result<String, Error>
+) -> Result<DescribedImage<'a, 'b>, Error>
     requires held { IsHeldImage image.now }
     ensures within { OnOk result (CanBeDescribed format limits (meaning_of image.now)) }
-    ensures described { IfOk result (λ text. string_bytes text
-        ≡ description_text format (meaning_of image.now)) }
+    ensures described { IfOk result (IsDescribed (meaning_of image.entry.now)) }
     ensures failed { IfErr result (IsImageError format limits (meaning_of image.now)) }
 {
-    let mut sink = VecSink::new(alloc);
-    describe_into(alloc, image, limits, format, &mut sink)?;
-    description_is_ascii(image, format);
-    match String::from_utf8(sink.into_vec()) {
-        Ok(text) => Ok(text),
-        Err(_) => unreachable!(),
-    }
+    let mut described = DescribedImage::new(alloc, image, limits)?;
+    let mut room = BoundedPen::new(limits.file());
+    described.put(format, &mut room);
+    room.check(limits.file())?;
+    Ok(described)
 }
 
 /// Does nothing. Its contract states that the description of an image is ASCII, in each form.
 /// Requires: the image was read.
-fn description_is_ascii(image: &BootImage, format: Format)
+pub(crate) fn description_is_ascii(image: &BootImage, format: Format)
     requires held { IsHeldImage image.now }
     ensures { IsAscii (description_text format (meaning_of image.now)) }
 {
@@ -203,8 +305,8 @@ fn describe_into<S: Sink>(
         (IsDescriptionOf format limits (meaning_of image.now))
         (IsImageError format limits (meaning_of image.now)) sink.old sink.new) }
 {
-    match image {
-        BootImage::Legacy(image) => describe_legacy(alloc, image, limits, format, sink),
-        BootImage::Fit(image) => describe_fit(alloc, image, limits, format, sink),
-    }
+    let mut described = describe_image(alloc, image, limits, format)?;
+    let mut pen = SinkPen::new(sink);
+    described.put(format, &mut pen);
+    pen.result()
 }

@@ -57,7 +57,7 @@ node_entry file entries index depth place name items at = by_rest (drop index en
       by_rest : (rest : List Entry) → drop index entries ≡ rest → map (item_in file) rest ≡ NodeItem depth place name ∷ items →
           IsNodeEntry file entries index (NodeItem depth place name) items
       by_rest [] is e = absurd cc
-      by_rest (entry.Property p ∷ later) is e = absurd cc
+      by_rest (entry.Property p k ∷ later) is e = absurd cc
       by_rest (entry.Node n ∷ later) is e = record { n = n; later = later; is_at = is; is_item = cc; are_items = cc }
 
 -- Where a list goes on after an index, the index is within it.
@@ -155,55 +155,56 @@ growing_begun file growing grown o outer name place new parent is entries item d
   more n = omega arith
 
 -- A property of the innermost open node, which has no child.
-pub growing_property : (file : List ℕ) (growing grown : Growing) (o : OpenFileNode) (outer : List OpenFileNode) (p : PropertyEntry) →
+pub growing_property : (file : List ℕ) (growing grown : Growing) (o : OpenFileNode) (outer : List OpenFileNode)
+    (p : PropertyEntry) (k : ℕ) →
     IsGrowing file growing o outer →
     names o.children ≡ []
-    → ((n : NodeEntry) → slice_get (growing.entries.items ++ entry.Property p ∷ []) growing.innermost.entry ≡ Some (entry.Node n)
-    → grown.entries.items ≡ set (growing.entries.items ++ entry.Property p ∷ []) growing.innermost.entry
-    (entry.Node (record n { property_count = length (growing.entries.items ++ entry.Property p ∷ []) - growing.innermost.entry - 1 })))
+    → ((n : NodeEntry) → slice_get (growing.entries.items ++ entry.Property p k ∷ []) growing.innermost.entry ≡ Some (entry.Node n)
+    → grown.entries.items ≡ set (growing.entries.items ++ entry.Property p k ∷ []) growing.innermost.entry
+    (entry.Node (record n { property_count = length (growing.entries.items ++ entry.Property p k ∷ []) - growing.innermost.entry - 1 })))
     → grown.innermost ≡ growing.innermost → grown.outer ≡ growing.outer
     → grown.names.used ≡ with_used_name growing.names.used (property_in file p).name
-    → IsNumberOf grown.names.used (property_in file p).name p.number
+    → IsNumberOf grown.names.used (property_in file p).name k
     → AreMarksBelow (length grown.entries.items) grown.names
     → HasMarked grown.names growing.innermost.entry (map (λ (q : FileProperty). q.name) o.properties ++ (property_in file p).name ∷ [])
     → IsGrowing file grown (with_one_property o (property_in file p)) outer
-growing_property file growing grown o outer p is childless entries same same_outer used number marks holds =
+growing_property file growing grown o outer p k is childless entries same same_outer used number marks holds =
     let found : IsNodeEntry file growing.entries.items growing.innermost.entry (NodeItem (length outer) o.place o.name)
     (open_rest o outer) = innermost_entry file growing o outer is in
-    let pushed : drop growing.innermost.entry (growing.entries.items ++ entry.Property p ∷ []) ≡ entry.Node found.n
-    ∷ (found.later ++ entry.Property p ∷ []) =
-    drop-push growing.entries.items found.later growing.innermost.entry found.n (entry.Property p) found.is_at in
-    let count : ℕ = length (growing.entries.items ++ entry.Property p ∷ []) - growing.innermost.entry - 1 in
+    let pushed : drop growing.innermost.entry (growing.entries.items ++ entry.Property p k ∷ []) ≡ entry.Node found.n
+    ∷ (found.later ++ entry.Property p k ∷ []) =
+    drop-push growing.entries.items found.later growing.innermost.entry found.n (entry.Property p k) found.is_at in
+    let count : ℕ = length (growing.entries.items ++ entry.Property p k ∷ []) - growing.innermost.entry - 1 in
     let m : NodeEntry = record found.n { property_count = count } in
-    let written : grown.entries.items ≡ set (growing.entries.items ++ entry.Property p ∷ []) growing.innermost.entry (entry.Node m) =
-    entries found.n (get_at (growing.entries.items ++ entry.Property p ∷ []) (found.later ++ entry.Property p ∷ []) growing.innermost.entry
-    (entry.Node found.n) pushed) in
+    let written : grown.entries.items ≡ set (growing.entries.items ++ entry.Property p k ∷ []) growing.innermost.entry (entry.Node m) =
+    entries found.n (get_at (growing.entries.items ++ entry.Property p k ∷ []) (found.later ++ entry.Property p k ∷ [])
+    growing.innermost.entry (entry.Node found.n) pushed) in
     let long : growing.innermost.entry + 1 + length found.later
     ≡ length growing.entries.items = drop-within growing.entries.items found.later growing.innermost.entry
     (entry.Node found.n) found.is_at in
-    let longer : length (growing.entries.items ++ entry.Property p ∷ [])
-    ≡ length growing.entries.items + 1 = length-append growing.entries.items (entry.Property p ∷ []) in
+    let longer : length (growing.entries.items ++ entry.Property p k ∷ [])
+    ≡ length growing.entries.items + 1 = length-append growing.entries.items (entry.Property p k ∷ []) in
     let deep : found.n.depth ≡ length outer = item_depth found.is_item in
     let rest : map (item_in file) found.later ≡ map PropertyItem o.properties = found.are_items
     ∙ childless_items (length outer) o childless in
     record {
       items = ap (map (item_in file)) written
-          ∙ items-set file (growing.entries.items ++ entry.Property p ∷ [])
-          (found.later ++ entry.Property p ∷ []) growing.innermost.entry found.n m pushed refl
-          ∙ map-append (item_in file) growing.entries.items (entry.Property p ∷ [])
+          ∙ items-set file (growing.entries.items ++ entry.Property p k ∷ [])
+          (found.later ++ entry.Property p k ∷ []) growing.innermost.entry found.n m pushed refl
+          ∙ map-append (item_in file) growing.entries.items (entry.Property p k ∷ [])
           ∙ ap (λ l. l ++ PropertyItem (property_in file p) ∷ []) is.items
           ∙ sym (items_of-append 0 (events_of_open_nodes o outer) (FileNodeProperty (property_in file p) ∷ []))
           ∙ ap (items_of 0) (sym (events_of_open_nodes-property o outer (property_in file p) childless));
       linked = subst (AreLinked file (length outer + 1) 0) (sym written)
-          (AreLinked-property file (length outer + 1) 0 growing.entries.items found.later growing.innermost.entry found.n m p
+          (AreLinked-property file (length outer + 1) 0 growing.entries.items found.later growing.innermost.entry found.n m p k
           found.is_at (ap (λ d. d + 1) deep)
           (subst AreOnlyProperties (sym rest) (properties_alone o.properties)) refl refl (omega arith) is.linked);
       opened = subst (λ a. AreOpen (a ∷ reverse grown.outer.items) (names o.children) o.name outer) (sym same)
           (subst (λ l. AreOpen (growing.innermost ∷ reverse l.items) (names o.children) o.name outer) (sym same_outer) is.opened);
       named = subst (λ l. AreTableNames file l grown.names.used) (sym written)
-          (table_names-set file (growing.entries.items ++ entry.Property p ∷ [])
-          (found.later ++ entry.Property p ∷ []) grown.names.used growing.innermost.entry found.n m pushed refl
-          (table_names-property file growing.entries.items growing.names.used grown.names.used p is.named used number));
+          (table_names-set file (growing.entries.items ++ entry.Property p k ∷ [])
+          (found.later ++ entry.Property p k ∷ []) grown.names.used growing.innermost.entry found.n m pushed refl
+          (table_names-property file growing.entries.items growing.names.used grown.names.used p k is.named used number));
       marks = marks;
       properties = λ _. subst (λ mark. HasMarked grown.names mark
           (map (λ (q : FileProperty). q.name) (with_one_property o (property_in file p)).properties))

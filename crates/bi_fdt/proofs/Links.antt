@@ -106,7 +106,7 @@ inside-properties_all depth (NodeItem own place name ∷ items) all = absurd (om
 AreLinked-properties : (file : List ℕ) (opened at : ℕ) (entries : List Entry) → AreOnlyProperties (map (item_in file) entries) →
     AreLinked file opened at entries
 AreLinked-properties file opened at [] all = tt
-AreLinked-properties file opened at (entry.Property p ∷ entries) all = AreLinked-properties file opened (at + 1) entries (omega arith)
+AreLinked-properties file opened at (entry.Property p k ∷ entries) all = AreLinked-properties file opened (at + 1) entries (omega arith)
 AreLinked-properties file opened at (entry.Node n ∷ entries) all = absurd (omega arith)
 
 -- What follows an entry after one more at the end.
@@ -149,7 +149,7 @@ link-node opened at n items place name linked =
 pub AreLinked-node : (file : List ℕ) (opened at : ℕ) (entries : List Entry) (new : NodeEntry) → new.depth ≡ opened →
     new.property_count ≡ 0 → AreLinked file opened at entries → AreLinked file (opened + 1) at (entries ++ entry.Node new ∷ [])
 AreLinked-node file opened at [] new deep none linked = search rules
-AreLinked-node file opened at (entry.Property p ∷ entries) new deep none linked = AreLinked-node file opened
+AreLinked-node file opened at (entry.Property p k ∷ entries) new deep none linked = AreLinked-node file opened
     (at + 1) entries new deep none linked
 AreLinked-node file opened at (entry.Node n ∷ entries) new deep none linked = (
   subst (IsLinked (opened + 1) at n) (sym (map-append (item_in file) entries (entry.Node new ∷ [])))
@@ -160,30 +160,32 @@ AreLinked-node file opened at (entry.Node n ∷ entries) new deep none linked = 
 
 -- The numbers of a table fit still after one more property of its innermost open node, which has no child, where this is
 -- counted.
-pub AreLinked-property : (file : List ℕ) (opened at : ℕ) (entries later : List Entry) (index : ℕ) (n m : NodeEntry) (p : PropertyEntry) →
+pub AreLinked-property : (file : List ℕ) (opened at : ℕ) (entries later : List Entry) (index : ℕ) (n m : NodeEntry)
+    (p : PropertyEntry) (k : ℕ) →
     drop index entries ≡ entry.Node n ∷ later → n.depth + 1 ≡ opened → AreOnlyProperties (map (item_in file) later) → m.depth ≡ n.depth →
     item_in file (entry.Node m) ≡ item_in file (entry.Node n) → m.property_count ≡ length later + 1 → AreLinked file opened at entries →
-    AreLinked file opened at (set (entries ++ entry.Property p ∷ []) index (entry.Node m))
-AreLinked-property file opened at [] later zero n m p here deep all same same_item counted linked = absurd cc
-AreLinked-property file opened at [] later (suc index) n m p here deep all same same_item counted linked = absurd cc
-AreLinked-property file opened at (e ∷ entries) later zero n m p here deep all same same_item counted linked =
+    AreLinked file opened at (set (entries ++ entry.Property p k ∷ []) index (entry.Node m))
+AreLinked-property file opened at [] later zero n m p k here deep all same same_item counted linked = absurd cc
+AreLinked-property file opened at [] later (suc index) n m p k here deep all same same_item counted linked = absurd cc
+AreLinked-property file opened at (e ∷ entries) later zero n m p k here deep all same same_item counted linked =
     search (rules, length-map, map-append, first-property, length-append, inside-properties_all, AreLinked-properties)
-AreLinked-property file opened at (entry.Property q ∷ entries) later (suc index) n m p here deep all same same_item counted linked =
-    AreLinked-property file opened (at + 1) entries later index n m p here deep all same same_item counted linked
-AreLinked-property file opened at (entry.Node o ∷ entries) later (suc index) n m p here deep all same same_item counted linked =
+AreLinked-property file opened at (entry.Property q j ∷ entries) later (suc index) n m p k here deep all same same_item counted linked =
+    AreLinked-property file opened (at + 1) entries later index n m p k here deep all same same_item counted linked
+AreLinked-property file opened at (entry.Node o ∷ entries) later (suc index) n m p k here deep all same same_item counted linked =
     let new : TableItem = PropertyItem (property_in file p) in
     let there : drop index (map (item_in file) entries) ≡ NodeItem n.depth n.place (node_name_in file n) ∷ map (item_in file) later =
     drop-map (item_in file) index entries ∙ ap (map (item_in file)) here in
-    let inner : drop index (entries ++ entry.Property p ∷ []) ≡ entry.Node n
-    ∷ (later ++ entry.Property p ∷ []) = drop-push entries later index n (entry.Property p) here in
-    let items : map (item_in file) (set (entries ++ entry.Property p ∷ []) index (entry.Node m)) ≡ map (item_in file) entries ++ new ∷ [] =
-    items-set file (entries ++ entry.Property p ∷ []) (later ++ entry.Property p ∷ []) index n m inner same_item
-    ∙ map-append (item_in file) entries (entry.Property p ∷ []) in
+    let inner : drop index (entries ++ entry.Property p k ∷ []) ≡ entry.Node n
+    ∷ (later ++ entry.Property p k ∷ []) = drop-push entries later index n (entry.Property p k) here in
+    let items : map (item_in file) (set (entries ++ entry.Property p k ∷ []) index (entry.Node m))
+    ≡ map (item_in file) entries ++ new ∷ [] =
+    items-set file (entries ++ entry.Property p k ∷ []) (later ++ entry.Property p k ∷ []) index n m inner same_item
+    ∙ map-append (item_in file) entries (entry.Property p k ∷ []) in
     let first : first_properties (map (item_in file) entries ++ new ∷ []) ≡ first_properties (map (item_in file) entries) =
     first-after_node (map (item_in file) entries) (map (item_in file) later) index n.depth n.place (node_name_in file n)
     (property_in file p) there in (
       subst (IsLinked opened at o) (sym items) (by_end (map (item_in file) entries) (map (item_in file) later) index linked.0 first there),
-      AreLinked-property file opened (at + 1) entries later index n m p here deep all same same_item counted linked.1,
+      AreLinked-property file opened (at + 1) entries later index n m p k here deep all same same_item counted linked.1,
     ) where
       by_end : (items later : List TableItem) (index : ℕ) → IsLinked opened at o items →
           first_properties (items ++ PropertyItem (property_in file p) ∷ []) ≡ first_properties items →
@@ -212,7 +214,7 @@ lower : (file : List ℕ) (depth at : ℕ) (entries : List Entry) →
     count_inside depth (map (item_in file) entries) ≡ length (map (item_in file) entries) →
     AreLinked file (depth + 1) at entries → AreLinked file depth at entries
 lower file depth at [] all linked = tt
-lower file depth at (entry.Property p ∷ entries) all linked = lower file depth (at + 1) entries (omega arith) linked
+lower file depth at (entry.Property p k ∷ entries) all linked = lower file depth (at + 1) entries (omega arith) linked
 lower file depth at (entry.Node n ∷ entries) all linked =
     elim (cases_lt depth n.depth) [
       | inl deeper ↦ (let e : count_inside depth (NodeItem n.depth n.place (node_name_in file n) ∷ map (item_in file) entries)
@@ -235,7 +237,7 @@ AreLinked-end file opened at total [] later zero n m here deep all same same_ite
 AreLinked-end file opened at total [] later (suc index) n m here deep all same same_item same_count after end linked = absurd cc
 AreLinked-end file opened at total (e ∷ entries) later zero n m here deep all same same_item same_count after end linked =
     search (rules, length-map, lower)
-AreLinked-end file opened at total (entry.Property q ∷ entries) later
+AreLinked-end file opened at total (entry.Property q k ∷ entries) later
     (suc index) n m here deep all same same_item same_count after end linked =
     AreLinked-end file opened (at + 1) total entries later index n m here deep all same same_item same_count after (omega arith) linked
 AreLinked-end file opened at total (entry.Node o ∷ entries) later (suc index) n m here deep all same same_item same_count after end linked =

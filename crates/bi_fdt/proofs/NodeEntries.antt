@@ -30,12 +30,12 @@ pub items_here : (file : List ℕ) (entries : List Entry) (index : ℕ) (e d : E
 items_here file entries index e d within is = search (rules, drop-map, entry_here)
 
 -- A property is not a node.
-pub no_property : (file : List ℕ) (entries : List Entry) (table : List TableItem) (index : ℕ) (p : PropertyEntry) (d : Entry) →
+pub no_property : (file : List ℕ) (entries : List Entry) (table : List TableItem) (index : ℕ) (p : PropertyEntry) (k : ℕ) (d : Entry) →
     map (item_in file) entries ≡ table →
-    IsTrue (begins_with_node (drop index table)) → index < length entries → get_or entries index d ≡ entry.Property p → ⊥
-no_property file entries table index p d same is_node within is =
+    IsTrue (begins_with_node (drop index table)) → index < length entries → get_or entries index d ≡ entry.Property p k → ⊥
+no_property file entries table index p k d same is_node within is =
     false≢true (sym (ap begins_with_node
-    (ap (drop index) (sym same) ∙ items_here file entries index (entry.Property p) d within is)) ∙ is_node)
+    (ap (drop index) (sym same) ∙ items_here file entries index (entry.Property p k) d within is)) ∙ is_node)
 
 -- The numbers of one entry of a table fit.
 pub linked_at : (file : List ℕ) (at : ℕ) (entries later : List Entry) (index : ℕ) (n : NodeEntry) → AreLinked file 0 at entries →
@@ -43,7 +43,7 @@ pub linked_at : (file : List ℕ) (at : ℕ) (entries later : List Entry) (index
 linked_at file at [] later zero n linked here = absurd cc
 linked_at file at [] later (suc index) n linked here = absurd cc
 linked_at file at (e ∷ entries) later zero n linked here = search rules
-linked_at file at (entry.Property p ∷ entries) later (suc index) n linked here =
+linked_at file at (entry.Property p k ∷ entries) later (suc index) n linked here =
     subst (λ k. IsLinked 0 k n (map (item_in file) later)) (omega arith) (linked_at file (at + 1) entries later index n linked here)
 linked_at file at (entry.Node m ∷ entries) later (suc index) n linked here =
     subst (λ k. IsLinked 0 k n (map (item_in file) later)) (omega arith) (linked_at file (at + 1) entries later index n linked.1 here)

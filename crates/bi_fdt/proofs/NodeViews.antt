@@ -208,12 +208,12 @@ module _ (file : List ℕ) (entries : List Entry) (table : List TableItem) (inde
   pub no_node_there : (m : NodeEntry) (d : Entry) → get_or entries (index + 1 + i) d ≡ entry.Node m → ⊥
   no_node_there m d is = let e = property_item (entry.Node m) d is in cc
 
-  pub property_there : (p : PropertyEntry) (d : Entry) → get_or entries (index + 1 + i) d ≡ entry.Property p →
+  pub property_there : (p : PropertyEntry) (k : ℕ) (d : Entry) → get_or entries (index + 1 + i) d ≡ entry.Property p k →
       slice_get (first_sibling (drop index table)).own.properties i ≡ Some (property_in file p)
-  property_there p d is =
+  property_there p k d is =
       let f : IsFirstAt there.later i = first_at there.later i few in
       let e : PropertyItem (property_in file p) ∷ map (item_in file) (drop (suc (index + 1 + i)) entries) ≡ PropertyItem f.property
-      ∷ f.rest = property_item (entry.Property p) d is in
+      ∷ f.rest = property_item (entry.Property p k) d is in
       let same_property : property_in file p ≡ f.property = first_item e in
       ap (λ items. slice_get (first_sibling items).own.properties i) there.is_at ∙ f.is_got ∙ ap (λ q. Some q) (sym same_property) where
         first_item : {a b : FileProperty} {u v : List TableItem} → PropertyItem a ∷ u ≡ PropertyItem b ∷ v → a ≡ b

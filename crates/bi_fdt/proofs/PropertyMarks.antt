@@ -1,17 +1,19 @@
 use Rattle.std.proofs.Common.{◌≡◌, ℕ, zero, suc, ◌<◌, ◌≤◌, inl, inr, Bool, true, false, List, [], ◌∷◌, ◌++◌, length, rules}
-use Rattle.std.proofs.Common.{refl, sym, ap, subst, ◌∙◌, arith}
+use Rattle.std.proofs.Common.{refl, sym, ap, subst, ◌∙◌, arith, true≢false, Some, None}
+use Rattle.std.proofs.Math.Path.{ap₂}
 use Rattle.std.specs.Prelude.{◌||◌, ◌==◌, if◌then◌else◌, bytes_eq, slice_index_or, slice_set}
 use Rattle.std.specs.List.{AllByRecursion}
 use Rattle.std.specs.Cmp.{unsigned_Decides}
 use Rattle.std.proofs.Math.Bool.{or-false}
 use Rattle.std.proofs.lemmas.Option.{none-some, same_Some, slice_get_within}
 use Rattle.std.proofs.lemmas.Slice.Eq.{bytes_eq-Decides}
+use Rattle.std.proofs.lemmas.Grind.{common_steps}
 use Rattle.std.proofs.lemmas.List.Folds.{list_any-append}
 use Rattle.bi_blob.specs.Layout.{is_among}
 use Rattle.bi_blob.specs.Tree.{AreDistinct, IsNew}
 use Rattle.bi_blob.proofs.NameSets.{new_by_test, held_by_test}
 use Rattle.bi_fdt.specs.Numbers.{IsNumberOf, with_used_name}
-use Rattle.bi_fdt.specs.PropertyMarks.{MarkedNames, has_mark, HasMarked, AreMarksBelow}
+use Rattle.bi_fdt.specs.PropertyMarks.{MarkedNames, has_mark, HasMarked, AreMarksBelow, AddsName}
 use Rattle.bi_fdt.proofs.NameParts.{slice_get-pushed}
 use Rattle.bi_fdt.proofs.UsedNames.{numbered_old}
 
@@ -102,7 +104,7 @@ pub next_is_new : (used : List (List ℕ)) (name : List ℕ) (number : ℕ) → 
     number ≡ length used → is_among name used ≡ false
 next_is_new used name number is last = search (rules, slice_get_within)
 
-pub other_is_old : (used : List (List ℕ)) (name : List ℕ) (number : ℕ) → IsNumberOf (with_used_name used name) name number →
+other_is_old : (used : List (List ℕ)) (name : List ℕ) (number : ℕ) → IsNumberOf (with_used_name used name) name number →
     ¬ (number ≡ length used) → with_used_name used name ≡ used
 other_is_old used name number is elsewhere = by (is_among name used) refl
   where
@@ -114,6 +116,12 @@ other_is_old used name number is elsewhere = by (is_among name used) refl
           | inl there ↦ absurd (numbered_old used name number there (new_by_test name used new))
           | inr last ↦ absurd (elsewhere last.0)
         ]
+
+pub used_before : (old new : List (List ℕ)) (name : List ℕ) (number : ℕ) → new ≡ with_used_name old name → IsNumberOf new name number →
+    ¬ (number ≡ length old) → (new ≡ old) × (number < length old)
+used_before old new name number used is elsewhere =
+    let same = used ∙ other_is_old old name number (subst (λ l. IsNumberOf l name number) used is) elsewhere in
+    (same, slice_get_within old number name (subst (λ l. IsNumberOf l name number) same is))
 
 -- Whether a node has a name, by its mark.
 pub new_without_mark : (names : MarkedNames) (mark : ℕ) (held : List (List ℕ)) (name : List ℕ) → HasMarked names mark held →
@@ -134,57 +142,72 @@ pub bound_more : (bound more : ℕ) (marks : List ℕ) → bound ≤ more → Al
 bound_more bound more [] most all = tt
 bound_more bound more (other ∷ marks) most all = (omega (arith, all.0, most), bound_more bound more marks most all.1)
 
--- What the mark of a name tells, where `old` are the names before, which have as many marks.
-module _ (old : MarkedNames) (used : List (List ℕ)) (mark number : ℕ) (name : List ℕ) (long : length old.marks ≡ length old.used)
-    (same : used ≡ with_used_name old.used name) (is : IsNumberOf used name number) where
-  with_is : IsNumberOf (with_used_name old.used name) name number
-  with_is = subst (λ l. IsNumberOf l name number) same is
-
-  module _ (last : number ≡ length old.marks) where
-    was_new : is_among name old.used ≡ false
-    was_new = next_is_new old.used name number with_is (last ∙ long)
-
-    pub next_used : used ≡ old.used ++ name ∷ []
-    next_used = same ∙ ap (λ b. if b then old.used else old.used ++ name ∷ []) was_new
-
-    pub next_is_first : (held : List (List ℕ)) → HasMarked old mark held → IsNew name held
-    next_is_first held has =
-        new_without_mark old mark held name has (no_mark old.used old.marks mark name (new_by_test name old.used was_new))
-
-    pub next_marked : (held : List (List ℕ)) → HasMarked old mark held → (other : List ℕ) →
-        is_among other (held ++ name ∷ []) ≡ has_mark used (old.marks ++ mark ∷ []) mark other
-    next_marked held has other =
+-- What a name's number and mark tell. There are as many marks as names were used before.
+module _ (old new : MarkedNames) (mark number : ℕ) (name : List ℕ) (long : length old.marks ≡ length old.used)
+    (used : new.used ≡ with_used_name old.used name) (is : IsNumberOf new.used name number) where
+  -- A name that was not used before.
+  pub adds_next : number ≡ length old.marks → new.marks ≡ old.marks ++ mark ∷ [] → AddsName old name mark (Some number) new
+  adds_next last pushed = record {
+    is_number = is;
+    used = used;
+    is_new = λ held has. (
+      (λ _. new_without_mark old mark held name has (no_mark old.used old.marks mark name first)),
+      (λ _. refl),
+    );
+    marked = λ _ held has other.
         among_push held name other ∙ ap (λ b. b || bytes_eq name other) (has other)
-        ∙ sym (mark_push old.used old.marks mark name other long (new_by_test name old.used was_new))
-        ∙ ap (λ l. has_mark l (old.marks ++ mark ∷ []) mark other) (sym next_used)
+        ∙ sym (mark_push old.used old.marks mark name other long first)
+        ∙ ap₂ (λ used marks. has_mark used marks mark other) (sym next_used) (sym pushed);
+    marks = λ bound less below. rw pushed (grind (arith, common_steps));
+  } where
+    new_name : is_among name old.used ≡ false
+    new_name = next_is_new old.used name number (subst (λ l. IsNumberOf l name number) used is) (last ∙ long)
 
-  module _ (elsewhere : ¬ (number ≡ length old.marks)) where
-    pub known_used : used ≡ old.used
-    known_used = same ∙ other_is_old old.used name number with_is (λ last. elsewhere (last ∙ sym long))
+    first : IsNew name old.used
+    first = new_by_test name old.used new_name
+
+    next_used : new.used ≡ old.used ++ name ∷ []
+    next_used = used ∙ ap (λ b. if b then old.used else old.used ++ name ∷ []) new_name
+
+  module _ (elsewhere : ¬ (number ≡ length old.marks)) (distinct : AreDistinct new.used) (d : ℕ) where
+    same : new.used ≡ old.used
+    same = (used_before old.used new.used name number used is (λ last. elsewhere (last ∙ sym long))).0
 
     known_is : IsNumberOf old.used name number
-    known_is = subst (λ l. IsNumberOf l name number) known_used is
+    known_is = subst (λ l. IsNumberOf l name number) same is
 
-    pub known_within : number < length old.marks
-    known_within = let within : number < length old.used = slice_get_within old.used number name known_is in omega (arith, within, long)
+    by_mark : has_mark old.used old.marks mark name ≡ (slice_index_or old.marks number d == mark)
+    by_mark = mark_at old.used old.marks mark name number d (subst AreDistinct same distinct) long known_is
 
-    module _ (distinct : AreDistinct used) (held : List (List ℕ)) (has : HasMarked old mark held) (d : ℕ) where
-      by_mark : has_mark old.used old.marks mark name ≡ (slice_index_or old.marks number d == mark)
-      by_mark = mark_at old.used old.marks mark name number d (subst AreDistinct known_used distinct) long known_is
+    -- A name that the node has.
+    pub adds_nothing : slice_index_or old.marks number d ≡ mark → new.marks ≡ old.marks → AddsName old name mark None new
+    adds_nothing one kept = record {
+      is_number = tt;
+      used = used;
+      is_new = λ held has. (
+        (λ some. absurd (true≢false (sym some))),
+        (λ new. absurd (old_with_mark old mark held name has (by_mark ∙ (unsigned_Decides _ mark).1 one) new)),
+      );
+      marked = λ some. absurd (true≢false (sym some));
+      marks = search rules;
+    }
 
-      pub known_is_old : slice_index_or old.marks number d ≡ mark → ¬ (IsNew name held)
-      known_is_old one = old_with_mark old mark held name has (by_mark ∙ (unsigned_Decides _ mark).1 one)
-
-      pub known_is_first : ¬ (slice_index_or old.marks number d ≡ mark) → IsNew name held
-      known_is_first apart = new_without_mark old mark held name has (by_mark ∙ by (slice_index_or old.marks number d == mark) refl)
-        where
-          by : (b : Bool) → (slice_index_or old.marks number d == mark) ≡ b → (slice_index_or old.marks number d == mark) ≡ false
-          by true one = absurd (apart ((unsigned_Decides _ mark).0 one))
-          by false two = two
-
-      pub known_marked : (other : List ℕ) →
-          is_among other (held ++ name ∷ []) ≡ has_mark used (slice_set old.marks number mark) mark other
-      known_marked other =
+    -- A name that another node has.
+    pub adds_known : ¬ (slice_index_or old.marks number d ≡ mark) → new.marks ≡ slice_set old.marks number mark →
+        AddsName old name mark (Some number) new
+    adds_known apart set = record {
+      is_number = is;
+      used = used;
+      is_new = λ held has. (
+        (λ _. new_without_mark old mark held name has (by_mark ∙ by (slice_index_or old.marks number d == mark) refl)),
+        (λ _. refl),
+      );
+      marked = λ _ held has other.
           among_push held name other ∙ ap (λ b. b || bytes_eq name other) (has other)
-          ∙ sym (mark_set old.used old.marks mark name other number (subst AreDistinct known_used distinct) long known_is)
-          ∙ ap (λ l. has_mark l (slice_set old.marks number mark) mark other) (sym known_used)
+          ∙ sym (mark_set old.used old.marks mark name other number (subst AreDistinct same distinct) long known_is)
+          ∙ ap₂ (λ used marks. has_mark used marks mark other) (sym same) (sym set);
+      marks = λ bound less below. rw set (grind (arith, common_steps));
+    } where
+      by : (b : Bool) → (slice_index_or old.marks number d == mark) ≡ b → (slice_index_or old.marks number d == mark) ≡ false
+      by true one = absurd (apart ((unsigned_Decides _ mark).0 one))
+      by false two = two

@@ -182,9 +182,10 @@ module _ (file : List ℕ) (entries : List Entry) (table : List TableItem) (same
       (is_node, node_of_table file entries table (file_events_of root) index n d same is_table.items is_table.linked is_node is)
 
   -- Another entry is none.
-  pub no_node_entry : (index : ℕ) (p : PropertyEntry) (d : Entry) → index < length entries → get_or entries index d ≡ entry.Property p →
+  pub no_node_entry : (index : ℕ) (p : PropertyEntry) (k : ℕ) (d : Entry) → index < length entries →
+      get_or entries index d ≡ entry.Property p k →
       HasNodeAt table index → ⊥
-  no_node_entry index p d within is is_node = no_property file entries table index p d same is_node within is
+  no_node_entry index p k d within is is_node = no_property file entries table index p k d same is_node within is
 
 -- ---- the whole order
 

@@ -59,18 +59,18 @@ pub table_names-node : (file : List ℕ) (entries : List Entry) (used : List (Li
 table_names-node file entries used n are = search (rules, names-item, map-append, AllZip-append)
 
 -- One more property.
-pub table_names-property : (file : List ℕ) (entries : List Entry) (used more : List (List ℕ)) (p : PropertyEntry) →
+pub table_names-property : (file : List ℕ) (entries : List Entry) (used more : List (List ℕ)) (p : PropertyEntry) (k : ℕ) →
     AreTableNames file entries used →
-    more ≡ with_used_name used (property_in file p).name → IsNumberOf more (property_in file p).name p.number →
-    AreTableNames file (entries ++ entry.Property p ∷ []) more
-table_names-property file entries used more p are is has = record {
+    more ≡ with_used_name used (property_in file p).name → IsNumberOf more (property_in file p).name k →
+    AreTableNames file (entries ++ entry.Property p k ∷ []) more
+table_names-property file entries used more p k are is has = record {
   names = is ∙ ap (λ l. with_used_name l (property_in file p).name) are.names
-      ∙ sym (names-item [] (map (item_in file) entries) (item_in file (entry.Property p)))
-      ∙ ap names_of_table (sym (map-append (item_in file) entries (entry.Property p ∷ [])));
-  numbered = subst (λ items. AreNumbered more items (map name_number_of (entries ++ entry.Property p ∷ [])))
-      (sym (map-append (item_in file) entries (entry.Property p ∷ [])))
-      (subst (AreNumbered more (map (item_in file) entries ++ item_in file (entry.Property p) ∷ []))
-      (sym (map-append name_number_of entries (entry.Property p ∷ [])))
+      ∙ sym (names-item [] (map (item_in file) entries) (item_in file (entry.Property p k)))
+      ∙ ap names_of_table (sym (map-append (item_in file) entries (entry.Property p k ∷ [])));
+  numbered = subst (λ items. AreNumbered more items (map name_number_of (entries ++ entry.Property p k ∷ [])))
+      (sym (map-append (item_in file) entries (entry.Property p k ∷ [])))
+      (subst (AreNumbered more (map (item_in file) entries ++ item_in file (entry.Property p k) ∷ []))
+      (sym (map-append name_number_of entries (entry.Property p k ∷ [])))
       (AllZip-append (IsNumbered more) (map (item_in file) entries) (map name_number_of entries) _ _
       (AreNumbered-more more used (subst (λ l. BeginsWith l used) (sym is) (with_used_name-begins used (property_in file p).name))
       (map (item_in file) entries) (map name_number_of entries) are.numbered)

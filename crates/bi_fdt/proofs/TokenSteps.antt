@@ -3,9 +3,9 @@ use Rattle.std.proofs.Common.{◌≡◌, ℕ, ◌+◌, ◌≤◌, List, [], ◌�
 use Rattle.std.specs.Prelude.{IsTrue}
 use Rattle.std.proofs.lemmas.List.{append-nil, length-append}
 use Rattle.bi_base.specs.declared.fault.Fault.{Fault}
-use Rattle.bi_base.specs.Cells.{u32_at, up4}
+use Rattle.bi_base.specs.Cells.{u32_at, up4, slice}
 use Rattle.bi_base.specs.Checks.{IsFirstFault, HasNoFault}
-use Rattle.bi_base.proofs.CellLaws.{length-cell}
+use Rattle.bi_base.proofs.CellLaws.{length-cell, length-slice}
 use Rattle.bi_blob.specs.Tokens.{BeginNode, EndNode, Prop, Nop, width, name_from, begin_node_number, end_node_number, prop_number}
 use Rattle.bi_blob.specs.Tokens.{nop_number}
 use Rattle.bi_blob.specs.Tree.{FileProperty, IsNew, names}
@@ -17,11 +17,14 @@ use Rattle.bi_blob.specs.OpenNodes.{OpenFileNode, IsOpenAt, OpenTree, WholeTree,
 use Rattle.bi_blob.proofs.Blobs.OpenNodes.{ended_root, events_of_open_nodes-root}
 use Rattle.bi_blob.proofs.Blobs.Tokens.{length-token_bytes}
 use Rattle.bi_blob.proofs.Blobs.TreeTokens.{length-Prop}
-use Rattle.bi_blob.proofs.Blobs.ReaderSteps.{IsNext, next_nop, next_child, next_property, next_end_of_child, next_last, property_at}
+use Rattle.bi_blob.proofs.Blobs.ReaderSteps.{IsNext, next_nop, next_child, next_property, next_end_of_child, next_last}
+use Rattle.bi_blob.proofs.Blobs.ReaderSteps.{property_at, property_token}
 use Rattle.bi_blob.proofs.Blobs.TreeOrFault.{fault_there}
 use Rattle.bi_fdt.specs.declared.growing.Growing.{Growing}
+use Rattle.bi_fdt.specs.declared.table.PropertyEntry.{PropertyEntry}
+use Rattle.bi_fdt.specs.Table.{property_in}
 use Rattle.bi_fdt.specs.declared.tokens.Reading.{Reading}
-use Rattle.bi_fdt.specs.Blocks.{IsNumberAt, node_name_checks, property_token_checks}
+use Rattle.bi_fdt.specs.Blocks.{IsNumberAt, IsPropertyAt, node_name_checks}
 use Rattle.bi_fdt.specs.Growth.{IsFinished, EndsInside, EndsChild, EndsRoot, IsEnding}
 use Rattle.bi_fdt.specs.Reading.{IsReading, IsTable, IsAfter, IsAhead}
 use Rattle.bi_fdt.proofs.Items.{items_of-append}
@@ -73,11 +76,10 @@ module _ (blocks : TreeBlocks) (depth_limit place : ℕ) (o : OpenFileNode) (out
   duplicate_node name fault number is passes is_fault old = search (rules, begin_fault)
 
   -- A property of a name that another property has.
-  pub duplicate_property : (name : List ℕ) (fault : Fault) → IsNumberAt blocks place prop_number →
-      name ≡ name_from blocks.strings (u32_at blocks.file (place + 8)) →
-      HasNoFault (TokenPasses blocks depth_limit place (stage_of (OpenTree o outer))) property_token_checks →
-      fault ≡ token_fault place IsNewProperty → ¬ (IsNew name (map (λ p. p.name) o.properties)) → IsStructureFault blocks depth_limit fault
-  duplicate_property name fault number is passes is_fault old = search (rules, property_fault)
+  pub duplicate_property : (p : PropertyEntry) (fault : Fault) → IsNumberAt blocks place prop_number → IsPropertyAt blocks place p →
+      names o.children ≡ [] → fault ≡ token_fault place IsNewProperty →
+      ¬ (IsNew (property_in blocks.file p).name (map (λ q. q.name) o.properties)) → IsStructureFault blocks depth_limit fault
+  duplicate_property p fault number is childless is_fault old = search (rules, property_fault)
 
   -- FDT_NOP.
   pub after_nop : IsNumberAt blocks place nop_number → IsOpenAt blocks depth_limit (place + 4) (OpenTree o outer)
@@ -102,14 +104,22 @@ module _ (blocks : TreeBlocks) (depth_limit place : ℕ) (o : OpenFileNode) (out
       })))
 
   -- FDT_PROP.
-  pub after_property : (p : FileProperty) → IsNumberAt blocks place prop_number → p ≡ property_at blocks place →
-      HasNoFault (TokenPasses blocks depth_limit place (stage_of (OpenTree o outer))) property_token_checks →
-      IsNew p.name (map (λ q. q.name) o.properties) →
-      IsOpenAt blocks depth_limit (place + up4 (length p.value + 12)) (OpenTree (with_one_property o p) outer)
-  after_property p number is passes new =
-      subst (λ q. IsOpenAt blocks depth_limit (place + up4 (length q.value + 12)) (OpenTree (with_one_property o q) outer)) (sym is)
-      (subst (λ w. IsOpenAt blocks depth_limit (place + w) (OpenTree (with_one_property o (property_at blocks place)) outer))
-      (width-property (u32_at blocks.file (place + 8)) (property_at blocks place).value)
+  pub after_property : (p : PropertyEntry) → IsNumberAt blocks place prop_number → IsPropertyAt blocks place p → names o.children ≡ [] →
+      IsNew (property_in blocks.file p).name (map (λ q. q.name) o.properties) →
+      IsOpenAt blocks depth_limit (place + up4 (p.value_length + 12)) (OpenTree (with_one_property o (property_in blocks.file p)) outer)
+  after_property p number is childless new =
+      let same : property_in blocks.file p ≡ property_at blocks place = λ i. record {
+        name = is.name i;
+        value = slice blocks.file (is.place i + 12) (is.value_length i);
+        place = is.place i;
+      } in
+      let size : ℕ = u32_at blocks.file (place + 4) in
+      let inside : blocks.end ≤ length blocks.file = position.readable.within in
+      let wide : width (property_token blocks place) ≡ up4 (p.value_length + 12) =
+      width-property (u32_at blocks.file (place + 8)) (property_at blocks place).value
+      ∙ ap (λ n. up4 (n + 12)) (length-slice blocks.file (place + 12) size (omega (arith, is.has_value)) ∙ sym is.value_length) in
+      subst (λ q. IsOpenAt blocks depth_limit (place + up4 (p.value_length + 12)) (OpenTree (with_one_property o q) outer)) (sym same)
+      (subst (λ w. IsOpenAt blocks depth_limit (place + w) (OpenTree (with_one_property o (property_at blocks place)) outer)) wide
       (next_property blocks depth_limit place o outer position (record {
         is_number = number.is_number;
         passes = (
@@ -117,12 +127,12 @@ module _ (blocks : TreeBlocks) (depth_limit place : ℕ) (o : OpenFileNode) (out
           (
             expected prop_number number.is_number refl,
             (
-              passes.0,
+              childless,
               (
-                passes.1.0,
+                is.has_value,
                 (
-                  passes.1.1.0,
-                  (passes.1.1.1.0, (subst (λ q. IsNew q.name (map (λ (r : FileProperty). r.name) o.properties)) is new, tt)),
+                  is.has_name,
+                  (is.may_have_name, (subst (λ name. IsNew name (map (λ (q : FileProperty). q.name) o.properties)) is.name new, tt)),
                 ),
               ),
             ),

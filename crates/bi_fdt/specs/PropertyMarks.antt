@@ -1,7 +1,9 @@
-use Rattle.std.specs.Prelude.{◌≡◌, ℕ, ◌<◌, Bool, false, List, [], ◌∷◌, ◌==◌, if◌then◌else◌}
-use Rattle.std.specs.Prelude.{bytes_eq}
+use Rattle.std.specs.Prelude.{◌≡◌, ℕ, ◌<◌, ◌↔◌, Bool, false, List, [], ◌∷◌, ◌++◌, ◌==◌}
+use Rattle.std.specs.Prelude.{bytes_eq, if◌then◌else◌, Option, IfSome, IsSome}
 use Rattle.std.specs.List.{AllByRecursion}
 use Rattle.bi_blob.specs.Layout.{is_among}
+use Rattle.bi_blob.specs.Tree.{IsNew}
+use Rattle.bi_fdt.specs.Numbers.{IsNumberOf, with_used_name}
 
 -- The names of the properties of a node, while the node is read. Each name that was used in the
 -- blob has a mark: that of the last node that has a property with the name.
@@ -27,3 +29,14 @@ HasMarked names mark held =
 -- All marks are less than this.
 abbrev pub AreMarksBelow : ℕ → MarkedNames → Type 0
 AreMarksBelow bound names = AllByRecursion (λ mark. mark < bound) names.marks
+
+-- A name was added to those of the node with this mark. This is its number, or None if the node
+-- already had the name.
+pub record AddsName (old : MarkedNames) (name : List ℕ) (mark : ℕ) (number : Option ℕ)
+    (new : MarkedNames) : Type 0 where
+  pub is_number : IfSome number (IsNumberOf new.used name)
+  pub used : new.used ≡ with_used_name old.used name
+  pub is_new : (held : List (List ℕ)) → HasMarked old mark held → (IsSome number ↔ IsNew name held)
+  pub marked : IsSome number → (held : List (List ℕ)) → HasMarked old mark held
+      → HasMarked new mark (held ++ name ∷ [])
+  pub marks : (bound : ℕ) → mark < bound → AreMarksBelow bound old → AreMarksBelow bound new

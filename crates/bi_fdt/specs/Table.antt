@@ -26,7 +26,7 @@ property_in file property_entry = record {
 abbrev pub item_in : List ℕ → Entry → TableItem
 item_in file (entry.Node node_entry) =
     NodeItem node_entry.depth node_entry.place (node_name_in file node_entry)
-item_in file (entry.Property property_entry) = PropertyItem (property_in file property_entry)
+item_in file (entry.Property property_entry number) = PropertyItem (property_in file property_entry)
 
 -- The numbers of the entry of a node at index `at` fit the items after it. While the node is open,
 -- `opened` being the number of the open nodes, nothing is required of its last descendant.
@@ -43,5 +43,5 @@ AreLinked file opened at [] = Unit {0}
 AreLinked file opened at (entry.Node node_entry ∷ later) =
     IsLinked opened at node_entry (map (item_in file) later)
     × AreLinked file opened (at + 1) later
-AreLinked file opened at (entry.Property property_entry ∷ later) =
+AreLinked file opened at (entry.Property property_entry number ∷ later) =
     AreLinked file opened (at + 1) later

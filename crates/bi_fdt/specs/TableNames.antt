@@ -9,7 +9,7 @@ use Rattle.bi_fdt.specs.Table.{item_in}
 -- The number of the name of a property, and 0 for a node.
 abbrev pub name_number_of : Entry → ℕ
 name_number_of (entry.Node node_entry) = 0
-name_number_of (entry.Property property_entry) = property_entry.number
+name_number_of (entry.Property property_entry number) = number
 
 -- These are the names of the properties of a table, and its entries have their numbers.
 pub record AreTableNames (file : List ℕ) (entries : List Entry) (used : List (List ℕ)) : Type 0

@@ -1,15 +1,14 @@
 //! The blocks of a blob that hold its tree, and what a single token in them holds.
 
-ghost use Rattle.std.specs.Prelude.{◌≡◌, ◌+◌, ◌≤◌, List, [], ◌↔◌, length, IsTrue, IfOk, IfErr};
+ghost use Rattle.std.specs.Prelude.{◌≡◌, ◌+◌, ◌≤◌, List, ◌↔◌, length, IsTrue, IfOk, IfErr};
 ghost use Rattle.std.specs.Prelude.{OnOk};
-ghost use Rattle.bi_base.specs.Cells.{u32_at, slice};
+ghost use Rattle.bi_base.specs.Cells.{u32_at};
 ghost use Rattle.bi_base.specs.Checks.{IsFirstFault, HasNoFault};
 ghost use Rattle.bi_blob.specs.Tokens.{name_from};
 ghost use Rattle.bi_blob.specs.Stages.{OpenNode, BeforeRoot, Inside};
 ghost use Rattle.bi_blob.specs.BlobFaults.{TokenPasses, token_fault, HasTokenNumber, begin_checks};
-ghost use Rattle.bi_blob.specs.BlobFaults.{property_checks};
 ghost use Rattle.bi_fdt.specs.Blocks.{blocks_of, AreBlocks, node_name_checks};
-ghost use Rattle.bi_fdt.specs.Blocks.{property_token_checks};
+ghost use Rattle.bi_fdt.specs.Blocks.{IsPropertyAt, IsPropertyFault};
 
 use crate::names::name_at;
 use crate::strings::Strings;
@@ -105,9 +104,8 @@ pub(crate) fn child_name<'a>(
     Ok(name)
 }
 
-/// Returns the property whose token is at `place`. Its name has no number yet: `number` is 0.
-/// Requires: the blocks are within a file of fewer than 2^31 bytes, and the number of the token is
-/// within the structure block.
+/// Returns the property whose token is at `place`. Requires: the blocks are within a file of fewer
+/// than 2^31 bytes, and the number of the token is within the structure block.
 pub(crate) fn property_at(
     blocks: Blocks,
     place: usize,
@@ -115,21 +113,9 @@ pub(crate) fn property_at(
 ) -> Result<PropertyEntry, Fault>
     requires blocks { AreBlocks blocks }
     requires within { place + 4 ≤ blocks.end }
-    ensures name { IfOk result (λ property.
-        slice blocks.entry.file.now property.name_begin property.name_length
-        ≡ name_from blocks.entry.strings.now (u32_at blocks.entry.file.now (place + 8))) }
-    ensures value { IfOk result (λ property. property.value_length
-        ≡ u32_at blocks.entry.file.now (place + 4)) }
-    ensures place { IfOk result (λ property. property.place ≡ place) }
-    ensures within { OnOk result (place + 12 ≤ blocks.entry.end) }
-    ensures ok { OnOk result ((innermost : OpenNode) (outer : List OpenNode)
-        → (IsTrue is_childless ↔ (innermost.children ≡ []))
-        → HasNoFault (TokenPasses (blocks_of blocks.entry) 0 place
-        (Inside innermost outer)) property_token_checks) }
-    ensures fault { IfErr result (λ fault. (innermost : OpenNode) (outer : List OpenNode)
-        → (IsTrue is_childless ↔ (innermost.children ≡ []))
-        → IsFirstFault (TokenPasses (blocks_of blocks.entry) 0 place
-        (Inside innermost outer)) (token_fault place) property_checks fault) }
+    ensures property { IfOk result (IsPropertyAt (blocks_of blocks.entry) place) }
+    ensures childless { OnOk result (IsTrue is_childless) }
+    ensures fault { IfErr result (IsPropertyFault (blocks_of blocks.entry) place is_childless) }
 {
     if !is_childless {
         return refuse(Cause::PropertyAfterChild, place as u32);
@@ -153,17 +139,5 @@ pub(crate) fn property_at(
         name_begin: (blocks.strings_begin + name_offset) as u32,
         name_length: name.len() as u32,
         value_length,
-        number: 0,
     })
-}
-
-/// Returns the offset in the strings block of the name of the property with the token at `place`.
-/// Requires: the blocks are within a file of fewer than 2^31 bytes, and the number of the token and
-/// the two cells after it are within the structure block.
-pub(crate) fn name_offset(blocks: Blocks, place: usize) -> usize
-    requires blocks { AreBlocks blocks }
-    requires within { place + 12 ≤ blocks.end }
-    ensures { result ≡ u32_at blocks.entry.file.now (place + 8) }
-{
-    cell_at(blocks.file, place + 8) as usize
 }

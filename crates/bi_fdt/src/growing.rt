@@ -160,10 +160,7 @@ impl<'a> Growing<'a> {
         let Some(number) = self.names.insert(at, name, node as u32)? else {
             return refuse(Cause::DuplicateProperty, property.place).map_err(Error::from);
         };
-        self.entries.push(Entry::Property(PropertyEntry {
-            number: number as u32,
-            ..property
-        }))?;
+        self.entries.push(Entry::Property(property, number as u32))?;
         let property_count = self.entries.len() - node - 1;
         set_property_count(&mut self.entries, node, property_count as u32);
         Ok(())

@@ -1,12 +1,9 @@
 //! The names of the properties of a node, while the node is read.
 
-ghost use Rattle.std.specs.Prelude.{◌≡◌, ◌<◌, ◌++◌, ◌∷◌, ◌↔◌, ℕ, List, [], length};
-ghost use Rattle.std.specs.Prelude.{IsSome, IfSome, IfOk, OnOk};
+ghost use Rattle.std.specs.Prelude.{◌≡◌, [], length, IfOk};
 ghost use Rattle.bi_blob.specs.Tokens.{name_from};
-ghost use Rattle.bi_blob.specs.Tree.{IsNew};
 ghost use Rattle.bi_blob.specs.BlobFaults.{HasName};
-ghost use Rattle.bi_fdt.specs.Numbers.{IsNumberOf, with_used_name};
-ghost use Rattle.bi_fdt.specs.PropertyMarks.{HasMarked, AreMarksBelow};
+ghost use Rattle.bi_fdt.specs.PropertyMarks.{AddsName};
 
 use crate::strings::Strings;
 use crate::used_names::UsedNames;
@@ -62,16 +59,8 @@ impl<'a> MarkedNames<'a> {
     ) -> Result<Option<usize>, AllocError>
         requires there { HasName self.old.strings at (length self.old.strings) }
         requires name { name.now ≡ name_from self.old.strings at }
-        ensures number { IfOk result (λ number.
-            IfSome number (IsNumberOf self.new.used name.entry.now)) }
-        ensures used { OnOk result (self.new.used ≡ with_used_name self.old.used name.entry.now) }
-        ensures new { IfOk result (λ number. (held : List (List ℕ))
-            → HasMarked self.old mark held → (IsSome number ↔ IsNew name.entry.now held)) }
-        ensures added { IfOk result (λ number. IsSome number → (held : List (List ℕ))
-            → HasMarked self.old mark held
-            → HasMarked self.new mark (held ++ name.entry.now ∷ [])) }
-        ensures marks { OnOk result ((bound : ℕ) → mark < bound → AreMarksBelow bound self.old
-            → AreMarksBelow bound self.new) }
+        ensures added { IfOk result (λ number.
+            AddsName self.old name.entry.now mark number self.new) }
         ensures strings { self.new.strings ≡ self.old.strings }
     {
         self.marks.reserve(1)?;

@@ -73,7 +73,7 @@ impl<'a, 'b> NodeRef<'a, 'b> {
         let entry = self.blob.entries()[self.index];
         match entry {
             Entry::Node(node) => node,
-            Entry::Property(_) => unreachable!(),
+            Entry::Property(_, _) => unreachable!(),
         }
     }
 
@@ -146,7 +146,7 @@ impl<'a, 'b> NodeRef<'a, 'b> {
         }
         let entry = self.blob.entries()[self.index + 1 + index];
         match entry {
-            Entry::Property(property) => {
+            Entry::Property(property, _) => {
                 let property = property.property_in(self.blob.file());
                 Some((property.name, property.value))
             }
@@ -225,7 +225,7 @@ impl<'a, 'b> NodeRef<'a, 'b> {
                     index: after,
                 })
             }
-            Entry::Property(_) => None,
+            Entry::Property(_, _) => None,
         }
     }
 

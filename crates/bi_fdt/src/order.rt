@@ -131,7 +131,7 @@ impl<'a, 'b, 'n> Iterator for OrderedProperties<'a, 'b, 'n> {
         let (key, index) = *self.pairs.get(self.index)?;
         let entry = *self.entries.get(index)?;
         match entry {
-            Entry::Property(property) => {
+            Entry::Property(property, _) => {
                 self.index += 1;
                 Some((key, property.property_in(self.file)))
             }

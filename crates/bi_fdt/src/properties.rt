@@ -49,7 +49,7 @@ impl<'a, 'b> Iterator for Properties<'a, 'b> {
     fn next(&mut self) -> Option<Property<'a>> {
         let entry = *self.entries.get(self.index)?;
         match entry {
-            Entry::Property(property) => {
+            Entry::Property(property, _) => {
                 self.index += 1;
                 Some(property.property_in(self.file))
             }

@@ -48,8 +48,6 @@ pub(crate) struct PropertyEntry {
     pub(crate) name_length: u32,
     /// The length of the value.
     pub(crate) value_length: u32,
-    /// The number of the name among the names of the properties of the blob.
-    pub(crate) number: u32,
 }
 
 impl PropertyEntry {
@@ -87,7 +85,8 @@ pub struct Property<'a> {
 #[derive(Clone, Copy, Debug)]
 pub(crate) enum Entry {
     Node(NodeEntry),
-    Property(PropertyEntry),
+    /// A property, and the number of its name among the names of the properties of the blob.
+    Property(PropertyEntry, u32),
 }
 
 impl Entry {
@@ -96,7 +95,7 @@ impl Entry {
         ensures { result ≡ name_number_of self }
     {
         match self {
-            Entry::Property(property) => property.number as usize,
+            Entry::Property(_, number) => number as usize,
             Entry::Node(_) => 0,
         }
     }

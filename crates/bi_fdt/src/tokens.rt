@@ -7,9 +7,9 @@ ghost use Rattle.bi_blob.specs.Tokens.{begin_node_number, prop_number};
 ghost use Rattle.bi_fdt.specs.Blocks.{blocks_of, AreBlocks, IsNumberAt};
 ghost use Rattle.bi_fdt.specs.Reading.{IsReading, IsAhead};
 
-use crate::blocks::{Blocks, child_name, name_offset, number_at, property_at};
+use crate::blocks::{Blocks, child_name, number_at, property_at};
 use crate::growing::Growing;
-use bi_base::{Cause, Error, refuse, up4};
+use bi_base::{Cause, Error, cell_at, refuse, up4};
 use bi_blob::format::{BEGIN_NODE, END_NODE, NOP, PROP};
 use std::alloc::Global;
 
@@ -103,7 +103,7 @@ fn add_property<'a>(
         (IsStructureFault (blocks_of blocks.entry) depth_limit)) }
 {
     let property = property_at(blocks, reading.place, reading.growing.is_childless())?;
-    let at = name_offset(blocks, reading.place);
+    let at = cell_at(blocks.file, reading.place + 8) as usize;
     let name = property.name_in(blocks.file);
     reading.growing.add_property(property, at, name)?;
     // Besides the value, the token has its number and two cells.

@@ -61,7 +61,6 @@ pub mod UpdatedVerdicts
 pub mod UpdateChanges
 pub mod AppendedTexts
 pub mod WholeTexts
-pub mod AppendedPayloads
 pub mod PassedResults
 pub mod Zips
 pub mod BuiltLeaves

@@ -1,20 +1,17 @@
 //! The payloads after the blob of a text. Their offsets are counted from the end of the blob.
 
-ghost use Rattle.std.specs.Prelude.{◌≡◌, ◌+◌, ◌-◌, ◌^◌, ◌<◌, ◌≤◌, ◌++◌, length, min, IfOk, IfErr};
+ghost use Rattle.std.specs.Prelude.{◌≡◌, ◌+◌, ◌-◌, ◌^◌, ◌<◌, ◌≤◌, [], ◌∷◌, min, IfOk, IfErr};
 ghost use Rattle.std.specs.Option.{option_map};
 ghost use Rattle.bi_base.specs.Aligns.{align_bytes};
-ghost use Rattle.bi_base.specs.Cells.{up_to};
 ghost use Rattle.bi_base.specs.Reading.{too_large};
-ghost use Rattle.bi_base.specs.Sinks.{Wrote};
-ghost use Rattle.bi_blob.specs.Layout.{longest_text, padding_to};
-ghost use Rattle.bi_fit.specs.declared.form.Form.TheVariants.{Aligned};
+ghost use Rattle.bi_blob.specs.Layout.{longest_text};
 ghost use Rattle.bi_fit.specs.Documents.{length_after_blob as length_after_blob_of};
-ghost use Rattle.bi_fit.specs.Text.{payload_area, payloads_end as payloads_end_of};
+ghost use Rattle.bi_fit.specs.Text.{end_after, payload_area, payloads_end as payloads_end_of};
 ghost use Rattle.bi_fit.specs.NormalNodes.{payloads_of, next_begin, next_end};
 
 use crate::form::Form;
 use crate::image::Image;
-use bi_base::{Align, Cause, Error, Fault, Sink, put_zeros, refuse};
+use bi_base::{Align, Cause, Fault, Pen, PenSink, put_zeros, refuse};
 
 /// The area of the payloads after the blob, which grows payload by payload. In the form Embedded it
 /// stays empty.
@@ -87,45 +84,34 @@ fn payloads_end(images: &[Image<'_>], align: Align, limit: u32) -> Result<u32, F
     Ok(area.end as u32)
 }
 
-/// Appends the payloads of images in their order, each after zeros up to a multiple of this
-/// alignment, even an empty payload. Fails as the sink does. Requires: the payloads, so placed, end
-/// within the longest text.
-pub(crate) fn put_payloads<S: Sink>(
-    images: &[Image<'_>],
-    align: Align,
-    sink: &mut S,
-) -> Result<(), Error>
+/// Puts the payloads of images in their order, each after zeros up to a multiple of this alignment,
+/// even an empty payload. Requires: the payloads, so placed, end within the longest text.
+pub(crate) fn put_payloads<P: Pen>(images: &[Image<'_>], align: Align, pen: &mut P)
     requires { payloads_end_of (align_bytes align) 0 (payloads_of images.now) ≤ longest_text }
-    ensures { Wrote S.appends S.fails sink.old
-        (payload_area (align_bytes align) 0 (payloads_of images.now)) result sink.new }
+    ensures { P.puts pen.old (payload_area (align_bytes align) 0 (payloads_of images.now))
+        pen.new }
 {
-    let mut area = PayloadArea::new(Form::Aligned(align));
+    let mut end = 0;
     for image in images {
-        if let Some(payload) = image.payload {
-            put_payload(&mut area, align, payload, sink)?;
-        }
+        end = put_payload(image.payload, align, end, pen);
     }
-    Ok(())
 }
 
-/// Places one more payload in an area with this alignment, and appends it after zeros up to a
-/// multiple of the alignment. Fails as the sink does. Requires: the area has this alignment, and
-/// the payload ends within the longest text.
-fn put_payload<S: Sink>(
-    area: &mut PayloadArea,
-    align: Align,
-    payload: &[u8],
-    sink: &mut S,
-) -> Result<(), Error>
-    requires aligned { area.old.form ≡ Aligned align }
-    requires within { up_to (align_bytes align) area.old.end + length payload.now ≤ longest_text }
-    ensures aligned { area.new.form ≡ Aligned align }
-    ensures end { area.new.end ≡ up_to (align_bytes align) area.old.end + length payload.now }
-    ensures written { Wrote S.appends S.fails sink.old
-        (padding_to (align_bytes align) area.old.end ++ payload.now) result sink.new }
+/// Puts the payload of one more image, if it has one, where the payloads before it end at `end`.
+/// Returns where the payloads end then. Requires: that is within the longest text.
+fn put_payload<P: Pen>(payload: Option<&[u8]>, align: Align, end: usize, pen: &mut P) -> usize
+    requires { let given = option_map (λ payload. payload.now) payload in
+        end_after (align_bytes align) end given ≤ longest_text }
+    ensures end { let given = option_map (λ payload. payload.now) payload.entry in
+        result ≡ end_after (align_bytes align) end given }
+    ensures written { let given = option_map (λ payload. payload.now) payload.entry in
+        P.puts pen.old (payload_area (align_bytes align) end (given ∷ [])) pen.new }
 {
-    let end = area.end;
-    let begin = area.place(Some(payload));
-    put_zeros(begin - end, sink)?;
-    sink.put(payload)
+    let Some(payload) = payload else {
+        return end;
+    };
+    let begin = align.up_to(end);
+    let _ = put_zeros(begin - end, &mut PenSink::new(pen));
+    pen.put(payload);
+    begin + payload.len()
 }

@@ -12,7 +12,7 @@ ghost use Rattle.bi_fit.specs.NormalNodes.{payloads_of};
 use crate::form::Form;
 use crate::image::Image;
 use crate::payload_area::put_payloads;
-use bi_base::{Cause, Error, Fault, Sink, refuse};
+use bi_base::{Cause, Error, Fault, Pen, Sink, SinkPen, refuse};
 use bi_lay::{ClosedDoc, Doc};
 use std::marker::Model;
 
@@ -93,11 +93,20 @@ impl<'a> FitText<'a> {
     pub fn emit<S: Sink>(&self, sink: &mut S) -> Result<(), Error>
         ensures { Wrote S.appends S.fails sink.old self.now result sink.new }
     {
-        self.blob.emit(sink)?;
+        let mut pen = SinkPen::new(sink);
+        self.put(&mut pen);
+        pen.result()
+    }
+
+    /// Puts the text.
+    fn put<P: Pen>(&self, pen: &mut P)
+        ensures { P.puts pen.old self.now pen.new }
+    {
+        self.blob.put(pen);
         match self.form {
-            Form::Embedded => Ok(()),
+            Form::Embedded => {}
             Form::External | Form::Aligned(_) => {
-                put_payloads(self.images, self.form.align(), sink)
+                put_payloads(self.images, self.form.align(), pen);
             }
         }
     }

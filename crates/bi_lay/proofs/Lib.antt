@@ -4,9 +4,6 @@ pub mod UsedNames
 pub mod KnownOffsets
 pub mod DocInvariant
 pub mod ChildSearch
-pub mod SinkChains
-pub mod TokenBytes
-pub mod BlockBytes
 pub mod DocTexts
 pub mod ClosedEvents
 pub mod TreeStages

@@ -1,7 +1,7 @@
 use Rattle.std.specs.Prelude.{◌≡◌, ℕ, List, ◌++◌, map, flat_map, Contains}
 use Rattle.bi_blob.specs.Blob.{Reservation}
 use Rattle.bi_blob.specs.Events.{Event, NodeStart, NodeProperty, NodeEnd}
-use Rattle.bi_blob.specs.Tokens.{BeginNode, Prop, EndNode, End as EndToken}
+use Rattle.bi_blob.specs.Tokens.{Token, BeginNode, Prop, EndNode, End as EndToken}
 use Rattle.bi_blob.specs.Layout.{offset_in, encoding}
 use Rattle.bi_lay.specs.declared.items.Item.{Item}
 use Rattle.bi_lay.specs.declared.items.Item.TheVariants.{Begin, Property, End}
@@ -20,12 +20,15 @@ event_of End = NodeEnd
 abbrev pub events_of_items : List Item → List Event
 events_of_items items = map event_of items
 
+-- The token of an item.
+abbrev pub item_token : Item → Token
+item_token (Begin name) = BeginNode name.now
+item_token (Property property) = Prop property.name_offset (value_bytes property.value)
+item_token End = EndNode
+
 -- The bytes of the token of an item, its padding included (Devicetree Specification, 5.4.1).
 abbrev pub item_encoding : Item → List ℕ
-item_encoding (Begin name) = encoding (BeginNode name.now)
-item_encoding (Property property) =
-    encoding (Prop property.name_offset (value_bytes property.value))
-item_encoding End = encoding EndNode
+item_encoding item = encoding (item_token item)
 
 -- The structure block of these items (Devicetree Specification, 5.4).
 abbrev pub structure_of_items : List Item → List ℕ

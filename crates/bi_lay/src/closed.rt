@@ -10,7 +10,7 @@ ghost use Rattle.bi_lay.specs.Contents.{text_of};
 
 use crate::document::Doc;
 use crate::sizes::BlockSizes;
-use bi_base::{Align, Error, Sink};
+use bi_base::{Align, Error, Pen, Sink, SinkPen};
 use std::marker::Model;
 
 /// A document whose root has ended and whose text has at most 0x7fffffff bytes, with the sizes of
@@ -77,6 +77,16 @@ impl<'a> ClosedDoc<'a> {
     pub fn emit<S: Sink>(&self, sink: &mut S) -> Result<(), Error>
         ensures { Wrote S.appends S.fails sink.old self.now result sink.new }
     {
-        self.doc.put(self.sizes, sink)
+        let mut pen = SinkPen::new(sink);
+        self.put(&mut pen);
+        pen.result()
+    }
+
+    /// Puts the document's text to a pen, as `emit` appends it to a sink. Takes time linear in the
+    /// length of the text, and allocates nothing itself.
+    pub fn put<P: Pen>(&self, pen: &mut P)
+        ensures { P.puts pen.old self.now pen.new }
+    {
+        self.doc.put(self.sizes, pen)
     }
 }

@@ -10,7 +10,7 @@ use crate::numbered_names::NumberedNames;
 use crate::siblings::is_new_child;
 use crate::sizes::BlockSizes;
 use crate::text::{BlobParts, put_text};
-use bi_base::{Align, Error, Sink};
+use bi_base::{Align, Error, Pen, Sink, SinkPen};
 use bi_blob::{is_child_name, is_property_name};
 use std::alloc::Global;
 use std::marker::Model;
@@ -264,7 +264,9 @@ impl<'a> Doc<'a> {
         let Some(sizes) = self.block_sizes(Align::four()) else {
             unreachable!();
         };
-        self.put(sizes, sink)
+        let mut pen = SinkPen::new(sink);
+        self.put(sizes, &mut pen);
+        pen.result()
     }
 
     /// Returns the sizes of the blocks of the document's text with this alignment, or None if the
@@ -291,19 +293,15 @@ impl<'a> Doc<'a> {
         sizes.total()
     }
 
-    /// Appends the document's text, given the sizes of its blocks and its alignment: the header,
-    /// the memory reservation block, the structure block, the strings block, and zeros up to a
-    /// multiple of the alignment.
-    ///
-    /// The only errors are those of the sink. After one, the sink is as a failed `put` of the whole
-    /// text leaves it.
+    /// Puts the document's text, given the sizes of its blocks and its alignment: the header, the
+    /// memory reservation block, the structure block, the strings block, and zeros up to a multiple
+    /// of the alignment.
     ///
     /// Takes time linear in the length of the text, and allocates nothing itself.
     /// Requires: these are the sizes of the document's blocks.
-    pub(crate) fn put<S: Sink>(&self, sizes: BlockSizes, sink: &mut S) -> Result<(), Error>
+    pub(crate) fn put<P: Pen>(&self, sizes: BlockSizes, pen: &mut P)
         requires { AreBlockSizes self.now sizes }
-        ensures { let text = text_of (align_bytes sizes.align) self.now in
-            Wrote S.appends S.fails sink.old text result sink.new }
+        ensures { P.puts pen.old (text_of (align_bytes sizes.align) self.now) pen.new }
     {
         let parts = BlobParts {
             boot_cpu: self.boot_cpu,
@@ -311,6 +309,6 @@ impl<'a> Doc<'a> {
             items: &self.items,
             names: self.names.block_names(),
         };
-        put_text(parts, sizes, sink)
+        put_text(parts, sizes, pen)
     }
 }

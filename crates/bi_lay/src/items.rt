@@ -1,7 +1,7 @@
 //! The events of a tree, as a document stores them.
 #![tactic(auto, unfolding(bi_base::specs::Cells::cell))]
 
-ghost use Rattle.std.specs.Prelude.{◌≡◌, length};
+ghost use Rattle.std.specs.Prelude.{◌≡◌, ◌+◌, ◌<◌, ◌≤◌, ◌^◌, length};
 
 /// The value of a property.
 #[derive(Clone, Copy)]
@@ -19,7 +19,8 @@ impl<'a> Value<'a> {
 
     /// Returns the length of the value in bytes.
     pub(crate) fn len(&self) -> usize
-        ensures { result ≡ length (value_bytes self.now) }
+        ensures length { result ≡ length (value_bytes self.now) }
+        ensures small { result ≤ 2 ^ 63 }
     {
         match self {
             Value::Slice(bytes) => bytes.len(),
@@ -46,4 +47,21 @@ pub(crate) enum Item<'a> {
     Property(Property<'a>),
     /// The innermost open node ends.
     End,
+}
+
+impl<'a> Item<'a> {
+    ghost use Rattle.bi_blob.specs.Tokens.{token_bytes};
+    ghost use Rattle.bi_lay.specs.Items.{item_token};
+
+    /// Returns the length of the item's token in bytes, without its padding.
+    pub(crate) fn token_size(&self) -> usize
+        ensures size { result ≡ length (token_bytes (item_token self.now)) }
+        ensures small { result + 3 < 2 ^ 64 }
+    {
+        match self {
+            Item::Begin(name) => 4 + name.len() + 1,
+            Item::Property(property) => 12 + property.value.len(),
+            Item::End => 4,
+        }
+    }
 }

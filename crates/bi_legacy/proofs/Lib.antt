@@ -4,7 +4,6 @@ pub mod EmitParts
 pub mod FaultLaws
 pub mod HeaderReads
 pub mod HeaderSplit
-pub mod HeaderSum
 pub mod TableParts
 pub mod ImageOfFile
 pub mod Magic
@@ -23,7 +22,6 @@ pub mod PartEnds
 pub mod PartSlices
 pub mod PartsInFile
 pub mod PlacedPartLists
-pub mod SinkChecksums
 pub mod ReadResults
 pub mod TableCells
 pub mod PartWalk

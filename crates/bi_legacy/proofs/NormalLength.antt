@@ -1,4 +1,4 @@
-use Rattle.std.proofs.Common.{◌≡◌, ℕ, ◌+◌, ◌-◌, ◌≤◌, Bool, true, false, List, ◌++◌, [], ◌∷◌, length, map, arith, sym, ap, rules}
+use Rattle.std.proofs.Common.{◌≡◌, ℕ, ◌+◌, ◌≤◌, Bool, true, false, List, ◌++◌, [], ◌∷◌, length, map, arith, sym, ap, rules}
 use Rattle.std.proofs.Common.{◌∙◌, MatchBool, if◌then◌else◌}
 use Rattle.std.proofs.lemmas.List.{length-append, length-replicate}
 use Rattle.bi_base.specs.Cells.{up4}

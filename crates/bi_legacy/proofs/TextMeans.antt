@@ -1,4 +1,4 @@
-use Rattle.std.proofs.Common.{◌≡◌, ◌-◌, ℕ, List, replicate, refl, zero, suc, append-nil, rules}
+use Rattle.std.proofs.Common.{◌≡◌, ℕ, List, replicate, refl, zero, suc, append-nil, rules}
 use Rattle.bi_base.specs.Limits.{Limits}
 use Rattle.bi_base.specs.Strings.{IsEmptyOrBeginsWithNul}
 use Rattle.bi_legacy.specs.File.{HoldsName, IsLegacyFile, LegacyMeans}

@@ -18,7 +18,7 @@ use crate::legacy::Legacy;
 use crate::offsets::{IH_NAME, IH_TYPE};
 use crate::part_table::table_offset;
 use crate::text::{DataSummary, data_checksum, put_image};
-use bi_base::{Cause, Error, Fault, Limits, Sink, refuse, up4};
+use bi_base::{Cause, Error, Fault, Limits, Sink, SinkPen, refuse, up4};
 
 /// Appends the normal text of a legacy image with these fields and parts (U-Boot, include/image.h).
 ///
@@ -109,7 +109,9 @@ fn emit_with<S: Sink>(
         Some(checksum) => checksum,
         None => data_checksum(fields.image_type, parts),
     };
-    put_image(fields, parts, DataSummary { size, checksum }, sink)
+    let mut pen = SinkPen::new(sink);
+    put_image(fields, parts, DataSummary { size, checksum }, &mut pen);
+    pen.result()
 }
 
 /// Checks an image to be written, and returns the size of its normal data.

@@ -7,7 +7,8 @@ ghost use Rattle.bi_legacy.specs.Faults.{Passes, fault_of, header_and_data_check
 ghost use Rattle.bi_legacy.specs.Faults.{header_without_checksum};
 
 use crate::offsets::{IH_DCRC, IH_HCRC, IH_SIZE, IH_TIME};
-use bi_base::{Cause, Crc32, Fault, Limits, be32_at, cell_at, crc32, refuse};
+use crate::pens::{ChecksumPen, put_cell};
+use bi_base::{Cause, Crc32, Fault, Limits, Pen, be32_at, cell_at, crc32, refuse};
 
 /// The magic number of a legacy image (U-Boot, include/image.h: `IH_MAGIC`).
 pub const MAGIC: u32 = 0x2705_1956;
@@ -51,13 +52,23 @@ pub(crate) fn check_header(file: &[u8], limits: Limits) -> Result<(), Fault>
 
 /// Returns the CRC-32 of the header of a file, with zeros instead of its checksum. Requires: the
 /// file has at least 64 bytes.
+#[tactic(auto, unfolding(bi_base::specs::Crc::crc32))]
 fn header_checksum(file: &[u8]) -> u32
     requires { 64 ≤ length file.now }
     ensures { result ≡ crc32_of (header_without_checksum file.now) }
 {
-    let mut sum = Crc32::new();
-    sum.update(&file[..IH_HCRC]);
-    sum.update(&[0; 4]);
-    sum.update(&file[IH_TIME..HEADER_SIZE]);
-    sum.finish()
+    let mut pen = ChecksumPen { sum: Crc32::new() };
+    put_without_checksum(file, &mut pen);
+    pen.sum.finish()
+}
+
+/// Puts the header of a file, with zeros instead of its checksum. Requires: the file has at least
+/// 64 bytes.
+fn put_without_checksum<P: Pen>(file: &[u8], pen: &mut P)
+    requires { 64 ≤ length file.now }
+    ensures { P.puts pen.old (header_without_checksum file.now) pen.new }
+{
+    pen.put(&file[..IH_HCRC]);
+    put_cell(0, pen);
+    pen.put(&file[IH_TIME..HEADER_SIZE])
 }

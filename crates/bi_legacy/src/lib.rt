@@ -13,6 +13,7 @@ pub mod offsets;
 mod part_ranges;
 mod part_table;
 mod parts;
+mod pens;
 mod text;
 
 pub use emitting::{emit, emit_image, emit_updated_image};

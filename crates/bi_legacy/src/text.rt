@@ -1,8 +1,7 @@
-//! Writing the normal text of an image, header and data, to a sink.
+//! Writing the normal text of an image, header and data, to a pen.
 
-ghost use Rattle.std.specs.Prelude.{◌≡◌, ◌^◌, ◌<◌, ◌≤◌, [], length};
+ghost use Rattle.std.specs.Prelude.{◌≡◌, ◌^◌, ◌<◌, ◌≤◌, [], length, replicate};
 ghost use Rattle.bi_base.specs.Crc.{crc32};
-ghost use Rattle.bi_base.specs.Sinks.{Wrote};
 ghost use Rattle.bi_legacy.specs.File.{header_cells};
 ghost use Rattle.bi_legacy.specs.Parts.{part_table};
 ghost use Rattle.bi_legacy.specs.Meaning.{image_of};
@@ -13,7 +12,8 @@ ghost use Rattle.bi_legacy.specs.Emitting.{image_of_parts};
 
 use crate::fields::{Fields, has_part_table};
 use crate::header::{MAGIC, NAME_SIZE};
-use bi_base::{Crc32, Error, Sink, put_cell, put_cells, up4};
+use crate::pens::{ChecksumPen, put_cell};
+use bi_base::{Crc32, Pen, up4};
 
 /// The size of the data in bytes, and its CRC-32.
 #[derive(Clone, Copy)]
@@ -22,130 +22,131 @@ pub(crate) struct DataSummary {
     pub(crate) checksum: u32,
 }
 
-/// Appends the normal text of an image with these fields and parts. Requires: its normal data has
-/// this size and checksum, and the name has at most 32 bytes.
-pub(crate) fn put_image<S: Sink>(
+/// Puts the normal text of an image with these fields and parts. Requires: its normal data has this
+/// size and checksum, and the name has at most 32 bytes.
+#[tactic(auto, unfolding(crate::specs::Text::legacy_text, crate::specs::File::header))]
+pub(crate) fn put_image<P: Pen>(
     fields: Fields<'_>,
     parts: &[&[u8]],
     summary: DataSummary,
-    sink: &mut S,
-) -> Result<(), Error>
+    pen: &mut P,
+)
     requires name { length fields.name.now ≤ 32 }
     requires size { summary.size ≡ length (normal_body fields.image_type (bytes_of parts.now)) }
     requires checksum { let body = normal_body fields.image_type (bytes_of parts.now) in
         summary.checksum ≡ crc32 body }
-    ensures { let image = image_of_parts fields.entry parts.now in
-        Wrote S.appends S.fails sink.old (legacy_text image) result sink.new }
+    ensures { P.puts pen.old (legacy_text (image_of_parts fields.entry parts.now)) pen.new }
 {
-    put_header(fields, checksum_to_write(fields, summary), summary, sink)?;
-    put_data(fields.image_type, parts, sink)
+    put_header(fields, checksum_to_write(fields, summary), summary, pen);
+    put_data(fields.image_type, parts, pen)
 }
 
 /// Returns the CRC-32 of the normal data. Requires: the normal data has fewer than 2^32 bytes.
+#[tactic(auto, unfolding(bi_base::specs::Crc::crc32))]
 pub(crate) fn data_checksum(image_type: u8, parts: &[&[u8]]) -> u32
     requires { length (normal_body image_type (bytes_of parts.now)) < 2 ^ 32 }
     ensures { result ≡ crc32 (normal_body image_type (bytes_of parts.now)) }
 {
-    let mut sum = Crc32::new();
-    put_data(image_type, parts, &mut sum).unwrap();
-    sum.finish()
+    let mut pen = ChecksumPen { sum: Crc32::new() };
+    put_data(image_type, parts, &mut pen);
+    pen.sum.finish()
 }
 
 /// Returns the header checksum to be written: the CRC-32 of the header with zeros instead of its
 /// checksum. Requires: the name has at most 32 bytes.
+#[tactic(auto, unfolding(bi_base::specs::Crc::crc32))]
 fn checksum_to_write(fields: Fields<'_>, summary: DataSummary) -> u32
     requires { length fields.name.now ≤ 32 }
     ensures { let field = name_field fields.entry.name.now in
         let image = image_of fields.entry [] in
         result ≡ crc32 (header_cells 0 summary.size summary.checksum image field) }
 {
-    let mut sum = Crc32::new();
-    put_header(fields, 0, summary, &mut sum).unwrap();
-    sum.finish()
+    let mut pen = ChecksumPen { sum: Crc32::new() };
+    put_header(fields, 0, summary, &mut pen);
+    pen.sum.finish()
 }
 
-/// Appends a header with these fields and this header checksum. Requires: the name has at most 32
+/// Puts a header with these fields and this header checksum. Requires: the name has at most 32
 /// bytes.
-fn put_header<S: Sink>(
-    fields: Fields<'_>,
-    checksum: u32,
-    summary: DataSummary,
-    sink: &mut S,
-) -> Result<(), Error>
+fn put_header<P: Pen>(fields: Fields<'_>, checksum: u32, summary: DataSummary, pen: &mut P)
     requires { length fields.name.now ≤ 32 }
     ensures { let field = name_field fields.entry.name.now in
-        Wrote S.appends S.fails sink.old
+        P.puts pen.old
         (header_cells checksum summary.size summary.checksum (image_of fields.entry []) field)
-        result sink.new }
+        pen.new }
 {
-    let cells = [
-        MAGIC,
-        checksum,
-        fields.time,
-        summary.size,
-        fields.load,
-        fields.entry,
-        summary.checksum,
-    ];
-    put_cells(sink, &cells)?;
-    sink.put(&[
+    put_cell(MAGIC, pen);
+    put_cell(checksum, pen);
+    put_cell(fields.time, pen);
+    put_cell(summary.size, pen);
+    put_cell(fields.load, pen);
+    put_cell(fields.entry, pen);
+    put_cell(summary.checksum, pen);
+    pen.put(&[
         fields.os,
         fields.arch,
         fields.image_type,
         fields.compression,
-    ])?;
-    put_name(fields.name, sink)
+    ]);
+    put_name(fields.name, pen)
 }
 
-/// Appends a name, and zeros up to the end of its field. Requires: the name has at most 32 bytes.
-fn put_name<S: Sink>(name: &[u8], sink: &mut S) -> Result<(), Error>
+/// Puts a name, and zeros up to the end of its field. Requires: the name has at most 32 bytes.
+fn put_name<P: Pen>(name: &[u8], pen: &mut P)
     requires { length name.now ≤ 32 }
-    ensures { Wrote S.appends S.fails sink.old (name_field name.now) result sink.new }
+    ensures { P.puts pen.old (name_field name.now) pen.new }
 {
-    sink.put(name)?;
-    sink.put(&[0; NAME_SIZE][name.len()..])
+    pen.put(name);
+    put_zeros(NAME_SIZE - name.len(), pen)
 }
 
-/// Appends the normal data. Requires: the normal data has fewer than 2^32 bytes.
-fn put_data<S: Sink>(image_type: u8, parts: &[&[u8]], sink: &mut S) -> Result<(), Error>
+/// Puts the normal data. Requires: the normal data has fewer than 2^32 bytes.
+fn put_data<P: Pen>(image_type: u8, parts: &[&[u8]], pen: &mut P)
     requires { length (normal_body image_type (bytes_of parts.now)) < 2 ^ 32 }
-    ensures { let body = normal_body image_type (bytes_of parts.now) in
-        Wrote S.appends S.fails sink.old body result sink.new }
+    ensures { P.puts pen.old (normal_body image_type (bytes_of parts.now)) pen.new }
 {
     if has_part_table(image_type) {
-        put_part_table(parts, sink)?;
+        put_part_table(parts, pen);
     }
-    put_joined_parts(parts, sink)
+    put_joined_parts(parts, pen)
 }
 
-/// Appends the part table. Requires: the parts together have fewer than 2^32 bytes.
-fn put_part_table<S: Sink>(parts: &[&[u8]], sink: &mut S) -> Result<(), Error>
+/// Puts the part table. Requires: the parts together have fewer than 2^32 bytes.
+fn put_part_table<P: Pen>(parts: &[&[u8]], pen: &mut P)
     requires { length (joined_parts (bytes_of parts.now)) < 2 ^ 32 }
-    ensures { Wrote S.appends S.fails sink.old (part_table (bytes_of parts.now)) result sink.new }
+    ensures { P.puts pen.old (part_table (bytes_of parts.now)) pen.new }
 {
     for part in parts {
-        put_cell(sink, part.len() as u32)?;
+        put_cell(part.len() as u32, pen);
     }
-    put_cell(sink, 0)
+    put_cell(0, pen)
 }
 
-/// Appends the parts. All but the last are padded with zeros to a multiple of four bytes.
-fn put_joined_parts<S: Sink>(parts: &[&[u8]], sink: &mut S) -> Result<(), Error>
-    ensures { Wrote S.appends S.fails sink.old (joined_parts (bytes_of parts.now)) result sink.new }
+/// Puts the parts. All but the last are padded with zeros to a multiple of four bytes.
+fn put_joined_parts<P: Pen>(parts: &[&[u8]], pen: &mut P)
+    ensures { P.puts pen.old (joined_parts (bytes_of parts.now)) pen.new }
 {
     let Some((last, before)) = parts.split_last() else {
-        return Ok(());
+        return;
     };
     for part in before {
-        put_padded(part, sink)?;
+        put_padded(part, pen);
     }
-    sink.put(last)
+    pen.put(last)
 }
 
-/// Appends some bytes, and zeros up to a multiple of four bytes.
-fn put_padded<S: Sink>(bytes: &[u8], sink: &mut S) -> Result<(), Error>
-    ensures { Wrote S.appends S.fails sink.old (with_zeros bytes.now) result sink.new }
+/// Puts some bytes, and zeros up to a multiple of four bytes.
+fn put_padded<P: Pen>(bytes: &[u8], pen: &mut P)
+    ensures { P.puts pen.old (with_zeros bytes.now) pen.new }
 {
-    sink.put(bytes)?;
-    sink.put(&[0; 3][..up4(bytes.len()) - bytes.len()])
+    pen.put(bytes);
+    put_zeros(up4(bytes.len()) - bytes.len(), pen)
+}
+
+/// Puts this many zeros. Requires: at most 32.
+fn put_zeros<P: Pen>(count: usize, pen: &mut P)
+    requires { count ≤ 32 }
+    ensures { P.puts pen.old (replicate count 0) pen.new }
+{
+    pen.put(&[0; NAME_SIZE][..count])
 }

@@ -1,20 +1,22 @@
-use Rattle.std.proofs.Common.{◌≡◌, ℕ, ◌==◌, Bool, true, false, cond, List, [], ◌∷◌, ◌++◌, map, flat_map, filter, codes, bytes_eq, length}
-use Rattle.std.proofs.Common.{refl, sym, subst, Option, Some, None, not, drop, ◌-◌}
-use Rattle.std.specs.Prelude.{⊤, IfSome, IsAscii, option_and_then}
-use Rattle.std.specs.List.{AllByRecursion, list_all, list_any}
+use Rattle.std.proofs.Common.{◌≡◌, ℕ, ◌-◌, ◌==◌, not, Bool, true, false, cond, List, [], ◌∷◌, ◌++◌, bytes_eq, codes, drop, filter}
+use Rattle.std.proofs.Common.{flat_map, length, map}
+use Rattle.std.proofs.Common.{Option, Some, None, refl, subst, sym}
+use Rattle.std.specs.Prelude.{IfSome, IsAscii, option_and_then}
 use Rattle.std.specs.FinMap.{get}
+use Rattle.std.specs.List.{AllByRecursion, list_all, list_any}
 use Rattle.std.specs.Option.{option_map}
 use Rattle.bi_base.specs.Cells.{AreBytes}
 use Rattle.bi_base.specs.Limits.{Limits}
 use Rattle.bi_base.specs.Strings.{text_before_nul}
-use Rattle.bi_base.proofs.ListMembers.{each-append}
+use Rattle.bi_base.proofs.ListMembers.{each-append, each-filter, each-map, each-weaker}
 use Rattle.bi_blob.specs.Lookups.{Sibling, siblings}
 use Rattle.bi_blob.specs.Tree.{Nodes, none, node, PropertyMap, AreNodes, names}
 use Rattle.bi_fit.specs.declared.key.Key.{Key}
+use Rattle.bi_fit.specs.File.{IsFitFile}
 use Rattle.bi_fit.specs.ImageTree.{ImageTree, ArePropertiesByName, HaveByteNames, IsImageTree, children_of, nodes_or_none}
 use Rattle.bi_fit.specs.Judgement.{Image, CheckedHash, ListResult, NoConfig, NoKey, BadList, Missing, ListedImages, checked_hash}
 use Rattle.bi_fit.specs.Judgement.{configuration_nodes, default_of, hash_nodes, images_of, images_with, listed_of, verdicts_of}
-use Rattle.bi_fit.specs.Names.{algo_name, value_name, all_keys, images_name, is_hash_name, key_name}
+use Rattle.bi_fit.specs.Names.{algo_name, value_name, all_keys, images_name, is_hash_name}
 use Rattle.bi_fit.proofs.TextLaws.{file_means_image_tree}
 use Rattle.bi_fit.proofs.TreeShapes.{AreNodes-children_of, bytes-children_of}
 use Rattle.bi_hash.specs.declared.verdicts.Verdict.{Verdict}
@@ -22,30 +24,28 @@ use Rattle.bi_hash.specs.declared.verdicts.Verdict.TheVariants.{Good, Bad, Unkno
 use Rattle.bi_norm.specs.Meaning.{Meaning, OfLegacy, OfFit, Means}
 use Rattle.bi_common.specs.declared.format.Format.{Format}
 use Rattle.bi_common.specs.declared.format.Format.TheVariants.{Lines, Json}
-use Rattle.bi_common.specs.Json.{Member, json_array, json_string, string_or_null}
+use Rattle.bi_common.specs.Json.{HasNumbers, HaveNumbers, json_values, string_or_null}
+use Rattle.bi_common.specs.Lines.{Text, Digits, digits_or_dash, name_or_dash}
+use Rattle.bi_common.specs.Shown.{shown_text}
 use Rattle.bi_common.specs.VerdictCounts.{CountsModel}
-use Rattle.bi_common.specs.Shown.{shown_or_none, shown_text}
-use Rattle.bi_common.specs.ValueTexts.{value_word, hexadecimal_digits}
-use Rattle.bi_common.proofs.AsciiJson.{IsAsciiMember, array_ascii, line_ascii, maybe_digits_ascii, maybe_name_ascii, name_ascii}
-use Rattle.bi_common.proofs.AsciiJson.{object_ascii, string_ascii}
-use Rattle.bi_common.proofs.AsciiTexts.{HasAscii, AreAsciiWords, ascii_line, both, by_test, bytes_digits, decimal_shown, is_ascii}
-use Rattle.bi_common.proofs.AsciiTexts.{name_shown}
+use Rattle.bi_common.proofs.PrintedTexts.{json_lines_are_ascii}
+use Rattle.bi_common.specs.Lines.{CanPrint}
+use Rattle.bi_common.proofs.PrintedWords.{CanPrintLine, CanPrintLines, line_texts_are_ascii}
 use Rattle.bi_report.specs.declared.check.Allowed.{Allowed}
-use Rattle.bi_report.specs.declared.check.ConcernKind.{ConcernKind}
-use Rattle.bi_report.specs.declared.check.ConcernKind.TheVariants as kind
 use Rattle.bi_report.specs.CheckedFiles.{IsChecked, concerns_text}
-use Rattle.bi_report.specs.Checking.{Concern, BadHash, UnhashedImage, WeakHash, BadKey, MissingImage, BadDefault, TrailingBytes, allows}
-use Rattle.bi_report.specs.Checking.{kind_of, AreConcerns, OfLegacyImage, OfImageTree, content_end, concern_line, concern_lines}
+use Rattle.bi_report.specs.Checking.{Concern, BadHash, UnhashedImage, WeakHash, BadDefault, TrailingBytes}
+use Rattle.bi_report.specs.Checking.{AreConcerns, OfLegacyImage, OfImageTree, content_end, concern_line, concern_object, concerns_object}
 use Rattle.bi_report.specs.Checking.{configuration_concerns, default_concerns, hash_concerns, hashes_of_image, image_concerns, is_good}
-use Rattle.bi_report.specs.Checking.{is_strong, kept_concerns, kind_word, list_concerns, names_one_of, payload_concerns, tree_concerns}
+use Rattle.bi_report.specs.Checking.{is_strong, kept_concerns, list_concerns, names_one_of, payload_concerns, tree_concerns}
 use Rattle.bi_report.specs.Checking.{trailing_concerns}
-use Rattle.bi_report.specs.ConcernJson.{concern_members, concern_object, concerns_object}
-use Rattle.bi_report.specs.ReportJson.{hash_members, hash_object, report_object, summary_members, summary_object}
-use Rattle.bi_report.specs.Reports.{HashVerdict, Summary, ReportLine, counts_of, report_line, report_of, verdict_word}
+use Rattle.bi_report.specs.Details.{name_json}
+use Rattle.bi_report.specs.Reports.{counts_of, hash_line, legacy_report_lines, report_lines, report_object, summary_line, verdict_word}
 use Rattle.bi_report.specs.VerifiedFiles.{IsReport, report_text}
-use Rattle.bi_report.proofs.AsciiListings.{configurations_are_nodes, default_bytes, key_word, node_names_bytes, before_nul_bytes}
+use Rattle.bi_report.proofs.AsciiListings.{before_nul_bytes, configurations_are_nodes, default_bytes, key_word, node_names_bytes}
+use Rattle.bi_report.proofs.ShortValues.{HasSmallIndex, index_small}
 
--- Proves that reports and lines of concerns are ASCII: the names and values that they show are bytes.
+-- Reports and the lines of concerns can be printed, so they are ASCII: the names and values that they show are bytes. The numbers in the
+-- concerns about a flattened image tree are below 2^64.
 
 -- ---- hash nodes
 
@@ -116,45 +116,6 @@ tree_images tree is = by (children_of images_name tree.root.children) refl
         is.is_tree.children)
         (bytes-children_of images_name tree.root.children inner found is.name_bytes)
 
--- ---- reports
-
-verdict_shown : (verdict : Verdict) → HasAscii (verdict_word verdict)
-verdict_shown Good = by_test (codes "good") refl
-verdict_shown Bad = by_test (codes "bad") refl
-verdict_shown UnknownAlgo = by_test (codes "unknown-algorithm") refl
-verdict_shown NoPayload = by_test (codes "no-payload") refl
-verdict_shown Malformed = by_test (codes "malformed") refl
-
-maybe_shown : (name : Option (List ℕ)) → IfSome name AreBytes → HasAscii (shown_or_none name)
-maybe_shown None bytes = by_test (codes "-") refl
-maybe_shown (Some name) bytes = name_shown name bytes
-
-value_shown : (value : Option (List ℕ)) → IfSome value AreBytes → HasAscii (value_word value)
-value_shown None bytes = by_test (codes "-") refl
-value_shown (Some value) bytes = by (bytes_eq value [])
-  where
-    by : (b : Bool) → HasAscii (cond b (codes "-") (hexadecimal_digits value))
-    by true = by_test (codes "-") refl
-    by false = bytes_digits value bytes
-
-hash_shown : (hash : CheckedHash) → IsByteHash hash → HasAscii (report_line (HashVerdict hash))
-hash_shown hash bytes =
-    ascii_line
-    (shown_text hash.image ∷ shown_text hash.node_name ∷ shown_or_none hash.algo ∷ verdict_word hash.verdict ∷ value_word hash.value ∷ []) (
-      name_shown hash.image bytes.0,
-      (
-        name_shown hash.node_name bytes.1,
-        (maybe_shown hash.algo bytes.2, (verdict_shown hash.verdict, (value_shown hash.value bytes.3, tt))),
-      ),
-    )
-
-hash_lines_shown : (hashes : List CheckedHash) (last : List ReportLine) → AllByRecursion IsByteHash hashes →
-    HasAscii (flat_map report_line last) → HasAscii (flat_map report_line (map HashVerdict hashes ++ last))
-hash_lines_shown [] last bytes rest = rest
-hash_lines_shown (hash ∷ later) last bytes rest =
-    both (report_line (HashVerdict hash)) (flat_map report_line (map HashVerdict later ++ last)) (hash_shown hash bytes.0)
-    (hash_lines_shown later last bytes.1 rest)
-
 pub all_hashes : (images : List Image) → AllByRecursion IsByteImage images →
     AllByRecursion IsByteHash (flat_map (λ (image : Image). map (checked_hash image) (hash_nodes image)) images)
 all_hashes [] bytes = tt
@@ -162,352 +123,203 @@ all_hashes (image ∷ later) bytes =
     each-append IsByteHash (hashes_of_image image) (flat_map (λ (image : Image). map (checked_hash image) (hash_nodes image)) later)
     bytes.0.1 (all_hashes later bytes.1)
 
--- The lines of a report.
-lines_ascii : (tree : ImageTree) → AllByRecursion IsByteHash (verdicts_of tree) → HasAscii (report_of (OfFit tree))
-lines_ascii tree bytes =
+-- ---- details
+
+-- A name that may not be there, the digits of a value and the word for a verdict can be printed.
+name_can : (name : Option (List ℕ)) → IfSome name AreBytes → CanPrint (name_or_dash name)
+name_can None bytes = refl
+name_can (Some name) bytes = bytes
+
+digits_can : (value : Option (List ℕ)) → IfSome value AreBytes → CanPrint (digits_or_dash value)
+digits_can None bytes = refl
+digits_can (Some value) bytes = by (bytes_eq value [])
+  where
+    by : (b : Bool) → CanPrint (cond b (Text (codes "-")) (Digits value))
+    by true = refl
+    by false = bytes
+
+verdict_can : (verdict : Verdict) → CanPrint (Text (verdict_word verdict))
+verdict_can Good = refl
+verdict_can Bad = refl
+verdict_can UnknownAlgo = refl
+verdict_can NoPayload = refl
+verdict_can Malformed = refl
+
+-- A string has no number.
+pub string_has_no_number : (bytes : Option (List ℕ)) → HasNumbers (string_or_null bytes)
+string_has_no_number None = tt
+string_has_no_number (Some bytes) = tt
+
+-- ---- reports
+
+hash_can : (hash : CheckedHash) → IsByteHash hash → CanPrintLine (hash_line hash)
+hash_can hash bytes = (bytes.0, (bytes.1, (name_can hash.algo bytes.2, (verdict_can hash.verdict, (digits_can hash.value bytes.3, tt)))))
+
+summary_can : (counts : CountsModel) → CanPrintLine (summary_line counts)
+summary_can counts = (refl, (refl, (tt, (refl, (tt, (refl, (tt, (refl, (tt, (refl, (tt, tt)))))))))))
+
+report_can : (tree : ImageTree) → IsImageTree tree → CanPrintLines (report_lines (OfFit tree))
+report_can tree is =
     let hashes = verdicts_of tree in
-    let counts = counts_of hashes in
-    let last : HasAscii (flat_map report_line (Summary counts ∷ [])) =
-    both (report_line (Summary counts)) []
-    (ascii_line
-    (codes "summary" ∷ codes "good" ∷ _ ∷ codes "bad" ∷ _ ∷ codes "unknown-algorithm" ∷ _ ∷ codes "no-payload" ∷ _ ∷ codes "malformed" ∷ _
-    ∷ []) (
-      by_test (codes "summary") refl,
-      (
-        by_test (codes "good") refl,
-        (
-          decimal_shown counts.good,
-          (
-            by_test (codes "bad") refl,
-            (
-              decimal_shown counts.bad,
-              (
-                by_test (codes "unknown-algorithm") refl,
-                (
-                  decimal_shown counts.unknown_algorithm,
-                  (
-                    by_test (codes "no-payload") refl,
-                    (
-                      decimal_shown counts.no_payload,
-                      (by_test (codes "malformed") refl, (decimal_shown counts.malformed, tt)),
-                    ),
-                  ),
-                ),
-              ),
-            ),
-          ),
-        ),
-      ),
-    )) tt in
-    hash_lines_shown hashes (Summary counts ∷ []) bytes last
-
--- The report in JSON.
-hash_ascii : (hash : CheckedHash) → IsByteHash hash → HasAscii (hash_object hash)
-hash_ascii hash bytes =
-    object_ascii (hash_members hash) (
-      (by_test (codes "image") refl, name_ascii hash.image bytes.0),
-      (
-        (by_test (codes "node") refl, name_ascii hash.node_name bytes.1),
-        (
-          (by_test (codes "algorithm") refl, maybe_name_ascii hash.algo bytes.2),
-          (
-            (by_test (codes "verdict") refl, string_ascii (verdict_word hash.verdict) (verdict_shown hash.verdict)),
-            ((by_test (codes "value") refl, maybe_digits_ascii hash.value bytes.3), tt),
-          ),
-        ),
-      ),
-    )
-
-hashes_ascii : (hashes : List CheckedHash) → AllByRecursion IsByteHash hashes → AllByRecursion HasAscii (map hash_object hashes)
-hashes_ascii [] bytes = tt
-hashes_ascii (hash ∷ later) bytes = (hash_ascii hash bytes.0, hashes_ascii later bytes.1)
-
-summary_ascii : (counts : CountsModel) → HasAscii (summary_object counts)
-summary_ascii counts =
-    object_ascii (summary_members counts) (
-      (by_test (codes "good") refl, decimal_shown counts.good),
-      (
-        (by_test (codes "bad") refl, decimal_shown counts.bad),
-        (
-          (by_test (codes "unknown_algorithm") refl, decimal_shown counts.unknown_algorithm),
-          (
-            (by_test (codes "no_payload") refl, decimal_shown counts.no_payload),
-            ((by_test (codes "malformed") refl, decimal_shown counts.malformed), tt),
-          ),
-        ),
-      ),
-    )
-
-object_is_ascii : (tree : ImageTree) → AllByRecursion IsByteHash (verdicts_of tree) → HasAscii (report_object (OfFit tree))
-object_is_ascii tree bytes =
-    let hashes = verdicts_of tree in
-    object_ascii
-    ((codes "kind", json_string (codes "fit"))
-    ∷ (codes "hashes", json_array (map hash_object hashes)) ∷ (codes "summary", summary_object (counts_of hashes)) ∷ []) (
-      (by_test (codes "kind") refl, by_test (json_string (codes "fit")) refl),
-      (
-        (by_test (codes "hashes") refl, array_ascii (map hash_object hashes) (hashes_ascii hashes bytes)),
-        ((by_test (codes "summary") refl, summary_ascii (counts_of hashes)), tt),
-      ),
-    )
+    each-append CanPrintLine (map hash_line hashes) (summary_line (counts_of hashes) ∷ [])
+    (each-map CanPrintLine hash_line hashes
+    (each-weaker IsByteHash (λ hash. CanPrintLine (hash_line hash)) hash_can hashes (all_hashes (images_of tree) (tree_images tree is))))
+    (summary_can (counts_of hashes), tt)
 
 -- A report is ASCII, in any form.
 pub report_is_ascii : (format : Format) (limits : Limits) (file text : List ℕ) → IsReport format limits file text → IsAscii text
-report_is_ascii format limits file text report =
-    subst IsAscii (sym report.is) (is_ascii (report_text format report.meaning) (by format report.meaning report.means))
+report_is_ascii format limits file text report = subst IsAscii (sym report.is) (by format report.meaning report.means)
   where
-    by : (form : Format) (meaning : Meaning) → Means limits file meaning → HasAscii (report_text form meaning)
-    by Lines (OfLegacy image) means = by_test (report_of (OfLegacy image)) refl
-    by Json (OfLegacy image) means = by_test (report_text Json (OfLegacy image)) refl
-    by Lines (OfFit tree) means = lines_ascii tree (all_hashes (images_of tree)
-        (tree_images tree (file_means_image_tree file tree means.is_file)))
-    by Json (OfFit tree) means =
-        line_ascii (report_object (OfFit tree))
-        (object_is_ascii tree (all_hashes (images_of tree) (tree_images tree (file_means_image_tree file tree means.is_file))))
+    by : (form : Format) (meaning : Meaning) → Means limits file meaning → IsAscii (report_text form meaning)
+    by Lines (OfLegacy image) means =
+        line_texts_are_ascii legacy_report_lines ((refl, (refl, (refl, tt))), ((refl, (refl, (refl, tt))), tt))
+    by Lines (OfFit tree) means =
+        line_texts_are_ascii (report_lines (OfFit tree)) (report_can tree (file_means_image_tree file tree means.is_file))
+    by Json meaning means = json_lines_are_ascii (report_object meaning)
 
 -- ---- concerns
 
--- What a concern has is bytes.
-abbrev pub IsByteConcern : Concern → Type 0
-IsByteConcern (BadHash hash) = IsByteHash hash
-IsByteConcern (UnhashedImage image) = AreBytes image
-IsByteConcern (WeakHash image good) = AreBytes image × AllByRecursion IsByteHash good
-IsByteConcern (BadKey configuration key) = AreBytes configuration
-IsByteConcern (MissingImage configuration key index) = AreBytes configuration
-IsByteConcern (BadDefault default) = IfSome default AreBytes
-IsByteConcern (TrailingBytes count) = ⊤
+-- The line of a concern can be printed, and the numbers in it are below 2^64.
+pub record CanWrite (concern : Concern) : Type 0 where
+  pub line : CanPrintLine (concern_line concern)
+  pub numbers : HasNumbers (concern_object concern)
 
-algorithms_shown : (hashes : List CheckedHash) → AllByRecursion IsByteHash hashes →
-    AreAsciiWords (map (λ (hash : CheckedHash). shown_or_none hash.algo) hashes)
-algorithms_shown [] bytes = tt
-algorithms_shown (hash ∷ later) bytes = (maybe_shown hash.algo bytes.0.2, algorithms_shown later bytes.1)
+algorithms_can : (hashes : List CheckedHash) → AllByRecursion IsByteHash hashes →
+    CanPrintLine (map name_or_dash (map (λ (hash : CheckedHash). hash.algo) hashes) ++ [])
+algorithms_can [] bytes = tt
+algorithms_can (hash ∷ later) bytes = (name_can hash.algo bytes.0.2, algorithms_can later bytes.1)
 
-concern_shown : (concern : Concern) → IsByteConcern concern → HasAscii (concern_line concern)
-concern_shown (BadHash hash) bytes =
-    ascii_line (codes "bad-hash" ∷ shown_text hash.image ∷ shown_text hash.node_name ∷ shown_or_none hash.algo ∷ verdict_word hash.verdict
-    ∷ []) (
-      by_test (codes "bad-hash") refl,
-      (
-        name_shown hash.image bytes.0,
-        (
-          name_shown hash.node_name bytes.1,
-          (maybe_shown hash.algo bytes.2, (verdict_shown hash.verdict, tt)),
-        ),
-      ),
-    )
-concern_shown (UnhashedImage image) bytes =
-    ascii_line (codes "unhashed" ∷ shown_text image ∷ []) (by_test (codes "unhashed") refl, (name_shown image bytes, tt))
-concern_shown (WeakHash image good) bytes =
-    ascii_line (codes "weak-hash" ∷ shown_text image ∷ map (λ (hash : CheckedHash). shown_or_none hash.algo) good)
-    (by_test (codes "weak-hash") refl, (name_shown image bytes.0, algorithms_shown good bytes.1))
-concern_shown (BadKey configuration key) bytes =
-    ascii_line (codes "bad-list" ∷ shown_text configuration ∷ _ ∷ []) (
-      by_test (codes "bad-list") refl,
-      (name_shown configuration bytes, (key_word key, tt)),
-    )
-concern_shown (MissingImage configuration key index) bytes =
-    ascii_line (codes "missing" ∷ shown_text configuration ∷ _ ∷ _ ∷ [])
-    (by_test (codes "missing") refl, (name_shown configuration bytes, (key_word key, (decimal_shown index, tt))))
-concern_shown (BadDefault default) bytes =
-    ascii_line (codes "bad-default" ∷ shown_or_none default ∷ []) (by_test (codes "bad-default") refl, (maybe_shown default bytes, tt))
-concern_shown (TrailingBytes count) bytes =
-    ascii_line (codes "trailing" ∷ _ ∷ []) (by_test (codes "trailing") refl, (decimal_shown count, tt))
+no_numbers : (hashes : List CheckedHash) → HaveNumbers (json_values (map name_json (map (λ (hash : CheckedHash). hash.algo) hashes)))
+no_numbers [] = tt
+no_numbers (hash ∷ later) = (string_has_no_number (option_map shown_text hash.algo), no_numbers later)
 
--- The object of a concern.
-abbrev members_of_concern : Concern → List Member
-members_of_concern concern = (codes "concern", json_string (kind_word (kind_of concern))) ∷ concern_members concern
+bad_hash_can : (hash : CheckedHash) → IsByteHash hash → CanWrite (BadHash hash)
+bad_hash_can hash bytes = record {
+  line = (refl, (bytes.0, (bytes.1, (name_can hash.algo bytes.2, (verdict_can hash.verdict, tt)))));
+  numbers = (tt, (tt, (tt, (string_has_no_number (option_map shown_text hash.algo), (tt, tt)))));
+}
 
-strings_ascii : (hashes : List CheckedHash) → AllByRecursion IsByteHash hashes →
-    AllByRecursion HasAscii (map (λ (hash : CheckedHash). string_or_null (option_map shown_text hash.algo)) hashes)
-strings_ascii [] bytes = tt
-strings_ascii (hash ∷ later) bytes = (maybe_name_ascii hash.algo bytes.0.2, strings_ascii later bytes.1)
+weak_hash_can : (image : List ℕ) (good : List CheckedHash) → AreBytes image → AllByRecursion IsByteHash good →
+    CanWrite (WeakHash image good)
+weak_hash_can image good named bytes = record {
+  line = (refl, (named, algorithms_can good bytes));
+  numbers = (tt, (tt, (no_numbers good, tt)));
+}
 
-kind_ascii : (kind : ConcernKind) → HasAscii (json_string (kind_word kind))
-kind_ascii kind.BadHash = by_test (json_string (codes "bad-hash")) refl
-kind_ascii kind.Unhashed = by_test (json_string (codes "unhashed")) refl
-kind_ascii kind.WeakHash = by_test (json_string (codes "weak-hash")) refl
-kind_ascii kind.BadList = by_test (json_string (codes "bad-list")) refl
-kind_ascii kind.Missing = by_test (json_string (codes "missing")) refl
-kind_ascii kind.BadDefault = by_test (json_string (codes "bad-default")) refl
-kind_ascii kind.Trailing = by_test (json_string (codes "trailing")) refl
-
-rest_ascii : (concern : Concern) → IsByteConcern concern → AllByRecursion IsAsciiMember (concern_members concern)
-rest_ascii (BadHash hash) bytes = (
-  (by_test (codes "image") refl, name_ascii hash.image bytes.0),
-  (
-    (by_test (codes "node") refl, name_ascii hash.node_name bytes.1),
-    (
-      (by_test (codes "algorithm") refl, maybe_name_ascii hash.algo bytes.2),
-      ((by_test (codes "verdict") refl, string_ascii (verdict_word hash.verdict) (verdict_shown hash.verdict)), tt),
-    ),
-  ),
-)
-rest_ascii (UnhashedImage image) bytes = ((by_test (codes "image") refl, name_ascii image bytes), tt)
-rest_ascii (WeakHash image good) bytes = (
-  (by_test (codes "image") refl, name_ascii image bytes.0),
-  (
-    (
-      by_test (codes "algorithms") refl,
-      array_ascii (map (λ (hash : CheckedHash). string_or_null (option_map shown_text hash.algo)) good) (strings_ascii good bytes.1),
-    ),
-    tt,
-  ),
-)
-rest_ascii (BadKey configuration key) bytes = (
-  (by_test (codes "configuration") refl, name_ascii configuration bytes),
-  ((by_test (codes "key") refl, string_ascii (key_name key) (key_word key)), tt),
-)
-rest_ascii (MissingImage configuration key index) bytes = (
-  (by_test (codes "configuration") refl, name_ascii configuration bytes),
-  (
-    (by_test (codes "key") refl, string_ascii (key_name key) (key_word key)),
-    ((by_test (codes "index") refl, decimal_shown index), tt),
-  ),
-)
-rest_ascii (BadDefault default) bytes = ((by_test (codes "default") refl, maybe_name_ascii default bytes), tt)
-rest_ascii (TrailingBytes count) bytes = ((by_test (codes "size") refl, decimal_shown count), tt)
-
-objects_ascii : (concerns : List Concern) → AllByRecursion IsByteConcern concerns → AllByRecursion HasAscii (map concern_object concerns)
-objects_ascii [] bytes = tt
-objects_ascii (concern ∷ later) bytes = (
-  object_ascii (members_of_concern concern) ((by_test (codes "concern") refl, kind_ascii (kind_of concern)), rest_ascii concern bytes.0),
-  objects_ascii later bytes.1,
-)
-
-pub kept_bytes : (allowed : Allowed) (concerns : List Concern) → AllByRecursion IsByteConcern concerns →
-    AllByRecursion IsByteConcern (kept_concerns allowed concerns)
-kept_bytes allowed [] bytes = tt
-kept_bytes allowed (concern ∷ later) bytes = by (allows allowed (kind_of concern)) refl (kept_bytes allowed later bytes.1)
-  where
-    by : (b : Bool) → allows allowed (kind_of concern) ≡ b → AllByRecursion IsByteConcern (kept_concerns allowed later) →
-        AllByRecursion IsByteConcern (kept_concerns allowed (concern ∷ later))
-    by true is rest = rw is rest
-    by false is rest = rw is (bytes.0, rest)
-
-lines_shown : (allowed : Allowed) (concerns : List Concern) → AllByRecursion IsByteConcern concerns →
-    HasAscii (concern_lines allowed concerns)
-lines_shown allowed [] bytes = tt
-lines_shown allowed (concern ∷ later) bytes = by (allows allowed (kind_of concern)) refl (lines_shown allowed later bytes.1)
-  where
-    by : (b : Bool) → allows allowed (kind_of concern) ≡ b → HasAscii (concern_lines allowed later) →
-        HasAscii (concern_lines allowed (concern ∷ later))
-    by true is rest = rw is rest
-    by false is rest = rw is (both (concern_line concern) (concern_lines allowed later) (concern_shown concern bytes.0) rest)
+pub trailing_can : (count : ℕ) → CanPrintLine (concern_line (TrailingBytes count))
+trailing_can count = (refl, (tt, tt))
 
 -- The concerns about images.
-if_not : (b : Bool) (concern : Concern) → IsByteConcern concern → AllByRecursion IsByteConcern (cond b [] (concern ∷ []))
-if_not true concern bytes = tt
-if_not false concern bytes = (bytes, tt)
+if_not : (b : Bool) (concern : Concern) → CanWrite concern → AllByRecursion CanWrite (cond b [] (concern ∷ []))
+if_not true concern can = tt
+if_not false concern can = (can, tt)
 
-hash_bytes : (hashes : List CheckedHash) → AllByRecursion IsByteHash hashes → AllByRecursion IsByteConcern (flat_map hash_concerns hashes)
-hash_bytes [] bytes = tt
-hash_bytes (hash ∷ later) bytes =
-    each-append IsByteConcern (hash_concerns hash) (flat_map hash_concerns later) (if_not (is_good hash) (BadHash hash) bytes.0)
-    (hash_bytes later bytes.1)
+hashes_can : (hashes : List CheckedHash) → AllByRecursion IsByteHash hashes → AllByRecursion CanWrite (flat_map hash_concerns hashes)
+hashes_can [] bytes = tt
+hashes_can (hash ∷ later) bytes =
+    each-append CanWrite (hash_concerns hash) (flat_map hash_concerns later)
+    (if_not (is_good hash) (BadHash hash) (bad_hash_can hash bytes.0)) (hashes_can later bytes.1)
 
-good_bytes : (hashes : List CheckedHash) → AllByRecursion IsByteHash hashes → AllByRecursion IsByteHash (filter is_good hashes)
-good_bytes [] bytes = tt
-good_bytes (hash ∷ later) bytes = by (is_good hash) refl (good_bytes later bytes.1)
-  where
-    by : (b : Bool) → is_good hash ≡ b → AllByRecursion IsByteHash (filter is_good later) →
-        AllByRecursion IsByteHash (filter is_good (hash ∷ later))
-    by true is rest = rw is (bytes.0, rest)
-    by false is rest = rw is rest
-
-payload_bytes : (name : List ℕ) (payload : Option (List ℕ)) (hashes : List CheckedHash) → AreBytes name → AllByRecursion IsByteHash hashes →
-    AllByRecursion IsByteConcern (payload_concerns name payload hashes)
-payload_bytes name None hashes named bytes = tt
-payload_bytes name (Some payload) hashes named bytes = by (not (list_any is_good hashes)) (not (list_any is_strong hashes))
+payload_can : (name : List ℕ) (payload : Option (List ℕ)) (hashes : List CheckedHash) → AreBytes name → AllByRecursion IsByteHash hashes →
+    AllByRecursion CanWrite (payload_concerns name payload hashes)
+payload_can name None hashes named bytes = tt
+payload_can name (Some payload) hashes named bytes = by (not (list_any is_good hashes)) (not (list_any is_strong hashes))
   where
     by : (a b : Bool) →
-        AllByRecursion IsByteConcern (cond a (UnhashedImage name ∷ []) (cond b (WeakHash name (filter is_good hashes) ∷ []) []))
-    by true b = (named, tt)
-    by false true = ((named, good_bytes hashes bytes), tt)
+        AllByRecursion CanWrite (cond a (UnhashedImage name ∷ []) (cond b (WeakHash name (filter is_good hashes) ∷ []) []))
+    by true b = (record { line = (refl, (named, tt)); numbers = (tt, (tt, tt)) }, tt)
+    by false true = (weak_hash_can name (filter is_good hashes) named (each-filter IsByteHash is_good hashes bytes), tt)
     by false false = tt
 
-images_shown : (images : List Image) → AllByRecursion IsByteImage images → AllByRecursion IsByteConcern (flat_map image_concerns images)
-images_shown [] bytes = tt
-images_shown (image ∷ later) bytes =
-    each-append IsByteConcern (image_concerns image) (flat_map image_concerns later)
-    (each-append IsByteConcern (flat_map hash_concerns (hashes_of_image image))
-    (payload_concerns image.entry.name image.payload (hashes_of_image image))
-    (hash_bytes (hashes_of_image image) bytes.0.1) (payload_bytes image.entry.name image.payload (hashes_of_image image) bytes.0.0
-    bytes.0.1))
-    (images_shown later bytes.1)
+images_can : (images : List Image) → AllByRecursion IsByteImage images → AllByRecursion CanWrite (flat_map image_concerns images)
+images_can [] bytes = tt
+images_can (image ∷ later) bytes =
+    let hashes = hashes_of_image image in
+    each-append CanWrite (image_concerns image) (flat_map image_concerns later)
+    (each-append CanWrite (flat_map hash_concerns hashes) (payload_concerns image.entry.name image.payload hashes)
+    (hashes_can hashes bytes.0.1) (payload_can image.entry.name image.payload hashes bytes.0.0 bytes.0.1))
+    (images_can later bytes.1)
 
 -- Those about configurations.
-list_bytes : (configuration : List ℕ) (key : Key) (listed : ListResult) → AreBytes configuration →
-    AllByRecursion IsByteConcern (list_concerns configuration key listed)
-list_bytes configuration key NoConfig bytes = tt
-list_bytes configuration key NoKey bytes = tt
-list_bytes configuration key BadList bytes = (bytes, tt)
-list_bytes configuration key (Missing index) bytes = (bytes, tt)
-list_bytes configuration key (ListedImages images) bytes = tt
+list_can : (configuration : List ℕ) (key : Key) (listed : ListResult) → AreBytes configuration → HasSmallIndex listed →
+    AllByRecursion CanWrite (list_concerns configuration key listed)
+list_can configuration key NoConfig bytes small = tt
+list_can configuration key NoKey bytes small = tt
+list_can configuration key BadList bytes small =
+    (record { line = (refl, (bytes, (key_word key, tt))); numbers = (tt, (tt, (tt, tt))) }, tt)
+list_can configuration key (Missing index) bytes small =
+    (record { line = (refl, (bytes, (key_word key, (tt, tt)))); numbers = (tt, (tt, (tt, (small, tt)))) }, tt)
+list_can configuration key (ListedImages images) bytes small = tt
 
-keys_bytes : (tree : ImageTree) (configuration : List ℕ) → AreBytes configuration → (keys : List Key) →
-    AllByRecursion IsByteConcern (flat_map (λ (key : Key). list_concerns configuration key (listed_of tree configuration key)) keys)
-keys_bytes tree configuration bytes [] = tt
-keys_bytes tree configuration bytes (key ∷ later) =
-    each-append IsByteConcern (list_concerns configuration key (listed_of tree configuration key))
-    (flat_map (λ (key : Key). list_concerns configuration key (listed_of tree configuration key)) later)
-    (list_bytes configuration key (listed_of tree configuration key) bytes) (keys_bytes tree configuration bytes later)
+module _ (file : List ℕ) (tree : ImageTree) (is : IsFitFile file tree) where
+  keys_can : (configuration : List ℕ) → AreBytes configuration → (keys : List Key) →
+      AllByRecursion CanWrite (flat_map (λ (key : Key). list_concerns configuration key (listed_of tree configuration key)) keys)
+  keys_can configuration bytes [] = tt
+  keys_can configuration bytes (key ∷ later) =
+      each-append CanWrite (list_concerns configuration key (listed_of tree configuration key))
+      (flat_map (λ (key : Key). list_concerns configuration key (listed_of tree configuration key)) later)
+      (list_can configuration key (listed_of tree configuration key) bytes (index_small file tree is configuration key))
+      (keys_can configuration bytes later)
 
-configurations_shown : (tree : ImageTree) (configurations : List (List ℕ)) → AllByRecursion AreBytes configurations →
-    AllByRecursion IsByteConcern (flat_map (configuration_concerns tree) configurations)
-configurations_shown tree [] bytes = tt
-configurations_shown tree (configuration ∷ later) bytes =
-    each-append IsByteConcern (configuration_concerns tree configuration) (flat_map (configuration_concerns tree) later)
-    (keys_bytes tree configuration bytes.0 all_keys) (configurations_shown tree later bytes.1)
+  configurations_can : (configurations : List (List ℕ)) → AllByRecursion AreBytes configurations →
+      AllByRecursion CanWrite (flat_map (configuration_concerns tree) configurations)
+  configurations_can [] bytes = tt
+  configurations_can (configuration ∷ later) bytes =
+      each-append CanWrite (configuration_concerns tree configuration) (flat_map (configuration_concerns tree) later)
+      (keys_can configuration bytes.0 all_keys) (configurations_can later bytes.1)
 
-default_shown : (default : Option (List ℕ)) (configurations : List (List ℕ)) → IfSome default AreBytes →
-    AllByRecursion IsByteConcern (default_concerns default configurations)
-default_shown default [] bytes = tt
-default_shown default (first ∷ later) bytes = if_not (names_one_of default (first ∷ later)) (BadDefault default) bytes
+  default_can : (default : Option (List ℕ)) (configurations : List (List ℕ)) → IfSome default AreBytes →
+      AllByRecursion CanWrite (default_concerns default configurations)
+  default_can default [] bytes = tt
+  default_can default (first ∷ later) bytes =
+      if_not (names_one_of default (first ∷ later)) (BadDefault default)
+      (record { line = (refl, (name_can default bytes, tt)); numbers = (tt, (string_has_no_number (option_map shown_text default), tt)) })
 
-tree_shown : (tree : ImageTree) → IsImageTree tree → AllByRecursion IsByteConcern (tree_concerns tree)
-tree_shown tree is =
-    let configurations = names (configuration_nodes tree) in
-    each-append IsByteConcern (flat_map image_concerns (images_of tree))
-    (flat_map (configuration_concerns tree) configurations ++ default_concerns (default_of tree) configurations)
-    (images_shown (images_of tree) (tree_images tree is))
-    (each-append IsByteConcern (flat_map (configuration_concerns tree) configurations) (default_concerns (default_of tree) configurations)
-    (configurations_shown tree configurations (node_names_bytes (configuration_nodes tree) (configurations_are_nodes tree is).1))
-    (default_shown (default_of tree) configurations (default_bytes tree is)))
+  -- The concerns about a tree.
+  pub tree_can : AllByRecursion CanWrite (tree_concerns tree)
+  tree_can =
+      let means = file_means_image_tree file tree is in
+      let configurations = names (configuration_nodes tree) in
+      let lists = flat_map (configuration_concerns tree) configurations in
+      let default = default_concerns (default_of tree) configurations in
+      each-append CanWrite (flat_map image_concerns (images_of tree)) (lists ++ default)
+      (images_can (images_of tree) (tree_images tree means))
+      (each-append CanWrite lists default
+      (configurations_can configurations (node_names_bytes (configuration_nodes tree) (configurations_are_nodes tree means).1))
+      (default_can (default_of tree) configurations (default_bytes tree means)))
 
-trailing_shown : (bytes : List ℕ) → AllByRecursion IsByteConcern (trailing_concerns bytes)
-trailing_shown bytes = if_not (list_all (λ byte. byte == 0) bytes) (TrailingBytes (length bytes)) tt
+-- The lines of the concerns about a file can be printed.
+trailing_lines : (bytes : List ℕ) → AllByRecursion (λ concern. CanPrintLine (concern_line concern)) (trailing_concerns bytes)
+trailing_lines bytes = by (list_all (λ byte. byte == 0) bytes)
+  where
+    by : (b : Bool) → AllByRecursion (λ concern. CanPrintLine (concern_line concern)) (cond b [] (TrailingBytes (length bytes) ∷ []))
+    by true = tt
+    by false = (trailing_can (length bytes), tt)
 
--- The text of concerns.
-text_shown : (format : Format) (allowed : Allowed) (concerns : List Concern) → AllByRecursion IsByteConcern concerns →
-    HasAscii (concerns_text format allowed concerns)
-text_shown Lines allowed concerns bytes = lines_shown allowed concerns bytes
-text_shown Json allowed concerns bytes =
-    let values = map concern_object (kept_concerns allowed concerns) in
-    line_ascii (concerns_object (kept_concerns allowed concerns))
-    (object_ascii ((codes "concerns", json_array values) ∷ []) (
-      (
-        by_test (codes "concerns") refl,
-        array_ascii values (objects_ascii (kept_concerns allowed concerns)
-            (kept_bytes allowed concerns bytes)),
-      ),
-      tt,
-    ))
-
--- Each element of the lines of concerns is a byte.
-pub concern_bytes : (limits : Limits) (file : List ℕ) (concerns : List Concern) → AreConcerns limits file concerns →
-    AllByRecursion IsByteConcern concerns
-concern_bytes limits file concerns (OfLegacyImage parsed is are) =
-    subst (AllByRecursion IsByteConcern) (sym are) (trailing_shown (drop (length file - parsed.unused) file))
-concern_bytes limits file concerns (OfImageTree tree means are) =
+concern_lines_can : (limits : Limits) (file : List ℕ) (concerns : List Concern) → AreConcerns limits file concerns →
+    AllByRecursion (λ concern. CanPrintLine (concern_line concern)) concerns
+concern_lines_can limits file concerns (OfLegacyImage parsed is are) =
+    subst (AllByRecursion (λ concern. CanPrintLine (concern_line concern))) (sym are)
+    (trailing_lines (drop (length file - parsed.unused) file))
+concern_lines_can limits file concerns (OfImageTree tree means are) =
     let rest : List ℕ = drop (content_end file means.is_file.images tree.payloads) file in
-    subst (AllByRecursion IsByteConcern) (sym are)
-    (each-append IsByteConcern (tree_concerns tree) (trailing_concerns rest)
-    (tree_shown tree (file_means_image_tree file tree means.is_file)) (trailing_shown rest))
+    let CanPrintConcern : Concern → Type 0 = λ concern. CanPrintLine (concern_line concern) in
+    subst (AllByRecursion CanPrintConcern) (sym are)
+    (each-append CanPrintConcern (tree_concerns tree) (trailing_concerns rest)
+    (each-weaker CanWrite CanPrintConcern (λ concern can. can.line) (tree_concerns tree) (tree_can file tree means.is_file))
+    (trailing_lines rest))
 
 -- The text of the concerns about a file is ASCII, in any form.
 pub checked_is_ascii : (format : Format) (allowed : Allowed) (limits : Limits) (file text : List ℕ) →
     IsChecked format allowed limits file text → IsAscii text
-checked_is_ascii format allowed limits file text checked =
-    subst IsAscii (sym checked.is_text)
-    (is_ascii (concerns_text format allowed checked.concerns)
-    (text_shown format allowed checked.concerns (concern_bytes limits file checked.concerns checked.are_concerns)))
+checked_is_ascii format allowed limits file text checked = subst IsAscii (sym checked.is_text) (by format)
+  where
+    kept : List Concern
+    kept = kept_concerns allowed checked.concerns
+
+    by : (form : Format) → IsAscii (concerns_text form allowed checked.concerns)
+    by Lines =
+        line_texts_are_ascii (map concern_line kept)
+        (each-map CanPrintLine concern_line kept (each-filter (λ concern. CanPrintLine (concern_line concern)) _ checked.concerns
+        (concern_lines_can limits file checked.concerns checked.are_concerns)))
+    by Json = json_lines_are_ascii (concerns_object kept)

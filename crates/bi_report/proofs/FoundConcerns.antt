@@ -1,7 +1,8 @@
 use Rattle.std.proofs.Common.{◌≡◌, Bool, true, false, List, [], ◌∷◌, ◌++◌, flat_map}
-use Rattle.std.proofs.Common.{refl, ap, ap₂, ◌∙◌}
-use Rattle.bi_common.proofs.TextsInTurn.{map_append}
+use Rattle.std.proofs.Common.{refl, ap, ap₂, sym, ◌∙◌, ◌↔◌, IsTrue, not, true≢false}
+use Rattle.std.proofs.lemmas.List.{map-append}
 use Rattle.bi_report.specs.declared.check.Allowed.{Allowed}
+use Rattle.bi_report.specs.CheckedImages.{has_any}
 use Rattle.bi_report.specs.Checking.{Concern, allows, kept_concerns, kind_of}
 use Rattle.bi_report.specs.FoundConcerns.{FoundConcern, Subject, concerns_about, concerns_in, kept_found}
 
@@ -14,7 +15,7 @@ only_concerns subject (concern ∷ later) = ap (λ (l : List Concern). concern �
 
 -- of two lists,
 pub concerns_in_both : (some later : List FoundConcern) → concerns_in (some ++ later) ≡ concerns_in some ++ concerns_in later
-concerns_in_both some later = map_append (λ (one : FoundConcern). one.concern) some later
+concerns_in_both some later = map-append (λ (one : FoundConcern). one.concern) some later
 
 -- and of those about each element of a list.
 pub concerns_in_each : {X : Type 0} (f : X → List FoundConcern) (g : X → List Concern) → ((x : X) → concerns_in (f x) ≡ g x) →
@@ -34,3 +35,12 @@ kept_in allowed (one ∷ later) = by (allows allowed (kind_of one.concern)) refl
         concerns_in (kept_found allowed (one ∷ later)) ≡ kept_concerns allowed (concerns_in (one ∷ later))
     by true is rest = rw is rest
     by false is rest = rw is (ap (λ (l : List Concern). one.concern ∷ l) rest)
+
+-- There is none if and only if no concern is left.
+pub none_kept : (found : List FoundConcern) (any : Bool) (concerns : List Concern) → any ≡ has_any found → concerns_in found ≡ concerns →
+    IsTrue (not any) ↔ (concerns ≡ [])
+none_kept [] any concerns is same = (λ _. sym same, λ _. ap not is)
+none_kept (one ∷ later) any concerns is same = (
+  λ clean. absurd (true≢false (sym clean ∙ ap not is)),
+  λ none. absurd (let no : concerns_in (one ∷ later) ≡ [] = same ∙ none in cc),
+)

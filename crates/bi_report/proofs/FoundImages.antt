@@ -1,4 +1,4 @@
-use Rattle.std.proofs.Common.{◌≡◌, ℕ, List, [], ◌∷◌, ◌++◌, map, filter, refl, sym, ap, ap₂, ◌∙◌}
+use Rattle.std.proofs.Common.{◌≡◌, List, [], ◌∷◌, ◌++◌, map, filter, refl, sym, ap, ap₂, ◌∙◌}
 use Rattle.std.specs.List.{flat_map}
 use Rattle.std.proofs.lemmas.List.Folds.{flat_map-map}
 use Rattle.bi_blob.specs.Lookups.{Sibling, siblings}
@@ -9,31 +9,26 @@ use Rattle.bi_fit.specs.Judgement.{Image, CheckedHash, checked_hash, images_of, 
 use Rattle.bi_fit.specs.Names.{is_hash_name}
 use Rattle.bi_fit.proofs.FileNodes.{bare_image, image_siblings, siblings-by_name}
 use Rattle.bi_fit.proofs.FileVerdicts.{hashes_are, verdicts_are}
-use Rattle.bi_common.specs.declared.format.Format.{Format}
 use Rattle.bi_common.specs.HashedImages.{FoundHash, found_hashes, hashed_image, hashed_images, images_of_blob}
-use Rattle.bi_common.proofs.TextsInTurn.{map_append}
 use Rattle.bi_common.proofs.HashedImages.{verdicts_of_found}
 use Rattle.bi_report.specs.Checking.{Concern, hash_concerns, hashed_concerns, hashes_of_image, image_concerns}
 use Rattle.bi_report.specs.FoundConcerns.{HashOf, NodeItself, concerns_in, found_in_hash, found_in_image}
-use Rattle.bi_report.specs.ReadReports.{hash_text, hash_texts}
+use Rattle.bi_report.specs.Reports.{hashes_of_images}
 use Rattle.bi_report.proofs.FoundConcerns.{concerns_in_both, concerns_in_each, only_concerns}
 
 -- The hash nodes of the images that were read of a file, and the concerns about them, are those of its tree.
 
 -- The hash nodes image by image.
-texts_by_image : (format : Format) (entries : List (Sibling FileNode)) (images : List ImageModel) →
-    hash_texts format (hashed_images entries images) ≡ map (hash_text format) (file_verdicts entries images)
-texts_by_image format [] images = refl
-texts_by_image format (entry ∷ entries) [] = refl
-texts_by_image format (entry ∷ entries) (image ∷ images) =
-    let first : List CheckedHash = file_hashes entry.name image.payload (siblings entry.children) in
-    ap (λ (texts : List (List ℕ)). map (hash_text format) first ++ texts) (texts_by_image format entries images)
-    ∙ sym (map_append (hash_text format) first (file_verdicts entries images))
+hashes_by_image : (entries : List (Sibling FileNode)) (images : List ImageModel) →
+    hashes_of_images (hashed_images entries images) ≡ file_verdicts entries images
+hashes_by_image [] images = refl
+hashes_by_image (entry ∷ entries) [] = refl
+hashes_by_image (entry ∷ entries) (image ∷ images) =
+    ap (λ (hashes : List CheckedHash). file_hashes entry.name image.payload (siblings entry.children) ++ hashes)
+    (hashes_by_image entries images)
 
-pub texts_of_images : (format : Format) (content : FitModel) →
-    hash_texts format (images_of_blob content) ≡ map (hash_text format) (verdicts_of (tree_of content))
-texts_of_images format content =
-    texts_by_image format (siblings (file_images content.blob)) content.images ∙ ap (map (hash_text format)) (sym (verdicts_are content))
+pub hashes_of_tree : (content : FitModel) → hashes_of_images (images_of_blob content) ≡ verdicts_of (tree_of content)
+hashes_of_tree content = hashes_by_image (siblings (file_images content.blob)) content.images ∙ sym (verdicts_are content)
 
 -- The concerns about an image that was read.
 in_image : (entry : Sibling FileNode) (image : ImageModel) →

@@ -1,8 +1,8 @@
 use Rattle.std.proofs.Common.{◌≡◌, ◌↔◌, ℕ, Bool, true, false, List, [], ◌∷◌, ◌++◌, map, refl, sym, ap, ap₂, subst, ◌∙◌, IsTrue, ◌&&◌}
-use Rattle.std.proofs.Common.{append-nil, append_assoc, codes, Result, Ok, Err, IfOk, IfErr, OnOk}
-use Rattle.std.specs.List.{flat_map, join_with_byte, list_all}
+use Rattle.std.proofs.Common.{Result, Ok, Err, IfOk, IfErr, OnOk}
+use Rattle.std.specs.List.{list_all}
 use Rattle.std.proofs.lemmas.Grind.{flat_map-append}
-use Rattle.std.proofs.lemmas.List.Folds.{flat_map-map}
+use Rattle.std.proofs.lemmas.List.{map-append}
 use Rattle.bi_base.specs.Commands.{Appended, AppendFailed, WasRefused, SinkFailed}
 use Rattle.bi_base.specs.declared.fault.Error.{Error}
 use Rattle.bi_base.specs.declared.fault.Error.TheVariants.{OutOfMemory}
@@ -21,17 +21,16 @@ use Rattle.bi_norm.proofs.NormalForms.{needs_memory}
 use Rattle.bi_common.specs.declared.format.Format.{Format}
 use Rattle.bi_common.specs.declared.format.Format.TheVariants.{Lines, Json}
 use Rattle.bi_common.specs.declared.verdict_counts.Counts.{Counts}
-use Rattle.bi_common.specs.HashedImages.{images_of_blob}
-use Rattle.bi_common.specs.Formats.{in_turn}
-use Rattle.bi_common.specs.Json.{with_commas}
+use Rattle.bi_common.specs.HashedImages.{HashedImage, images_of_blob}
+use Rattle.bi_common.specs.JsonTokens.{value_tokens}
+use Rattle.bi_common.specs.LineTokens.{line_tokens, tokens_of_lines}
 use Rattle.bi_common.specs.VerdictCounts.{is_verdict, are_good, counts_model, hash_counts}
-use Rattle.bi_common.proofs.JsonTexts.{commas_between}
 use Rattle.bi_common.proofs.VerdictCounts.{good_counts}
-use Rattle.bi_report.specs.ReadReports.{after_hashes, before_hashes, hash_texts, legacy_report_text}
-use Rattle.bi_report.specs.ReportJson.{hash_object, summary_object}
-use Rattle.bi_report.specs.Reports.{HashVerdict, Summary, AreGood, counts_of, hash_line, report_line}
-use Rattle.bi_report.specs.VerifiedFiles.{IsReport, IsVerifyOutput, report_text}
-use Rattle.bi_report.proofs.FoundImages.{texts_of_images}
+use Rattle.bi_common.proofs.WrittenTokens.{value_tokens-append}
+use Rattle.bi_report.specs.Reports.{AreGood, hash_line, hash_object, hash_report_lines, hash_report_object, hashes_of_images}
+use Rattle.bi_report.specs.Reports.{report_lines, report_object}
+use Rattle.bi_report.specs.VerifiedFiles.{IsReport, IsVerifyOutput, legacy_report_text, report_text}
+use Rattle.bi_report.proofs.FoundImages.{hashes_of_tree}
 use Rattle.bi_report.proofs.TreeMemory.{tree_needs_memory}
 
 -- The report on what was read from a file is the report on the file.
@@ -91,33 +90,6 @@ pub good_of_counts : (hashes : List CheckedHash) (counts : Counts) (good : Bool)
 good_of_counts hashes counts good counted tested =
     subst (λ (b : Bool). IsTrue b ↔ AreGood hashes) (sym (tested ∙ ap are_good counted ∙ good_counts hashes)) (all_good hashes)
 
--- What stands after a list in an object: another member, and the end of the line.
-end_of_object : (values text second : List ℕ) →
-    (((values ++ 93 ∷ []) ++ (44 ∷ (text ++ second))) ++ 125 ∷ []) ++ 10 ∷ [] ≡ values ++ (93 ∷ 44 ∷ (text ++ (second ++ 125 ∷ 10 ∷ [])))
-end_of_object values text second = simp append_assoc refl
-
--- The report in its parts: what comes before the hash nodes, the hash nodes, and what comes after them.
-pub report_in_parts : (format : Format) (content : FitModel) (counts : Counts) → counts ≡ hash_counts (verdicts_of (tree_of content)) →
-    report_text format (OfFit (tree_of content))
-    ≡ before_hashes format
-    ++ (in_turn format false (hash_texts format (images_of_blob content)) ++ after_hashes format (counts_model counts))
-report_in_parts Lines content counts counted =
-    let hashes = verdicts_of (tree_of content) in
-    flat_map-append report_line (map HashVerdict hashes) (Summary (counts_of hashes) ∷ [])
-    ∙ ap₂ (λ (a b : List ℕ). a ++ b)
-    (flat_map-map report_line HashVerdict hashes
-    ∙ sym (flat_map-map (λ (text : List ℕ). text) hash_line hashes)
-    ∙ ap (λ (texts : List (List ℕ)). flat_map (λ text. text) texts) (sym (texts_of_images Lines content)))
-    (append-nil (report_line (Summary (counts_of hashes))) ∙ ap (λ (numbers : Counts). report_line (Summary (counts_model numbers)))
-    (sym counted))
-report_in_parts Json content counts counted =
-    let hashes = verdicts_of (tree_of content) in
-    let values = join_with_byte 44 (map hash_object hashes) in
-    ap (λ (l : List ℕ). before_hashes Json ++ l) (end_of_object values (codes "\"summary\":") (summary_object (counts_of hashes)))
-    ∙ ap₂ (λ (a : List ℕ) (numbers : Counts). before_hashes Json ++ (a ++ after_hashes Json (counts_model numbers)))
-    (sym (commas_between (map hash_object hashes)) ∙ ap (with_commas false) (sym (texts_of_images Json content)))
-    (sym counted)
-
 -- An error is one of reading the file,
 pub not_verified : {S : Type 0} (fails : S → List ℕ → S → Error → Type 0) (format : Format) (limits : Limits) (file : List ℕ)
     (content : FitModel) (old new : S) (error : Error) → IsReadFit limits file content
@@ -158,3 +130,31 @@ pub fit_not_reported : {S V : Type 0} (fails : S → List ℕ → S → Error �
 fit_not_reported fails format limits file content old new (Ok value) is failed = tt
 fit_not_reported fails format limits file content old new (Err error) is failed =
     not_verified fails format limits file content old new error is failed
+
+-- The hash nodes of the first image and of the others.
+pub lines_first : (image : HashedImage) (later : List HashedImage) →
+    tokens_of_lines (map hash_line (hashes_of_images (image ∷ later)))
+    ≡ tokens_of_lines (map hash_line image.hashes) ++ tokens_of_lines (map hash_line (hashes_of_images later))
+lines_first image later =
+    ap tokens_of_lines (map-append hash_line image.hashes (hashes_of_images later))
+    ∙ flat_map-append line_tokens (map hash_line image.hashes) (map hash_line (hashes_of_images later))
+
+pub objects_first : (image : HashedImage) (later : List HashedImage) →
+    value_tokens (map hash_object (hashes_of_images (image ∷ later)))
+    ≡ value_tokens (map hash_object image.hashes) ++ value_tokens (map hash_object (hashes_of_images later))
+objects_first image later =
+    ap value_tokens (map-append hash_object image.hashes (hashes_of_images later))
+    ∙ value_tokens-append (map hash_object image.hashes) (map hash_object (hashes_of_images later))
+
+-- The report by what was read: the images, and the numbers of their verdicts.
+pub lines_read : (content : FitModel) (images : List HashedImage) (counts : Counts) → images ≡ images_of_blob content →
+    counts ≡ hash_counts (verdicts_of (tree_of content)) →
+    hash_report_lines (hashes_of_images images) (counts_model counts) ≡ report_lines (OfFit (tree_of content))
+lines_read content images counts are counted =
+    ap₂ hash_report_lines (ap hashes_of_images are ∙ hashes_of_tree content) (ap counts_model counted)
+
+pub object_read : (content : FitModel) (images : List HashedImage) (counts : Counts) → images ≡ images_of_blob content →
+    counts ≡ hash_counts (verdicts_of (tree_of content)) →
+    hash_report_object (hashes_of_images images) (counts_model counts) ≡ report_object (OfFit (tree_of content))
+object_read content images counts are counted =
+    ap₂ hash_report_object (ap hashes_of_images are ∙ hashes_of_tree content) (ap counts_model counted)

@@ -1,22 +1,20 @@
 pub mod ImageReports
+pub mod PutInTurn
 pub mod FitListings
-pub mod PartLines
 pub mod CheckedConfigurations
 pub mod CheckedFiles
 pub mod CheckedHashes
 pub mod CleanLaws
-pub mod ConcernLines
 pub mod LegacyConcernFacts
 pub mod TextFacts
 pub mod ListedFiles
 pub mod ListedNames
-pub mod ConfigurationNodes
 pub mod AsciiListings
 pub mod FoundConcerns
+pub mod PrintedDetails
+pub mod LaterPuts
 pub mod AsciiReports
 pub mod ListedResults
-pub mod LinesLeft
-pub mod ConcernTexts
 pub mod OffsetLists
 pub mod ImageStarts
 pub mod ScanClaims
@@ -33,3 +31,4 @@ pub mod JsonReports
 pub mod FoundImages
 pub mod TreeMemory
 pub mod CheckFacts
+mod HeaderSum

@@ -1,24 +1,14 @@
-use Rattle.std.proofs.Common.{◌≡◌, true, ℕ, ◌+◌, List, [], ◌∷◌, ◌++◌, Option, Some, None, option_and_then, slice_get, map, codes, refl, sym}
-use Rattle.std.proofs.Common.{ap}
-use Rattle.std.proofs.Common.{◌∙◌, append_assoc}
-use Rattle.std.specs.List.{ends_with, join_with_byte, flat_map}
+use Rattle.std.proofs.Common.{◌≡◌, true, ℕ, ◌+◌, List, [], ◌∷◌, Option, Some, None, option_and_then, slice_get, map, refl, ap, ◌∙◌}
+use Rattle.std.specs.List.{ends_with}
 use Rattle.std.specs.Prelude.{nat_eq}
-use Rattle.std.proofs.lemmas.List.Folds.{flat_map-map}
 use Rattle.std.proofs.lemmas.Option.{same_Some}
-use Rattle.bi_fit.specs.declared.key.Key.{Key}
 use Rattle.bi_fit.specs.Content.{ImageModel, index_of}
-use Rattle.bi_fit.specs.Judgement.{ListedImage, ListResult, Missing, ListedImages, listed_names, with_image}
-use Rattle.bi_fit.specs.Names.{key_name}
+use Rattle.bi_fit.specs.Judgement.{ListedImage, Missing, ListedImages, listed_names, with_image}
 use Rattle.bi_fit.specs.HashNodes.{file_list, file_listed_in, listed_payload}
 use Rattle.bi_fit.proofs.FileLists.{payload_found, payload_named-missing}
-use Rattle.bi_common.specs.declared.format.Format.TheVariants.{Lines}
-use Rattle.bi_common.specs.Shown.{line, shown_text}
-use Rattle.bi_common.proofs.FitLines.{joined_more}
-use Rattle.bi_report.specs.Listed.{AreListedImages}
-use Rattle.bi_report.specs.ListingJson.{key_objects, listed_object}
-use Rattle.bi_report.specs.ReadListing.{key_texts, missing_from, first_missing}
+use Rattle.bi_report.specs.Listed.{AreListedImages, missing_from, first_missing}
 
--- The first name of a list that no image has is the one that is missing, and the line of a list without such a name has all its names.
+-- The first name of a list that no image has is the one that is missing, and a list without such a name lists images of all its names.
 
 -- The first name that no image has is the one that is missing.
 pub missing_is : (images : List ImageModel) (index missing : ℕ) (names : List (List ℕ)) → first_missing images index names ≡ Some missing →
@@ -63,40 +53,6 @@ names_found images index (name ∷ later) is = by_image (index_of name images) r
               ∙ ap (with_image first) found,
           ap (λ names. name ∷ names) named,
         )
-
--- The shown names of images.
-shown_names : (listed : List ListedImage) →
-    map (λ (image : ListedImage). shown_text image.name) listed ≡ map shown_text (map (λ (image : ListedImage). image.name) listed)
-shown_names [] = refl
-shown_names (image ∷ later) = ap (λ names. shown_text image.name ∷ names) (shown_names later)
-
--- The line of a key that lists these names.
-pub images_line : (configuration : List ℕ) (key : Key) (result : ListResult) (names : List (List ℕ)) → AreListedImages result names →
-    key_texts Lines configuration key result
-    ≡ line (codes "key" ∷ shown_text configuration ∷ key_name key ∷ codes "ok" ∷ map shown_text names) ∷ []
-images_line configuration key result names are =
-    ap (key_texts Lines configuration key) are.is_listed
-    ∙ ap (λ words. line (codes "key" ∷ shown_text configuration ∷ key_name key ∷ codes "ok" ∷ words) ∷ [])
-    (shown_names are.images ∙ ap (map shown_text) are.are_names)
-
--- The object of a key that lists these names.
-pub images_object : (key : Key) (result : ListResult) (names : List (List ℕ)) → AreListedImages result names →
-    key_objects key result ≡ listed_object key names ∷ []
-images_object key result names are =
-    ap (key_objects key) are.is_listed ∙ ap (λ (names : List (List ℕ)). listed_object key names ∷ []) are.are_names
-
--- The line of a key that lists names: its first words, where the name of the key is given as a word, the names, and a newline.
-pub line_of_names : (configuration : List ℕ) (key : Key) (word : List ℕ) (names : List (List ℕ)) → word ≡ key_name key →
-    line (codes "key" ∷ shown_text configuration ∷ key_name key ∷ codes "ok" ∷ map shown_text names)
-    ≡ join_with_byte 32 (codes "key" ∷ shown_text configuration ∷ word ∷ codes "ok" ∷ [])
-    ++ (flat_map (λ name. 32 ∷ shown_text name) names ++ 10 ∷ [])
-line_of_names configuration key word names is =
-    let later : List (List ℕ) = shown_text configuration ∷ word ∷ codes "ok" ∷ [] in
-    ap (λ other. line (codes "key" ∷ shown_text configuration ∷ other ∷ codes "ok" ∷ map shown_text names)) (sym is)
-    ∙ ap (λ text. text ++ 10 ∷ [])
-    (joined_more 32 (codes "key") later (map shown_text names)
-    ∙ ap (λ more. join_with_byte 32 (codes "key" ∷ later) ++ more) (flat_map-map (λ word. 32 ∷ word) shown_text names))
-    ∙ append_assoc (join_with_byte 32 (codes "key" ∷ later)) (flat_map (λ name. 32 ∷ shown_text name) names) (10 ∷ [])
 
 -- What the value of a key lists, if its last byte is zero: a name is missing,
 pub listed_missing : (images : List ImageModel) (value : List ℕ) (index : ℕ) → ends_with nat_eq value (0 ∷ []) ≡ true →

@@ -1,4 +1,4 @@
-use Rattle.std.proofs.Common.{◌≡◌, ◌≢◌, ◌↔◌, ℕ, Bool, true, false, IsTrue, List, [], ◌∷◌, ◌++◌, codes, length, flat_map, Some, refl, sym}
+use Rattle.std.proofs.Common.{◌≡◌, ◌≢◌, ◌↔◌, ℕ, Bool, true, false, IsTrue, List, [], ◌∷◌, ◌++◌, codes, length, Some, refl, sym}
 use Rattle.std.proofs.Common.{ap, subst}
 use Rattle.std.proofs.Common.{◌≤◌, lit≤, true≢false, Option, arith}
 use Rattle.std.specs.Fmt.{digits}
@@ -33,6 +33,7 @@ use Rattle.bi_norm.proofs.KindLaws.{one_file_meaning}
 use Rattle.bi_common.specs.declared.format.Format.{Format}
 use Rattle.bi_common.specs.declared.format.Format.TheVariants.{Lines, Json}
 use Rattle.bi_common.specs.Json.{json_line}
+use Rattle.bi_common.specs.Lines.{text_of_lines}
 use Rattle.bi_common.specs.PayloadBounds.{payloads_length}
 use Rattle.bi_norm.specs.Comparing.{MeansOnly}
 use Rattle.bi_report.specs.declared.check.Allowed.{Allowed}
@@ -42,8 +43,7 @@ use Rattle.bi_report.specs.KnownOutputs.{three_object}
 use Rattle.bi_report.specs.KnownOutputs.{CheckOutputsAreKnown, JsonListingsAreKnown, VerifyOutputsAreKnown, file_with_hash}
 use Rattle.bi_report.specs.KnownOutputs.{file_without_hash}
 use Rattle.bi_report.specs.ListedFiles.{IsFitListing, OfLegacyImage, OfImageTree}
-use Rattle.bi_report.specs.ReportJson.{hash_report_object}
-use Rattle.bi_report.specs.Reports.{AreGood, hash_report, hashes_of, report_line}
+use Rattle.bi_report.specs.Reports.{AreGood, counts_of, hash_report_lines, hash_report_object, hashes_of}
 use Rattle.bi_report.specs.VerifiedFiles.{IsVerifyOutput}
 use Rattle.bi_report.proofs.LegacyConcernFacts.{is_read, known_model}
 
@@ -133,8 +133,8 @@ same_value false true P is also = is.1 (also.0 refl)
 
 -- The report on these hash nodes, in a form.
 abbrev report_on : Format → List CheckedHash → List ℕ
-report_on Lines hashes = flat_map report_line (hash_report hashes)
-report_on Json hashes = json_line (hash_report_object hashes)
+report_on Lines hashes = text_of_lines (hash_report_lines hashes (counts_of hashes))
+report_on Json hashes = json_line (hash_report_object hashes (counts_of hashes))
 
 module _ (one_legacy : OneLegacyMeaning) where
   one_value : (format other_format : Format) (limits other_limits : Limits) (value other : Bool) (file text other_text : List ℕ) →

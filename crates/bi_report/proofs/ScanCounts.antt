@@ -1,5 +1,5 @@
-use Rattle.std.proofs.Common.{◌≡◌, ℕ, ◌+◌, ◌-◌, ◌*◌, ◌≤◌, Bool, true, false, not, List, [], ◌∷◌, ◌++◌, length, map, Some}
-use Rattle.std.proofs.Common.{bytes_eq, cond, drop, refl, ap, arith, if◌then◌else◌, length-append}
+use Rattle.std.proofs.Common.{◌≡◌, ℕ, ◌+◌, ◌-◌, ◌*◌, ◌≤◌, Bool, true, false, List, [], ◌∷◌, ◌++◌, length, map, Some}
+use Rattle.std.proofs.Common.{drop, refl, ap, arith, if◌then◌else◌, length-append}
 use Rattle.std.specs.List.{AllZip, sum}
 use Rattle.std.proofs.lemmas.List.{length-take}
 use Rattle.std.proofs.lemmas.List.Sums.{sum_by-cons}
@@ -20,9 +20,11 @@ use Rattle.bi_fit.proofs.Meanings.{begins_with_magic}
 use Rattle.bi_legacy.proofs.MeansNoFault.{means_no_fault}
 use Rattle.bi_norm.specs.Meaning.{Meaning, OfLegacy, OfFit, Means}
 use Rattle.bi_norm.proofs.FilesWithoutMeaning.{means_legacy}
+use Rattle.bi_common.specs.Lines.{Line}
 use Rattle.bi_common.specs.Offsets.{input_from}
-use Rattle.bi_report.specs.ScanLaws.{LinesAreFew, line_count}
-use Rattle.bi_report.specs.Scanning.{ClaimsNothing, IsClaim, IsLineAt, OfBlob, OfData, WithImage, WithoutImage, input_offsets}
+use Rattle.bi_report.specs.ScanLaws.{LinesAreFew}
+use Rattle.bi_report.specs.Scanning.{ClaimsNothing, IsClaim, IsLineAt, OfBlob, OfData, WithImage, WithoutImage, all_lines}
+use Rattle.bi_report.specs.Scanning.{input_offsets}
 use Rattle.bi_report.proofs.ScanClaims.{one_claim}
 use Rattle.bi_report.proofs.ScannedLines.{HasNoImage}
 
@@ -137,33 +139,29 @@ no_claim_no_image limits input from end nothing offset after before meaning mean
     let one : 0 ≡ accepted.0 = one_claim (input_from offset input) 0 accepted.0 (nothing offset after before) accepted.1 in
     omega (arith, one, accepted.2)
 
--- A line counts once if it is not empty, and its image claims 64 bytes or more.
-line_claims : (limits : Limits) (input : List ℕ) (offset : ℕ) (text : List ℕ) (claim : ℕ) → IsLineAt limits input offset text →
-    IsClaim (input_from offset input) claim → 64 * cond (not (bytes_eq text [])) 1 0 ≤ claim
-line_claims limits input offset text claim (WithImage extent meaning is same) claims =
+-- The image of a line claims 64 bytes or more.
+line_claims : (limits : Limits) (input : List ℕ) (offset : ℕ) (lines : List Line) (claim : ℕ) → IsLineAt limits input offset lines →
+    IsClaim (input_from offset input) claim → 64 * length lines ≤ claim
+line_claims limits input offset lines claim (WithImage extent meaning is same) claims =
     let accepted = accepted_claim limits (input_from offset input) meaning is.means in
     let one : claim ≡ accepted.0 = one_claim (input_from offset input) claim accepted.0 claims accepted.1 in
-    by (not (bytes_eq text [])) (omega (arith, one, accepted.2))
-  where
-    by : (b : Bool) → 64 ≤ claim → 64 * cond b 1 0 ≤ claim
-    by true least = omega (arith, least)
-    by false least = omega arith
-line_claims limits input offset text claim (WithoutImage nothing same) claims = rw same (omega arith)
+    rw same (omega (arith, one, accepted.2))
+line_claims limits input offset lines claim (WithoutImage nothing same) claims = rw same (omega arith)
 
-lines_claim : (limits : Limits) (input offsets : List ℕ) (lines : List (List ℕ)) (claims : List ℕ) →
+lines_claim : (limits : Limits) (input offsets : List ℕ) (lines : List (List Line)) (claims : List ℕ) →
     AllZip (IsLineAt limits input) offsets lines → AllZip (λ offset. IsClaim (input_from offset input)) offsets claims →
-    64 * line_count lines ≤ sum claims
+    64 * length (all_lines lines) ≤ sum claims
 lines_claim limits input [] [] [] are are_too = omega arith
-lines_claim limits input [] (text ∷ lines) claims are are_too = absurd are
+lines_claim limits input [] (first ∷ lines) claims are are_too = absurd are
 lines_claim limits input [] [] (claim ∷ claims) are are_too = absurd are_too
 lines_claim limits input (offset ∷ offsets) [] claims are are_too = absurd are
-lines_claim limits input (offset ∷ offsets) (text ∷ lines) [] are are_too = absurd are_too
-lines_claim limits input (offset ∷ offsets) (text ∷ lines) (claim ∷ claims) are are_too =
+lines_claim limits input (offset ∷ offsets) (first ∷ lines) [] are are_too = absurd are_too
+lines_claim limits input (offset ∷ offsets) (first ∷ lines) (claim ∷ claims) are are_too =
     omega (
       arith,
       lines_claim limits input offsets lines claims are.1 are_too.1,
-      line_claims limits input offset text claim are.0 are_too.0,
-      sum_by-cons (λ (text : List ℕ). cond (not (bytes_eq text [])) 1 0) text lines,
+      line_claims limits input offset first claim are.0 are_too.0,
+      length-append first (all_lines lines),
       sum_by-cons (λ (claim : ℕ). claim) claim claims,
     )
 

@@ -1,7 +1,7 @@
 use Rattle.std.proofs.Common.{◌≡◌, ℕ, ◌+◌, ◌<◌, ◌≤◌, ◌^◌, Bool, true, false, not, ◌&&◌, ◌||◌, ◌==◌, nat_le, List, [], ◌∷◌, ◌++◌}
 use Rattle.std.proofs.Common.{length, map, take, codes, replicate, refl, sym, ap, subst, ◌∙◌, inl, inr, true≢false, lit≤, lit<, arith}
 use Rattle.std.specs.Fmt.{digits}
-use Rattle.std.specs.List.{AllZip, concat, list_all, range_with_len, sum}
+use Rattle.std.specs.List.{AllZip, list_all, range_with_len, sum}
 use Rattle.std.proofs.lemmas.Bool.{and_parts, eq-eqb, eqb-false, le-leb}
 use Rattle.bi_base.specs.Cells.{AreBytes, cell, cell8, u32_at}
 use Rattle.bi_base.specs.Checks.{HasNoFault}
@@ -33,11 +33,13 @@ use Rattle.bi_norm.specs.declared.kind.Kind.{Kind}
 use Rattle.bi_norm.specs.declared.kind.Kind.TheVariants as kind
 use Rattle.bi_norm.specs.Kinds.{BeginsAs}
 use Rattle.bi_norm.specs.Meaning.{OfLegacy, OfFit, MeansNothing}
+use Rattle.bi_common.specs.Lines.{Line, text_of_lines}
 use Rattle.bi_common.specs.Offsets.{input_from}
 use Rattle.bi_report.specs.KnownScans.{ClaimsAreKnown, ScansAreKnown, great_header, kernel_of_tree, nested_images, nested_lines}
 use Rattle.bi_report.specs.KnownScans.{scan_limits, three_magics, two_images, two_lines}
 use Rattle.bi_report.specs.Scanning.{HasBlobClaim, HasLegacyClaim, IsClaim, IsLineAt, OfBlob, OfData, OfNothing, WithImage, WithoutImage}
-use Rattle.bi_report.specs.Scanning.{HasExtent, IsScanFault, IsScanOutput, IsScanText, blob_claim_checks, input_offsets, scan_line}
+use Rattle.bi_report.specs.Scanning.{HasExtent, IsScanFault, IsScanOutput, IsScanText, all_lines, blob_claim_checks, input_offsets}
+use Rattle.bi_report.specs.Scanning.{scan_line}
 use Rattle.bi_report.proofs.ScanClaims.{scan_has_no_fault}
 use Rattle.bi_report.proofs.ScannedLines.{means_kind}
 
@@ -122,11 +124,11 @@ claims_are_known = record {
 -- ---- scans
 
 -- What is known at an offset: its line, and what its image claims.
-abbrev IsKnownAt : Limits → (input : List ℕ) → (offset : ℕ) → List ℕ × ℕ → Type 0
-IsKnownAt limits input offset (text, claim) = IsLineAt limits input offset text × IsClaim (input_from offset input) claim
+abbrev IsKnownAt : Limits → (input : List ℕ) → (offset : ℕ) → List Line × ℕ → Type 0
+IsKnownAt limits input offset (lines, claim) = IsLineAt limits input offset lines × IsClaim (input_from offset input) claim
 
 -- Where no image begins, there is nothing.
-abbrev nothing_at : List ℕ → List (List ℕ × ℕ)
+abbrev nothing_at : List ℕ → List (List Line × ℕ)
 nothing_at offsets = map (λ offset. ([], 0)) offsets
 
 nothing_is_known : (limits : Limits) (input offsets : List ℕ) → list_all (λ offset. not (begins (input_from offset input))) offsets ≡ true →
@@ -137,34 +139,34 @@ nothing_is_known limits input offsets =
     (WithoutImage (no_meaning limits (input_from offset input) is) refl, no_claim (input_from offset input) is)) offsets
 
 -- So an input has a known scan.
-lines_known : (limits : Limits) (input offsets : List ℕ) (items : List (List ℕ × ℕ)) → AllZip (IsKnownAt limits input) offsets items →
-    AllZip (IsLineAt limits input) offsets (map (λ (item : List ℕ × ℕ). item.0) items)
+lines_known : (limits : Limits) (input offsets : List ℕ) (items : List (List Line × ℕ)) → AllZip (IsKnownAt limits input) offsets items →
+    AllZip (IsLineAt limits input) offsets (map (λ (item : List Line × ℕ). item.0) items)
 lines_known limits input [] [] are = tt
 lines_known limits input [] (item ∷ items) are = absurd are
 lines_known limits input (offset ∷ offsets) [] are = absurd are
-lines_known limits input (offset ∷ offsets) ((text, claim) ∷ items) are = (are.0.0, lines_known limits input offsets items are.1)
+lines_known limits input (offset ∷ offsets) ((lines, claim) ∷ items) are = (are.0.0, lines_known limits input offsets items are.1)
 
-claims_known : (limits : Limits) (input offsets : List ℕ) (items : List (List ℕ × ℕ)) → AllZip (IsKnownAt limits input) offsets items →
-    AllZip (λ offset. IsClaim (input_from offset input)) offsets (map (λ (item : List ℕ × ℕ). item.1) items)
+claims_known : (limits : Limits) (input offsets : List ℕ) (items : List (List Line × ℕ)) → AllZip (IsKnownAt limits input) offsets items →
+    AllZip (λ offset. IsClaim (input_from offset input)) offsets (map (λ (item : List Line × ℕ). item.1) items)
 claims_known limits input [] [] are = tt
 claims_known limits input [] (item ∷ items) are = absurd are
 claims_known limits input (offset ∷ offsets) [] are = absurd are
-claims_known limits input (offset ∷ offsets) ((text, claim) ∷ items) are = (are.0.1, claims_known limits input offsets items are.1)
+claims_known limits input (offset ∷ offsets) ((lines, claim) ∷ items) are = (are.0.1, claims_known limits input offsets items are.1)
 
-known_scan : (limits : Limits) (input text : List ℕ) (items : List (List ℕ × ℕ)) → length input ≤ limits.file →
-    AllZip (IsKnownAt limits input) (input_offsets input) items → sum (map (λ (item : List ℕ × ℕ). item.1) items) ≤ limits.file →
-    text ≡ concat (map (λ (item : List ℕ × ℕ). item.0) items) → IsScanText limits input text
+known_scan : (limits : Limits) (input text : List ℕ) (items : List (List Line × ℕ)) → length input ≤ limits.file →
+    AllZip (IsKnownAt limits input) (input_offsets input) items → sum (map (λ (item : List Line × ℕ). item.1) items) ≤ limits.file →
+    text ≡ text_of_lines (all_lines (map (λ (item : List Line × ℕ). item.0) items)) → IsScanText limits input text
 known_scan limits input text items short are within is = record {
   can = record {
     short = short;
     within = record {
-      claims = map (λ (item : List ℕ × ℕ). item.1) items;
+      claims = map (λ (item : List Line × ℕ). item.1) items;
       are_claims = claims_known limits input (input_offsets input) items are;
       within = within;
     };
   };
   has = record {
-    lines = map (λ (item : List ℕ × ℕ). item.0) items;
+    lines = map (λ (item : List Line × ℕ). item.0) items;
     are_lines = lines_known limits input (input_offsets input) items are;
     is_text = is;
   };
@@ -174,7 +176,7 @@ known_scan limits input text items short are within is = record {
 
 -- The smallest tree, wherever it is.
 smallest_at : (limits : Limits) (input : List ℕ) (offset : ℕ) → input_from offset input ≡ smallest_text → 88 ≤ limits.file →
-    2 ≤ limits.depth → IsKnownAt limits input offset (scan_line offset 88 (OfFit (plain_tree [] [])), 88)
+    2 ≤ limits.depth → IsKnownAt limits input offset (scan_line offset 88 (OfFit (plain_tree [] [])) ∷ [], 88)
 unfolding text_of_events text_of_blocks cell cell8 u32_at test
 smallest_at limits input offset is short shallow =
     let means : FitMeans limits smallest_text (plain_tree [] []) = record {
@@ -233,7 +235,7 @@ kernel_means limits file body rest is small bytes short = record {
   short = short;
 }
 
-kernel_at_begin : IsKnownAt (scan_limits 162) two_images 0 (codes "0 legacy 73 k" ++ 10 ∷ [], 73)
+kernel_at_begin : IsKnownAt (scan_limits 162) two_images 0 (scan_line 0 73 (OfLegacy kernel_image) ∷ [], 73)
 unfolding digits header cell crc32 crc_after low_bits u32_at
 kernel_at_begin = (
   WithImage 73 (OfLegacy kernel_image)
@@ -247,18 +249,18 @@ kernel_at_begin = (
 )
 
 -- What is in the first file.
-abbrev two_items : List (List ℕ × ℕ)
+abbrev two_items : List (List Line × ℕ)
 two_items =
-    (codes "0 legacy 73 k" ++ 10 ∷ [], 73)
+    (scan_line 0 73 (OfLegacy kernel_image) ∷ [], 73)
     ∷ (nothing_at (range_with_len 1 73)
-    ++ (scan_line 74 88 (OfFit (plain_tree [] [])), 88) ∷ nothing_at (range_with_len 75 87))
+    ++ (scan_line 74 88 (OfFit (plain_tree [] [])) ∷ [], 88) ∷ nothing_at (range_with_len 75 87))
 
 two_are_known : AllZip (IsKnownAt (scan_limits 162) two_images) (input_offsets two_images) two_items
 unfolding cell u32_at
 two_are_known = (
   kernel_at_begin,
   at_both (IsKnownAt (scan_limits 162) two_images) (range_with_len 1 73) (74 ∷ range_with_len 75 87)
-      (nothing_at (range_with_len 1 73)) ((scan_line 74 88 (OfFit (plain_tree [] [])), 88) ∷ nothing_at (range_with_len 75 87))
+      (nothing_at (range_with_len 1 73)) ((scan_line 74 88 (OfFit (plain_tree [] [])) ∷ [], 88) ∷ nothing_at (range_with_len 75 87))
       (nothing_is_known (scan_limits 162) two_images (range_with_len 1 73) refl) (
         smallest_at (scan_limits 162) two_images 74 refl (lit≤ tt) (lit≤ tt),
         nothing_is_known (scan_limits 162) two_images (range_with_len 75 87) refl,
@@ -287,13 +289,14 @@ unfolding legacy_text header cell crc32 crc_after low_bits
 nested_are_bytes = refl
 
 -- What is in it.
-abbrev nested_items : List (List ℕ × ℕ)
+abbrev nested_items : List (List Line × ℕ)
 nested_items =
-    (codes "0 legacy 152 k" ++ 10 ∷ [], 152)
+    (scan_line 0 152 (OfLegacy kernel_of_tree) ∷ [], 152)
     ∷ (nothing_at (range_with_len 1 63)
-    ++ (scan_line 64 88 (OfFit (plain_tree [] [])), 88) ∷ nothing_at (range_with_len 65 87))
+    ++ (scan_line 64 88 (OfFit (plain_tree [] [])) ∷ [], 88) ∷ nothing_at (range_with_len 65 87))
 
-outer_at_begin : (limits : Limits) → 152 ≤ limits.file → IsKnownAt limits nested_bytes 0 (codes "0 legacy 152 k" ++ 10 ∷ [], 152)
+outer_at_begin : (limits : Limits) → 152 ≤ limits.file →
+    IsKnownAt limits nested_bytes 0 (scan_line 0 152 (OfLegacy kernel_of_tree) ∷ [], 152)
 unfolding digits header cell crc32 crc_after low_bits u32_at
 outer_at_begin limits short = (
   WithImage 152 (OfLegacy kernel_of_tree)
@@ -311,7 +314,7 @@ unfolding cell u32_at
 nested_are_known limits short shallow = (
   outer_at_begin limits short,
   at_both (IsKnownAt limits nested_bytes) (range_with_len 1 63) (64 ∷ range_with_len 65 87)
-      (nothing_at (range_with_len 1 63)) ((scan_line 64 88 (OfFit (plain_tree [] [])), 88) ∷ nothing_at (range_with_len 65 87))
+      (nothing_at (range_with_len 1 63)) ((scan_line 64 88 (OfFit (plain_tree [] [])) ∷ [], 88) ∷ nothing_at (range_with_len 65 87))
       (nothing_is_known limits nested_bytes (range_with_len 1 63) refl) (
         smallest_at limits nested_bytes 64 refl (omega (arith, short)) shallow,
         nothing_is_known limits nested_bytes (range_with_len 65 87) refl,
@@ -332,7 +335,7 @@ nested_fault =
     (record {
       is_too_large = refl;
       cause = inr (record {
-        claims = map (λ (item : List ℕ × ℕ). item.1) nested_items;
+        claims = map (λ (item : List Line × ℕ). item.1) nested_items;
         are_claims = claims_known (scan_limits 239) nested_bytes (input_offsets nested_bytes) nested_items
             (nested_are_known (scan_limits 239) (lit≤ tt) (lit≤ tt));
         over = lit< tt;
@@ -351,7 +354,7 @@ external_blob : IsBlob three_external 0 [] (tree_with_places [] external_nodes)
 unfolding text_of_events text_of_blocks cell cell8 u32_at
 external_blob = blob_by_test external_nodes (codes "hello" ++ 0 ∷ 0 ∷ 0 ∷ codes "x") refl refl (lit≤ tt)
 
-external_at_begin : IsKnownAt (scan_limits 253) three_external 0 (codes "0 fit 253 3" ++ 10 ∷ [], 244)
+external_at_begin : IsKnownAt (scan_limits 253) three_external 0 (scan_line 0 253 (OfFit three_tree) ∷ [], 244)
 unfolding text_of_events text_of_blocks cell cell8 u32_at test digits
 external_at_begin =
     let found = three_images_have_texts.external_means in
@@ -379,10 +382,10 @@ external_at_begin =
     )
 
 external_scan : IsScanText (scan_limits 253) three_external (codes "0 fit 253 3" ++ 10 ∷ [])
-unfolding text_of_events text_of_blocks cell cell8 u32_at
+unfolding text_of_events text_of_blocks cell cell8 u32_at digits
 external_scan =
     known_scan (scan_limits 253) three_external (codes "0 fit 253 3" ++ 10 ∷ [])
-    ((codes "0 fit 253 3" ++ 10 ∷ [], 244) ∷ nothing_at (range_with_len 1 252)) (lit≤ tt)
+    ((scan_line 0 253 (OfFit three_tree) ∷ [], 244) ∷ nothing_at (range_with_len 1 252)) (lit≤ tt)
     (external_at_begin, nothing_is_known (scan_limits 253) three_external (range_with_len 1 252) refl) (lit≤ tt) refl
 
 -- ---- files without images

@@ -1,6 +1,6 @@
 use Rattle.std.proofs.Common.{◌≡◌, ◌≢◌, ℕ, zero, suc, ◌+◌, ◌<◌, List, [], ◌∷◌, length, get_or, refl, sym, ap, ap₂, subst}
 use Rattle.std.proofs.Common.{◌∙◌, arith}
-use Rattle.std.specs.List.{AllZip, concat, range_with_len}
+use Rattle.std.specs.List.{AllZip, range_with_len}
 use Rattle.std.proofs.lemmas.List.{length-drop}
 use Rattle.std.proofs.lemmas.List.FromFn.{length-range_with_len}
 use Rattle.std.proofs.lemmas.Slice.Zip.{AllZip-long}
@@ -11,10 +11,11 @@ use Rattle.bi_fit.specs.ImageTree.{image_nodes}
 use Rattle.bi_fit.proofs.Meanings.{same_in_some}
 use Rattle.bi_norm.specs.Laws.{OneFileMeaning}
 use Rattle.bi_norm.specs.Meaning.{Meaning, OfLegacy, OfFit, Means}
+use Rattle.bi_common.specs.Lines.{Line, text_of_lines}
 use Rattle.bi_common.specs.Offsets.{input_from}
 use Rattle.bi_report.specs.Checking.{content_end}
 use Rattle.bi_report.specs.ScanLaws.{EachImageHasItsLine, OneScan}
-use Rattle.bi_report.specs.Scanning.{HasExtent, IsImageAt, IsLineAt, WithImage, WithoutImage, input_offsets, scan_line}
+use Rattle.bi_report.specs.Scanning.{HasExtent, IsImageAt, IsLineAt, WithImage, WithoutImage, all_lines, input_offsets, scan_line}
 use Rattle.bi_report.proofs.ScannedLines.{means_kind}
 
 -- The lines of a scan are those of the images at offsets, one for each, and there is only one list of them.
@@ -42,19 +43,19 @@ at_offset R begin (suc count) (suc index) (item ∷ items) all within =
     }
 
 -- The line at the offset of an image is that of the image.
-line_of_image : OneFileMeaning → (limits : Limits) (input : List ℕ) (offset : ℕ) (text : List ℕ) (meaning : Meaning) →
-    IsLineAt limits input offset text → Means limits (input_from offset input) meaning →
-    (extent : ℕ) × IsImageAt limits input offset extent meaning × (text ≡ scan_line offset extent meaning)
-line_of_image one_meaning limits input offset text meaning (WithImage extent found is same) means =
+line_of_image : OneFileMeaning → (limits : Limits) (input : List ℕ) (offset : ℕ) (lines : List Line) (meaning : Meaning) →
+    IsLineAt limits input offset lines → Means limits (input_from offset input) meaning →
+    (extent : ℕ) × IsImageAt limits input offset extent meaning × (lines ≡ scan_line offset extent meaning ∷ [])
+line_of_image one_meaning limits input offset lines meaning (WithImage extent found is same) means =
     let one : found ≡ meaning = one_meaning limits limits (input_from offset input) found meaning is.means means in
-    (extent, subst (IsImageAt limits input offset extent) one is, same ∙ ap (scan_line offset extent) one)
-line_of_image one_meaning limits input offset text meaning (WithoutImage nothing same) means = absurd (nothing meaning means)
+    (extent, subst (IsImageAt limits input offset extent) one is, same ∙ ap (λ meaning. scan_line offset extent meaning ∷ []) one)
+line_of_image one_meaning limits input offset lines meaning (WithoutImage nothing same) means = absurd (nothing meaning means)
 
--- A line that is not empty is that of an image.
-line_has_image : (limits : Limits) (input : List ℕ) (offset : ℕ) (text : List ℕ) → IsLineAt limits input offset text → text ≢ [] →
-    (extent : ℕ) × (meaning : Meaning) × IsImageAt limits input offset extent meaning × (text ≡ scan_line offset extent meaning)
-line_has_image limits input offset text (WithImage extent found is same) some = (extent, found, is, same)
-line_has_image limits input offset text (WithoutImage nothing same) some = absurd (some same)
+-- A line is that of an image.
+line_has_image : (limits : Limits) (input : List ℕ) (offset : ℕ) (lines : List Line) → IsLineAt limits input offset lines → lines ≢ [] →
+    (extent : ℕ) × (meaning : Meaning) × IsImageAt limits input offset extent meaning × (lines ≡ scan_line offset extent meaning ∷ [])
+line_has_image limits input offset lines (WithImage extent found is same) some = (extent, found, is, same)
+line_has_image limits input offset lines (WithoutImage nothing same) some = absurd (some same)
 
 -- An image is not after the end of the input.
 pub inside : (limits : Limits) (input : List ℕ) (offset : ℕ) (meaning : Meaning) → Means limits (input_from offset input) meaning →
@@ -69,7 +70,7 @@ each_image_has_its_line one_meaning limits input text is = record {
       (inside limits input offset meaning means) in
       let line = line_of_image one_meaning limits input offset at.item meaning
       (subst (λ (offset : ℕ). IsLineAt limits input offset at.item) (omega arith) at.holds) means in
-      (line.0, line.1, (offset, at.within, at.is_item (scan_line offset line.0 meaning) ∙ line.2));
+      (line.0, line.1, (offset, at.within, at.is_item (scan_line offset line.0 meaning ∷ []) ∙ line.2));
   no_other = λ line contains some.
       let within : contains.0 < length input = omega (
         arith,
@@ -99,12 +100,12 @@ one_extent limits image (OfFit tree) one other (means, is) (other_means, other_i
         ∙ other_means.is_file.has_images)
 
 -- So there is one line for an offset,
-one_line : OneFileMeaning → (limits : Limits) (input : List ℕ) (offset : ℕ) (one other : List ℕ) →
+one_line : OneFileMeaning → (limits : Limits) (input : List ℕ) (offset : ℕ) (one other : List Line) →
     IsLineAt limits input offset one → IsLineAt limits input offset other → one ≡ other
 one_line one_meaning limits input offset one other is (WithImage extent meaning other_is same) =
     let found = line_of_image one_meaning limits input offset one meaning is other_is.means in
     found.2
-    ∙ ap (λ (extent : ℕ). scan_line offset extent meaning)
+    ∙ ap (λ (extent : ℕ). scan_line offset extent meaning ∷ [])
     (one_extent limits (input_from offset input) meaning found.0 extent found.1.has_extent other_is.has_extent)
     ∙ sym same
 one_line one_meaning limits input offset one other (WithImage extent meaning is same) (WithoutImage nothing other_same) =
@@ -113,7 +114,7 @@ one_line one_meaning limits input offset one other (WithoutImage nothing same) (
     same ∙ sym other_same
 
 -- and one list of lines.
-same_lines : OneFileMeaning → (limits : Limits) (input offsets : List ℕ) (lines others : List (List ℕ)) →
+same_lines : OneFileMeaning → (limits : Limits) (input offsets : List ℕ) (lines others : List (List Line)) →
     AllZip (IsLineAt limits input) offsets lines → AllZip (IsLineAt limits input) offsets others → lines ≡ others
 same_lines one_meaning limits input [] [] [] are are_too = refl
 same_lines one_meaning limits input [] [] (other ∷ others) are are_too = absurd are_too
@@ -121,12 +122,13 @@ same_lines one_meaning limits input [] (line ∷ lines) others are are_too = abs
 same_lines one_meaning limits input (offset ∷ offsets) [] others are are_too = absurd are
 same_lines one_meaning limits input (offset ∷ offsets) (line ∷ lines) [] are are_too = absurd are_too
 same_lines one_meaning limits input (offset ∷ offsets) (line ∷ lines) (other ∷ others) are are_too =
-    ap₂ (λ (line : List ℕ) (lines : List (List ℕ)). line ∷ lines) (one_line one_meaning limits input offset line other are.0 are_too.0)
+    ap₂ (λ (first : List Line) (later : List (List Line)). first ∷ later)
+    (one_line one_meaning limits input offset line other are.0 are_too.0)
     (same_lines one_meaning limits input offsets lines others are.1 are_too.1)
 
 pub one_scan : OneFileMeaning → OneScan
 one_scan one_meaning limits input one other is other_is =
     is.has.is_text
-    ∙ ap concat
+    ∙ ap (λ lines. text_of_lines (all_lines lines))
     (same_lines one_meaning limits input (input_offsets input) is.has.lines other_is.has.lines is.has.are_lines other_is.has.are_lines)
     ∙ sym other_is.has.is_text

@@ -1,4 +1,4 @@
-use Rattle.std.proofs.Common.{◌≡◌, ℕ, List, [], ◌∷◌, codes, flat_map, Option, None, Some, refl, ap, ◌∙◌}
+use Rattle.std.proofs.Common.{◌≡◌, ℕ, List, [], ◌∷◌, codes, Option, None, Some, refl, ap, ◌∙◌}
 use Rattle.std.specs.Fmt.{digits}
 use Rattle.bi_base.specs.Cells.{cell, cell8, u32_at}
 use Rattle.bi_base.specs.Crc.{crc32, crc_after, low_bits}
@@ -15,7 +15,8 @@ use Rattle.bi_fit.specs.declared.key.Key.TheVariants.{Kernel, Fdt, Ramdisk, Firm
 use Rattle.bi_fit.specs.KnownJudgements.{configuration_lists, other_lists, default_list, hashed_tree, good_crc, short_crc, other_crc}
 use Rattle.bi_fit.specs.KnownJudgements.{no_value}
 use Rattle.bi_fit.proofs.JudgementFacts.{find-properties}
-use Rattle.bi_report.specs.Reports.{hash_report, report_line}
+use Rattle.bi_common.specs.Lines.{text_of_lines}
+use Rattle.bi_report.specs.Reports.{counts_of, hash_report_lines}
 use Rattle.bi_report.specs.KnownConcerns.{ConcernsAreKnown, StrongAlgorithmsAreKnown, TrailingBytesAreKnown, AllowedKindsAreKnown}
 use Rattle.bi_report.specs.KnownTexts.{ReportsAreKnown, LegacyListingsAreKnown, FitListingIsKnown, EachSourceIsListed}
 use Rattle.bi_report.specs.KnownTexts.{ConfigurationLinesAreKnown}
@@ -61,7 +62,7 @@ hashes_are_known =
 
 -- The report on hash nodes.
 abbrev report : List CheckedHash → List ℕ
-report hashes = flat_map report_line (hash_report hashes)
+report hashes = text_of_lines (hash_report_lines hashes (counts_of hashes))
 
 pub reports_are_known : ReportsAreKnown
 unfolding digits

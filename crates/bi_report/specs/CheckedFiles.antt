@@ -1,4 +1,4 @@
-use Rattle.std.specs.Prelude.{ℕ, ◌≡◌, ◌↔◌, Bool, IsTrue, List, []}
+use Rattle.std.specs.Prelude.{ℕ, ◌≡◌, ◌↔◌, Bool, IsTrue, List, [], map}
 use Rattle.bi_base.specs.Commands.{CommandPromise, PromiseLaws}
 use Rattle.bi_base.specs.declared.fault.Error.{Error}
 use Rattle.bi_base.specs.Limits.{Limits}
@@ -8,18 +8,22 @@ use Rattle.bi_norm.specs.Reading.{IsReadErrorOrTooLarge}
 use Rattle.bi_common.specs.declared.format.Format.{Format}
 use Rattle.bi_common.specs.declared.format.Format.TheVariants.{Lines, Json}
 use Rattle.bi_common.specs.Json.{json_line}
+use Rattle.bi_common.specs.Lines.{text_of_lines}
 use Rattle.bi_common.specs.PayloadBounds.{IsOverPayloadBound}
 use Rattle.bi_report.specs.declared.check.Allowed.{Allowed}
-use Rattle.bi_report.specs.Checking.{Concern, AreConcerns, concern_lines, kept_concerns}
-use Rattle.bi_report.specs.ConcernJson.{concerns_object}
+use Rattle.bi_report.specs.Checking.{Concern, AreConcerns, concern_line, concerns_object}
+use Rattle.bi_report.specs.Checking.{kept_concerns}
 
 -- Checking a boot image (profile of this project).
 
+-- The text of concerns, in a form.
+abbrev pub text_of_concerns : Format → List Concern → List ℕ
+text_of_concerns Lines concerns = text_of_lines (map concern_line concerns)
+text_of_concerns Json concerns = json_line (concerns_object concerns)
+
 -- The text of the concerns that are not allowed, in a form.
 abbrev pub concerns_text : Format → Allowed → List Concern → List ℕ
-concerns_text Lines allowed concerns = concern_lines allowed concerns
-concerns_text Json allowed concerns =
-    json_line (concerns_object (kept_concerns allowed concerns))
+concerns_text format allowed concerns = text_of_concerns format (kept_concerns allowed concerns)
 
 -- The text is that of the concerns about the file that are not allowed, in a form. The file means
 -- something and nothing else, and its payloads are within the payload bound.

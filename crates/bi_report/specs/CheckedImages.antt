@@ -1,4 +1,4 @@
-use Rattle.std.specs.Prelude.{List, ◌++◌}
+use Rattle.std.specs.Prelude.{Bool, true, false, List, [], ◌∷◌, ◌++◌}
 use Rattle.bi_report.specs.declared.check.checked_image.CheckedImage.{CheckedImage}
 use Rattle.bi_report.specs.declared.check.concerns.Concerns.{Concerns}
 use Rattle.bi_report.specs.declared.check.concerns.KeptConcerns.{KeptConcerns}
@@ -22,3 +22,8 @@ concerns_left left =
 -- Those of them that are not allowed.
 abbrev pub kept_left : KeptConcerns → List FoundConcern
 kept_left left = kept_found left.allowed (concerns_left left.concerns)
+
+-- Whether there are any.
+abbrev pub has_any : List FoundConcern → Bool
+has_any [] = false
+has_any (found ∷ later) = true

@@ -1,7 +1,6 @@
 use Rattle.std.specs.Prelude.{ℕ, ◌+◌, ◌-◌, ◌≡◌, ◌&&◌, ◌==◌, max, Bool, false, not, List, [], ◌∷◌}
 use Rattle.std.specs.Prelude.{◌++◌, Option, Some, None, length, map, filter, flat_map, drop, codes}
 use Rattle.std.specs.Prelude.{bytes_eq, unwrap_or, if◌then◌else◌}
-use Rattle.std.specs.Fmt.{decimal}
 use Rattle.std.specs.List.{list_all, list_any}
 use Rattle.bi_base.specs.Limits.{Limits}
 use Rattle.bi_blob.specs.Blob.{totalsize}
@@ -16,12 +15,15 @@ use Rattle.bi_fit.specs.Names.{key_name, all_keys}
 use Rattle.bi_fit.specs.Payloads.{PayloadSource, source_of, payload_place}
 use Rattle.bi_hash.specs.declared.verdicts.Verdict.TheVariants.{Good}
 use Rattle.bi_legacy.specs.Reading.{LegacyModel, IsReadLegacy}
-use Rattle.bi_common.specs.Shown.{Words, shown_or_none, line, shown_text}
+use Rattle.bi_common.specs.Json.{Json, json_array, json_object}
+use Rattle.bi_common.specs.Lines.{Line}
 use Rattle.bi_common.specs.VerdictCounts.{is_verdict}
 use Rattle.bi_report.specs.declared.check.Allowed.{Allowed}
 use Rattle.bi_report.specs.declared.check.ConcernKind.{ConcernKind}
 use Rattle.bi_report.specs.declared.check.ConcernKind.TheVariants as kind
-use Rattle.bi_report.specs.Reports.{verdict_word}
+use Rattle.bi_report.specs.Details.{Detail, NameDetail, WordDetail, NumberDetail, NamesDetail}
+use Rattle.bi_report.specs.Details.{details_line, details_object}
+use Rattle.bi_report.specs.Reports.{hash_details}
 
 -- The concerns about a boot image: what in it is not protected (profile of this project).
 
@@ -64,23 +66,40 @@ kind_word kind.Missing = codes "missing"
 kind_word kind.BadDefault = codes "bad-default"
 kind_word kind.Trailing = codes "trailing"
 
--- The words after it.
-abbrev pub concern_words : Concern → Words
-concern_words (BadHash hash) =
-    shown_text hash.image ∷ shown_text hash.node_name ∷ shown_or_none hash.algo
-    ∷ verdict_word hash.verdict ∷ []
-concern_words (UnhashedImage image) = shown_text image ∷ []
-concern_words (WeakHash image good) =
-    shown_text image ∷ map (λ hash. shown_or_none hash.algo) good
-concern_words (BadKey configuration key) = shown_text configuration ∷ key_name key ∷ []
-concern_words (MissingImage configuration key index) =
-    shown_text configuration ∷ key_name key ∷ decimal index ∷ []
-concern_words (BadDefault default) = shown_or_none default ∷ []
-concern_words (TrailingBytes count) = decimal count ∷ []
+-- What is said of it after that word. The hash nodes of a weak hash have names of algorithms, since
+-- their verdicts are Good.
+abbrev pub later_details : Concern → List Detail
+later_details (BadHash hash) = hash_details hash
+later_details (UnhashedImage image) = NameDetail (codes "image") (Some image) ∷ []
+later_details (WeakHash image good) =
+    NameDetail (codes "image") (Some image)
+    ∷ NamesDetail (codes "algorithms") (map (λ hash. hash.algo) good) ∷ []
+later_details (BadKey configuration key) =
+    NameDetail (codes "configuration") (Some configuration)
+    ∷ WordDetail (codes "key") (key_name key) ∷ []
+later_details (MissingImage configuration key index) =
+    NameDetail (codes "configuration") (Some configuration)
+    ∷ WordDetail (codes "key") (key_name key) ∷ NumberDetail (codes "index") index ∷ []
+later_details (BadDefault default) = NameDetail (codes "default") default ∷ []
+later_details (TrailingBytes count) = NumberDetail (codes "size") count ∷ []
+
+-- The details of a concern.
+abbrev pub concern_details : Concern → List Detail
+concern_details concern =
+    WordDetail (codes "concern") (kind_word (kind_of concern)) ∷ later_details concern
 
 -- The line of a concern.
-abbrev pub concern_line : Concern → List ℕ
-concern_line concern = line (kind_word (kind_of concern) ∷ concern_words concern)
+abbrev pub concern_line : Concern → Line
+concern_line concern = details_line (concern_details concern)
+
+-- A concern in JSON.
+abbrev pub concern_object : Concern → Json
+concern_object concern = details_object (concern_details concern)
+
+-- Concerns in JSON.
+abbrev pub concerns_object : List Concern → Json
+concerns_object concerns =
+    json_object ((codes "concerns", json_array (map concern_object concerns)) ∷ [])
 
 -- ---- the hash nodes of an image
 
@@ -223,7 +242,3 @@ allows allowed kind.Trailing = allowed.trailing
 abbrev pub kept_concerns : Allowed → List Concern → List Concern
 kept_concerns allowed concerns =
     filter (λ concern. not (allows allowed (kind_of concern))) concerns
-
--- The lines of the concerns that are not allowed.
-abbrev pub concern_lines : Allowed → List Concern → List ℕ
-concern_lines allowed concerns = flat_map concern_line (kept_concerns allowed concerns)

@@ -12,12 +12,14 @@ use Rattle.bi_hash.specs.declared.verdicts.Verdict.TheVariants.{Good, Bad, Malfo
 use Rattle.bi_legacy.specs.KnownFaults.{file_of_data}
 use Rattle.bi_legacy.specs.KnownFiles.{kernel_file_with_rest, multi_data_with_rest}
 use Rattle.bi_legacy.specs.KnownImages.{kernel_file}
+use Rattle.bi_common.specs.declared.format.Format.TheVariants.{Lines}
 use Rattle.bi_common.specs.KnownWords.{lines}
 use Rattle.bi_report.specs.declared.check.Allowed.{Allowed}
 use Rattle.bi_report.specs.declared.check.ConcernKind.{ConcernKind}
 use Rattle.bi_report.specs.declared.check.ConcernKind.TheVariants as kind
+use Rattle.bi_report.specs.CheckedFiles.{concerns_text}
 use Rattle.bi_report.specs.Checking.{Concern, BadHash, TrailingBytes, AreConcerns, allows}
-use Rattle.bi_report.specs.Checking.{kind_word, concern_lines, content_end, default_concerns}
+use Rattle.bi_report.specs.Checking.{kind_word, content_end, default_concerns}
 use Rattle.bi_report.specs.Checking.{hashed_concerns, nothing_allowed, trailing_concerns}
 use Rattle.bi_report.specs.Checking.{tree_concerns}
 use Rattle.bi_report.specs.CleanFiles.{IsClean}
@@ -31,7 +33,7 @@ use Rattle.bi_report.specs.KnownTexts.{hash_with, three_root}
 -- configuration may be there without a default. The payloads of a file of 253 bytes end where it
 -- ends. Zeros after an image are not a concern.
 pub record ConcernsAreKnown : Type 0 where
-  pub hashes : concern_lines nothing_allowed (tree_concerns hashed_tree)
+  pub hashes : concerns_text Lines nothing_allowed (tree_concerns hashed_tree)
       ≡ lines
       (codes "bad-hash a hash crc32 bad"
       ∷ codes "bad-hash a hash@3 crc16-ccitt unknown-algorithm"
@@ -39,7 +41,7 @@ pub record ConcernsAreKnown : Type 0 where
       ∷ codes "weak-hash a crc32"
       ∷ codes "bad-hash b hash-1 crc32 no-payload"
       ∷ [])
-  pub configurations : concern_lines nothing_allowed (tree_concerns configured_tree)
+  pub configurations : concerns_text Lines nothing_allowed (tree_concerns configured_tree)
       ≡ lines
       (codes "unhashed a"
       ∷ codes "missing conf-1 fdt 1"
@@ -49,20 +51,20 @@ pub record ConcernsAreKnown : Type 0 where
       ∷ codes "bad-list conf-2 kernel"
       ∷ codes "bad-default conf-3"
       ∷ [])
-  pub lists_allowed : concern_lines
+  pub lists_allowed : concerns_text Lines
       (record nothing_allowed { bad_list = true; missing = true })
       (tree_concerns configured_tree)
       ≡ lines (codes "unhashed a" ∷ codes "bad-default conf-3" ∷ [])
-  pub no_algorithm : concern_lines nothing_allowed (BadHash (hash_with Malformed) ∷ [])
+  pub no_algorithm : concerns_text Lines nothing_allowed (BadHash (hash_with Malformed) ∷ [])
       ≡ lines (codes "bad-hash a hash-1 - malformed" ∷ [])
-  pub no_default : concern_lines nothing_allowed (default_concerns None (codes "conf-1" ∷ []))
+  pub no_default : concerns_text Lines nothing_allowed (default_concerns None (codes "conf-1" ∷ []))
       ≡ lines (codes "bad-default -" ∷ [])
   pub last_payload_ends : option_map
       (λ images. content_end three_external images three_tree.payloads)
       (image_nodes three_root)
       ≡ Some 253
   pub zeros : trailing_concerns (0 ∷ 0 ∷ []) ≡ []
-  pub end : concern_lines nothing_allowed (trailing_concerns (0 ∷ 43 ∷ 0 ∷ []))
+  pub end : concerns_text Lines nothing_allowed (trailing_concerns (0 ∷ 43 ∷ 0 ∷ []))
       ≡ lines (codes "trailing 3" ∷ [])
 
 -- A hash node of the image `a` that names this algorithm, with the verdict Good.
@@ -78,7 +80,7 @@ hash_by algorithm = record {
 -- The lines about an image with a payload and these hash nodes.
 abbrev pub lines_about : List CheckedHash → List ℕ
 lines_about hashes =
-    concern_lines nothing_allowed (hashed_concerns (codes "a") (Some (codes "abc")) hashes)
+    concerns_text Lines nothing_allowed (hashed_concerns (codes "a") (Some (codes "abc")) hashes)
 
 -- Good verdicts by CRC-32, MD5 and SHA-1 are not enough, and one by SHA-256, SHA-384 or SHA-512 is.
 pub record StrongAlgorithmsAreKnown : Type 0 where
@@ -126,7 +128,7 @@ late_end rest =
 abbrev pub late_lines : List ℕ → Option (List ℕ)
 late_lines rest =
     option_map
-    (λ end. concern_lines nothing_allowed (trailing_concerns (drop end (late_file rest))))
+    (λ end. concerns_text Lines nothing_allowed (trailing_concerns (drop end (late_file rest))))
     (late_end rest)
 
 -- The content ends with the payload that ends last, of whichever image it is.

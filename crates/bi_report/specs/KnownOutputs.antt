@@ -10,14 +10,15 @@ use Rattle.bi_legacy.specs.KnownFiles.{kernel_file_with_rest}
 use Rattle.bi_legacy.specs.KnownImages.{kernel_file}
 use Rattle.bi_common.specs.declared.format.Format.{Format}
 use Rattle.bi_common.specs.declared.format.Format.TheVariants.{Lines, Json}
+use Rattle.bi_common.specs.Json.{json_text}
 use Rattle.bi_common.specs.KnownWords.{lines}
 use Rattle.bi_report.specs.CheckedFiles.{IsCheckOutput, concerns_text}
 use Rattle.bi_report.specs.Checking.{BadHash, TrailingBytes, WeakHash, nothing_allowed}
 use Rattle.bi_report.specs.Checking.{tree_concerns}
+use Rattle.bi_report.specs.FitListing.{configuration_entry, configuration_object}
 use Rattle.bi_report.specs.KnownConcerns.{hash_by}
 use Rattle.bi_report.specs.KnownTexts.{hash_with}
 use Rattle.bi_report.specs.ListedFiles.{IsListing}
-use Rattle.bi_report.specs.ListingJson.{configuration_object}
 use Rattle.bi_report.specs.VerifiedFiles.{IsVerifyOutput}
 
 -- Whole outputs of commands on small files, as text and as JSON, with the value that the exit
@@ -156,5 +157,6 @@ pub record JsonListingsAreKnown : Type 0 where
   pub legacy : IsListing Json widest kernel_file_with_rest kernel_object
   pub fit : IsListing Json widest three_external three_object
   pub configurations :
-      map (configuration_object configured_tree) (codes "conf-1" ∷ codes "conf-2" ∷ [])
+      map (λ name. json_text (configuration_object (configuration_entry configured_tree name)))
+      (codes "conf-1" ∷ codes "conf-2" ∷ [])
       ≡ configuration_objects

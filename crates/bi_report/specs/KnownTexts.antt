@@ -1,4 +1,5 @@
-use Rattle.std.specs.Prelude.{◌≡◌, ℕ, List, [], ◌∷◌, ◌++◌, None, Some, codes, flat_map, map}
+use Rattle.std.specs.Prelude.{◌≡◌, ℕ, List, [], ◌∷◌, ◌++◌, None, Some, codes, map}
+use Rattle.std.specs.Prelude.{flat_map}
 use Rattle.std.specs.Option.{option_map}
 use Rattle.bi_base.specs.Cells.{cell}
 use Rattle.bi_blob.specs.Blob.{Reservation}
@@ -14,11 +15,13 @@ use Rattle.bi_hash.specs.declared.verdicts.Verdict.{Verdict}
 use Rattle.bi_hash.specs.declared.verdicts.Verdict.TheVariants.{Good, Bad, NoPayload, Malformed}
 use Rattle.bi_legacy.specs.KnownImages.{kernel_image, multi_image}
 use Rattle.bi_norm.specs.Meaning.{OfFit}
+use Rattle.bi_common.specs.declared.format.Format.TheVariants.{Lines}
 use Rattle.bi_common.specs.KnownWords.{lines}
-use Rattle.bi_report.specs.FitListing.{configuration_lines, default_line, fit_listing}
-use Rattle.bi_report.specs.Listing.{legacy_listing}
-use Rattle.bi_report.specs.Reports.{HashVerdict, Summary, counts_of, legacy_report, report_line}
-use Rattle.bi_report.specs.Reports.{report_of}
+use Rattle.bi_common.specs.Lines.{line_text, text_of_lines}
+use Rattle.bi_report.specs.FitListing.{configuration_entry, configuration_lines, default_lines}
+use Rattle.bi_report.specs.ListedFiles.{fit_listing_text, legacy_listing_text}
+use Rattle.bi_report.specs.Reports.{counts_of, hash_line, legacy_report_lines, report_lines}
+use Rattle.bi_report.specs.Reports.{summary_line}
 
 -- Small boot images with what is listed and reported of them, by which a reader can judge the
 -- definitions.
@@ -43,12 +46,12 @@ counted_verdicts =
 -- each verdict; the line of a hash node without an algorithm and a value; and the last line of a
 -- report on hash nodes with another number of each.
 pub record ReportsAreKnown : Type 0 where
-  pub legacy : flat_map report_line legacy_report
+  pub legacy : text_of_lines legacy_report_lines
       ≡ lines (codes "header crc32 good" ∷ codes "data crc32 good" ∷ [])
-  pub no_hashes : report_of (OfFit (plain_tree [] []))
+  pub no_hashes : text_of_lines (report_lines (OfFit (plain_tree [] [])))
       ≡ lines
       (codes "summary good 0 bad 0 unknown-algorithm 0 no-payload 0 malformed 0" ∷ [])
-  pub hashes : report_of (OfFit hashed_tree)
+  pub hashes : text_of_lines (report_lines (OfFit hashed_tree))
       ≡ lines
       (codes "a hash-1 crc32 good 352441c2"
       ∷ codes "a hash crc32 bad 352441"
@@ -57,15 +60,15 @@ pub record ReportsAreKnown : Type 0 where
       ∷ codes "b hash-1 crc32 no-payload 352441c2"
       ∷ codes "summary good 1 bad 1 unknown-algorithm 1 no-payload 1 malformed 1"
       ∷ [])
-  pub no_algorithm : report_line (HashVerdict (hash_with Malformed))
+  pub no_algorithm : line_text (hash_line (hash_with Malformed))
       ≡ lines (codes "a hash-1 - malformed -" ∷ [])
-  pub counts : report_line (Summary (counts_of (map hash_with counted_verdicts)))
+  pub counts : line_text (summary_line (counts_of (map hash_with counted_verdicts)))
       ≡ lines
       (codes "summary good 2 bad 1 unknown-algorithm 0 no-payload 3 malformed 4" ∷ [])
 
 -- The listings of a kernel image, and of a multi-file image whose file goes on after the last part.
 pub record LegacyListingsAreKnown : Type 0 where
-  pub kernel : legacy_listing (record { image = kernel_image; unused = 0 })
+  pub kernel : legacy_listing_text Lines (record { image = kernel_image; unused = 0 })
       ≡ lines
       (codes "kind legacy"
       ∷ codes "name k"
@@ -80,7 +83,7 @@ pub record LegacyListingsAreKnown : Type 0 where
       ∷ codes "part 0 size 9 at 64"
       ∷ codes "unused 0"
       ∷ [])
-  pub multi : legacy_listing
+  pub multi : legacy_listing_text Lines
       (record {
         image = record multi_image { os = 200; load = 0xdeadbeef; time = 1000000000 };
         unused = 7;
@@ -113,7 +116,8 @@ three_root =
 -- The listing of this file, which is a flattened image tree.
 abbrev pub FitListingIsKnown : Type 0
 FitListingIsKnown =
-    option_map (λ images. fit_listing three_external images three_tree) (image_nodes three_root)
+    option_map (λ images. fit_listing_text Lines three_external images three_tree)
+    (image_nodes three_root)
     ≡ Some (lines
     (codes "kind fit"
     ∷ codes "boot-cpu 0"
@@ -159,7 +163,8 @@ source_tree =
 -- The listing of this file.
 abbrev pub EachSourceIsListed : Type 0
 EachSourceIsListed =
-    option_map (λ images. fit_listing source_file images source_tree) (image_nodes source_root)
+    option_map (λ images. fit_listing_text Lines source_file images source_tree)
+    (image_nodes source_root)
     ≡ Some (lines
     (codes "kind fit"
     ∷ codes "boot-cpu 3"
@@ -174,9 +179,10 @@ EachSourceIsListed =
 -- The lines of the configurations of a tree and of its default.
 abbrev pub ConfigurationLinesAreKnown : Type 0
 ConfigurationLinesAreKnown =
-    configuration_lines configured_tree (codes "conf-1")
-    ++ (configuration_lines configured_tree (codes "conf-2")
-    ++ default_line (default_of configured_tree))
+    text_of_lines
+    (flat_map configuration_lines
+    (map (configuration_entry configured_tree) (codes "conf-1" ∷ codes "conf-2" ∷ []))
+    ++ default_lines (default_of configured_tree))
     ≡ lines
     (codes "config conf-1"
     ∷ codes "key conf-1 kernel ok a"

@@ -8,23 +8,28 @@ use Rattle.bi_fit.specs.ImageTree.{ImageTree}
 use Rattle.bi_legacy.specs.Reading.{LegacyModel, IsReadLegacy}
 use Rattle.bi_norm.specs.Reading.{IsBootImageReadError}
 use Rattle.bi_common.specs.declared.format.Format.{Format}
-use Rattle.bi_common.specs.declared.format.Format.TheVariants.{Lines, Json}
-use Rattle.bi_common.specs.Json.{json_line}
-use Rattle.bi_report.specs.FitListing.{fit_listing}
-use Rattle.bi_report.specs.Listing.{legacy_listing}
-use Rattle.bi_report.specs.ListingJson.{fit_listing_object, legacy_listing_object}
+use Rattle.bi_common.specs.declared.format.Format.TheVariants as form
+use Rattle.bi_common.specs.Json.{Json, json_line}
+use Rattle.bi_common.specs.Lines.{Line, text_of_lines}
+use Rattle.bi_report.specs.FitListing.{fit_entries, fit_listing, fit_listing_object}
+use Rattle.bi_report.specs.Listing.{legacy_listing, legacy_listing_object}
 
 -- Listing a boot image (profile of this project).
 
+-- These lines or this value of JSON, in a form.
+abbrev pub text_in : Format → List Line → Json → List ℕ
+text_in form.Lines lines value = text_of_lines lines
+text_in form.Json lines value = json_line value
+
 -- The listing of a legacy image, in a form.
 abbrev pub legacy_listing_text : Format → LegacyModel → List ℕ
-legacy_listing_text Lines parsed = legacy_listing parsed
-legacy_listing_text Json parsed = json_line (legacy_listing_object parsed)
+legacy_listing_text format parsed = text_in format (legacy_listing parsed) (legacy_listing_object parsed)
 
 -- The listing of a flattened image tree that a file with these image nodes means, in a form.
 abbrev pub fit_listing_text : Format → (file : List ℕ) → Nodes FileNode → ImageTree → List ℕ
-fit_listing_text Lines file images tree = fit_listing file images tree
-fit_listing_text Json file images tree = json_line (fit_listing_object file images tree)
+fit_listing_text format file images tree =
+    text_in format (fit_listing (fit_entries file images tree))
+    (fit_listing_object (fit_entries file images tree))
 
 -- The text is the listing of the flattened image tree, in a form.
 pub record IsFitListing (format : Format) (limits : Limits) (file text : List ℕ) : Type 0 where

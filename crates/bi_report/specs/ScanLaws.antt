@@ -1,12 +1,12 @@
-use Rattle.std.specs.Prelude.{ℕ, ◌≡◌, ◌≢◌, ◌+◌, ◌*◌, ◌≤◌, List, [], length, bytes_eq, count_by}
-use Rattle.std.specs.Prelude.{not}
+use Rattle.std.specs.Prelude.{ℕ, ◌≡◌, ◌≢◌, ◌+◌, ◌*◌, ◌≤◌, List, [], ◌∷◌, length}
 use Rattle.std.specs.List.{Contains}
 use Rattle.bi_base.specs.Cells.{slice}
 use Rattle.bi_base.specs.declared.fault.Fault.{Fault}
 use Rattle.bi_base.specs.Limits.{Limits}
 use Rattle.bi_norm.specs.Meaning.{Meaning, Means}
+use Rattle.bi_common.specs.Lines.{Line}
 use Rattle.bi_common.specs.Offsets.{input_from}
-use Rattle.bi_report.specs.Scanning.{IsImageAt, IsScanFault, IsScanText, scan_line}
+use Rattle.bi_report.specs.Scanning.{IsImageAt, IsScanFault, IsScanText, all_lines, scan_line}
 
 -- Laws of the boot images inside a file. Each is the contract of a function in `laws`.
 
@@ -25,15 +25,15 @@ ScannedImagesAreWhole =
     → IsImageAt limits input offset extent meaning
     → IsWholeImage limits input offset extent meaning
 
--- These lines have one for each image that is accepted at an offset of an input, and no other line
--- that is not empty.
-pub record HasEachImage (limits : Limits) (input : List ℕ) (lines : List (List ℕ)) : Type 0 where
+-- These lines of offsets have one for each image that is accepted at an offset of an input, and no
+-- other line.
+pub record HasEachImage (limits : Limits) (input : List ℕ) (lines : List (List Line)) : Type 0 where
   pub each : (offset : ℕ) (meaning : Meaning) → Means limits (input_from offset input) meaning
       → (extent : ℕ) × IsImageAt limits input offset extent meaning
-      × Contains lines (scan_line offset extent meaning)
-  pub no_other : (text : List ℕ) → Contains lines text → text ≢ []
+      × Contains lines (scan_line offset extent meaning ∷ [])
+  pub no_other : (found : List Line) → Contains lines found → found ≢ []
       → (offset extent : ℕ) × (meaning : Meaning) × IsImageAt limits input offset extent meaning
-      × (text ≡ scan_line offset extent meaning)
+      × (found ≡ scan_line offset extent meaning ∷ [])
 
 -- The lines of a scan do.
 abbrev pub EachImageHasItsLine : Type 0
@@ -53,13 +53,9 @@ ScanHasNoFault =
     (limits : Limits) (input text : List ℕ) (fault : Fault)
     → IsScanText limits input text → ¬ (IsScanFault limits input fault)
 
--- How many of these lines are not empty.
-abbrev pub line_count : List (List ℕ) → ℕ
-line_count lines = count_by (λ text. not (bytes_eq text [])) lines
-
 -- A scan has at most as many lines as an input of the limit's length has room for headers of legacy
 -- images.
 abbrev pub LinesAreFew : Type 0
 LinesAreFew =
     (limits : Limits) (input text : List ℕ) (is : IsScanText limits input text)
-    → 64 * line_count is.has.lines ≤ limits.file
+    → 64 * length (all_lines is.has.lines) ≤ limits.file

@@ -1,7 +1,6 @@
 use Rattle.std.specs.Prelude.{ℕ, ◌≡◌, ◌≢◌, ◌⊎◌, ◌↔◌, ◌+◌, ◌<◌, ◌≤◌, Bool, IsTrue, List, [], ◌∷◌}
-use Rattle.std.specs.Prelude.{length, codes}
-use Rattle.std.specs.Fmt.{decimal}
-use Rattle.std.specs.List.{AllZip, concat, range_with_len, sum}
+use Rattle.std.specs.Prelude.{length, codes, flat_map}
+use Rattle.std.specs.List.{AllZip, range_with_len, sum}
 use Rattle.bi_base.specs.declared.fault.Error.{Error}
 use Rattle.bi_base.specs.declared.fault.Fault.{Fault}
 use Rattle.bi_base.specs.Cells.{u32_at}
@@ -19,8 +18,9 @@ use Rattle.bi_legacy.specs.Faults as legacy
 use Rattle.bi_norm.specs.declared.kind.Kind.TheVariants as kind
 use Rattle.bi_norm.specs.Kinds.{BeginsAs}
 use Rattle.bi_norm.specs.Meaning.{Meaning, OfLegacy, OfFit, Means, MeansNothing}
+use Rattle.bi_common.specs.Lines.{Line, Text, Name, Decimal, text_of_lines}
+use Rattle.bi_common.specs.LineTokens.{LineToken, tokens_of_lines}
 use Rattle.bi_common.specs.Offsets.{input_from}
-use Rattle.bi_common.specs.Shown.{line, shown_text}
 use Rattle.bi_report.specs.Checking.{content_end}
 
 -- Finding the boot images inside a file: at each offset, aligned or not, and also one inside
@@ -108,24 +108,41 @@ pub record IsImageAt (limits : Limits) (input : List ℕ) (offset extent : ℕ) 
 
 -- The line of an image: where it begins, its kind, how many bytes it has, and its name or the
 -- number of its images.
-abbrev pub scan_line : (offset extent : ℕ) → Meaning → List ℕ
+abbrev pub scan_line : (offset extent : ℕ) → Meaning → Line
 scan_line offset extent (OfLegacy image) =
-    line (decimal offset ∷ codes "legacy" ∷ decimal extent ∷ shown_text image.name ∷ [])
+    Decimal offset ∷ Text (codes "legacy") ∷ Decimal extent ∷ Name image.name ∷ []
 scan_line offset extent (OfFit tree) =
-    line (decimal offset ∷ codes "fit" ∷ decimal extent ∷ decimal (length tree.payloads) ∷ [])
+    Decimal offset ∷ Text (codes "fit") ∷ Decimal extent ∷ Decimal (length tree.payloads) ∷ []
 
 -- What a scan writes for an offset: the line of the image that is accepted there, or nothing.
-pub data IsLineAt (limits : Limits) (input : List ℕ) (offset : ℕ) (text : List ℕ) : Type 0 where
+pub data IsLineAt (limits : Limits) (input : List ℕ) (offset : ℕ) (lines : List Line) : Type 0 where
   WithImage : (extent : ℕ) (meaning : Meaning) → IsImageAt limits input offset extent meaning
-      → text ≡ scan_line offset extent meaning → IsLineAt limits input offset text
-  WithoutImage : MeansNothing limits (input_from offset input) → text ≡ []
-      → IsLineAt limits input offset text
+      → lines ≡ scan_line offset extent meaning ∷ [] → IsLineAt limits input offset lines
+  WithoutImage : MeansNothing limits (input_from offset input) → lines ≡ []
+      → IsLineAt limits input offset lines
+
+-- The lines of all offsets.
+abbrev pub all_lines : (by_offset : List (List Line)) → List Line
+all_lines by_offset = flat_map (λ lines. lines) by_offset
 
 -- The text is what a scan writes for each offset, in order.
 pub record HasLines (limits : Limits) (input text : List ℕ) : Type 0 where
-  pub lines : List (List ℕ)
+  pub lines : List (List Line)
   pub are_lines : AllZip (IsLineAt limits input) (input_offsets input) lines
-  pub is_text : text ≡ concat lines
+  pub is_text : text ≡ text_of_lines (all_lines lines)
+
+-- What a scan writes for an offset was put to a pen,
+abbrev pub PutsLineAt : {S : Type 0} → (S → List LineToken → S → Type 0) → Limits
+    → (input : List ℕ) → (offset : ℕ) → (old new : S) → Type 0
+PutsLineAt puts limits input offset old new =
+    (lines : List Line) × IsLineAt limits input offset lines × puts old (tokens_of_lines lines) new
+
+-- or for each of the first offsets, in order.
+abbrev pub PutsFirstLines : {S : Type 0} → (S → List LineToken → S → Type 0) → Limits
+    → (input : List ℕ) → (count : ℕ) → (old new : S) → Type 0
+PutsFirstLines puts limits input count old new =
+    (lines : List (List Line)) × AllZip (IsLineAt limits input) (range_with_len 0 count) lines
+    × puts old (tokens_of_lines (all_lines lines)) new
 
 -- ---- scanning
 

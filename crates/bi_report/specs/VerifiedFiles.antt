@@ -7,15 +7,21 @@ use Rattle.bi_norm.specs.Reading.{IsBootImageReadError}
 use Rattle.bi_common.specs.declared.format.Format.{Format}
 use Rattle.bi_common.specs.declared.format.Format.TheVariants.{Lines, Json}
 use Rattle.bi_common.specs.Json.{json_line}
-use Rattle.bi_report.specs.ReportJson.{report_object}
-use Rattle.bi_report.specs.Reports.{AreGood, hashes_of, report_of}
+use Rattle.bi_common.specs.Lines.{text_of_lines}
+use Rattle.bi_report.specs.Reports.{AreGood, hashes_of, legacy_report_lines}
+use Rattle.bi_report.specs.Reports.{legacy_report_object, report_lines, report_object}
 
 -- Verifying a boot image (profile of this project).
 
 -- The report on what a file means, in a form.
 abbrev pub report_text : Format → Meaning → List ℕ
-report_text Lines meaning = report_of meaning
+report_text Lines meaning = text_of_lines (report_lines meaning)
 report_text Json meaning = json_line (report_object meaning)
+
+-- The report on any legacy image, in a form.
+abbrev pub legacy_report_text : Format → List ℕ
+legacy_report_text Lines = text_of_lines legacy_report_lines
+legacy_report_text Json = json_line legacy_report_object
 
 -- The text is the report on the file, in a form.
 pub record IsReport (format : Format) (limits : Limits) (file text : List ℕ) : Type 0 where

@@ -10,7 +10,6 @@ ghost use Rattle.bi_report.specs.Checking.{kind_word, allows as allows_kind};
 
 mod checked_image;
 mod concern;
-mod concern_json;
 mod concerns;
 mod configurations;
 mod images;

@@ -2,6 +2,7 @@
 #![tactic(auto)]
 
 pub mod check;
+mod details;
 pub mod known_texts;
 pub mod laws;
 pub mod list;

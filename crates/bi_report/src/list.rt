@@ -3,20 +3,26 @@
 mod configurations;
 mod fit;
 mod legacy;
-mod texts;
 
 ghost use Rattle.std.specs.Prelude.{⊤, IfOk, OnOk, IfErr, string_bytes};
 ghost use Rattle.bi_base.specs.Commands.{Appended, AppendFailed};
 ghost use Rattle.bi_base.specs.Pipes.{IsPiped};
+ghost use Rattle.bi_base.specs.Sinks.{Wrote};
 ghost use Rattle.bi_norm.specs.Reading.{IsBootImageReadError};
 ghost use Rattle.bi_common.specs.declared.format.Format.TheVariants.{Lines, Json};
-ghost use Rattle.bi_report.specs.ListedFiles.{IsListing, list_promise, list_laws};
+ghost use Rattle.bi_common.specs.HeldImages.{IsHeldImage};
+ghost use Rattle.bi_common.specs.JsonTokens.{json_tokens};
+ghost use Rattle.bi_common.specs.LineTokens.{tokens_of_lines};
+ghost use Rattle.bi_report.specs.ListedFiles.{IsListing, list_promise, list_laws, text_in};
+ghost use Rattle.bi_report.specs.ReadListing.{lines_of_listing, read_object};
 
-use bi_base::{Command, Error, Limits, Sink, VecSink, pipe_to};
+use bi_base::{Command, Error, Limits, Pen, Sink, SinkPen, VecSink, pipe_to};
 use bi_common::format::Format;
+use bi_common::json_writer::{JsonPen, JsonWriter};
+use bi_common::lines::{LinePen, LineWriter};
 use bi_norm::BootImage;
-use fit::list_fit;
-use legacy::list_legacy;
+use fit::{put_fit_lines, put_fit_object};
+use legacy::{put_legacy_lines, put_legacy_object};
 use std::alloc::Global;
 use std::io::{Read, Write};
 
@@ -80,9 +86,56 @@ fn list_into<S: Sink>(
     ensures failed { IfErr result (AppendFailed S.fails (IsListing format limits file.now)
         (IsBootImageReadError limits file.now) sink.old sink.new) }
 {
-    match BootImage::read(alloc, file, limits)? {
-        BootImage::Legacy(image) => list_legacy(&image, format, sink),
-        BootImage::Fit(image) => list_fit(&image, format, sink),
+    let image = BootImage::read(alloc, file, limits)?;
+    append_listing(&image, format, sink)
+}
+
+/// Appends the listing of a boot image, in a form. Fails as the sink does. Requires: the image was
+/// read.
+fn append_listing<S: Sink>(image: &BootImage, format: Format, sink: &mut S) -> Result<(), Error>
+    requires held { IsHeldImage image.now }
+    ensures { Wrote S.appends S.fails sink.old
+        (text_in format (lines_of_listing image.now) (read_object image.now)) result sink.new }
+{
+    let mut pen = SinkPen::new(sink);
+    put_listing(image, format, &mut pen);
+    pen.result()
+}
+
+/// Puts the listing of a boot image, in a form. Requires: the image was read.
+fn put_listing<P: Pen>(image: &BootImage, format: Format, pen: &mut P)
+    requires held { IsHeldImage image.now }
+    ensures { P.puts pen.old (text_in format (lines_of_listing image.now) (read_object image.now))
+        pen.new }
+{
+    match format {
+        Format::Lines => put_lines(image, &mut LineWriter::new(pen)),
+        Format::Json => {
+            put_object(image, &mut JsonWriter::new(pen));
+            pen.put(b"\n");
+        }
+    }
+}
+
+/// Puts the lines of a boot image. Requires: the image was read.
+fn put_lines<L: LinePen>(image: &BootImage, pen: &mut L)
+    requires held { IsHeldImage image.now }
+    ensures { L.puts pen.old (tokens_of_lines (lines_of_listing image.now)) pen.new }
+{
+    match image {
+        BootImage::Legacy(image) => put_legacy_lines(image, pen),
+        BootImage::Fit(image) => put_fit_lines(image, pen),
+    }
+}
+
+/// Puts the object of a boot image. Requires: the image was read.
+fn put_object<J: JsonPen>(image: &BootImage, json: &mut J)
+    requires held { IsHeldImage image.now }
+    ensures { J.puts json.old (json_tokens (read_object image.now)) json.new }
+{
+    match image {
+        BootImage::Legacy(image) => put_legacy_object(image, json),
+        BootImage::Fit(image) => put_fit_object(image, json),
     }
 }
 

@@ -5,7 +5,7 @@ ghost use Rattle.bi_fdt.specs.Views.{node_of};
 ghost use Rattle.bi_fit.specs.HashNodes.{file_listed, file_listed_in};
 ghost use Rattle.bi_fit.specs.Judgement.{listed_names};
 ghost use Rattle.bi_report.specs.Listed.{IsListed};
-ghost use Rattle.bi_report.specs.ReadListing.{first_missing as first_missing_of};
+ghost use Rattle.bi_report.specs.Listed.{first_missing as first_missing_of};
 
 use bi_fdt::NodeRef;
 use bi_fit::{Fit, Key, split_name};

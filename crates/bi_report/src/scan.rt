@@ -10,7 +10,8 @@ ghost use Rattle.bi_base.specs.Pipes.{IsPiped};
 ghost use Rattle.bi_base.specs.Reading.{too_large};
 ghost use Rattle.bi_report.specs.Scanning.{IsScanError, IsScanText, scan_laws, scan_promise};
 
-use bi_base::{Cause, Command, Error, Fault, Limits, Sink, VecSink, pipe_to, refuse};
+use bi_base::{Cause, Command, Error, Fault, Limits, MemoryPen, Sink, pipe_to, refuse};
+use bi_common::lines::LineWriter;
 use claims::check_claims;
 use lines::put_lines;
 use std::alloc::Global;
@@ -45,9 +46,9 @@ fn scan_bytes(alloc: Global, file: &[u8], limits: Limits) -> Result<Vec<u8>, Err
 {
     check_length(file, limits)?;
     let end = check_claims(file, limits)?;
-    let mut lines = VecSink::new(alloc);
-    put_lines(alloc, file, end, limits, &mut lines)?;
-    Ok(lines.into_vec())
+    let mut text = MemoryPen::new(alloc);
+    put_lines(alloc, file, end, limits, &mut LineWriter::new(&mut text))?;
+    text.into_vec()
 }
 
 /// Checks that a file is no longer than the limit.

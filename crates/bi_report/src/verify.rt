@@ -1,42 +1,32 @@
 //! The report on a boot image: a text with the verdict on each of its checksums and digests.
 
-mod report_json;
-mod report_line;
+mod texts;
 
-ghost use Rattle.std.specs.Prelude.{◌≡◌, ◌↔◌, [], ◌∷◌, ⊤, IfOk, IfErr, OnOk, IsTrue, false, map};
-ghost use Rattle.std.specs.Prelude.{string_bytes};
+ghost use Rattle.std.specs.Prelude.{◌≡◌, ◌↔◌, ⊤, IfOk, IfErr, OnOk, IsTrue, string_bytes};
 ghost use Rattle.bi_base.specs.Commands.{Appended, AppendFailed};
 ghost use Rattle.bi_base.specs.declared.fault.Error.TheVariants.{OutOfMemory};
 ghost use Rattle.bi_base.specs.Pipes.{IsPiped};
 ghost use Rattle.bi_base.specs.Sinks.{Wrote};
 ghost use Rattle.bi_fit.specs.Content.{AreAtTheirPlaces, IsHeld, tree_of};
 ghost use Rattle.bi_fit.specs.Judgement.{verdicts_of};
-ghost use Rattle.bi_fit.specs.JudgementCalls.{checked_hash_of};
 ghost use Rattle.bi_norm.specs.Meaning.{OfFit};
 ghost use Rattle.bi_norm.specs.Reading.{IsBootImageReadError};
-ghost use Rattle.bi_common.specs.HashedImages.{hashes_left, images_of_blob};
 ghost use Rattle.bi_common.specs.declared.format.Format.TheVariants.{Lines, Json};
-ghost use Rattle.bi_common.specs.Formats.{WroteInTurn, in_turn};
-ghost use Rattle.bi_common.specs.VerdictCounts.{counts_model, hash_counts};
-ghost use Rattle.bi_report.specs.ReadReports.{after_hashes, before_hashes, hash_text, hash_texts};
-ghost use Rattle.bi_report.specs.ReadReports.{legacy_report_text};
+ghost use Rattle.bi_common.specs.VerdictCounts.{hash_counts};
 ghost use Rattle.bi_report.specs.Reports.{AreGood};
-ghost use Rattle.bi_report.specs.VerifiedFiles.{IsReport, IsVerifyOutput, report_text};
-ghost use Rattle.bi_report.specs.VerifiedFiles.{verify_laws, verify_promise};
+ghost use Rattle.bi_report.specs.VerifiedFiles.{IsReport, IsVerifyOutput, legacy_report_text};
+ghost use Rattle.bi_report.specs.VerifiedFiles.{report_text, verify_laws, verify_promise};
 
-use bi_base::{Command, Error, Limits, Sink, VecSink, pipe_to};
+use bi_base::{Command, Error, Limits, Sink, SinkPen, VecSink, pipe_to};
 use bi_common::format::Format;
-use bi_common::hash_nodes::{HashNodes, HashedImages};
-use bi_common::json::put_comma;
 use bi_common::verdict_counts::{Counts, judge_hashes};
-use bi_fit::{Checked, Fit};
+use bi_fit::Fit;
 use bi_hash::RegionDigests;
 use bi_norm::BootImage;
-use report_json::{put_checksums_object, put_hash_object, put_summary_member};
-pub use report_line::verdict_word;
-use report_line::{ReportLine, put_report_line};
 use std::alloc::Global;
 use std::io::{Read, Write};
+pub use texts::verdict_word;
+use texts::{put_fit_report, put_legacy_report};
 
 /// A report on the checksums and digests of a boot image.
 #[derive(Drop)]
@@ -116,7 +106,7 @@ fn verify_into<S: Sink>(
 {
     match BootImage::read(alloc, file, limits)? {
         BootImage::Legacy(_image) => {
-            put_checksums(format, sink)?;
+            append_legacy_report(format, sink)?;
             Ok(true)
         }
         BootImage::Fit(image) => verify_fit(alloc, &image, format, sink),
@@ -196,21 +186,12 @@ pub fn verify_json_to<R: Read, W: Write>(
 
 /// Appends the report on any legacy image that was read, so that its checksums are right. Fails as
 /// the sink does.
-fn put_checksums<S: Sink>(format: Format, sink: &mut S) -> Result<(), Error>
+fn append_legacy_report<S: Sink>(format: Format, sink: &mut S) -> Result<(), Error>
     ensures { Wrote S.appends S.fails sink.old (legacy_report_text format) result sink.new }
 {
-    match format {
-        Format::Lines => put_checksum_lines(sink),
-        Format::Json => put_checksums_object(sink),
-    }
-}
-
-/// Appends the lines of the two checksums, which are good. Fails as the sink does.
-fn put_checksum_lines<S: Sink>(sink: &mut S) -> Result<(), Error>
-    ensures { Wrote S.appends S.fails sink.old (legacy_report_text Lines) result sink.new }
-{
-    put_report_line(ReportLine::GoodChecksum(b"header"), sink)?;
-    put_report_line(ReportLine::GoodChecksum(b"data"), sink)
+    let mut pen = SinkPen::new(sink);
+    put_legacy_report(format, &mut pen);
+    pen.result()
 }
 
 /// Appends the report on a flattened image tree, and returns whether no verdict is other than Good.
@@ -230,14 +211,14 @@ fn verify_fit<S: Sink>(
         (λ error. error ≡ OutOfMemory) sink.old sink.new) }
 {
     let (digests, counts) = judge_hashes(alloc, fit)?;
-    put_report(fit, &digests, counts, format, sink)?;
+    append_fit_report(fit, &digests, counts, format, sink)?;
     Ok(counts.are_good())
 }
 
 /// Appends the report on a flattened image tree with this number of each verdict. Fails as the sink
 /// does. Requires: in the file of the digests, the payload of each image is at its place, and
 /// `counts` are the numbers of the verdicts of the tree.
-fn put_report<'a, S: Sink>(
+fn append_fit_report<'a, S: Sink>(
     fit: &Fit<'a>,
     digests: &RegionDigests<'a>,
     counts: Counts,
@@ -249,86 +230,7 @@ fn put_report<'a, S: Sink>(
     ensures { Wrote S.appends S.fails sink.old (report_text format (OfFit (tree_of fit.now))) result
         sink.new }
 {
-    put_before_hashes(format, sink)?;
-    put_images(fit, digests, format, sink)?;
-    put_after_hashes(counts, format, sink)
-}
-
-/// Appends what comes before the hash nodes. Fails as the sink does.
-fn put_before_hashes<S: Sink>(format: Format, sink: &mut S) -> Result<(), Error>
-    ensures { Wrote S.appends S.fails sink.old (before_hashes format) result sink.new }
-{
-    match format {
-        Format::Lines => Ok(()),
-        Format::Json => sink.put(b"{\"kind\":\"fit\",\"hashes\":["),
-    }
-}
-
-/// Appends what comes after the hash nodes. Fails as the sink does.
-fn put_after_hashes<S: Sink>(counts: Counts, format: Format, sink: &mut S) -> Result<(), Error>
-    ensures { Wrote S.appends S.fails sink.old (after_hashes format (counts_model counts)) result
-        sink.new }
-{
-    match format {
-        Format::Lines => put_report_line(ReportLine::Summary(counts), sink),
-        Format::Json => put_summary_member(counts, sink),
-    }
-}
-
-/// Appends each hash node of a flattened image tree. Fails as the sink does. Requires: in the file
-/// of the digests, the payload of each image is at its place.
-fn put_images<'a, S: Sink>(
-    fit: &Fit<'a>,
-    digests: &RegionDigests<'a>,
-    format: Format,
-    sink: &mut S,
-) -> Result<(), Error>
-    requires placed { AreAtTheirPlaces digests.now fit.now.images }
-    ensures { Wrote S.appends S.fails sink.old
-        (in_turn format false (hash_texts format (images_of_blob fit.now))) result sink.new }
-{
-    let mut is_later = false;
-    for image in HashedImages::new(fit, digests) {
-        is_later = put_hashes(image.hashes, format, is_later, sink)?;
-    }
-    Ok(())
-}
-
-/// Appends each hash node of an image, and returns whether there is one, or there are any before
-/// them. Fails as the sink does.
-fn put_hashes<S: Sink>(
-    hashes: HashNodes,
-    format: Format,
-    is_later: bool,
-    sink: &mut S,
-) -> Result<bool, Error>
-    ensures { WroteInTurn S.appends S.fails sink.old format is_later
-        (map (hash_text format) (hashes_left hashes.entry)) result sink.new }
-{
-    let mut later = is_later;
-    for hash in hashes {
-        put_hash(hash, format, later, sink)?;
-        later = true;
-    }
-    Ok(later)
-}
-
-/// Appends a hash node. Fails as the sink does.
-fn put_hash<S: Sink>(
-    hash: Checked,
-    format: Format,
-    is_later: bool,
-    sink: &mut S,
-) -> Result<(), Error>
-    ensures { Wrote S.appends S.fails sink.old
-        (in_turn format is_later (hash_text format (checked_hash_of hash.entry) ∷ [])) result
-        sink.new }
-{
-    match format {
-        Format::Lines => put_report_line(ReportLine::HashVerdict(hash), sink),
-        Format::Json => {
-            put_comma(is_later, sink)?;
-            put_hash_object(&hash, sink)
-        }
-    }
+    let mut pen = SinkPen::new(sink);
+    put_fit_report(fit, digests, counts, format, &mut pen);
+    pen.result()
 }

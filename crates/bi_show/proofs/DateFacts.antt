@@ -1,7 +1,8 @@
 use Rattle.std.proofs.Common.{◌≡◌, ℕ, zero, suc, ◌+◌, ◌*◌, ◌<◌, ◌≤◌, List, [], ◌∷◌, ◌++◌, length, ap, ◌∙◌, rules}
-use Rattle.std.proofs.Common.{arith, subst}
+use Rattle.std.proofs.Common.{arith, drop, get_or, subst, sum, sym, take}
 use Rattle.std.specs.List.{AllByRecursion}
-use Rattle.std.proofs.lemmas.List.{length-append}
+use Rattle.std.proofs.lemmas.List.{length-append, length-take}
+use Rattle.std.proofs.Math.Seq.{split_at}
 use Rattle.bi_show.specs.declared.show.dates.Date.{Date}
 use Rattle.bi_show.specs.Dates.{IsDate, days_of_years, month_lengths, year_length}
 
@@ -35,3 +36,21 @@ date_is_short days date is few =
     let twelve : 12 ≡ length is.earlier + length (is.month_length ∷ is.later) =
     ap length is.months ∙ length-append is.earlier (is.month_length ∷ is.later) in
     (omega (arith, years, is.is_year, is.is_day), omega (arith, twelve, is.is_month), omega (arith, short, is.to_last))
+
+-- A date is that of its day, by how many months of its year come before, and how many days each month has.
+pub date_at : (days years index : ℕ) (date : Date) (lengths : List ℕ) → lengths ≡ month_lengths date.year → date.year ≡ 1970 + years →
+    date.month ≡ index + 1 → index < length lengths → 1 ≤ date.day → date.day ≤ get_or lengths index 0 →
+    days + 1 ≡ days_of_years years + sum (take index lengths) + date.day → IsDate days date
+date_at days years index date lengths are year month within from to is =
+    record {
+      years = years;
+      earlier = take index lengths;
+      month_length = get_or lengths index 0;
+      later = drop (suc index) lengths;
+      is_year = year;
+      months = sym are ∙ split_at lengths index 0 within;
+      is_month = omega (arith, month, within, length-take index lengths);
+      from_first = from;
+      to_last = to;
+      is_day = is;
+    }

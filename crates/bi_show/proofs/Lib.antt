@@ -1,6 +1,5 @@
 pub mod DateFacts
 pub mod TableFacts
-mod TableNames
 pub mod ShownCells
 pub mod ShownRows
 pub mod ShownPages

@@ -1,4 +1,5 @@
-use Rattle.std.proofs.Common.{◌≤◌, zero, suc, List, [], ◌∷◌, codes, length, lit≤, refl, arith, rules}
+use Rattle.std.proofs.Common.{◌≡◌, ℕ, ◌+◌, ◌/◌, ◌%◌, ◌<◌, ◌≤◌, zero, suc, List, [], ◌∷◌, ◌++◌, codes, get_or, length, sum, take, lit≤, refl}
+use Rattle.std.proofs.Common.{arith, rules}
 use Rattle.std.specs.Fmt.{digits}
 use Rattle.std.specs.List.{AllAdjacentBelow}
 use Rattle.std.proofs.lemmas.List.Sorted.{IsPermutation-refl, IsNonDecreasingBy-from_all_adjacent}
@@ -13,115 +14,34 @@ use Rattle.bi_norm.proofs.ComparisonFacts.{kernel_with_rest_means, multi_means, 
 use Rattle.bi_report.specs.Checking.{OfLegacyImage, TrailingBytes}
 use Rattle.bi_report.proofs.LegacyConcernFacts.{is_read, known_model}
 use Rattle.bi_show.specs.declared.show.layout.LayoutRegion.{LayoutRegion}
-use Rattle.bi_show.specs.Dates.{IsTimeText}
+use Rattle.bi_show.specs.Dates.{IsTimeText, clock_text, date_text, days_of_years, month_lengths}
 use Rattle.bi_show.specs.KnownPages.{CellsAreKnown, PagesAreKnown, TablesAreKnown, TimesAreKnown}
 use Rattle.bi_show.specs.Layouts.{AreByOffset, layout_table, legacy_regions}
+use Rattle.bi_show.proofs.DateFacts.{date_at}
 use Rattle.bi_show.specs.ShownFiles.{AreConcernLines, OfLegacyImage as OfLegacyPage}
 
 -- Times, tables, cells and pages of small images are known.
 
+known_time : (seconds years index day : ℕ) (text : List ℕ) → index < 12 → 1 ≤ day → day ≤ get_or (month_lengths (1970 + years)) index 0 →
+    seconds / 86400 + 1 ≡ days_of_years years + sum (take index (month_lengths (1970 + years))) + day →
+    text
+    ≡ date_text (record { year = 1970 + years; month = index + 1; day = day })
+    ++ (32 ∷ (clock_text (seconds % 86400) ++ codes " UTC")) →
+    IsTimeText seconds text
+known_time seconds years index day text within from to is written =
+    record { date = _; is_date = date_at (seconds / 86400) years index _ _ refl refl refl within from to is; is = written }
+
 pub first_time : IsTimeText 0 (codes "1970-01-01 00:00:00 UTC")
-first_time =
-    record {
-      date = record { year = 1970; month = 1; day = 1 };
-      is_date = record {
-        years = 0;
-        earlier = [];
-        month_length = 31;
-        later = 28 ∷ 31 ∷ 30 ∷ 31 ∷ 30 ∷ 31 ∷ 31 ∷ 30 ∷ 31 ∷ 30 ∷ 31 ∷ [];
-        is_year = refl;
-        months = refl;
-        is_month = refl;
-        from_first = lit≤ tt;
-        to_last = lit≤ tt;
-        is_day = refl;
-      };
-      is = refl;
-    }
+first_time = known_time 0 0 0 1 _ (lit≤ tt) (lit≤ tt) (lit≤ tt) refl refl
 
 pub times_are_known : TimesAreKnown
 times_are_known = record {
   first = first_time;
-  last_of_year = record {
-    date = record { year = 1970; month = 12; day = 31 };
-    is_date = record {
-      years = 0;
-      earlier = 31 ∷ 28 ∷ 31 ∷ 30 ∷ 31 ∷ 30 ∷ 31 ∷ 31 ∷ 30 ∷ 31 ∷ 30 ∷ [];
-      month_length = 31;
-      later = [];
-      is_year = refl;
-      months = refl;
-      is_month = refl;
-      from_first = lit≤ tt;
-      to_last = lit≤ tt;
-      is_day = refl;
-    };
-    is = refl;
-  };
-  before_leap_day = record {
-    date = record { year = 2000; month = 2; day = 28 };
-    is_date = record {
-      years = 30;
-      earlier = 31 ∷ [];
-      month_length = 29;
-      later = 31 ∷ 30 ∷ 31 ∷ 30 ∷ 31 ∷ 31 ∷ 30 ∷ 31 ∷ 30 ∷ 31 ∷ [];
-      is_year = refl;
-      months = refl;
-      is_month = refl;
-      from_first = lit≤ tt;
-      to_last = lit≤ tt;
-      is_day = refl;
-    };
-    is = refl;
-  };
-  leap_day = record {
-    date = record { year = 2000; month = 2; day = 29 };
-    is_date = record {
-      years = 30;
-      earlier = 31 ∷ [];
-      month_length = 29;
-      later = 31 ∷ 30 ∷ 31 ∷ 30 ∷ 31 ∷ 31 ∷ 30 ∷ 31 ∷ 30 ∷ 31 ∷ [];
-      is_year = refl;
-      months = refl;
-      is_month = refl;
-      from_first = lit≤ tt;
-      to_last = lit≤ tt;
-      is_day = refl;
-    };
-    is = refl;
-  };
-  after_february = record {
-    date = record { year = 2100; month = 3; day = 1 };
-    is_date = record {
-      years = 130;
-      earlier = 31 ∷ 28 ∷ [];
-      month_length = 31;
-      later = 30 ∷ 31 ∷ 30 ∷ 31 ∷ 31 ∷ 30 ∷ 31 ∷ 30 ∷ 31 ∷ [];
-      is_year = refl;
-      months = refl;
-      is_month = refl;
-      from_first = lit≤ tt;
-      to_last = lit≤ tt;
-      is_day = refl;
-    };
-    is = refl;
-  };
-  last = record {
-    date = record { year = 2106; month = 2; day = 7 };
-    is_date = record {
-      years = 136;
-      earlier = 31 ∷ [];
-      month_length = 28;
-      later = 31 ∷ 30 ∷ 31 ∷ 30 ∷ 31 ∷ 31 ∷ 30 ∷ 31 ∷ 30 ∷ 31 ∷ [];
-      is_year = refl;
-      months = refl;
-      is_month = refl;
-      from_first = lit≤ tt;
-      to_last = lit≤ tt;
-      is_day = refl;
-    };
-    is = refl;
-  };
+  last_of_year = known_time 31535999 0 11 31 _ (lit≤ tt) (lit≤ tt) (lit≤ tt) refl refl;
+  before_leap_day = known_time 951782399 30 1 28 _ (lit≤ tt) (lit≤ tt) (lit≤ tt) refl refl;
+  leap_day = known_time 951782400 30 1 29 _ (lit≤ tt) (lit≤ tt) (lit≤ tt) refl refl;
+  after_february = known_time 4107542400 130 2 1 _ (lit≤ tt) (lit≤ tt) (lit≤ tt) refl refl;
+  last = known_time 4294967295 136 1 7 _ (lit≤ tt) (lit≤ tt) (lit≤ tt) refl refl;
 }
 
 pub tables_are_known : TablesAreKnown

@@ -1,11 +1,8 @@
-use Rattle.std.proofs.Common.{◌≡◌, ◌∷◌, ◌++◌, ℕ, ◌-◌, List, [], String, Vec, Result, Ok, Err, IfErr, ap, append-nil, rules}
-use Rattle.std.proofs.Common.{append_assoc, map, refl, subst, sym, ◌∙◌}
-use Rattle.std.specs.Prelude.{IsAscii}
-use Rattle.std.specs.declared.alloc.Global.{Global}
+use Rattle.std.proofs.Common.{◌≡◌, ◌∷◌, ℕ, List, [], Result, Ok, Err, IfErr, ap, rules}
+use Rattle.std.proofs.Common.{map, refl, subst, sym}
 use Rattle.std.specs.List.{AllZip}
 use Rattle.bi_base.specs.declared.fault.Error.{Error}
 use Rattle.bi_base.specs.Limits.{Limits}
-use Rattle.bi_base.specs.VecSinks.{Grows}
 use Rattle.bi_blob.specs.Lookups.{Sibling, siblings}
 use Rattle.bi_blob.specs.Tree.{FileNode}
 use Rattle.bi_fdt.specs.Content.{root_of}
@@ -19,34 +16,16 @@ use Rattle.bi_report.specs.CheckedFiles.{IsCheckError, concerns_text}
 use Rattle.bi_report.specs.Checking.{nothing_allowed}
 use Rattle.bi_report.specs.FoundConcerns.{FoundConcern, HasConcerns, concerns_in}
 use Rattle.bi_report.specs.ReadChecking.{IsReadCheckError}
-use Rattle.bi_report.proofs.AsciiReports.{checked_is_ascii}
 use Rattle.bi_report.proofs.CheckedFiles.{check_error_of_tree, text_checks}
 use Rattle.bi_show.specs.FitPages.{configurations_table, fit_head, fit_tables, image_heading, image_rows, reservations_table}
 use Rattle.bi_show.specs.FitPages.{signatures_table}
-use Rattle.bi_show.specs.Pages.{Table, table_text}
+use Rattle.bi_show.specs.Pages.{Table}
 use Rattle.bi_show.specs.ReadPages.{read_image_rows}
-use Rattle.bi_show.specs.Rows.{cells_of_rows}
 use Rattle.bi_show.specs.ShownFiles.{AreConcernLines}
 
 -- These lemmas put the parts of a page together.
 
--- A text that was appended to an empty sink is what the sink has.
-whole_text : (old new text : List ℕ) → old ≡ [] → Grows old text new → new ≡ text
-whole_text old new text empty grown = grown ∙ ap (λ (l : List ℕ). l ++ text) empty
-
--- The sink has the lines of concerns that were appended to it when it was empty,
-pub lines_in_memory : (limits : Limits) (file old new lines : List ℕ) → AreConcernLines limits file lines → old ≡ [] → Grows old lines new →
-    AreConcernLines limits file new
-lines_in_memory limits file old new lines are empty grown =
-    subst (AreConcernLines limits file) (sym (whole_text old new lines empty grown)) are
-
--- and these lines are ASCII.
-pub ascii_lines_in_memory : (limits : Limits) (file old new lines : List ℕ) → AreConcernLines limits file lines → old ≡ [] →
-    Grows old lines new → IsAscii new
-ascii_lines_in_memory limits file old new lines are empty grown =
-    checked_is_ascii Lines nothing_allowed limits file new (lines_in_memory limits file old new lines are empty grown)
-
--- The lines of the concerns about a file are ASCII.
+-- The text of the concerns about a file is that of its lines.
 pub lines_of_concerns : (limits : Limits) (file : List ℕ) (found all : List FoundConcern) → found ≡ all →
     HasConcerns limits file all → AreConcernLines limits file (concerns_text Lines nothing_allowed (concerns_in found))
 lines_of_concerns limits file found all same has =
@@ -84,49 +63,6 @@ pub tables_of_file : (limits : Limits) (file : List ℕ) (content : FitModel) (i
     ∷ signatures_table (siblings (file_images content.blob)) (siblings (file_configurations content.blob)) ∷ regions ∷ []
     ≡ fit_tables file is.means.is_file.root (tree_of content) time regions
 tables_of_file limits file content is time regions = search (rules, rows_of_images, images_of_file)
-
--- A table was appended.
-pub shown_table : (old new : List ℕ) (slice rows : List (Vec (String Global) Global)) (table : Table) →
-    new ≡ old ++ table_text (cells_of_rows slice) →
-    slice ≡ rows → cells_of_rows rows ≡ table → new ≡ old ++ table_text table
-shown_table old new slice rows table is same cells =
-    is ∙ ap (λ (t : Table). old ++ table_text t) (ap (λ (l : List (Vec (String Global) Global)). cells_of_rows l) same ∙ cells)
-
--- A page of a legacy image has three tables.
-pub three_tables : (first second third lines start one two three page : List ℕ) → start ≡ [] → one ≡ start ++ first → two ≡ one ++ second →
-    three ≡ two ++ third → page ≡ three ++ lines → page ≡ (first ++ (second ++ (third ++ []))) ++ lines
-three_tables first second third lines start one two three page empty is_one is_two is_three is_page =
-    is_page
-    ∙ ap (λ (l : List ℕ). l ++ lines)
-    (is_three
-    ∙ ap (λ (l : List ℕ). l ++ third)
-    (is_two ∙ ap (λ (l : List ℕ). l ++ second) (is_one ∙ ap (λ (l : List ℕ). l ++ first) empty))
-    ∙ regroup first second third)
-  where
-    regroup : (a b c : List ℕ) → (a ++ b) ++ c ≡ a ++ (b ++ (c ++ []))
-    regroup a b c = simp (append_assoc, append-nil)
-
--- A page of a FIT has six tables.
-pub six_tables : (first second third fourth fifth sixth lines start one two three four five six page : List ℕ) → start ≡ [] →
-    one ≡ start ++ first → two ≡ one ++ second → three ≡ two ++ third → four ≡ three ++ fourth → five ≡ four ++ fifth →
-    six ≡ five ++ sixth → page ≡ six ++ lines → page ≡ (first ++ (second ++ (third ++ (fourth ++ (fifth ++ (sixth ++ [])))))) ++ lines
-six_tables first second third fourth fifth sixth lines start one two three four five six page empty is_one is_two is_three is_four
-    is_five is_six is_page =
-    is_page
-    ∙ ap (λ (l : List ℕ). l ++ lines)
-    (is_six
-    ∙ ap (λ (l : List ℕ). l ++ sixth)
-    (is_five
-    ∙ ap (λ (l : List ℕ). l ++ fifth)
-    (is_four
-    ∙ ap (λ (l : List ℕ). l ++ fourth)
-    (is_three
-    ∙ ap (λ (l : List ℕ). l ++ third)
-    (is_two ∙ ap (λ (l : List ℕ). l ++ second) (is_one ∙ ap (λ (l : List ℕ). l ++ first) empty)))))
-    ∙ regroup first second third fourth fifth sixth)
-  where
-    regroup : (a b c d e f : List ℕ) → ((((a ++ b) ++ c) ++ d) ++ e) ++ f ≡ a ++ (b ++ (c ++ (d ++ (e ++ (f ++ [])))))
-    regroup a b c d e f = simp (append_assoc, append-nil)
 
 -- An error of showing what was read from a file is one of showing the file.
 pub tree_not_shown : {V : Type 0} (limits : Limits) (file : List ℕ) (content : FitModel) (result : Result V Error) →

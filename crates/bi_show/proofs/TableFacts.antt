@@ -1,9 +1,12 @@
-use Rattle.std.proofs.Common.{◌≡◌, ◌⊎◌, inl, inr, ℕ, ◌+◌, ◌<◌, ◌≤◌, ◌==◌, max, false, List, [], ◌∷◌, ◌++◌, codes, length, rules}
+use Rattle.std.proofs.Common.{◌≡◌, ◌⊎◌, inl, inr, ℕ, ◌+◌, ◌<◌, ◌≤◌, max, List, [], ◌∷◌, ◌++◌, length, rules}
 use Rattle.std.proofs.Common.{map, take, set, get_or}
 use Rattle.std.proofs.Common.{String, string_bytes, refl, sym, ap, ◌∙◌, subst, arith}
 use Rattle.std.specs.declared.alloc.Global.{Global}
+use Rattle.std.specs.List.{join_by, join_with_byte}
 use Rattle.std.proofs.lemmas.List.{length-map, length-take, map-append, take_more}
-use Rattle.bi_show.specs.Pages.{concerns_text_of_page, later_cells, wider, with_row}
+use Rattle.std.proofs.lemmas.List.Folds.{flat_map-map}
+use Rattle.bi_common.proofs.JoinedWords.{joined_after}
+use Rattle.bi_show.specs.Pages.{later_cells, wider, with_row}
 use Rattle.bi_show.specs.Rows.{cells_of_row}
 
 -- A table is written cell by cell and row by row.
@@ -66,7 +69,7 @@ no_more_cells left (width ∷ widths) [] none = refl
 no_more_cells left (width ∷ widths) (cell ∷ cells) (inl none) = absurd cc
 no_more_cells left (width ∷ widths) (cell ∷ cells) (inr none) = absurd cc
 
--- The lines of concerns come after a heading.
-pub some_concerns : (lines : List ℕ) → (length lines == 0) ≡ false → concerns_text_of_page lines ≡ codes "concerns\n" ++ lines
-some_concerns [] some = absurd cc
-some_concerns (byte ∷ later) some = refl
+-- The cells of a row, with a space between each two.
+pub joined_cells : (row : List (String Global)) → join_by string_bytes (32 ∷ []) row ≡ join_with_byte 32 (cells_of_row row)
+joined_cells [] = refl
+joined_cells (cell ∷ row) = search (rules, joined_after, flat_map-map)

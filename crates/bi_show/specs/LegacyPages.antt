@@ -1,4 +1,4 @@
-use Rattle.std.specs.Prelude.{ℕ, ◌+◌, List, [], ◌∷◌, ◌++◌, codes, length}
+use Rattle.std.specs.Prelude.{ℕ, ◌+◌, List, [], ◌∷◌, codes, length}
 use Rattle.std.specs.Fmt.{decimal}
 use Rattle.bi_legacy.specs.Codes.{compression_names}
 use Rattle.bi_legacy.specs.Meaning.{LegacyImage}
@@ -11,35 +11,23 @@ use Rattle.bi_show.specs.Pages.{Table}
 
 -- The page of a legacy image (profile of this project).
 
--- The first rows: what the image is, and the size of its file. The cell of the time is given.
-abbrev pub legacy_first_rows : (file : List ℕ) → LegacyImage → (time : List ℕ) → Table
-legacy_first_rows file image time =
+-- The first table: what the image is, the size of its file, the codes and the addresses of its
+-- header, and the verdicts on its checksums. The cell of the time is given. Both verdicts are good,
+-- since an image with a wrong checksum is refused.
+abbrev pub legacy_head : (file : List ℕ) → LegacyImage → (time : List ℕ) → Table
+legacy_head file image time =
     (codes "kind" ∷ codes "legacy image" ∷ [])
     ∷ (codes "name" ∷ text_cell image.name ∷ [])
     ∷ (codes "date" ∷ time ∷ [])
-    ∷ (codes "size" ∷ size_cell (length file) ∷ []) ∷ []
-
--- The rows of the codes of the header.
-abbrev pub code_rows : LegacyImage → Table
-code_rows image =
-    (codes "type" ∷ code_word all_type_names image.image_type ∷ [])
+    ∷ (codes "size" ∷ size_cell (length file) ∷ [])
+    ∷ (codes "type" ∷ code_word all_type_names image.image_type ∷ [])
     ∷ (codes "os" ∷ code_word all_os_names image.os ∷ [])
     ∷ (codes "arch" ∷ code_word all_arch_names image.arch ∷ [])
-    ∷ (codes "compression" ∷ code_word compression_names image.compression ∷ []) ∷ []
-
--- The rows of its addresses and of the verdicts on its checksums. Both verdicts are good, since an
--- image with a wrong checksum is refused.
-abbrev pub legacy_last_rows : LegacyImage → Table
-legacy_last_rows image =
-    (codes "load" ∷ hexadecimal image.load ∷ [])
+    ∷ (codes "compression" ∷ code_word compression_names image.compression ∷ [])
+    ∷ (codes "load" ∷ hexadecimal image.load ∷ [])
     ∷ (codes "entry" ∷ hexadecimal image.entry ∷ [])
     ∷ (codes "header crc32" ∷ codes "good" ∷ [])
     ∷ (codes "data crc32" ∷ codes "good" ∷ []) ∷ []
-
--- The first table: all of these rows.
-abbrev pub legacy_head : (file : List ℕ) → LegacyImage → (time : List ℕ) → Table
-legacy_head file image time =
-    legacy_first_rows file image time ++ (code_rows image ++ legacy_last_rows image)
 
 -- The row of the part at this index.
 abbrev pub part_row : (index : ℕ) → PartModel → List (List ℕ)

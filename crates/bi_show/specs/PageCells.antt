@@ -6,7 +6,8 @@ use Rattle.std.specs.List.{ends_with, join_with_byte, list_all}
 use Rattle.bi_base.specs.Cells.{u32_at}
 use Rattle.bi_fit.specs.Judgement.{CheckedHash, listed_names}
 use Rattle.bi_common.specs.Shown.{shown_or_none, is_plain, shown_text}
-use Rattle.bi_common.specs.ValueTexts.{is_quotable, quoted_text, hexadecimal_digits, value_words}
+use Rattle.bi_common.specs.Json.{string_text}
+use Rattle.bi_common.specs.ValueTexts.{is_quotable, hexadecimal_digits, value_words}
 use Rattle.bi_report.specs.Reports.{verdict_word}
 use Rattle.bi_show.specs.Dates.{IsTimeText}
 use Rattle.bi_show.specs.declared.show.cells.CellForm.{CellForm}
@@ -43,7 +44,7 @@ is_word (byte ∷ later) = is_letter byte && list_all is_plain later
 -- name.
 abbrev pub text_cell : List ℕ → List ℕ
 text_cell text =
-    if not (is_word text) && is_quotable text then quoted_text text else shown_text text
+    if not (is_word text) && is_quotable text then string_text text else shown_text text
 
 -- Whether a value is a word and a zero.
 abbrev pub is_word_value : List ℕ → Bool
@@ -92,5 +93,5 @@ hash_word hash = shown_or_none hash.algo ++ 58 ∷ verdict_word hash.verdict
 
 -- The cell of the hash nodes of an image.
 abbrev pub hashes_cell : List CheckedHash → List ℕ
-hashes_cell [] = missing_cell
-hashes_cell (hash ∷ later) = join_with_byte 32 (map hash_word (hash ∷ later))
+hashes_cell hashes =
+    if length hashes == 0 then missing_cell else join_with_byte 32 (map hash_word hashes)

@@ -1,5 +1,5 @@
-use Rattle.std.specs.Prelude.{ℕ, ◌-◌, max, List, [], ◌∷◌, ◌++◌, codes, fold, length, map, flat_map}
-use Rattle.std.specs.Prelude.{replicate}
+use Rattle.std.specs.Prelude.{ℕ, ◌-◌, ◌==◌, max, List, [], ◌∷◌, ◌++◌, codes, fold, length, map}
+use Rattle.std.specs.Prelude.{flat_map, replicate, if◌then◌else◌}
 
 -- Pages for people: tables with aligned columns (profile of this project).
 
@@ -44,8 +44,8 @@ table_text table = []
 
 -- The last lines of a page: what `check` writes, below a heading, or that there are no concerns.
 abbrev pub concerns_text_of_page : (concerns : List ℕ) → List ℕ
-concerns_text_of_page [] = codes "no concerns\n"
-concerns_text_of_page (first ∷ later) = codes "concerns\n" ++ first ∷ later
+concerns_text_of_page concerns =
+    if length concerns == 0 then codes "no concerns\n" else codes "concerns\n" ++ concerns
 
 -- A page: its tables, and what `check` writes.
 abbrev pub page_text : List Table → (concerns : List ℕ) → List ℕ

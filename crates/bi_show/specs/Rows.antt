@@ -11,3 +11,7 @@ cells_of_row cells = map string_bytes cells
 -- The cells of rows.
 abbrev pub cells_of_rows : List (Vec (String Global) Global) → Table
 cells_of_rows rows = map (λ row. cells_of_row row.items) rows
+
+-- The cells of tables.
+abbrev pub cells_of_tables : List (Vec (Vec (String Global) Global) Global) → List Table
+cells_of_tables tables = map (λ table. cells_of_rows table.items) tables

@@ -3,6 +3,7 @@
 
 mod cells;
 pub mod codes;
+mod concerns;
 mod configurations;
 mod dates;
 mod fit;
@@ -18,27 +19,11 @@ ghost use Rattle.bi_report.specs.CheckedFiles.{IsCheckError};
 ghost use Rattle.bi_show.specs.ShownFiles.{IsPage, show_laws, show_promise};
 
 use bi_base::{Command, Error, Limits, Sink, pipe_to};
-use bi_common::format::Format;
 use bi_norm::BootImage;
-use bi_report::check::{Allowed, Checker};
 use fit::fit_page;
 use legacy::legacy_page;
 use std::alloc::Global;
 use std::io::{Read, Write};
-
-/// Checking without a kind of concern that is left out.
-const CHECKER: Checker = Checker {
-    allowed: Allowed {
-        bad_hash: false,
-        unhashed: false,
-        weak_hash: false,
-        bad_list: false,
-        missing: false,
-        bad_default: false,
-        trailing: false,
-    },
-    format: Format::Lines,
-};
 
 /// Returns the page of a boot image, for a person: what it is, its description, date and size; its
 /// images or parts, with the verdict on each hash; its configurations and signature nodes; if

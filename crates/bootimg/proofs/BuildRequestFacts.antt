@@ -11,7 +11,7 @@ use Rattle.bi_base.proofs.EqualBytes.{other_bytes}
 use Rattle.bi_blob.specs.Layout.{is_among}
 use Rattle.bi_blob.specs.Tree.{AreDistinct}
 use Rattle.bi_commands.specs.KnownChoices.{lent}
-use Rattle.bi_describe.specs.Differences.{words_of_line}
+use Rattle.bootimg.specs.KnownWords.{words_of_line}
 use Rattle.bi_fit.specs.Building.{ConfigurationSpecModel, IsConfigurationSpec, configuration_names}
 use Rattle.bi_fit.specs.Names.{key_name}
 use Rattle.bi_fit.specs.declared.key.Key.{Key}

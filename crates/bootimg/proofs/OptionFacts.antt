@@ -1,7 +1,7 @@
 use Rattle.std.proofs.Common.{◌≡◌, ◌∙◌, ℕ, List, [], Option, None, Some, map, unwrap_or, ap, refl, sym}
 use Rattle.std.specs.Prelude.{option_map}
 use Rattle.std.specs.Option.{option_map_or}
-use Rattle.bi_describe.specs.Differences.{words_of_line}
+use Rattle.bootimg.specs.KnownWords.{words_of_line}
 use Rattle.clap.specs.Faults.{fault_of}
 use Rattle.clap.specs.Matches.{found_of, matched_of, raw_values}
 use Rattle.clap.specs.Simple.{subcommand_of}

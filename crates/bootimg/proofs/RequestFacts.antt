@@ -11,7 +11,7 @@ use Rattle.bi_report.specs.declared.check.Allowed.{Allowed}
 use Rattle.bi_report.specs.declared.check.ConcernKind.{ConcernKind}
 use Rattle.bi_report.specs.declared.check.ConcernKind.TheVariants as kind
 use Rattle.bi_report.proofs.CleanLaws.NoLines.{any_is_found, passes_any}
-use Rattle.bi_describe.specs.Differences.{words_of_line}
+use Rattle.bootimg.specs.KnownWords.{words_of_line}
 use Rattle.bi_fit.specs.Names.{key_name}
 use Rattle.bi_base.specs.Aligns.{align_bytes}
 use Rattle.bi_base.proofs.AlignmentLaws.{alignment-positive}

@@ -16,7 +16,7 @@ use Rattle.bi_base.proofs.EqualBytes.{other_bytes}
 use Rattle.bi_commands.specs.KnownChoices.{lent}
 use Rattle.bi_commands.specs.declared.parts.Part.{Part}
 use Rattle.bi_commands.specs.declared.parts.Part.TheVariants.{Bytes, Length}
-use Rattle.bi_describe.specs.Differences.{words_of_line}
+use Rattle.bootimg.specs.KnownWords.{words_of_line}
 use Rattle.bi_files.specs.Files.{FileStep, KnownFiles, NotOpened, WasNotOpened, WasOpened, TookSteps, IsSaved, MayBeOpened, NameHas}
 use Rattle.bi_files.specs.KnownSteps.{AreSavingSteps}
 use Rattle.bi_files.proofs.StepFacts.{saved_in_steps}

@@ -1,7 +1,7 @@
 use Rattle.std.specs.Prelude.{◌≡◌, ℕ, true, false, List, [], ◌∷◌, Some, codes, map}
 use Rattle.std.specs.Prelude.{option_map, ◌++◌}
 use Rattle.bi_base.specs.Limits.{Limits}
-use Rattle.bi_describe.specs.Differences.{words_of_line}
+use Rattle.bootimg.specs.KnownWords.{words_of_line}
 use Rattle.bi_commands.specs.KnownChoices.{lent}
 use Rattle.bi_legacy.specs.KnownFaults.{limited_to}
 use Rattle.clap.specs.Faults.{fault_of}

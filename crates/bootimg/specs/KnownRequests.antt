@@ -3,7 +3,7 @@ use Rattle.std.specs.Prelude.{None, Some, codes}
 use Rattle.bi_common.specs.declared.format.Format.TheVariants.{Lines, Json}
 use Rattle.bi_report.specs.KnownConcerns.{allowed_words}
 use Rattle.bi_report.specs.declared.check.Allowed.{Allowed}
-use Rattle.bi_describe.specs.Differences.{words_of_line}
+use Rattle.bootimg.specs.KnownWords.{words_of_line}
 use Rattle.bi_commands.specs.KnownChoices.{lent}
 use Rattle.bi_base.specs.Aligns.{align_bytes}
 use Rattle.bi_fit.specs.declared.form.Form.{Form}

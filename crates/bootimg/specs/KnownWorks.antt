@@ -13,7 +13,7 @@ use Rattle.bi_commands.specs.declared.extract.Select.TheVariants as select
 use Rattle.bi_commands.specs.declared.parts.Part.{Part}
 use Rattle.bi_commands.specs.declared.parts.Part.TheVariants.{Bytes, Length}
 use Rattle.bi_common.specs.KnownWords.{lines}
-use Rattle.bi_describe.specs.Differences.{words_of_line}
+use Rattle.bootimg.specs.KnownWords.{words_of_line}
 use Rattle.bi_files.specs.declared.saving.SaveError.TheVariants as save
 use Rattle.bi_files.specs.Files.{FileStep, KnownFiles, NotOpened}
 use Rattle.bi_files.specs.KnownSteps.{AreSavingSteps}

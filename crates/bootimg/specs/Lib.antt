@@ -16,6 +16,7 @@ pub mod Selections
 pub mod Explanations
 pub mod ErrorLines
 pub mod LeftFiles
+pub mod KnownWords
 pub mod KnownArguments
 pub mod KnownRequests
 pub mod KnownBuildRequests

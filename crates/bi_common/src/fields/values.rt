@@ -2,7 +2,6 @@
 
 ghost use Rattle.std.specs.Prelude.{◌≡◌, ◌++◌, [], codes, false, flat_map};
 ghost use Rattle.std.specs.List.{join_with_byte};
-ghost use Rattle.bi_base.specs.Sinks.{Wrote};
 ghost use Rattle.bi_common.specs.DescribedValues.{end_texts, quoted_byte};
 ghost use Rattle.bi_common.specs.DescribedValues.{quoted_texts};
 ghost use Rattle.bi_common.specs.ValueTexts.{value_words, hexadecimal_digits};
@@ -10,21 +9,19 @@ ghost use Rattle.bi_common.specs.ValueTexts.{are_quotable_texts as are_texts};
 ghost use Rattle.bi_common.specs.ValueTexts.{is_printable as is_printable_byte};
 
 use super::put_digits;
-use bi_base::{Error, Sink};
+use bi_base::Pen;
 
-/// Appends the words for the value of a property, with a space between each two. Fails as the sink
-/// does.
-pub(super) fn put_value<S: Sink>(value: &[u8], sink: &mut S) -> Result<(), Error>
-    ensures { Wrote S.appends S.fails sink.old (join_with_byte 32 (value_words value.now)) result
-        sink.new }
+/// Puts the words for the value of a property, with a space between each two.
+pub(super) fn put_value<P: Pen>(value: &[u8], pen: &mut P)
+    ensures { P.puts pen.old (join_with_byte 32 (value_words value.now)) pen.new }
 {
     match value {
-        [] => Ok(()),
+        [] => {}
         [texts @ .., _] => {
             if are_quotable_texts(value) {
-                put_texts(texts, sink)
+                put_texts(texts, pen);
             } else {
-                put_bytes(value, sink)
+                put_bytes(value, pen);
             }
         }
     }
@@ -64,42 +61,39 @@ pub fn is_printable(byte: u8) -> bool
     (0x20..=0x7e).contains(&byte)
 }
 
-/// Appends texts in quotes, which have zeros between them. Fails as the sink does.
-fn put_texts<S: Sink>(texts: &[u8], sink: &mut S) -> Result<(), Error>
-    ensures { Wrote S.appends S.fails sink.old (quoted_texts texts.now) result sink.new }
+/// Puts texts in quotes, which have zeros between them.
+fn put_texts<P: Pen>(texts: &[u8], pen: &mut P)
+    ensures { P.puts pen.old (quoted_texts texts.now) pen.new }
 {
-    sink.put(b"\"")?;
-    put_quoted_bytes(texts, sink)?;
-    sink.put(b"\"")
+    pen.put(b"\"");
+    put_quoted_bytes(texts, pen);
+    pen.put(b"\"");
 }
 
-/// Appends the bytes of texts in quotes. Fails as the sink does.
-fn put_quoted_bytes<S: Sink>(texts: &[u8], sink: &mut S) -> Result<(), Error>
-    ensures { Wrote S.appends S.fails sink.old (flat_map quoted_byte texts.now) result sink.new }
+/// Puts the bytes of texts in quotes.
+fn put_quoted_bytes<P: Pen>(texts: &[u8], pen: &mut P)
+    ensures { P.puts pen.old (flat_map quoted_byte texts.now) pen.new }
 {
     for byte in texts {
-        put_quoted_byte(*byte, sink)?;
+        put_quoted_byte(*byte, pen);
     }
-    Ok(())
 }
 
-/// Appends a byte of texts in quotes. A zero ends a text and begins the next one. Fails as the sink
-/// does.
-fn put_quoted_byte<S: Sink>(byte: u8, sink: &mut S) -> Result<(), Error>
-    ensures { Wrote S.appends S.fails sink.old (quoted_byte byte) result sink.new }
+/// Puts a byte of texts in quotes. A zero ends a text and begins the next one.
+fn put_quoted_byte<P: Pen>(byte: u8, pen: &mut P)
+    ensures { P.puts pen.old (quoted_byte byte) pen.new }
 {
     match byte {
-        0 => sink.put(b"\" \""),
-        b'"' | b'\\' => sink.put(&[b'\\', byte]),
-        _ => sink.put(&[byte]),
+        0 => pen.put(b"\" \""),
+        b'"' | b'\\' => pen.put(&[b'\\', byte]),
+        _ => pen.put(&[byte]),
     }
 }
 
-/// Appends a value as `0x` and its digits. Fails as the sink does.
-pub fn put_bytes<S: Sink>(value: &[u8], sink: &mut S) -> Result<(), Error>
-    ensures { Wrote S.appends S.fails sink.old (codes "0x" ++ hexadecimal_digits value.now) result
-        sink.new }
+/// Puts a value as `0x` and its digits.
+pub fn put_bytes<P: Pen>(value: &[u8], pen: &mut P)
+    ensures { P.puts pen.old (codes "0x" ++ hexadecimal_digits value.now) pen.new }
 {
-    sink.put(b"0x")?;
-    put_digits(value, sink)
+    pen.put(b"0x");
+    put_digits(value, pen);
 }

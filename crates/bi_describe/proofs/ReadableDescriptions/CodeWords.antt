@@ -1,4 +1,5 @@
-use Rattle.std.proofs.Common.{◌≡◌, ℕ, ◌<◌, ◌^◌, ◌&&◌, Bool, true, false, not, eqb, leb, List, [], ◌∷◌, Some, unwrap_or, bytes_eq, refl, sym}
+use Rattle.std.proofs.Common.{◌≡◌, ℕ, ◌<◌, ◌^◌, ◌&&◌, Bool, true, false, cond, not, eqb, leb, List, [], ◌∷◌, Some, unwrap_or, bytes_eq}
+use Rattle.std.proofs.Common.{refl, sym}
 use Rattle.std.proofs.Common.{ap, subst, ◌∙◌, arith, rules}
 use Rattle.std.specs.Fmt.{decimal}
 use Rattle.std.specs.List.{list_all}
@@ -6,11 +7,10 @@ use Rattle.std.proofs.lemmas.Bool.{cond-true, cond-false, and_parts, not-true, l
 use Rattle.std.proofs.lemmas.Fmt.{decimal_injective}
 use Rattle.bi_base.proofs.EqualBytes.{other_bytes}
 use Rattle.bi_legacy.specs.Codes.{CodeName, name_of_code}
-use Rattle.bi_common.specs.CommonLines.{code_word}
-use Rattle.bi_common.proofs.ReadableWords.Cuts.{has_no_end}
+use Rattle.bi_common.specs.CommonLines.{code_word, named_field}
+use Rattle.bi_common.proofs.ReadableWords.Lines.{IsBareField}
+use Rattle.bi_common.proofs.ReadableWords.Numbers.{AreDigits, decimal_below}
 use Rattle.bi_common.proofs.ReadableWords.ShownNames.{is_blank}
-use Rattle.bi_common.proofs.ReadableWords.WordLines.{IsBare}
-use Rattle.bi_common.proofs.ReadableWords.Numbers.{AreDigits, decimal_above, decimal_below, above_bare}
 
 -- A code is read back from its word, since names of codes differ from each other and from numbers.
 
@@ -28,13 +28,13 @@ is_table (entry ∷ later) =
 
 -- What the test shows of the first name.
 record IsEntry (entry : CodeName) (later : List CodeName) : Type 0 where
-  bare : IsBare entry.name
+  bare : list_all (λ byte. not (is_blank byte)) entry.name ≡ true
   letter : begins_with_letter entry.name ≡ true
   differs : list_all (λ other. not (bytes_eq other.name entry.name)) later ≡ true
   rest : is_table later ≡ true
 
 entry_of : (entry : CodeName) (later : List CodeName) → is_table (entry ∷ later) ≡ true → IsEntry entry later
-entry_of entry later passes = search (rules, and_parts, has_no_end)
+entry_of entry later passes = search (rules, and_parts)
 
 -- The word of a code that the first name is of.
 word_here : (entry : CodeName) (later : List CodeName) (code : ℕ) → eqb entry.code code ≡ true → code_word (entry ∷ later) code ≡ entry.name
@@ -48,13 +48,14 @@ word_later entry later code other =
     ap (λ name. unwrap_or name (decimal code)) (cond-false (eqb entry.code code) (Some entry.name) (name_of_code later code) other)
 
 -- The word of a code has no blank.
-pub code_bare : (names : List CodeName) (code : ℕ) → is_table names ≡ true → IsBare (code_word names code)
-code_bare [] code passes = above_bare (decimal code) (decimal_above code)
-code_bare (entry ∷ later) code passes = where_code (eqb entry.code code) refl (code_bare later code (entry_of entry later passes).rest)
+pub code_bare : (names : List CodeName) (code : ℕ) → is_table names ≡ true → IsBareField (named_field (name_of_code names code) code)
+code_bare [] code passes = tt
+code_bare (entry ∷ later) code passes = by (eqb entry.code code) (code_bare later code (entry_of entry later passes).rest)
   where
-    where_code : (b : Bool) → eqb entry.code code ≡ b → IsBare (code_word later code) → IsBare (code_word (entry ∷ later) code)
-    where_code true is rest = subst IsBare (sym (word_here entry later code is)) (entry_of entry later passes).bare
-    where_code false other rest = subst IsBare (sym (word_later entry later code other)) rest
+    by : (b : Bool) → IsBareField (named_field (name_of_code later code) code) →
+        IsBareField (named_field (cond b (Some entry.name) (name_of_code later code)) code)
+    by true rest = (entry_of entry later passes).bare
+    by false rest = rest
 
 -- A word that begins with a letter is not a number.
 no_number : (word : List ℕ) → begins_with_letter word ≡ true → AreDigits word → ⊥

@@ -1,6 +1,5 @@
-use Rattle.std.proofs.Common.{◌≡◌, ◌≢◌, ℕ, ◌<◌, ◌^◌, Bool, true, false, cond, List, [], ◌∷◌, map, length, Option, Some, None, refl, sym, ap}
+use Rattle.std.proofs.Common.{◌≡◌, ◌≢◌, ℕ, Bool, true, false, List, [], ◌∷◌, map, Option, Some, None, refl, sym, ap}
 use Rattle.std.proofs.Common.{ap₂, subst, ◌∙◌, bytes_eq, true≢false}
-use Rattle.std.specs.Prelude.{IfSome}
 use Rattle.std.specs.Option.{option_map}
 use Rattle.std.specs.List.{AllByRecursion, AllZip}
 use Rattle.std.proofs.lemmas.Bool.{cond-true, cond-false}
@@ -11,7 +10,6 @@ use Rattle.bi_fit.specs.Names.{images_name}
 use Rattle.bi_fit.proofs.Meanings.{same_in_some}
 use Rattle.bi_describe.specs.Descriptions.{PayloadDigest, digest_of_payload, OfImage, DescribedNode, plain_node, described_images}
 use Rattle.bi_describe.specs.Descriptions.{described_children, described_nodes}
-use Rattle.bi_describe.proofs.ReadableDescriptions.NodeLines.{AreReadable}
 
 -- Nodes and the digests of payloads are read back from the nodes of a description.
 
@@ -164,41 +162,3 @@ same_described IsOwn (node name own children later) (node other_name other_own o
         (with_each plain_node other_children) also) in
         let rest = rest_agrees has have in
         (parts_same parts.names same_owns below rest.0, rest.1)
-
--- The length of a payload, if there is one, is a number of 64 bits.
-abbrev pub HasSize : Option (List ℕ) → Type 0
-HasSize payload = IfSome payload (λ bytes. length bytes < 2 ^ 64)
-
--- Nodes without payloads are readable.
-readable_plain : (IsOwn : PropertyMap → Type 0) (nodes : Nodes PropertyMap) → AreNodes IsOwn nodes →
-    AreReadable (with_each plain_node nodes)
-readable_plain IsOwn none are = tt
-readable_plain IsOwn (node name own children later) are =
-    (record { is_name = are.0.is_name; is_small = tt }, (readable_plain IsOwn children are.1, readable_plain IsOwn later are.2))
-
--- So are image nodes.
-readable_images : (IsOwn : PropertyMap → Type 0) (nodes : Nodes PropertyMap) (payloads : List (Option (List ℕ))) → AreNodes IsOwn nodes →
-    AllByRecursion HasSize payloads → AreReadable (described_images nodes payloads)
-readable_images IsOwn none payloads are sizes = tt
-readable_images IsOwn (node name own children later) [] are sizes = tt
-readable_images IsOwn (node name own children later) (None ∷ payloads) are sizes = (
-  record { is_name = are.0.is_name; is_small = tt },
-  (readable_plain IsOwn children are.1, readable_images IsOwn later payloads are.2 sizes.1),
-)
-readable_images IsOwn (node name own children later) (Some payload ∷ payloads) are sizes = (
-  record { is_name = are.0.is_name; is_small = sizes.0 },
-  (readable_plain IsOwn children are.1, readable_images IsOwn later payloads are.2 sizes.1),
-)
-
--- So are the nodes of a description.
-pub readable_nodes : (IsOwn : PropertyMap → Type 0) (nodes : Nodes PropertyMap) (payloads : List (Option (List ℕ))) → AreNodes IsOwn nodes →
-    AllByRecursion HasSize payloads → AreReadable (described_nodes nodes payloads)
-readable_nodes IsOwn none payloads are sizes = tt
-readable_nodes IsOwn (node name own children later) payloads are sizes = (
-  record { is_name = are.0.is_name; is_small = tt },
-  (where_images (bytes_eq name images_name), readable_nodes IsOwn later payloads are.2 sizes),
-)
-  where
-    where_images : (b : Bool) → AreReadable (cond b (described_images children payloads) (with_each plain_node children))
-    where_images true = readable_images IsOwn children payloads are.1 sizes
-    where_images false = readable_plain IsOwn children are.1

@@ -3,8 +3,8 @@ use Rattle.std.specs.List.{AllByRecursion, flat_map}
 use Rattle.bi_blob.specs.Tree.{IsChildName}
 use Rattle.bi_common.specs.Shown.{shown_text}
 use Rattle.bi_common.specs.Shown.{path}
-use Rattle.bi_common.proofs.ReadableWords.Cuts.{HasNoEnd, Ends, cut_agrees, goes_on-append, nothing_before, later_same}
-use Rattle.bi_common.proofs.ReadableWords.ShownNames.{is_blank, is_slash, same_shown, shown_no_blank, shown_no_slash, some_shown}
+use Rattle.bi_common.proofs.ReadableWords.Cuts.{Ends, cut_agrees, nothing_before, later_same}
+use Rattle.bi_common.proofs.ReadableWords.ShownNames.{is_slash, same_shown, shown_no_slash, some_shown}
 
 -- The names on the way to a node are read back from its path.
 
@@ -41,12 +41,3 @@ same_path [] [] are also same = refl
 same_path [] (b ∷ other) are also same = absurd (not_root b other same)
 same_path (a ∷ one) [] are also same = absurd (not_root a one (sym same))
 same_path (a ∷ one) (b ∷ other) are also same = same_steps (a ∷ one) (b ∷ other) are also same
-
--- A path has no blank.
-pub path_no_blank : (names : List (List ℕ)) → HasNoEnd is_blank (path names)
-path_no_blank [] = (refl, tt)
-path_no_blank (name ∷ names) = where_steps (name ∷ names)
-  where
-    where_steps : (names : List (List ℕ)) → HasNoEnd is_blank (steps names)
-    where_steps [] = tt
-    where_steps (name ∷ names) = (refl, goes_on-append is_blank (shown_text name) (steps names) (shown_no_blank name) (where_steps names))

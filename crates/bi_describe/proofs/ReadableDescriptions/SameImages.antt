@@ -1,87 +1,119 @@
-use Rattle.std.proofs.Common.{◌≡◌, ℕ, ◌+◌, ◌<◌, ◌^◌, List, [], ◌∷◌, ◌++◌, map, length, refl, ap, ap₂, arith, rules}
+use Rattle.std.proofs.Common.{◌≡◌, ℕ, zero, suc, ◌+◌, ◌<◌, ◌^◌, List, [], ◌∷◌, ◌++◌, Option, None, Some, length, map, flat_map, refl, sym}
+use Rattle.std.proofs.Common.{ap, ap₂, ◌∙◌, arith}
+use Rattle.std.specs.Prelude.{unwrap_or}
+use Rattle.std.specs.Fmt.{decimal}
 use Rattle.std.specs.List.{AllByRecursion}
-use Rattle.std.proofs.lemmas.Bool.{MatchBool-at_true, MatchBool-at_false}
 use Rattle.std.proofs.lemmas.Fmt.{decimal_injective}
-use Rattle.std.proofs.lemmas.List.{length-append}
-use Rattle.bi_legacy.specs.Codes.{os_names, arch_names, type_names, compression_names}
-use Rattle.bi_legacy.specs.File.{IsLegacyFile}
+use Rattle.bi_legacy.specs.Codes.{CodeName, os_names, arch_names, type_names, compression_names, name_of_code}
 use Rattle.bi_legacy.specs.Meaning.{LegacyImage}
-use Rattle.bi_legacy.specs.Parts.{ArePaddedParts, HoldsParts}
+use Rattle.bi_legacy.specs.Text.{IsLegacyImage}
+use Rattle.bi_common.specs.CommonLines.{code_word, named_field}
+use Rattle.bi_common.specs.Lines.{Line, field_texts}
 use Rattle.bi_common.specs.Shown.{Words}
-use Rattle.bi_common.specs.CommonLines.{code_words, field_words}
-use Rattle.bi_common.proofs.ReadableWords.ShownNames.{same_shown}
+use Rattle.bi_common.proofs.JsonSizes.{part_sizes_small}
 use Rattle.bi_common.proofs.ReadableWords.Cuts.{first_same, later_same}
+use Rattle.bi_common.proofs.ReadableWords.Lines.{CanReadLine}
 use Rattle.bi_common.proofs.ReadableWords.Numbers.{same_hexadecimal}
+use Rattle.bi_common.proofs.ReadableWords.ShownNames.{same_shown}
 use Rattle.bi_describe.specs.DescriptionLaws.{AreSimilarImages}
-use Rattle.bi_describe.specs.Descriptions.{PayloadDigest, digest_of_payload, part_words, legacy_lines}
-use Rattle.bi_describe.proofs.ReadableDescriptions.OwnLines.{same_digest}
-use Rattle.bi_describe.proofs.ReadableDescriptions.CodeWords.{same_code}
+use Rattle.bi_describe.specs.Descriptions.{PayloadDigest, digest_of_payload, legacy_lines, part_lines}
+use Rattle.bi_describe.proofs.ReadableDescriptions.CodeWords.{code_bare, same_code}
+use Rattle.bi_describe.proofs.ReadableDescriptions.Items.{same_digest}
 
--- Legacy images whose lines are the same are similar.
+-- Legacy images whose lines have the same words are similar.
 
--- A line of two words with a label, and the lines after it.
-label_agrees : {label a b : List ℕ} {xs ys : List Words} → (label ∷ a ∷ []) ∷ xs ≡ (label ∷ b ∷ []) ∷ ys → (a ≡ b) × (xs ≡ ys)
-label_agrees same = (first_same (later_same (first_same same)), later_same same)
+-- ---- the words can be read back from the text
 
--- The size of a part is a number of 64 bits.
-abbrev pub HasSmallSize : PayloadDigest → Type 0
-HasSmallSize digest = digest.size < 2 ^ 64
+parts_can : (index : ℕ) (parts : List PayloadDigest) → AllByRecursion CanReadLine (part_lines index parts)
+parts_can index [] = tt
+parts_can index (part ∷ later) = ((refl, (tt, (refl, (tt, (refl, (tt, tt)))))), parts_can (index + 1) later)
 
--- Parts are read back from their lines.
-parts_agree : (index : ℕ) (one other : List PayloadDigest) → AllByRecursion HasSmallSize one → AllByRecursion HasSmallSize other →
-    part_words index one ≡ part_words index other → one ≡ other
+pub legacy_lines_can : (image : LegacyImage) → AllByRecursion CanReadLine (legacy_lines image)
+legacy_lines_can image = (
+  (refl, (refl, tt)),
+  (
+    (refl, (tt, tt)),
+    (
+      (refl, (tt, tt)),
+      (
+        (refl, (tt, tt)),
+        (
+          (refl, (tt, tt)),
+          (
+            (refl, (code_bare os_names image.os refl, tt)),
+            (
+              (refl, (code_bare arch_names image.arch refl, tt)),
+              (
+                (refl, (code_bare type_names image.image_type refl, tt)),
+                (
+                  (refl, (code_bare compression_names image.compression refl, tt)),
+                  parts_can 0 (map digest_of_payload image.parts),
+                ),
+              ),
+            ),
+          ),
+        ),
+      ),
+    ),
+  ),
+)
+
+-- ---- reading
+
+abbrev words_of : List Line → List Words
+words_of lines = map (flat_map field_texts) lines
+
+abbrev lines_from : ℕ → List Words → List Words
+lines_from zero lines = lines
+lines_from (suc index) [] = []
+lines_from (suc index) (words ∷ later) = lines_from index later
+
+-- The word of a code.
+word_is : (name : Option (List ℕ)) (code : ℕ) → field_texts (named_field name code) ++ [] ≡ unwrap_or name (decimal code) ∷ []
+word_is None code = refl
+word_is (Some name) code = refl
+
+codes_same : (names : List CodeName) (m n : ℕ) →
+    field_texts (named_field (name_of_code names m) m) ++ [] ≡ field_texts (named_field (name_of_code names n) n) ++ [] →
+    code_word names m ≡ code_word names n
+codes_same names m n same =
+    first_same (sym (word_is (name_of_code names m) m) ∙ same ∙ word_is (name_of_code names n) n)
+
+-- The words of a line after the first.
+abbrev later_words : ℕ → List Words → Words
+later_words index [] = []
+later_words zero ((first ∷ words) ∷ later) = words
+later_words zero (words ∷ later) = []
+later_words (suc index) (words ∷ later) = later_words index later
+
+parts_agree : (index : ℕ) (one other : List (List ℕ)) → AllByRecursion (λ (part : List ℕ). length part < 2 ^ 64) one →
+    AllByRecursion (λ (part : List ℕ). length part < 2 ^ 64) other →
+    words_of (part_lines index (map digest_of_payload one)) ≡ words_of (part_lines index (map digest_of_payload other)) →
+    map digest_of_payload one ≡ map digest_of_payload other
 parts_agree index [] [] small also same = refl
 parts_agree index [] (b ∷ other) small also same = absurd cc
 parts_agree index (a ∷ one) [] small also same = absurd cc
 parts_agree index (a ∷ one) (b ∷ other) small also same =
-    let words = later_same (later_same (first_same same)) in
-    ap₂ (λ digest later. digest ∷ later) (same_digest a b small.0 also.0 words)
+    ap₂ (λ (digest : PayloadDigest) later. digest ∷ later)
+    (same_digest (digest_of_payload a) (digest_of_payload b) small.0 also.0 (later_same (later_same (first_same same))))
     (parts_agree (index + 1) one other small.1 also.1 (later_same same))
 
--- Parts one after the other in few bytes are short.
-padded_small : (parts : List (List ℕ)) (bytes : List ℕ) → ArePaddedParts parts bytes → length bytes < 2 ^ 32 →
-    AllByRecursion HasSmallSize (map digest_of_payload parts)
-padded_small [] bytes are small = tt
-padded_small (part ∷ []) bytes are small = (omega (arith, small, ap length are.1, length-append part are.0), tt)
-padded_small (part ∷ next ∷ later) bytes are small = (
-  omega (arith, small, ap length are.2, length-append part (are.0 ++ are.1)),
-  padded_small (next ∷ later) are.1 are.4
-      (omega (arith, small, ap length are.2, length-append part (are.0 ++ are.1), length-append are.0 are.1)),
-)
-
--- The parts of an image are short.
-pub parts_small : (image_type : ℕ) (body : List ℕ) (parts : List (List ℕ)) → HoldsParts image_type body parts → length body < 2 ^ 32 →
-    AllByRecursion HasSmallSize (map digest_of_payload parts)
-parts_small image_type body parts holds small = search (rules, MatchBool-at_true, padded_small, length-append, MatchBool-at_false)
-
--- Legacy images with the same lines are similar.
-pub similar_images : (file other_file : List ℕ) (one other : LegacyImage) → IsLegacyFile file one → IsLegacyFile other_file other →
-    legacy_lines one ≡ legacy_lines other → AreSimilarImages one other
-similar_images file other_file one other is also same =
-    let kind : field_words one ++ (code_words one ++ part_words 0 (map digest_of_payload one.parts))
-    ≡ field_words other ++ (code_words other ++ part_words 0 (map digest_of_payload other.parts)) = later_same same in
-    let name = label_agrees kind in
-    let time = label_agrees name.1 in
-    let load = label_agrees time.1 in
-    let entry = label_agrees load.1 in
-    let os = label_agrees entry.1 in
-    let arch = label_agrees os.1 in
-    let of_type = label_agrees arch.1 in
-    let compression = label_agrees of_type.1 in
-    record {
-      name = same_shown one.name other.name name.0;
-      time = decimal_injective one.time other.time (wider is.ranges.time) (wider also.ranges.time) time.0;
-      load = same_hexadecimal one.load other.load is.ranges.load also.ranges.load load.0;
-      entry = same_hexadecimal one.entry other.entry is.ranges.entry also.ranges.entry entry.0;
-      os = same_code os_names one.os other.os refl is.ranges.os also.ranges.os os.0;
-      arch = same_code arch_names one.arch other.arch refl is.ranges.arch also.ranges.arch arch.0;
-      image_type = same_code type_names one.image_type other.image_type refl is.ranges.image_type also.ranges.image_type of_type.0;
-      compression =
-          same_code compression_names one.compression other.compression refl is.ranges.compression also.ranges.compression compression.0;
-      parts = parts_agree 0 (map digest_of_payload one.parts) (map digest_of_payload other.parts)
-          (parts_small one.image_type is.body one.parts is.parts is.size)
-          (parts_small other.image_type also.body other.parts also.parts also.size) compression.1;
-    }
+pub similar_images : (one other : LegacyImage) → IsLegacyImage one → IsLegacyImage other → words_of (legacy_lines one)
+    ≡ words_of (legacy_lines other) → AreSimilarImages one other
+similar_images one other is also same = record {
+  name = same_shown one.name other.name (first_same (ap (later_words 1) same));
+  time = decimal_injective one.time other.time (wider is.ranges.time) (wider also.ranges.time) (first_same (ap (later_words 2) same));
+  load = same_hexadecimal one.load other.load is.ranges.load also.ranges.load (first_same (ap (later_words 3) same));
+  entry = same_hexadecimal one.entry other.entry is.ranges.entry also.ranges.entry (first_same (ap (later_words 4) same));
+  os = same_code os_names one.os other.os refl is.ranges.os also.ranges.os (codes_same os_names one.os other.os (ap (later_words 5) same));
+  arch = same_code arch_names one.arch other.arch refl is.ranges.arch also.ranges.arch
+      (codes_same arch_names one.arch other.arch (ap (later_words 6) same));
+  image_type = same_code type_names one.image_type other.image_type refl is.ranges.image_type also.ranges.image_type
+      (codes_same type_names one.image_type other.image_type (ap (later_words 7) same));
+  compression = same_code compression_names one.compression other.compression refl is.ranges.compression also.ranges.compression
+      (codes_same compression_names one.compression other.compression (ap (later_words 8) same));
+  parts = parts_agree 0 one.parts other.parts (part_sizes_small one is) (part_sizes_small other also) (ap (lines_from 9) same);
+}
   where
     wider : {n : ℕ} → n < 2 ^ 32 → n < 2 ^ 64
     wider small = omega (arith, small)

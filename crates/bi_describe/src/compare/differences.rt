@@ -1,240 +1,198 @@
 //! The differences of two lists of lines.
 
-ghost use Rattle.std.specs.Prelude.{◌≡◌, ◌++◌, ◌∷◌, ◌&&◌, ◌||◌, [], List, ℕ, Some, IfOk, OnOk};
-ghost use Rattle.std.specs.Prelude.{map, flat_map, max, string_bytes, bytes_eq, not};
-ghost use Rattle.std.specs.Prelude.{if◌then◌else◌};
-ghost use Rattle.std.specs.List.{list_any};
-ghost use Rattle.std.specs.Option.{option_map};
+ghost use Rattle.std.specs.Prelude.{◌≡◌, ◌++◌, ◌∷◌, [], IfOk, OnOk, ℕ, List, flat_map};
 ghost use Rattle.bi_describe.specs.Differences.{differences as differences_of};
-ghost use Rattle.bi_describe.specs.Differences.{first_words as words_of, key_of_line as key_of};
-ghost use Rattle.bi_describe.specs.Differences.{is_found};
-ghost use Rattle.bi_describe.specs.LineSets.{IsSetOf, HasNewLines, set_has, line_at};
-ghost use Rattle.bi_describe.specs.LineSets.{counterpart_in, removed_lines, added_lines};
+ghost use Rattle.bi_describe.specs.Differences.{lines_only_in as only_in};
+ghost use Rattle.bi_describe.specs.Differences.{signed_lines as signed_lines_of};
+ghost use Rattle.bi_describe.specs.Differences.{added_lines, is_counterpart_by, only_line};
+ghost use Rattle.bi_describe.specs.Differences.{removed_lines};
+ghost use Rattle.bi_describe.specs.LineSets.{HasLineTexts, HasKeys, HasFirst, set_has, text_at};
+ghost use Rattle.bi_describe.specs.MadeLines.{compared_line, compared_lines, made_line};
+ghost use Rattle.bi_describe.specs.MadeLines.{made_lines};
 
+use super::signed_lines::{ComparedLine, Sign, SignedLine};
 use std::alloc::{AllocError, Global};
 use std::collections::{BTreeMap, BTreeSet};
 
 /// Returns the differences of two lists of lines.
 ///
 /// Fails only if memory runs out.
-pub(super) fn differences(alloc: Global, one: &[&str], other: &[&str]) -> Result<String, AllocError>
-    ensures { IfOk result (λ text. string_bytes text
-        ≡ differences_of (map (λ line. line.now) one.now) (map (λ line. line.now) other.now)) }
-{
-    let lines = set_of(alloc, one)?;
-    let other_lines = set_of(alloc, other)?;
-    let counterparts = new_lines_by_key(alloc, other, &lines)?;
-    let written = counterparts_of(alloc, one, &other_lines, &counterparts)?;
-    let mut text = String::new(alloc);
-    put_removed(&mut text, one, &other_lines, &counterparts)?;
-    put_added(&mut text, other, &lines, &written)?;
-    Ok(text)
-}
-
-/// Returns the set of these lines.
-fn set_of<'a>(alloc: Global, lines: &[&'a str]) -> Result<BTreeSet<&'a str>, AllocError>
-    ensures { IfOk result (IsSetOf (map (λ line. line.now) lines.now)) }
-{
-    let mut set = BTreeSet::new(alloc);
-    for line in lines {
-        set.insert(*line)?;
-    }
-    Ok(set)
-}
-
-/// Returns the first of these lines for each key, but those that are in the set.
-fn new_lines_by_key<'a>(
+pub(super) fn differences<'a>(
     alloc: Global,
-    lines: &[&'a str],
-    others: &BTreeSet<&str>,
-) -> Result<BTreeMap<&'a [u8], &'a str>, AllocError>
-    ensures { IfOk result (HasNewLines others.now (map (λ line. line.now) lines.now)) }
+    one: &[ComparedLine<'a>],
+    other: &[ComparedLine<'a>],
+) -> Result<Vec<SignedLine<'a>>, AllocError>
+    ensures { IfOk result (λ lines. made_lines lines.items
+        ≡ differences_of (compared_lines one.now) (compared_lines other.now)) }
 {
-    let mut new_lines = BTreeMap::new(alloc);
+    let removed = lines_only_in(alloc, one, other)?;
+    let added = lines_only_in(alloc, other, one)?;
+    signed_lines(alloc, &removed, &added)
+}
+
+/// Returns the lines of the first list that are not in the second one.
+fn lines_only_in<'a>(
+    alloc: Global,
+    lines: &[ComparedLine<'a>],
+    others: &[ComparedLine],
+) -> Result<Vec<ComparedLine<'a>>, AllocError>
+    ensures { IfOk result (λ only. compared_lines only.items
+        ≡ only_in (compared_lines lines.now) (compared_lines others.now)) }
+{
+    let texts = texts_of(alloc, others)?;
+    let mut only = Vec::new(alloc);
+    for line in lines {
+        push_only(&mut only, line, &texts)?;
+    }
+    Ok(only)
+}
+
+/// Appends a line, if its text is not one of these.
+fn push_only<'a>(
+    lines: &mut Vec<ComparedLine<'a>>,
+    line: &ComparedLine<'a>,
+    texts: &BTreeSet<&str>,
+) -> Result<(), AllocError>
+    ensures { OnOk result (compared_lines lines.new.items ≡ compared_lines lines.old.items
+        ++ only_line (set_has texts.now) (compared_line line.now)) }
+{
+    if !texts.contains(line.text) {
+        lines.push(*line)?;
+    }
+    Ok(())
+}
+
+/// Returns the texts of these lines.
+fn texts_of<'a>(alloc: Global, lines: &[ComparedLine<'a>]) -> Result<BTreeSet<&'a str>, AllocError>
+    ensures { IfOk result (HasLineTexts (compared_lines lines.now)) }
+{
+    let mut texts = BTreeSet::new(alloc);
+    for line in lines {
+        texts.insert(line.text)?;
+    }
+    Ok(texts)
+}
+
+/// Returns the keys of these lines.
+fn keys_of<'a>(alloc: Global, lines: &[ComparedLine<'a>]) -> Result<BTreeSet<&'a str>, AllocError>
+    ensures { IfOk result (HasKeys (compared_lines lines.now)) }
+{
+    let mut keys = BTreeSet::new(alloc);
+    for line in lines {
+        keys.insert(line.key)?;
+    }
+    Ok(keys)
+}
+
+/// Returns the text of the first of these lines for each key.
+fn first_by_key<'a>(
+    alloc: Global,
+    lines: &[ComparedLine<'a>],
+) -> Result<BTreeMap<&'a str, &'a str>, AllocError>
+    ensures { IfOk result (HasFirst (compared_lines lines.now)) }
+{
+    let mut first = BTreeMap::new(alloc);
     // The first line of a key is inserted last, so it stays.
     for index in (0..lines.len()).rev() {
-        insert_new(&mut new_lines, lines[index], others)?;
+        first.insert(lines[index].key, lines[index].text)?;
     }
-    Ok(new_lines)
+    Ok(first)
 }
-
-/// Inserts a line at its key, in place of a line there, but not one that is in the set.
-fn insert_new<'a>(
-    new_lines: &mut BTreeMap<&'a [u8], &'a str>,
-    line: &'a str,
-    others: &BTreeSet<&str>,
-) -> Result<(), AllocError>
-    ensures { OnOk result ((key : List ℕ) → line_at new_lines.new key
-        ≡ (if bytes_eq (key_of line.now) key && not (set_has others.now line.now)
-        then Some line.now else line_at new_lines.old key)) }
-{
-    if !others.contains(line) {
-        new_lines.insert(key_of_line(line), line)?;
-    }
-    Ok(())
-}
-
-/// Returns the counterparts of these lines.
-fn counterparts_of<'a>(
+/// Returns the lines that were removed, each with its counterpart, and then the lines that were
+/// added without the counterparts.
+fn signed_lines<'a>(
     alloc: Global,
-    lines: &[&str],
-    others: &BTreeSet<&str>,
-    counterparts: &BTreeMap<&'a [u8], &'a str>,
-) -> Result<BTreeSet<&'a str>, AllocError>
-    ensures { IfOk result (λ set. (found : List ℕ) → set_has set found ≡ list_any
-        (λ line. is_found (counterpart_in others.now counterparts.now line.now) found) lines.now) }
+    removed: &[ComparedLine<'a>],
+    added: &[ComparedLine<'a>],
+) -> Result<Vec<SignedLine<'a>>, AllocError>
+    ensures { IfOk result (λ lines. made_lines lines.items
+        ≡ signed_lines_of (compared_lines removed.now) (compared_lines added.now)) }
 {
-    let mut set = BTreeSet::new(alloc);
-    for line in lines {
-        insert_counterpart(&mut set, line, others, counterparts)?;
-    }
-    Ok(set)
+    let first = first_by_key(alloc, added)?;
+    let keys = keys_of(alloc, removed)?;
+    let mut lines = Vec::new(alloc);
+    push_removed(&mut lines, removed, &first)?;
+    push_added(&mut lines, added, &first, &keys)?;
+    Ok(lines)
 }
 
-/// Inserts the counterpart of a line, if it has one.
-fn insert_counterpart<'a>(
-    set: &mut BTreeSet<&'a str>,
-    line: &str,
-    others: &BTreeSet<&str>,
-    counterparts: &BTreeMap<&'a [u8], &'a str>,
+/// Appends the lines that were removed, each with its counterpart.
+fn push_removed<'a>(
+    lines: &mut Vec<SignedLine<'a>>,
+    removed: &[ComparedLine<'a>],
+    first: &BTreeMap<&str, &'a str>,
 ) -> Result<(), AllocError>
-    ensures { OnOk result ((found : List ℕ) → set_has set.new found ≡ (set_has set.old found
-        || is_found (counterpart_in others.now counterparts.now line.now) found)) }
+    ensures { OnOk result (made_lines lines.new.items ≡ made_lines lines.old.items
+        ++ flat_map (removed_lines (text_at first.now)) (compared_lines removed.now)) }
 {
-    match counterpart(line, others, counterparts) {
-        Some(found) => {
-            set.insert(found)?;
-            Ok(())
-        }
-        None => Ok(()),
-    }
-}
-
-/// Returns the counterpart of a line, if it has one.
-fn counterpart<'a>(
-    line: &str,
-    others: &BTreeSet<&str>,
-    counterparts: &BTreeMap<&'a [u8], &'a str>,
-) -> Option<&'a str>
-    ensures { option_map (λ found. found.now) result
-        ≡ counterpart_in others.now counterparts.now line.now }
-{
-    if others.contains(line) {
-        return None;
-    }
-    counterparts.get(key_of_line(line)).copied()
-}
-
-/// Appends the lines of the first list that are not in the second one, each with its counterpart.
-fn put_removed(
-    text: &mut String,
-    lines: &[&str],
-    others: &BTreeSet<&str>,
-    counterparts: &BTreeMap<&[u8], &str>,
-) -> Result<(), AllocError>
-    ensures { OnOk result (string_bytes text.new ≡ string_bytes text.old
-        ++ flat_map (λ line. removed_lines others.now counterparts.now line.now) lines.now) }
-{
-    for line in lines {
-        put_removed_line(text, line, others, counterparts)?;
+    for line in removed {
+        push_removed_line(lines, line, first)?;
     }
     Ok(())
 }
 
-/// Appends a line of the first list with its counterpart, if it is not in the second list.
-fn put_removed_line(
-    text: &mut String,
-    line: &str,
-    others: &BTreeSet<&str>,
-    counterparts: &BTreeMap<&[u8], &str>,
+/// Appends a line that was removed, with its counterpart.
+fn push_removed_line<'a>(
+    lines: &mut Vec<SignedLine<'a>>,
+    line: &ComparedLine<'a>,
+    first: &BTreeMap<&str, &'a str>,
 ) -> Result<(), AllocError>
-    ensures { OnOk result (string_bytes text.new ≡ string_bytes text.old
-        ++ removed_lines others.now counterparts.now line.now) }
+    ensures { OnOk result (made_lines lines.new.items ≡ made_lines lines.old.items
+        ++ removed_lines (text_at first.now) (compared_line line.now)) }
 {
-    if others.contains(line) {
-        return Ok(());
-    }
-    put_line(text, "-", line)?;
-    match counterparts.get(key_of_line(line)) {
-        Some(found) => put_line(text, "+", found),
+    push(lines, Sign::Removed, line.text)?;
+    match first.get(line.key) {
+        Some(text) => push(lines, Sign::Added, text),
         None => Ok(()),
     }
 }
 
-/// Appends the lines of the second list that are not in the first one and were not written yet.
-fn put_added(
-    text: &mut String,
-    lines: &[&str],
-    others: &BTreeSet<&str>,
-    written: &BTreeSet<&str>,
+/// Appends the lines that were added, but the counterparts.
+fn push_added<'a>(
+    lines: &mut Vec<SignedLine<'a>>,
+    added: &[ComparedLine<'a>],
+    first: &BTreeMap<&str, &str>,
+    keys: &BTreeSet<&str>,
 ) -> Result<(), AllocError>
-    ensures { OnOk result (string_bytes text.new ≡ string_bytes text.old
-        ++ flat_map (λ line. added_lines others.now written.now line.now) lines.now) }
+    ensures { OnOk result (made_lines lines.new.items ≡ made_lines lines.old.items
+        ++ flat_map (added_lines (set_has keys.now) (text_at first.now))
+        (compared_lines added.now)) }
 {
-    for line in lines {
-        put_added_line(text, line, others, written)?;
+    for line in added {
+        push_added_line(lines, line, first, keys)?;
     }
     Ok(())
 }
 
-/// Appends a line of the second list, if it is not in the first one and was not written yet.
-fn put_added_line(
-    text: &mut String,
-    line: &str,
-    others: &BTreeSet<&str>,
-    written: &BTreeSet<&str>,
+/// Appends a line that was added, if it is not a counterpart.
+fn push_added_line<'a>(
+    lines: &mut Vec<SignedLine<'a>>,
+    line: &ComparedLine<'a>,
+    first: &BTreeMap<&str, &str>,
+    keys: &BTreeSet<&str>,
 ) -> Result<(), AllocError>
-    ensures { OnOk result (string_bytes text.new ≡ string_bytes text.old
-        ++ added_lines others.now written.now line.now) }
+    ensures { OnOk result (made_lines lines.new.items ≡ made_lines lines.old.items
+        ++ added_lines (set_has keys.now) (text_at first.now) (compared_line line.now)) }
 {
-    if others.contains(line) || written.contains(line) {
+    if is_counterpart(line, first, keys) {
         return Ok(());
     }
-    put_line(text, "+", line)
+    push(lines, Sign::Added, line.text)
 }
 
-/// Appends a line with a sign before it.
-fn put_line(text: &mut String, sign: &str, line: &str) -> Result<(), AllocError>
-    ensures { OnOk result (string_bytes text.new ≡ string_bytes text.old
-        ++ (sign.now ++ (line.now ++ 10 ∷ []))) }
+/// Appends a line with a sign.
+fn push<'a>(lines: &mut Vec<SignedLine<'a>>, sign: Sign, text: &'a str) -> Result<(), AllocError>
+    ensures { OnOk result (made_lines lines.new.items ≡ made_lines lines.old.items
+        ++ record { sign = sign; text = text.entry.now } ∷ []) }
 {
-    text.push_str(sign)?;
-    text.push_str(line)?;
-    text.push('\n')
+    lines.push(SignedLine { sign, text })?;
+    Ok(())
 }
 
-/// Returns the key of a line, which names what the line is about.
-fn key_of_line(line: &str) -> &[u8]
-    ensures { result.now ≡ key_of line.entry.now }
+/// Returns whether a line that was added is the counterpart of one that was removed.
+fn is_counterpart(line: &ComparedLine, first: &BTreeMap<&str, &str>, keys: &BTreeSet<&str>) -> bool
+    ensures { result ≡ is_counterpart_by (set_has keys.now) (text_at first.now)
+        (compared_line line.now) }
 {
-    let bytes = line.as_bytes();
-    if bytes.starts_with(b"property ") {
-        return first_words(bytes, 3);
-    }
-    if bytes.starts_with(b"node ")
-        || bytes.starts_with(b"payload ")
-        || bytes.starts_with(b"part ")
-    {
-        return first_words(bytes, 2);
-    }
-    if bytes.starts_with(b"reservation ") {
-        return bytes;
-    }
-    first_words(bytes, 1)
-}
-
-/// Returns the first words of a line, at least one, with the spaces between them.
-fn first_words(line: &[u8], count: usize) -> &[u8]
-    ensures { result.now ≡ words_of (max count 1) line.entry.now }
-{
-    let mut left = count;
-    for (index, byte) in line.iter().enumerate() {
-        if *byte == b' ' {
-            if left <= 1 {
-                return &line[..index];
-            }
-            left -= 1;
-        }
-    }
-    line
+    keys.contains(line.key) && first.get(line.key).copied() == Some(line.text)
 }

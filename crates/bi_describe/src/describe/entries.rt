@@ -12,10 +12,14 @@ pub(super) struct PayloadDigest {
 pub(super) enum Entry<'a> {
     /// A node of this name begins.
     Begin(&'a [u8]),
-    /// The innermost open node ends.
-    End,
     /// The payload of the innermost open node, an image node, if it has one.
     Payload(Option<PayloadDigest>),
+    /// The properties of the innermost open node begin.
+    Properties,
     /// A property of the innermost open node.
     Property { name: &'a [u8], value: &'a [u8] },
+    /// The properties of the innermost open node end, and its children begin.
+    Children,
+    /// The innermost open node ends.
+    End,
 }

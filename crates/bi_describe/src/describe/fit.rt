@@ -1,97 +1,99 @@
 //! The description of a flattened image tree.
 
-ghost use Rattle.std.specs.Prelude.{◌≡◌, ◌≤◌, OnOk, IfErr, flat_map, length, map};
-ghost use Rattle.bi_base.specs.Commands.{Appended, AppendFailed};
-ghost use Rattle.bi_base.specs.Sinks.{Wrote};
+ghost use Rattle.std.specs.Prelude.{◌≡◌, ◌≤◌, IfOk, IfErr, OnOk, length, map};
 ghost use Rattle.bi_fit.specs.Content.{IsHeld, tree_of};
 ghost use Rattle.bi_norm.specs.Meaning.{OfFit};
-ghost use Rattle.bi_common.specs.Shown.{line};
+ghost use Rattle.bi_common.specs.declared.format.Format.{Format};
+ghost use Rattle.bi_common.specs.JsonTokens.{json_tokens};
+ghost use Rattle.bi_common.specs.LineTokens.{tokens_of_lines};
+ghost use Rattle.bi_common.specs.PayloadBounds.{IsOverPayloadBound};
+ghost use Rattle.bi_describe.specs.ReadDescription.{read_lines, read_tokens};
 ghost use Rattle.bi_describe.specs.Describing.{IsImageError};
-ghost use Rattle.bi_describe.specs.ReadDescription.{IsDescriptionOf, head_lines, read_lines};
-ghost use Rattle.bi_describe.specs.ReadDescription.{read_text};
+ghost use Rattle.bi_describe.specs.DescriptionJson.{fit_object};
+ghost use Rattle.bi_describe.specs.Descriptions.{fit_lines, head_lines};
 ghost use Rattle.bi_describe.specs.TreeEntries.{most_open, as_entry};
 
 use super::entries::Entry;
 use super::image_nodes::entries_of;
-use super::json::put_fit_object;
-use super::limited_sink::LimitedSink;
+use super::json::put_fit;
 use super::lines::{most_open, put_tree};
-use bi_base::{Error, Limits, Sink};
+use bi_base::{Error, Limits};
 use bi_common::common_lines::put_reservation_lines;
-use bi_common::fields::{Field, put_lines};
-use bi_common::format::Format;
+use bi_common::fields::Field;
+use bi_common::json_writer::JsonPen;
+use bi_common::lines::{LinePen, put_lines};
 use bi_common::payload_bounds::BoundedFit;
 use bi_fdt::Blob;
 use bi_fit::Fit;
 use std::alloc::Global;
 
-/// Appends the description of a flattened image tree, in a form. Requires: the tree was read.
-pub(super) fn describe_fit<S: Sink>(
-    alloc: Global,
-    fit: &Fit,
-    limits: Limits,
-    format: Format,
-    sink: &mut S,
-) -> Result<(), Error>
-    requires held { IsHeld fit.now }
-    ensures appended { OnOk result (Appended S.appends
-        (IsDescriptionOf format limits (OfFit (tree_of fit.now))) sink.old sink.new) }
-    ensures failed { IfErr result (AppendFailed S.fails
-        (IsDescriptionOf format limits (OfFit (tree_of fit.now)))
-        (IsImageError format limits (OfFit (tree_of fit.now))) sink.old sink.new) }
-{
-    let bounded = BoundedFit::new(fit, limits)?;
-    let order = fit.name_order(alloc, limits.file())?;
-    let entries = entries_of(alloc, bounded, &order)?;
-    let mut names = vec![in alloc; b"".as_slice(); most_open(&entries)]?;
-    let mut measure = LimitedSink::new(limits.file());
-    put_fit(fit.blob(), &entries, &mut names, format, &mut measure)?;
-    put_fit(fit.blob(), &entries, &mut names, format, sink)?;
-    Ok(())
+/// What the description of a flattened image tree is made from.
+#[derive(Drop)]
+pub(crate) struct DescribedFit<'a, 'b> {
+    blob: &'b Blob<'a>,
+    entries: Vec<Entry<'a>>,
+    /// Room for the names of all nodes that are open at once.
+    names: Vec<&'a [u8]>,
+    ghost room: { most_open 0 (map as_entry entries.items) ≤ length names.items },
 }
 
-/// Appends a flattened image tree with these entries, in a form. Fails as the sink does. Requires:
-/// `names` has room for the names of all nodes that are open at once.
-fn put_fit<'a, S: Sink>(
-    blob: &Blob,
-    entries: &[Entry<'a>],
-    names: &mut [&'a [u8]],
-    format: Format,
-    sink: &mut S,
-) -> Result<(), Error>
-    requires { most_open 0 (map as_entry entries.now) ≤ length names.old }
-    ensures wrote { Wrote S.appends S.fails sink.old
-        (read_text format blob.now (map as_entry entries.now)) result sink.new }
-    ensures room { length names.new ≡ length names.old }
-{
-    match format {
-        Format::Lines => put_fit_lines(blob, entries, names, sink),
-        Format::Json => put_fit_object(blob, entries, sink),
+impl<'a, 'b> DescribedFit<'a, 'b> {
+    /// Returns what the description of a flattened image tree is made from. Requires: the tree was
+    /// read.
+    ///
+    /// Errors: TooLarge at the limit, if the payloads together are longer than that, or if the
+    /// description is, for which the names of properties are enough; OutOfMemory.
+    pub(super) fn new(
+        alloc: Global,
+        fit: &'b Fit<'a>,
+        limits: Limits,
+    ) -> Result<DescribedFit<'a, 'b>, Error>
+        requires held { IsHeld fit.now }
+        ensures within { OnOk result (¬ (IsOverPayloadBound limits (OfFit (tree_of fit.now)))) }
+        ensures lines { IfOk result (λ described.
+            read_lines described.blob.now (map as_entry described.entries.items)
+            ≡ fit_lines (tree_of fit.entry.now)) }
+        ensures tokens { IfOk result (λ described.
+            read_tokens described.blob.now (map as_entry described.entries.items)
+            ≡ json_tokens (fit_object (tree_of fit.entry.now))) }
+        ensures failed { IfErr result (λ error. (format : Format)
+            → IsImageError format limits (OfFit (tree_of fit.now)) error) }
+    {
+        let bounded = BoundedFit::new(fit, limits)?;
+        let order = fit.name_order(alloc, limits.file())?;
+        let entries = entries_of(alloc, bounded, &order)?;
+        let names = vec![in alloc; b"".as_slice(); most_open(&entries)]?;
+        Ok(DescribedFit {
+            blob: fit.blob(),
+            entries,
+            names,
+        })
+    }
+
+    /// Puts the lines.
+    pub(super) fn put_lines<L: LinePen>(&mut self, pen: &mut L)
+        ensures put { L.puts pen.old (tokens_of_lines
+            (read_lines self.old.blob.now (map as_entry self.old.entries.items))) pen.new }
+        ensures same_blob { self.new.blob ≡ self.old.blob }
+        ensures same_entries { self.new.entries ≡ self.old.entries }
+    {
+        put_head(self.blob.boot_cpu(), pen);
+        put_reservation_lines(self.blob, pen);
+        put_tree(&self.entries, &mut self.names, pen);
+    }
+
+    /// Puts the object.
+    pub(super) fn put_object<J: JsonPen>(&self, json: &mut J)
+        ensures { J.puts json.old
+            (read_tokens self.now.blob.now (map as_entry self.now.entries.items)) json.new }
+    {
+        put_fit(self.blob, &self.entries, json);
     }
 }
 
-/// Appends the lines of a flattened image tree with these entries. Fails as the sink does.
-/// Requires: `names` has room for the names of all nodes that are open at once.
-fn put_fit_lines<'a, S: Sink>(
-    blob: &Blob,
-    entries: &[Entry<'a>],
-    names: &mut [&'a [u8]],
-    sink: &mut S,
-) -> Result<(), Error>
-    requires { most_open 0 (map as_entry entries.now) ≤ length names.old }
-    ensures wrote { Wrote S.appends S.fails sink.old
-        (flat_map line (read_lines blob.now (map as_entry entries.now))) result sink.new }
-    ensures room { length names.new ≡ length names.old }
-{
-    put_head(blob.boot_cpu(), sink)?;
-    put_reservation_lines(blob, sink)?;
-    put_tree(entries, names, sink)
-}
-
-/// Appends the line of the kind, and that of the boot processor. Fails as the sink does.
-fn put_head<S: Sink>(boot_cpu: u32, sink: &mut S) -> Result<(), Error>
-    ensures { Wrote S.appends S.fails sink.old (flat_map line (head_lines boot_cpu)) result
-        sink.new }
+/// Puts the line of the kind, and that of the boot processor.
+fn put_head<L: LinePen>(boot_cpu: u32, pen: &mut L)
+    ensures { L.puts pen.old (tokens_of_lines (head_lines boot_cpu)) pen.new }
 {
     put_lines(
         &[
@@ -101,6 +103,6 @@ fn put_head<S: Sink>(boot_cpu: u32, sink: &mut S) -> Result<(), Error>
                 Field::Decimal(u64::from(boot_cpu)),
             ],
         ],
-        sink,
-    )
+        pen,
+    );
 }

@@ -5,8 +5,7 @@ ghost use Rattle.bi_fdt.specs.Views.{node_of, table_of_node};
 ghost use Rattle.bi_fit.specs.NormalNodes.{HasDistinctNames, properties_by_name};
 ghost use Rattle.bi_fit.specs.ImageTree.{without_payload};
 ghost use Rattle.bi_fit.specs.NameOrders.{IsNameOrder};
-ghost use Rattle.bi_describe.specs.MadeEntries.{property_entries};
-ghost use Rattle.bi_describe.specs.TreeEntries.{as_entry};
+ghost use Rattle.bi_describe.specs.TreeEntries.{as_entry, property_entries};
 
 use super::entries::Entry;
 use bi_fdt::NodeRef;
@@ -25,12 +24,14 @@ pub(super) fn add_properties<'a>(
     ensures { OnOk result (map as_entry entries.new.items ≡ map as_entry entries.old.items
         ++ property_entries (properties_by_name (node_of node.entry).own)) }
 {
+    entries.push(Entry::Properties)?;
     for (_, property) in node.properties_in(&order.properties) {
         entries.push(Entry::Property {
             name: property.name,
             value: property.value,
         })?;
     }
+    entries.push(Entry::Children)?;
     Ok(())
 }
 
@@ -47,6 +48,7 @@ pub(super) fn add_image_properties<'a>(
     ensures { OnOk result (map as_entry entries.new.items ≡ map as_entry entries.old.items
         ++ property_entries (without_payload (properties_by_name (node_of node.entry).own))) }
 {
+    entries.push(Entry::Properties)?;
     for (_, property) in node.properties_in(&order.properties) {
         if is_payload_name(property.name) {
             continue;
@@ -56,5 +58,6 @@ pub(super) fn add_image_properties<'a>(
             value: property.value,
         })?;
     }
+    entries.push(Entry::Children)?;
     Ok(())
 }

@@ -11,8 +11,8 @@ use Rattle.bi_report.specs.declared.check.Allowed.{Allowed}
 use Rattle.bi_report.specs.Checking.{BadDefault, BadKey, configuration_concerns, default_concerns, list_concerns, MissingImage}
 use Rattle.bi_report.specs.Checking.{names_one_of}
 use Rattle.bi_report.specs.CleanFiles.{HasNoBadList, HasNoMissingImage}
-use Rattle.bi_report.proofs.ConcernLines.{lines_allowed}
-use Rattle.bi_report.proofs.CleanLaws.NoLines.{HaveNoLine, all_have_none, each_has_none, any_is_found, one_is_allowed, passed_has_none}
+use Rattle.bi_report.proofs.CleanLaws.NoLines.{HaveNoLine, all_have_none, allowed_has_none}
+use Rattle.bi_report.proofs.CleanLaws.NoLines.{each_has_none, any_is_found, one_is_allowed, passed_has_none}
 use Rattle.bi_report.proofs.CleanLaws.NoLines.{passes_any, test_is_passed}
 
 -- The concerns about configurations have no line if and only if, for each concern that is not allowed, no list is bad, no image is missing
@@ -44,11 +44,11 @@ list_has_none allowed configuration key NoConfig good there = refl
 list_has_none allowed configuration key NoKey good there = refl
 list_has_none allowed configuration key BadList good there = by allowed.bad_list refl where
   by : (b : Bool) → allowed.bad_list ≡ b → HaveNoLine allowed (list_concerns configuration key BadList)
-  by true fine = lines_allowed allowed (BadKey configuration key) fine
+  by true fine = allowed_has_none allowed (BadKey configuration key) fine
   by false refused = absurd (good refused refl)
 list_has_none allowed configuration key (Missing index) good there = by allowed.missing refl where
   by : (b : Bool) → allowed.missing ≡ b → HaveNoLine allowed (list_concerns configuration key (Missing index))
-  by true fine = lines_allowed allowed (MissingImage configuration key index) fine
+  by true fine = allowed_has_none allowed (MissingImage configuration key index) fine
   by false refused = absurd (there refused index refl)
 list_has_none allowed configuration key (ListedImages images) good there = refl
 

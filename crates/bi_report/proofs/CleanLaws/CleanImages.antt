@@ -7,13 +7,13 @@ use Rattle.bi_fit.specs.Judgement.{Image, CheckedHash}
 use Rattle.bi_hash.specs.declared.verdicts.Verdict.TheVariants.{Good}
 use Rattle.bi_common.specs.VerdictCounts.{is_verdict}
 use Rattle.bi_report.specs.declared.check.Allowed.{Allowed}
-use Rattle.bi_report.specs.Checking.{BadHash, concern_lines, hash_concerns, hashes_of_image, image_concerns, is_good, is_strong}
+use Rattle.bi_report.specs.Checking.{BadHash, kept_concerns, hash_concerns, hashes_of_image, image_concerns, is_good, is_strong}
 use Rattle.bi_report.specs.Checking.{is_strong_algorithm, payload_concerns, strong_algorithms, UnhashedImage, WeakHash}
 use Rattle.bi_report.specs.CleanFiles.{HasGoodHash, HasStrongHash, IsHashed, IsNotWeak}
 use Rattle.bi_report.specs.Reports.{AreGood}
 use Rattle.bi_report.proofs.CheckedHashes.{strong_only, unhashed_only, weak_allowed, weak_only}
-use Rattle.bi_report.proofs.ConcernLines.{lines_allowed}
-use Rattle.bi_report.proofs.CleanLaws.NoLines.{HaveNoLine, all_have_none, both_have_none, each_has_none, any_is_found, one_is_allowed}
+use Rattle.bi_report.proofs.CleanLaws.NoLines.{HaveNoLine, all_have_none, allowed_has_none}
+use Rattle.bi_report.proofs.CleanLaws.NoLines.{both_have_none, each_has_none, any_is_found, one_is_allowed}
 use Rattle.bi_report.proofs.CleanLaws.NoLines.{parts_have_none, passed_has_none, passes_any, test_is_passed}
 use Rattle.bi_report.proofs.ImageReports.{good_passes}
 
@@ -105,13 +105,13 @@ module _ (allowed : Allowed) (image : Image) where
         (IsFalse allowed.unhashed → IsHashed image) × (IsFalse allowed.weak_hash → IsNotWeak image)
     by false strong no_good is_strong =
         let fine = one_is_allowed allowed (UnhashedImage name)
-        (sym (ap (concern_lines allowed) (unhashed_only name hashes no_good)) ∙ none) in (
+        (sym (ap (kept_concerns allowed) (unhashed_only name hashes no_good)) ∙ none) in (
           λ refused some. absurd (true≢false (sym fine ∙ refused)),
           λ refused some good. absurd (true≢false (sym (test_of_good image good) ∙ no_good)),
         )
     by true false some_good no_strong =
         let fine = one_is_allowed allowed (WeakHash name (filter is_good hashes))
-        (sym (ap (concern_lines allowed) (weak_only name hashes some_good no_strong)) ∙ none) in
+        (sym (ap (kept_concerns allowed) (weak_only name hashes some_good no_strong)) ∙ none) in
         (λ refused some. good_of_test image some_good, λ refused some good. absurd (true≢false (sym fine ∙ refused)))
     by true true some_good some_strong = (
       λ refused some. good_of_test image some_good,
@@ -128,8 +128,8 @@ module _ (allowed : Allowed) (image : Image) where
 
     unhashed_one : list_any is_good hashes ≡ false → (b : Bool) → allowed.unhashed ≡ b →
         HaveNoLine allowed (payload_concerns name (Some payload) hashes)
-    unhashed_one no_good true fine = ap (concern_lines allowed) (unhashed_only name hashes no_good)
-        ∙ lines_allowed allowed (UnhashedImage name) fine
+    unhashed_one no_good true fine = ap (kept_concerns allowed) (unhashed_only name hashes no_good)
+        ∙ allowed_has_none allowed (UnhashedImage name) fine
     unhashed_one no_good false refused = absurd (true≢false (sym (test_of_good image (hashed refused there)) ∙ no_good))
 
     weak_one : list_any is_good hashes ≡ true → list_any is_strong hashes ≡ false → (b : Bool) → allowed.weak_hash ≡ b →
@@ -142,7 +142,7 @@ module _ (allowed : Allowed) (image : Image) where
         HaveNoLine allowed (payload_concerns name (Some payload) hashes)
     by false strong no_good is_strong = unhashed_one no_good allowed.unhashed refl
     by true false some_good no_strong = weak_one some_good no_strong allowed.weak_hash refl
-    by true true some_good some_strong = ap (concern_lines allowed) (strong_only name hashes some_good some_strong)
+    by true true some_good some_strong = ap (kept_concerns allowed) (strong_only name hashes some_good some_strong)
 
   -- An image without a line.
   pub image_is_clean : HaveNoLine allowed (image_concerns image) → IsCleanImage allowed image

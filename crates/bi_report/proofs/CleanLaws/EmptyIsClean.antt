@@ -1,5 +1,5 @@
 use Rattle.std.proofs.Common.{◌≡◌, ℕ, ◌-◌, true, ◌&&◌, ◌==◌, List, [], ◌∷◌, ◌++◌, IsFalse, drop, length, flat_map, refl, sym, ap, ap₂}
-use Rattle.std.proofs.Common.{subst, ◌∙◌, arith}
+use Rattle.std.proofs.Common.{append_assoc, map, subst, ◌∙◌, arith}
 use Rattle.std.specs.List.{list_all}
 use Rattle.std.proofs.lemmas.Bool.{and_parts, eqb-true}
 use Rattle.bi_base.specs.Limits.{Limits}
@@ -14,9 +14,10 @@ use Rattle.bi_legacy.specs.Meaning.{LegacyImage}
 use Rattle.bi_legacy.specs.Parts.{parts_end}
 use Rattle.bi_legacy.specs.Reading.{LegacyModel, IsReadLegacy}
 use Rattle.bi_norm.proofs.FilesWithoutMeaning.{means_legacy, means_tree}
+use Rattle.bi_common.specs.Lines.{text_of_lines}
 use Rattle.bi_report.specs.declared.check.Allowed.{Allowed}
-use Rattle.bi_report.specs.Checking.{Concern, AreConcerns, OfLegacyImage, OfImageTree, concern_lines, configuration_concerns, content_end}
-use Rattle.bi_report.specs.Checking.{default_concerns, image_concerns, TrailingBytes, trailing_concerns, tree_concerns}
+use Rattle.bi_report.specs.Checking.{Concern, AreConcerns, OfLegacyImage, OfImageTree, concern_line, configuration_concerns, content_end}
+use Rattle.bi_report.specs.Checking.{default_concerns, image_concerns, kept_concerns, TrailingBytes, trailing_concerns, tree_concerns}
 use Rattle.bi_report.specs.CleanFiles.{AreZeros, CleanImageTree, CleanLegacyImage, EmptyIsClean, HasZerosAfter, IsClean, IsCleanTree}
 use Rattle.bi_report.specs.CleanFiles.{NamesConfiguration}
 use Rattle.bi_report.proofs.CleanLaws.CleanConfigurations.{clean_configurations_have_none, configurations_are_clean, default_has_none}
@@ -114,10 +115,10 @@ pub file_is_clean : (allowed : Allowed) (limits : Limits) (file : List ℕ) (con
     HaveNoLine allowed concerns → IsClean allowed limits file
 file_is_clean allowed limits file concerns (OfLegacyImage parsed opened is) none =
     CleanLegacyImage parsed opened (end_is_clean allowed (drop (length file - parsed.unused) file)
-    (sym (ap (concern_lines allowed) is) ∙ none))
+    (sym (ap (kept_concerns allowed) is) ∙ none))
 file_is_clean allowed limits file concerns (OfImageTree tree means is) none =
     let rest = drop (content_end file means.is_file.images tree.payloads) file in
-    let both = parts_have_none allowed (tree_concerns tree) (trailing_concerns rest) (sym (ap (concern_lines allowed) is) ∙ none) in
+    let both = parts_have_none allowed (tree_concerns tree) (trailing_concerns rest) (sym (ap (kept_concerns allowed) is) ∙ none) in
     CleanImageTree tree means (tree_is_clean allowed tree both.0)
     (λ refused. zeros_after file means.is_file.images tree.payloads (end_is_clean allowed rest both.1 refused))
 
@@ -125,7 +126,7 @@ file_is_clean allowed limits file concerns (OfImageTree tree means is) none =
 pub clean_file_has_none : (allowed : Allowed) (limits : Limits) (file : List ℕ) (concerns : List Concern) →
     AreConcerns limits file concerns → IsClean allowed limits file → HaveNoLine allowed concerns
 clean_file_has_none allowed limits file concerns (OfLegacyImage parsed opened is) (CleanLegacyImage other also zeros) =
-    ap (concern_lines allowed) is
+    ap (kept_concerns allowed) is
     ∙ clean_end_has_none allowed (drop (length file - parsed.unused) file)
     (subst (λ unused. IsFalse allowed.trailing → AreZeros (drop (length file - unused) file))
     (one_unused limits file other parsed also opened) zeros)
@@ -136,7 +137,7 @@ clean_file_has_none allowed limits file concerns (OfImageTree tree means is) (Cl
 clean_file_has_none allowed limits file concerns (OfImageTree tree means is) (CleanImageTree other also clean zeros) =
     let same : other ≡ tree = one_fit_meaning file other tree also.is_file means.is_file in
     let nodes : also.is_file.images ≡ means.is_file.images = one_list_of_nodes limits file other tree also means in
-    ap (concern_lines allowed) is
+    ap (kept_concerns allowed) is
     ∙ both_have_none allowed (tree_concerns tree) (trailing_concerns (drop (content_end file means.is_file.images tree.payloads) file))
     (clean_tree_has_none allowed tree (subst (IsCleanTree allowed) same clean))
     (clean_end_has_none allowed (drop (content_end file means.is_file.images tree.payloads) file) (λ refused.
@@ -144,8 +145,22 @@ clean_file_has_none allowed limits file concerns (OfImageTree tree means is) (Cl
     (subst (λ found. HasZerosAfter file found tree.payloads) nodes
     (subst (λ (t : ImageTree). HasZerosAfter file also.is_file.images t.payloads) same (zeros refused)))))
 
+-- A line is not empty, so without a line there is no concern.
+line_is_not_empty : (words rest : List ℕ) → ¬ (words ++ 10 ∷ rest ≡ [])
+line_is_not_empty [] rest e = absurd cc
+line_is_not_empty (x ∷ xs) rest e = absurd cc
+
+none_without_lines : (kept : List Concern) → text_of_lines (map concern_line kept) ≡ [] → kept ≡ []
+none_without_lines [] empty = refl
+none_without_lines (concern ∷ later) empty =
+    absurd (line_is_not_empty _ _ (sym (append_assoc _ (10 ∷ []) (text_of_lines (map concern_line later))) ∙ empty))
+
 pub empty_is_clean : EmptyIsClean
-empty_is_clean allowed limits file text checked = (
-  λ empty. file_is_clean allowed limits file checked.concerns checked.are_concerns (sym checked.is_text ∙ empty),
-  λ clean. checked.is_text ∙ clean_file_has_none allowed limits file checked.concerns checked.are_concerns clean,
-)
+empty_is_clean allowed limits file text checked =
+    let concerns = checked.concerns in (
+      λ empty. file_is_clean allowed limits file concerns checked.are_concerns
+          (none_without_lines (kept_concerns allowed concerns) (sym checked.is_text ∙ empty)),
+      λ clean. checked.is_text
+          ∙ ap (λ kept. text_of_lines (map concern_line kept))
+          (clean_file_has_none allowed limits file concerns checked.are_concerns clean),
+    )

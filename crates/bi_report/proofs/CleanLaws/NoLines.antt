@@ -1,40 +1,43 @@
-use Rattle.std.proofs.Common.{◌≡◌, ℕ, Bool, true, false, ◌||◌, List, [], ◌∷◌, ◌++◌, flat_map, Contains, IsFalse, ◌⊎◌, inl, inr, refl}
+use Rattle.std.proofs.Common.{◌≡◌, Bool, true, false, not, ◌||◌, List, [], ◌∷◌, ◌++◌, flat_map, Contains, IsFalse, ◌⊎◌, inl, inr, refl}
 use Rattle.std.proofs.Common.{sym}
 use Rattle.std.proofs.Common.{ap, ap₂, ◌∙◌, true≢false}
 use Rattle.std.specs.Prelude.{if◌then◌else◌}
 use Rattle.std.specs.List.{AllByRecursion, list_any}
 use Rattle.std.proofs.Math.Bool.{or-true}
+use Rattle.std.proofs.lemmas.List.Elements.{filter-append}
 use Rattle.bi_base.proofs.ListMembers.{Contains-none, Contains-cases, Contains-first, Contains-others}
 use Rattle.bi_report.specs.declared.check.Allowed.{Allowed}
-use Rattle.bi_report.specs.Checking.{Concern, allows, concern_lines, kind_of}
-use Rattle.bi_report.proofs.ConcernLines.{lines_allowed, lines_append, lines_one}
+use Rattle.bi_report.specs.Checking.{Concern, allows, kept_concerns, kind_of}
 
 -- Concerns have no line if and only if each of them has none, and a concern that comes from a test has none if and only if it is allowed or
 -- the test passes.
 
 -- None of these concerns has a line.
 abbrev pub HaveNoLine : Allowed → List Concern → Type 0
-HaveNoLine allowed concerns = concern_lines allowed concerns ≡ []
+HaveNoLine allowed concerns = kept_concerns allowed concerns ≡ []
 
--- Two texts are empty if both together are.
-pub both_empty : (xs ys : List ℕ) → xs ++ ys ≡ [] → (xs ≡ []) × (ys ≡ [])
+-- A concern that is allowed has no line.
+pub allowed_has_none : (allowed : Allowed) (concern : Concern) → allows allowed (kind_of concern) ≡ true → HaveNoLine allowed (concern ∷ [])
+allowed_has_none allowed concern is = rw is refl
+
+-- Two lists are empty if both together are.
+both_empty : {X : Type 0} (xs ys : List X) → xs ++ ys ≡ [] → (xs ≡ []) × (ys ≡ [])
 both_empty [] ys e = (refl, e)
 both_empty (x ∷ xs) ys e = absurd cc
 
--- A line is not empty.
-pub line_is_not_empty : (words : List ℕ) → ¬ (words ++ 10 ∷ [] ≡ [])
-line_is_not_empty [] e = absurd cc
-line_is_not_empty (x ∷ xs) e = absurd cc
+-- A concern is kept if it is not allowed.
+abbrev is_kept : Allowed → Concern → Bool
+is_kept allowed concern = not (allows allowed (kind_of concern))
 
 -- The concerns of two lists.
 pub parts_have_none : (allowed : Allowed) (one later : List Concern) → HaveNoLine allowed (one ++ later) →
     HaveNoLine allowed one × HaveNoLine allowed later
-parts_have_none allowed one later none = both_empty (concern_lines allowed one) (concern_lines allowed later)
-    (sym (lines_append allowed one later) ∙ none)
+parts_have_none allowed one later none =
+    both_empty (kept_concerns allowed one) (kept_concerns allowed later) (sym (filter-append (is_kept allowed) one later) ∙ none)
 
 pub both_have_none : (allowed : Allowed) (one later : List Concern) → HaveNoLine allowed one → HaveNoLine allowed later →
     HaveNoLine allowed (one ++ later)
-both_have_none allowed one later first rest = lines_append allowed one later ∙ ap₂ (λ (a b : List ℕ). a ++ b) first rest
+both_have_none allowed one later first rest = filter-append (is_kept allowed) one later ∙ ap₂ (λ (a b : List Concern). a ++ b) first rest
 
 -- The concerns about each element of a list.
 pub each_has_none : {X : Type 0} (allowed : Allowed) (f : X → List Concern) (xs : List X) → HaveNoLine allowed (flat_map f xs) →
@@ -55,7 +58,7 @@ pub one_is_allowed : (allowed : Allowed) (concern : Concern) → HaveNoLine allo
 one_is_allowed allowed concern none = by (allows allowed (kind_of concern)) refl where
   by : (b : Bool) → allows allowed (kind_of concern) ≡ b → allows allowed (kind_of concern) ≡ true
   by true is = is
-  by false is = absurd (line_is_not_empty _ (sym (lines_one allowed concern is) ∙ none))
+  by false is = let no : concern ∷ [] ≡ [] = rw is at none in absurd cc
 
 -- So one that comes from a test has none if and only if the test is passed where it is not allowed.
 pub test_is_passed : (allowed : Allowed) (test : Bool) (concern : Concern) → HaveNoLine allowed (if test then [] else concern ∷ []) →
@@ -68,7 +71,7 @@ pub passed_has_none : (allowed : Allowed) (test : Bool) (concern : Concern) → 
 passed_has_none allowed true concern passed = refl
 passed_has_none allowed false concern passed = by (allows allowed (kind_of concern)) refl where
   by : (b : Bool) → allows allowed (kind_of concern) ≡ b → HaveNoLine allowed (concern ∷ [])
-  by true is = lines_allowed allowed concern is
+  by true is = allowed_has_none allowed concern is
   by false is = absurd (true≢false (sym (passed is)))
 
 -- An element that passes a test.

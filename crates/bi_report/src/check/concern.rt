@@ -1,30 +1,16 @@
-//! A concern about a boot image, and how it is printed.
+//! A concern about a boot image.
 
-ghost use Rattle.std.specs.Prelude.{◌≡◌, [], ◌∷◌, filter, flat_map};
-ghost use Rattle.bi_base.specs.Sinks.{Wrote};
-ghost use Rattle.bi_fit.specs.JudgementCalls.{checked_hash_of};
-ghost use Rattle.bi_common.specs.HashedImages.{hashes_left};
-ghost use Rattle.bi_common.specs.Formats.{in_turn};
-ghost use Rattle.bi_common.specs.VerdictCounts.{is_verdict};
-ghost use Rattle.bi_report.specs.Checking.{BadHash, WeakHash, concern_line};
-ghost use Rattle.bi_report.specs.Checking.{BadDefault, BadKey, MissingImage, TrailingBytes};
-ghost use Rattle.bi_report.specs.Checking.{UnhashedImage, is_good as is_good_hash};
-ghost use Rattle.bi_report.specs.Checking.{kind_of as kind_of_concern};
+ghost use Rattle.std.specs.Prelude.{◌≡◌};
+ghost use Rattle.bi_report.specs.Checking.{concern_details, kind_of as kind_of_concern};
 ghost use Rattle.bi_report.specs.ConcernValues.{concern_value};
-ghost use Rattle.bi_report.specs.ReadChecking.{concern_text, good_algorithm};
-ghost use Rattle.bi_hash.specs.declared.verdicts.Verdict.TheVariants.{Good};
+ghost use Rattle.bi_report.specs.MadeDetails.{made_details};
 
 use super::ConcernKind;
-use super::concern_json::put_concern_object;
+use crate::details::Detail;
 use crate::verify::verdict_word;
-use bi_base::{Error, Sink};
-use bi_common::fields::{Field, name_or_none, put_fields, put_later_field, put_line};
-use bi_common::format::Format;
 use bi_common::hash_nodes::HashNodes;
-use bi_common::json::put_comma;
 use bi_fdt::{NodeRef, Property};
 use bi_fit::{Checked, Key};
-use bi_hash::Verdict;
 
 /// A concern about a boot image.
 #[derive(Clone, Copy)]
@@ -47,7 +33,7 @@ pub enum Concern<'a, 'b> {
     TrailingBytes(usize),
 }
 
-impl Concern<'_, '_> {
+impl<'a, 'b> Concern<'a, 'b> {
     /// Returns the kind of the concern.
     pub fn kind(self) -> ConcernKind
         ensures { result ≡ kind_of_concern (concern_value self.entry) }
@@ -62,117 +48,49 @@ impl Concern<'_, '_> {
             Concern::TrailingBytes(_) => ConcernKind::Trailing,
         }
     }
-}
 
-/// Appends the text of a concern. Fails as the sink does.
-pub(super) fn put_concern<S: Sink>(
-    concern: Concern,
-    format: Format,
-    is_later: bool,
-    sink: &mut S,
-) -> Result<(), Error>
-    ensures { Wrote S.appends S.fails sink.old
-        (in_turn format is_later (concern_text format (concern_value concern.entry) ∷ [])) result
-        sink.new }
-{
-    match format {
-        Format::Lines => put_line_of(concern, sink),
-        Format::Json => {
-            put_comma(is_later, sink)?;
-            put_concern_object(concern, sink)
+    /// Returns the details of the concern: the word for its kind, and at most four after it.
+    pub(crate) fn details(self) -> [Detail<'a, 'b>; 5]
+        ensures { made_details result ≡ concern_details (concern_value self.entry) }
+    {
+        let kind = Detail::Word("concern", self.kind().word());
+        let none = Detail::Nothing;
+        match self {
+            Concern::BadHash(_, _, hash) => [
+                kind,
+                Detail::Name("image", Some(hash.image)),
+                Detail::Name("node", Some(hash.node)),
+                Detail::Name("algorithm", hash.algo),
+                Detail::Word("verdict", verdict_word(hash.verdict)),
+            ],
+            Concern::UnhashedImage(image) => {
+                let image = Detail::Name("image", Some(image.name()));
+                [kind, image, none, none, none]
+            }
+            Concern::WeakHash(image, hashes) => {
+                let image = Detail::Name("image", Some(image.name()));
+                let algorithms = Detail::Algorithms("algorithms", hashes);
+                [kind, image, algorithms, none, none]
+            }
+            Concern::BadKey(configuration, key) => {
+                let configuration = Detail::Name("configuration", Some(configuration.name()));
+                let key = Detail::Word("key", key.name());
+                [kind, configuration, key, none, none]
+            }
+            Concern::MissingImage(configuration, key, index) => {
+                let configuration = Detail::Name("configuration", Some(configuration.name()));
+                let key = Detail::Word("key", key.name());
+                let index = Detail::Number("index", index as u64);
+                [kind, configuration, key, index, none]
+            }
+            Concern::BadDefault(default, _) => {
+                let default = Detail::Name("default", default);
+                [kind, default, none, none, none]
+            }
+            Concern::TrailingBytes(count) => {
+                let size = Detail::Number("size", count as u64);
+                [kind, size, none, none, none]
+            }
         }
     }
-}
-
-/// Appends the line of a concern. Fails as the sink does.
-fn put_line_of<S: Sink>(concern: Concern, sink: &mut S) -> Result<(), Error>
-    ensures { Wrote S.appends S.fails sink.old (concern_line (concern_value concern.entry)) result
-        sink.new }
-{
-    let kind = concern.kind().word().as_bytes();
-    match concern {
-        Concern::BadHash(_, _, hash) => {
-            let fields = [
-                Field::Text(kind),
-                Field::Shown(hash.image),
-                Field::Shown(hash.node),
-                name_or_none(hash.algo),
-                Field::Text(verdict_word(hash.verdict).as_bytes()),
-            ];
-            put_line(&fields, sink)
-        }
-        Concern::UnhashedImage(image) => put_line(
-            &[Field::Text(kind), Field::Shown(image.name())],
-            sink,
-        ),
-        Concern::WeakHash(image, hashes) => put_weak_hash(image.name(), hashes, sink),
-        Concern::BadKey(configuration, key) => {
-            let fields = [
-                Field::Text(kind),
-                Field::Shown(configuration.name()),
-                Field::Text(key.name().as_bytes()),
-            ];
-            put_line(&fields, sink)
-        }
-        Concern::MissingImage(configuration, key, index) => {
-            let fields = [
-                Field::Text(kind),
-                Field::Shown(configuration.name()),
-                Field::Text(key.name().as_bytes()),
-                Field::Decimal(index as u64),
-            ];
-            put_line(&fields, sink)
-        }
-        Concern::BadDefault(default, _) => put_line(
-            &[Field::Text(kind), name_or_none(default)],
-            sink,
-        ),
-        Concern::TrailingBytes(count) => put_line(
-            &[Field::Text(kind), Field::Decimal(count as u64)],
-            sink,
-        ),
-    }
-}
-
-/// Appends the line of an image of this name with these hash nodes, no Good one of which is strong.
-/// Fails as the sink does.
-fn put_weak_hash<S: Sink>(image: &[u8], hashes: HashNodes, sink: &mut S) -> Result<(), Error>
-    ensures { Wrote S.appends S.fails sink.old (concern_line
-        (WeakHash image.now (filter is_good_hash (hashes_left hashes.entry)))) result sink.new }
-{
-    put_fields(&[Field::Text(b"weak-hash"), Field::Shown(image)], sink)?;
-    put_algorithms(hashes, sink)?;
-    sink.put(b"\n")
-}
-
-/// Appends the algorithms of the Good ones of these hash nodes, each after a space. Fails as the
-/// sink does.
-fn put_algorithms<S: Sink>(hashes: HashNodes, sink: &mut S) -> Result<(), Error>
-    ensures { Wrote S.appends S.fails sink.old
-        (flat_map good_algorithm (hashes_left hashes.entry)) result sink.new }
-{
-    for hash in hashes {
-        put_good_algorithm(hash, sink)?;
-    }
-    Ok(())
-}
-
-/// Appends the algorithm of a hash node after a space, if the verdict on it is Good. Fails as the
-/// sink does.
-fn put_good_algorithm<S: Sink>(hash: Checked, sink: &mut S) -> Result<(), Error>
-    ensures { Wrote S.appends S.fails sink.old (good_algorithm (checked_hash_of hash.entry)) result
-        sink.new }
-{
-    if is_good(hash.verdict) {
-        put_later_field(name_or_none(hash.algo), sink)
-    } else {
-        Ok(())
-    }
-}
-
-/// Returns whether a verdict is Good.
-pub(super) fn is_good(verdict: Verdict) -> bool
-    ensures { result ≡ is_verdict Good verdict }
-{
-    verdict == Verdict::Good
 }

@@ -15,7 +15,8 @@ ghost use Rattle.bi_report.specs.ConcernValues.{found_or_none, found_value};
 ghost use Rattle.bi_report.specs.ConcernsLeft.{image_left, images_left};
 ghost use Rattle.bi_report.specs.FoundConcerns.{NodeItself, concerns_about, found_in_image};
 
-use super::concern::{Concern, is_good};
+use super::concern::Concern;
+use crate::details::is_good;
 use bi_common::hash_nodes::{HashNodes, HashedImage, HashedImages};
 use bi_fdt::NodeRef;
 use bi_fit::{Checked, Fit};

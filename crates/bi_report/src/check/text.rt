@@ -1,19 +1,22 @@
 //! The text of the concerns about a boot image.
 
-ghost use Rattle.std.specs.Prelude.{◌≡◌, ◌↔◌, [], IfOk, IsTrue, false, map};
+ghost use Rattle.std.specs.Prelude.{◌≡◌, ◌↔◌, [], IfOk, IsTrue, map};
 ghost use Rattle.bi_base.specs.Sinks.{Wrote};
-ghost use Rattle.bi_common.specs.Formats.{WroteInTurn};
-ghost use Rattle.bi_report.specs.CheckedFiles.{concerns_text};
+ghost use Rattle.bi_common.specs.JsonTokens.{json_tokens, value_tokens};
+ghost use Rattle.bi_common.specs.LineTokens.{tokens_of_lines};
+ghost use Rattle.bi_report.specs.CheckedFiles.{concerns_text, text_of_concerns};
+ghost use Rattle.bi_report.specs.Checking.{concern_line, concern_object, concerns_object};
 ghost use Rattle.bi_report.specs.Checking.{kept_concerns};
-ghost use Rattle.bi_report.specs.CheckedImages.{concerns_left, kept_left};
+ghost use Rattle.bi_report.specs.CheckedImages.{concerns_left, has_any, kept_left};
 ghost use Rattle.bi_report.specs.FoundConcerns.{concerns_in};
-ghost use Rattle.bi_report.specs.ReadChecking.{after_concerns, before_concerns, concern_text};
 
 use super::Checker;
-use super::concern::put_concern;
 use super::concerns::{Concerns, KeptConcerns};
-use bi_base::{Error, Sink};
+use crate::details::{put_details_line, put_details_object};
+use bi_base::{Error, Pen, Sink, SinkPen};
 use bi_common::format::Format;
+use bi_common::json_writer::{JsonPen, JsonToken, JsonWriter};
+use bi_common::lines::{LinePen, LineWriter};
 
 /// Appends the text of the concerns that are not allowed, and returns whether there are none. Fails
 /// as the sink does.
@@ -27,42 +30,67 @@ pub fn put_concerns<S: Sink>(
     ensures clean { IfOk result (λ clean. IsTrue clean
         ↔ (kept_concerns checker.allowed (concerns_in (concerns_left concerns.entry)) ≡ [])) }
 {
-    put_before_concerns(checker.format, sink)?;
-    let any = put_kept(concerns.kept(checker.allowed), checker.format, sink)?;
-    put_after_concerns(checker.format, sink)?;
+    let mut pen = SinkPen::new(sink);
+    let any = put_text(concerns.kept(checker.allowed), checker.format, &mut pen);
+    pen.result()?;
     Ok(!any)
 }
 
-/// Appends the text of each of these concerns, and returns whether there are any. Fails as the sink
-/// does.
-fn put_kept<S: Sink>(concerns: KeptConcerns, format: Format, sink: &mut S) -> Result<bool, Error>
-    ensures { WroteInTurn S.appends S.fails sink.old format false
-        (map (concern_text format) (concerns_in (kept_left concerns.entry))) result sink.new }
+/// Puts the text of these concerns, and returns whether there are any.
+fn put_text<P: Pen>(concerns: KeptConcerns, format: Format, pen: &mut P) -> bool
+    ensures text { P.puts pen.old (text_of_concerns format (concerns_in (kept_left concerns.entry)))
+        pen.new }
+    ensures any { result ≡ has_any (kept_left concerns.entry) }
+{
+    match format {
+        Format::Lines => put_lines(concerns, &mut LineWriter::new(pen)),
+        Format::Json => {
+            let any = put_object(concerns, &mut JsonWriter::new(pen));
+            pen.put(b"\n");
+            any
+        }
+    }
+}
+
+/// Puts the line of each of these concerns, and returns whether there are any.
+fn put_lines<L: LinePen>(concerns: KeptConcerns, pen: &mut L) -> bool
+    ensures lines { L.puts pen.old (tokens_of_lines
+        (map concern_line (concerns_in (kept_left concerns.entry)))) pen.new }
+    ensures any { result ≡ has_any (kept_left concerns.entry) }
 {
     let mut any = false;
     for concern in concerns {
-        put_concern(concern, format, any, sink)?;
+        put_details_line(&concern.details(), pen);
         any = true;
     }
-    Ok(any)
+    any
 }
 
-/// Appends what comes before the concerns. Fails as the sink does.
-fn put_before_concerns<S: Sink>(format: Format, sink: &mut S) -> Result<(), Error>
-    ensures { Wrote S.appends S.fails sink.old (before_concerns format) result sink.new }
+/// Puts the object of these concerns, and returns whether there are any.
+fn put_object<J: JsonPen>(concerns: KeptConcerns, json: &mut J) -> bool
+    ensures object { J.puts json.old
+        (json_tokens (concerns_object (concerns_in (kept_left concerns.entry)))) json.new }
+    ensures any { result ≡ has_any (kept_left concerns.entry) }
 {
-    match format {
-        Format::Lines => Ok(()),
-        Format::Json => sink.put(b"{\"concerns\":["),
-    }
+    json.put(JsonToken::BeginObject);
+    json.put(JsonToken::Name("concerns"));
+    json.put(JsonToken::BeginArray);
+    let any = put_objects(concerns, json);
+    json.put(JsonToken::EndArray);
+    json.put(JsonToken::EndObject);
+    any
 }
 
-/// Appends what comes after the concerns. Fails as the sink does.
-fn put_after_concerns<S: Sink>(format: Format, sink: &mut S) -> Result<(), Error>
-    ensures { Wrote S.appends S.fails sink.old (after_concerns format) result sink.new }
+/// Puts the object of each of these concerns, and returns whether there are any.
+fn put_objects<J: JsonPen>(concerns: KeptConcerns, json: &mut J) -> bool
+    ensures objects { J.puts json.old
+        (value_tokens (map concern_object (concerns_in (kept_left concerns.entry)))) json.new }
+    ensures any { result ≡ has_any (kept_left concerns.entry) }
 {
-    match format {
-        Format::Lines => Ok(()),
-        Format::Json => sink.put(b"]}\n"),
+    let mut any = false;
+    for concern in concerns {
+        put_details_object(&concern.details(), json);
+        any = true;
     }
+    any
 }

@@ -1,226 +1,189 @@
-//! The lines of the configurations of a flattened image tree. What a configuration lists is read
-//! from its node, so that no list is made in memory.
+//! The configurations of a flattened image tree. What a configuration lists is read from its node,
+//! so that no list is made in memory.
 
-ghost use Rattle.std.specs.Prelude.{◌≡◌, [], ◌∷◌, codes, false, flat_map, map};
+ghost use Rattle.std.specs.Prelude.{[], ◌∷◌, flat_map, map};
 ghost use Rattle.bi_fdt.specs.Views.{node_of};
 ghost use Rattle.bi_fit.specs.Judgement.{ListResult, listed_names};
-ghost use Rattle.bi_fit.specs.Names.{key_name};
-ghost use Rattle.bi_fit.specs.HashNodes.{file_listed};
-ghost use Rattle.bi_common.specs.declared.format.Format.TheVariants.{Json, Lines};
-ghost use Rattle.bi_common.specs.Formats.{in_turn, is_later_after};
 ghost use Rattle.bi_common.specs.Json.{json_string};
-ghost use Rattle.bi_common.specs.Shown.{line, shown_text};
+ghost use Rattle.bi_common.specs.JsonTokens.{json_tokens, member_tokens, value_tokens};
+ghost use Rattle.bi_common.specs.Lines.{Name};
+ghost use Rattle.bi_common.specs.LineTokens.{one_field, tokens_of_lines};
+ghost use Rattle.bi_common.specs.Shown.{shown_text};
+ghost use Rattle.bi_report.specs.FitListing.{configuration_lines, configuration_object};
+ghost use Rattle.bi_report.specs.FitListing.{configurations_member, key_lines, key_objects};
+ghost use Rattle.bi_report.specs.FitListing.{keys_member, names_member};
 ghost use Rattle.bi_report.specs.Listed.{IsListed};
-ghost use Rattle.bi_report.specs.ListingJson.{key_objects, listed_object};
-ghost use Rattle.bi_report.specs.ReadListing.{configuration_text, configuration_texts, key_texts};
-ghost use Rattle.bi_report.specs.ReadListing.{node_key_texts};
+ghost use Rattle.bi_report.specs.ReadListing.{read_configuration, read_configurations};
 
-use super::texts::{
-    put_comma, put_fields, put_later_field, put_line, put_members, put_next, put_object,
-};
 use crate::listed::{KeyList, listed_under};
-use bi_base::{Pen, put_literal};
 use bi_common::fields::Field;
-use bi_common::format::Format;
-use bi_common::json::JsonValue;
+use bi_common::json_writer::{JsonPen, JsonToken, JsonValue, put_member, put_object, put_value};
+use bi_common::lines::{LinePen, put_line, put_words};
 use bi_fdt::NodeRef;
 use bi_fit::{Fit, Key, split_name};
 
-/// Puts each configuration, in a form.
-pub(super) fn put_configurations<P: Pen>(fit: &Fit, format: Format, pen: &mut P)
-    ensures { P.puts pen.old
-        (in_turn format false (configuration_texts format fit.now)) pen.new }
+/// Puts the lines of each configuration.
+pub(super) fn put_all_configuration_lines<L: LinePen>(fit: &Fit, pen: &mut L)
+    ensures { L.puts pen.old
+        (tokens_of_lines (flat_map configuration_lines (read_configurations fit.now))) pen.new }
 {
-    let mut is_later = false;
     for node in fit.configuration_nodes() {
-        put_configuration(fit, node, format, is_later, pen);
-        is_later = true;
+        put_configuration_lines(fit, node, pen);
     }
 }
 
-/// Puts a configuration, in a form: its name, and its keys in their order.
-fn put_configuration<'a, P: Pen>(
-    fit: &Fit<'a>,
-    node: NodeRef<'a, '_>,
-    format: Format,
-    is_later: bool,
-    pen: &mut P,
-)
-    ensures { P.puts pen.old (in_turn format is_later
-        (configuration_text format fit.now.images (node_of node.entry) ∷ [])) pen.new }
-{
-    match format {
-        Format::Lines => put_configuration_lines(fit, node, pen),
-        Format::Json => {
-            put_comma(is_later, pen);
-            put_configuration_object(fit, node, pen)
-        }
-    }
-}
-
-/// Puts the lines of a configuration.
-fn put_configuration_lines<'a, P: Pen>(fit: &Fit<'a>, node: NodeRef<'a, '_>, pen: &mut P)
-    ensures { P.puts pen.old
-        (configuration_text Lines fit.now.images (node_of node.entry)) pen.new }
+/// Puts the lines of a configuration: its name, and its keys in their order.
+fn put_configuration_lines<'a, L: LinePen>(fit: &Fit<'a>, node: NodeRef<'a, '_>, pen: &mut L)
+    ensures { L.puts pen.old (tokens_of_lines
+        (configuration_lines (read_configuration fit.now.images (node_of node.entry)))) pen.new }
 {
     put_line(&[Field::Text(b"config"), Field::Shown(node.name())], pen);
-    put_keys(fit, node, Format::Lines, pen)
+    put_keys_lines(fit, node, pen);
 }
 
-/// Puts the object of a configuration.
-fn put_configuration_object<'a, P: Pen>(fit: &Fit<'a>, node: NodeRef<'a, '_>, pen: &mut P)
-    ensures { P.puts pen.old
-        (configuration_text Json fit.now.images (node_of node.entry)) pen.new }
+/// Puts the line of each key of a configuration.
+fn put_keys_lines<'a, L: LinePen>(fit: &Fit<'a>, node: NodeRef<'a, '_>, pen: &mut L)
+    ensures { let configuration = read_configuration fit.now.images (node_of node.entry) in
+        L.puts pen.old (tokens_of_lines
+        (flat_map (λ key. key_lines configuration.name key.0 key.1) configuration.keys)) pen.new }
 {
-    put_literal("{", pen);
-    put_members(&[("name", JsonValue::Shown(node.name()))], pen);
-    put_literal(",\"keys\":[", pen);
-    put_keys(fit, node, Format::Json, pen);
-    put_literal("]}", pen)
-}
-
-/// Puts what a configuration lists under each key, in a form.
-fn put_keys<'a, P: Pen>(fit: &Fit<'a>, node: NodeRef<'a, '_>, format: Format, pen: &mut P)
-    ensures { P.puts pen.old
-        (in_turn format false (node_key_texts format fit.now.images (node_of node.entry))) pen.new }
-{
-    let mut is_later = false;
     for key in Key::ALL {
-        is_later = put_key(fit, node, key, format, is_later, pen);
+        put_key_line(node.name(), key, listed_under(fit, node, key), pen);
     }
-}
-
-/// Puts what a configuration lists under a key, in a form, and returns whether there is something,
-/// or there was before.
-fn put_key<'a, P: Pen>(
-    fit: &Fit<'a>,
-    node: NodeRef<'a, '_>,
-    key: Key,
-    format: Format,
-    is_later: bool,
-    pen: &mut P,
-) -> bool
-    ensures put { P.puts pen.old (in_turn format is_later
-        (key_texts format (node_of node.entry).name key
-        (file_listed fit.now.images (node_of node.entry) key))) pen.new }
-    ensures later { result ≡ is_later_after is_later
-        (key_texts format (node_of node.entry).name key
-        (file_listed fit.now.images (node_of node.entry) key)) }
-{
-    let listed = listed_under(fit, node, key);
-    if let KeyList::NoKey = listed {
-        return is_later;
-    }
-    match format {
-        Format::Lines => put_key_line(node.name(), key, listed, pen),
-        Format::Json => {
-            put_comma(is_later, pen);
-            put_key_object(key, listed, pen);
-        }
-    }
-    true
 }
 
 /// Puts the line of a key of the configuration of this name. Puts nothing if the configuration has
 /// no such key.
-fn put_key_line<P: Pen>(configuration: &[u8], key: Key, listed: KeyList, pen: &mut P)
+fn put_key_line<L: LinePen>(configuration: &[u8], key: Key, listed: KeyList, pen: &mut L)
     ensures { (result_of : ListResult) → IsListed result_of listed.entry
-        → P.puts pen.old
-        (flat_map (λ text. text) (key_texts Lines configuration.now key result_of)) pen.new }
+        → L.puts pen.old (tokens_of_lines (key_lines configuration.now key result_of)) pen.new }
 {
     let name = key.name().as_bytes();
+    let (begin, shown, name) = (
+        Field::Text(b"key"),
+        Field::Shown(configuration),
+        Field::Text(name),
+    );
     match listed {
         KeyList::NoKey => (),
-        KeyList::BadList => {
-            let fields = [
-                Field::Text(b"key"),
-                Field::Shown(configuration),
-                Field::Text(name),
-                Field::Text(b"bad-list"),
-            ];
-            put_line(&fields, pen)
-        }
+        KeyList::BadList => put_line(&[begin, shown, name, Field::Text(b"bad-list")], pen),
         KeyList::Missing(index) => {
-            let fields = [
-                Field::Text(b"key"),
-                Field::Shown(configuration),
-                Field::Text(name),
-                Field::Text(b"missing"),
-                Field::Decimal(index as u64),
-            ];
-            put_line(&fields, pen)
+            let index = Field::Decimal(index as u64);
+            put_line(&[begin, shown, name, Field::Text(b"missing"), index], pen)
         }
-        KeyList::Images(value) => put_images(configuration, key, value, pen),
+        KeyList::Images(value) => {
+            put_words(&[begin, shown, name, Field::Text(b"ok")], pen);
+            put_names(value, pen);
+            pen.end_line();
+        }
     }
 }
 
-/// Puts the object of a key. Puts nothing if the configuration has no such key.
-fn put_key_object<P: Pen>(key: Key, listed: KeyList, pen: &mut P)
-    ensures { (result_of : ListResult) → IsListed result_of listed.entry
-        → P.puts pen.old (flat_map (λ text. text) (key_objects key result_of)) pen.new }
-{
-    let name = ("key", JsonValue::Text(key.name().as_bytes()));
-    match listed {
-        KeyList::NoKey => (),
-        KeyList::BadList => put_object(&[name, ("bad_list", JsonValue::Bool(true))], pen),
-        KeyList::Missing(index) => {
-            put_object(&[name, ("missing", JsonValue::Number(index as u64))], pen)
-        }
-        KeyList::Images(value) => put_listed_object(key, value, pen),
-    }
-}
-
-/// Puts the object of a key whose value lists the names of images.
-fn put_listed_object<P: Pen>(key: Key, value: &[u8], pen: &mut P)
-    ensures { P.puts pen.old (listed_object key (listed_names value.now)) pen.new }
-{
-    pen.put(b"{");
-    put_members(&[("key", JsonValue::Text(key.name().as_bytes()))], pen);
-    pen.put(b",\"images\":[");
-    put_name_strings(value, pen);
-    pen.put(b"]}")
-}
-
-/// Puts the names that a value lists as strings, with a comma between each two.
-fn put_name_strings<P: Pen>(value: &[u8], pen: &mut P)
-    ensures { P.puts pen.old (in_turn Json false
-        (map (λ name. json_string (shown_text name)) (listed_names value.now))) pen.new }
+/// Puts the names that a value lists, as words.
+fn put_names<L: LinePen>(value: &[u8], pen: &mut L)
+    ensures { L.puts pen.old (flat_map one_field (map Name (listed_names value.now))) pen.new }
 {
     let mut rest = value;
-    let mut is_later = false;
     while let Some((name, later)) = split_name(rest) {
-        put_next(JsonValue::Shown(name), is_later, pen);
-        is_later = true;
+        pen.put_word(Field::Shown(name));
         rest = later;
     }
 }
 
-/// Puts the line of a key of the configuration of this name, whose value lists the names of
-/// images.
-fn put_images<P: Pen>(name: &[u8], key: Key, value: &[u8], pen: &mut P)
-    ensures { P.puts pen.old
-        (line (codes "key" ∷ shown_text name.now ∷ key_name key ∷ codes "ok"
-        ∷ map shown_text (listed_names value.now))) pen.new }
+/// Puts the member for the configurations.
+pub(super) fn put_configurations_member<J: JsonPen>(fit: &Fit, json: &mut J)
+    ensures { J.puts json.old
+        (member_tokens (configurations_member (read_configurations fit.now) ∷ [])) json.new }
 {
-    let words = [
-        Field::Text(b"key"),
-        Field::Shown(name),
-        Field::Text(key.name().as_bytes()),
-        Field::Text(b"ok"),
-    ];
-    put_fields(&words, pen);
-    put_names(value, pen);
-    pen.put(b"\n")
+    json.put(JsonToken::Name("configurations"));
+    json.put(JsonToken::BeginArray);
+    put_configuration_objects(fit, json);
+    json.put(JsonToken::EndArray);
 }
 
-/// Puts the names that a value lists, each after a space.
-fn put_names<P: Pen>(value: &[u8], pen: &mut P)
-    ensures { P.puts pen.old
-        (flat_map (λ name. 32 ∷ shown_text name) (listed_names value.now)) pen.new }
+/// Puts the object of each configuration.
+fn put_configuration_objects<J: JsonPen>(fit: &Fit, json: &mut J)
+    ensures { J.puts json.old
+        (value_tokens (map configuration_object (read_configurations fit.now))) json.new }
+{
+    for node in fit.configuration_nodes() {
+        put_configuration_object(fit, node, json);
+    }
+}
+
+/// Puts the object of a configuration.
+fn put_configuration_object<'a, J: JsonPen>(fit: &Fit<'a>, node: NodeRef<'a, '_>, json: &mut J)
+    ensures { J.puts json.old (json_tokens
+        (configuration_object (read_configuration fit.now.images (node_of node.entry)))) json.new }
+{
+    json.put(JsonToken::BeginObject);
+    put_member(("name", JsonValue::String(Field::Shown(node.name()))), json);
+    put_keys_member(fit, node, json);
+    json.put(JsonToken::EndObject);
+}
+
+/// Puts the member for what a configuration lists.
+fn put_keys_member<'a, J: JsonPen>(fit: &Fit<'a>, node: NodeRef<'a, '_>, json: &mut J)
+    ensures { J.puts json.old (member_tokens
+        (keys_member (read_configuration fit.now.images (node_of node.entry)).keys ∷ []))
+        json.new }
+{
+    json.put(JsonToken::Name("keys"));
+    json.put(JsonToken::BeginArray);
+    put_key_objects(fit, node, json);
+    json.put(JsonToken::EndArray);
+}
+
+/// Puts the object of each key of a configuration.
+fn put_key_objects<'a, J: JsonPen>(fit: &Fit<'a>, node: NodeRef<'a, '_>, json: &mut J)
+    ensures { J.puts json.old (value_tokens (flat_map (λ key. key_objects key.0 key.1)
+        (read_configuration fit.now.images (node_of node.entry)).keys)) json.new }
+{
+    for key in Key::ALL {
+        put_key_object(key, listed_under(fit, node, key), json);
+    }
+}
+
+/// Puts the object of a key. Puts nothing if the configuration has no such key.
+fn put_key_object<J: JsonPen>(key: Key, listed: KeyList, json: &mut J)
+    ensures { (result_of : ListResult) → IsListed result_of listed.entry
+        → J.puts json.old (value_tokens (key_objects key result_of)) json.new }
+{
+    let name = ("key", JsonValue::String(Field::Text(key.name().as_bytes())));
+    match listed {
+        KeyList::NoKey => (),
+        KeyList::BadList => put_object(&[name, ("bad_list", JsonValue::Bool(true))], json),
+        KeyList::Missing(index) => {
+            put_object(&[name, ("missing", JsonValue::Number(index as u64))], json)
+        }
+        KeyList::Images(value) => {
+            json.put(JsonToken::BeginObject);
+            put_member(name, json);
+            put_names_member(value, json);
+            json.put(JsonToken::EndObject);
+        }
+    }
+}
+
+/// Puts the member for the images whose names a value lists.
+fn put_names_member<J: JsonPen>(value: &[u8], json: &mut J)
+    ensures { J.puts json.old (member_tokens (names_member (listed_names value.now) ∷ []))
+        json.new }
+{
+    json.put(JsonToken::Name("images"));
+    json.put(JsonToken::BeginArray);
+    put_name_strings(value, json);
+    json.put(JsonToken::EndArray);
+}
+
+/// Puts the names that a value lists, as strings.
+fn put_name_strings<J: JsonPen>(value: &[u8], json: &mut J)
+    ensures { J.puts json.old (value_tokens
+        (map (λ name. json_string (shown_text name)) (listed_names value.now))) json.new }
 {
     let mut rest = value;
     while let Some((name, later)) = split_name(rest) {
-        put_later_field(Field::Shown(name), pen);
+        put_value(JsonValue::String(Field::Shown(name)), json);
         rest = later;
     }
 }

@@ -1,97 +1,43 @@
 //! The listing of a flattened image tree.
 
-ghost use Rattle.std.specs.Prelude.{[], ◌∷◌, false, flat_map, length, map};
+ghost use Rattle.std.specs.Prelude.{◌≡◌, [], ◌∷◌, map};
 ghost use Rattle.std.specs.Option.{option_map};
-ghost use Rattle.bi_base.specs.Sinks.{Wrote};
-ghost use Rattle.bi_base.specs.Pens.{literal};
 ghost use Rattle.bi_fit.specs.Content.{IsHeld, image_model};
-ghost use Rattle.bi_common.specs.declared.format.Format.TheVariants.{Json};
-ghost use Rattle.bi_common.specs.Formats.{in_turn};
-ghost use Rattle.bi_common.specs.Shown.{line, shown_text};
-ghost use Rattle.bi_report.specs.FitListing.{default_line};
-ghost use Rattle.bi_report.specs.ReadListing.{after_configurations, before_reservations};
-ghost use Rattle.bi_report.specs.ReadListing.{image_text, json_only, payload_at, payload_line};
-ghost use Rattle.bi_report.specs.ReadListing.{placed_payload, read_image_line};
-ghost use Rattle.bi_report.specs.ReadListing.{read_image_object, read_listing_text};
-ghost use Rattle.bi_report.specs.ReadListing.{words_of_blob_lines};
+ghost use Rattle.bi_common.specs.CommonLines.{reservations_member};
+ghost use Rattle.bi_common.specs.JsonTokens.{json_tokens, member_tokens, value_tokens};
+ghost use Rattle.bi_common.specs.LineTokens.{line_tokens, tokens_of_lines};
+ghost use Rattle.bi_report.specs.FitListing.{default_lines, fit_listing, fit_listing_object, listing_head};
+ghost use Rattle.bi_report.specs.FitListing.{head_members, image_line, image_object};
+ghost use Rattle.bi_report.specs.FitListing.{images_member, payload_object};
+ghost use Rattle.bi_report.specs.ReadListing.{placed_entry, placed_payload_entry, read_fit};
+ghost use Rattle.bi_report.specs.ReadListing.{read_image_entry, read_payload};
 
-use super::configurations::put_configurations;
-use super::texts::{
-    put_comma, put_json, put_line, put_lines, put_members, put_object, put_reservations,
-};
-use bi_base::{Error, Pen, Sink, SinkPen, put_literal};
+use super::configurations::{put_all_configuration_lines, put_configurations_member};
+use bi_common::common_lines::{put_reservation_lines, put_reservations};
 use bi_common::fields::Field;
-use bi_common::format::Format;
-use bi_common::json::{JsonValue, shown_or_null};
+use bi_common::json_writer::{
+    JsonPen, JsonToken, JsonValue, put_member, put_members, put_object, put_value, shown_or_null,
+};
+use bi_common::lines::{LinePen, put_line, put_lines};
 use bi_fdt::Blob;
 use bi_fit::{Fit, Image, Place};
 
-/// Appends the listing of a flattened image tree, in a form. Fails as the sink does. Requires: the
-/// tree was read.
-pub(super) fn list_fit<S: Sink>(fit: &Fit, format: Format, sink: &mut S) -> Result<(), Error>
+/// Puts the lines of a flattened image tree. Requires: the tree was read.
+pub(super) fn put_fit_lines<L: LinePen>(fit: &Fit, pen: &mut L)
     requires held { IsHeld fit.now }
-    ensures { Wrote S.appends S.fails sink.old (read_listing_text format fit.now) result sink.new }
+    ensures { L.puts pen.old (tokens_of_lines (fit_listing (read_fit fit.now))) pen.new }
 {
-    let mut pen = SinkPen::new(sink);
-    put_listing(fit, format, &mut pen);
-    pen.result()
-}
-
-/// Puts the listing of a flattened image tree, in a form. Requires: the tree was read.
-fn put_listing<P: Pen>(fit: &Fit, format: Format, pen: &mut P)
-    requires held { IsHeld fit.now }
-    ensures { P.puts pen.old (read_listing_text format fit.now) pen.new }
-{
-    let blob = fit.blob();
-    put_before_reservations(blob, format, pen);
-    put_reservations(blob, format, pen);
-    put_json_only("],\"images\":[", format, pen);
-    put_images(fit.images(), format, pen);
-    put_json_only("],\"configurations\":[", format, pen);
-    put_configurations(fit, format, pen);
-    put_after_configurations(fit.default_config(), format, pen);
-}
-
-/// Puts a text that only JSON has.
-fn put_json_only<P: Pen>(text: &str, format: Format, pen: &mut P)
-    ensures { P.puts pen.old (json_only format (literal text.now)) pen.new }
-{
-    match format {
-        Format::Lines => (),
-        Format::Json => put_literal(text, pen),
-    }
-}
-
-/// Puts what comes before the memory reservations.
-fn put_before_reservations<P: Pen>(blob: &Blob, format: Format, pen: &mut P)
-    ensures { P.puts pen.old (before_reservations format blob.now) pen.new }
-{
-    match format {
-        Format::Lines => put_head(blob, pen),
-        Format::Json => put_head_members(blob, pen),
-    }
-}
-
-/// Puts the members before the memory reservations.
-fn put_head_members<P: Pen>(blob: &Blob, pen: &mut P)
-    ensures { P.puts pen.old (before_reservations Json blob.now) pen.new }
-{
-    let members = [
-        ("kind", JsonValue::Text(b"fit")),
-        ("boot_cpu", JsonValue::Number(u64::from(blob.boot_cpu()))),
-        (
-            "total_size",
-            JsonValue::Number(u64::from(blob.total_size())),
-        ),
-    ];
-    put_literal("{", pen);
-    put_members(&members, pen);
-    put_literal(",\"reservations\":[", pen)
+    put_head_lines(fit.blob(), pen);
+    put_reservation_lines(fit.blob(), pen);
+    put_image_lines(fit.images(), pen);
+    put_all_configuration_lines(fit, pen);
+    put_default_line(fit.default_config(), pen);
 }
 
 /// Puts the lines of the kind, the boot processor and the size of the blob.
-fn put_head<P: Pen>(blob: &Blob, pen: &mut P)
-    ensures { P.puts pen.old (flat_map line (words_of_blob_lines blob.now)) pen.new }
+fn put_head_lines<L: LinePen>(blob: &Blob, pen: &mut L)
+    ensures { L.puts pen.old (tokens_of_lines (listing_head blob.now.cpu blob.now.total_size))
+        pen.new }
 {
     let boot_cpu = Field::Decimal(u64::from(blob.boot_cpu()));
     let total_size = Field::Decimal(u64::from(blob.total_size()));
@@ -102,151 +48,177 @@ fn put_head<P: Pen>(blob: &Blob, pen: &mut P)
             [Field::Text(b"total-size"), total_size],
         ],
         pen,
-    )
+    );
 }
 
-/// Puts each image, in a form.
-fn put_images<P: Pen>(images: &[Image], format: Format, pen: &mut P)
-    ensures { P.puts pen.old
-        (in_turn format false (map (image_text format) (map image_model images.now))) pen.new }
+/// Puts the line of each image.
+fn put_image_lines<L: LinePen>(images: &[Image], pen: &mut L)
+    ensures { L.puts pen.old
+        (tokens_of_lines (map image_line (map read_image_entry (map image_model images.now)))) pen.new }
 {
-    let mut is_later = false;
     for image in images {
-        put_image(image, format, is_later, pen);
-        is_later = true;
+        put_image_line(image, pen);
     }
 }
 
-/// Puts an image, in a form.
-fn put_image<P: Pen>(image: &Image, format: Format, is_later: bool, pen: &mut P)
-    ensures { P.puts pen.old
-        (in_turn format is_later (image_text format (image_model image.now) ∷ [])) pen.new }
+/// Puts the line of an image.
+fn put_image_line<L: LinePen>(image: &Image, pen: &mut L)
+    ensures { L.puts pen.old (line_tokens (image_line (read_image_entry (image_model image.now))))
+        pen.new }
 {
-    match format {
-        Format::Lines => put_image_line(image, pen),
-        Format::Json => {
-            put_comma(is_later, pen);
-            put_image_object(image, pen)
+    let (kind, name) = (Field::Text(b"image"), Field::Shown(image.name));
+    match placed_payload(image) {
+        Some(payload) => {
+            let words = [
+                kind,
+                name,
+                Field::Text(b"size"),
+                Field::Decimal(payload.size as u64),
+                Field::Text(payload.property.as_bytes()),
+                Field::Text(b"at"),
+                Field::Decimal(u64::from(payload.offset)),
+            ];
+            put_line(&words, pen);
         }
+        None => put_line(&[kind, name, Field::Text(b"none")], pen),
+    }
+}
+
+/// A payload: the property that gives it, the offset of its first byte in the file, and its size.
+#[derive(Clone, Copy)]
+struct PlacedPayload {
+    property: &'static str,
+    offset: u32,
+    size: usize,
+}
+
+/// Returns the payload of an image, if it has one.
+fn placed_payload(image: &Image) -> Option<PlacedPayload>
+    ensures { let model = image_model image.now in
+        option_map placed_payload_entry result ≡ read_payload model.place model.payload }
+{
+    match image.place {
+        Place::Absent => None,
+        Place::Data(offset) => payload_at("data", offset, image.payload),
+        Place::DataOffset(offset) => payload_at("data-offset", offset, image.payload),
+        Place::DataPosition(offset) => payload_at("data-position", offset, image.payload),
+    }
+}
+
+/// Returns a payload that this property gives, if there is one.
+fn payload_at(property: &'static str, offset: u32, payload: Option<&[u8]>) -> Option<PlacedPayload>
+    ensures { option_map placed_payload_entry result
+        ≡ option_map (placed_entry property.entry.now offset)
+        (option_map (λ payload. payload.now) payload.entry) }
+{
+    let size = payload?.len();
+    Some(PlacedPayload {
+        property,
+        offset,
+        size,
+    })
+}
+
+/// Puts the line of the default configuration, if one is named.
+fn put_default_line<L: LinePen>(default: Option<&[u8]>, pen: &mut L)
+    ensures { L.puts pen.old
+        (tokens_of_lines (default_lines (option_map (λ name. name.now) default.entry))) pen.new }
+{
+    if let Some(name) = default {
+        put_line(&[Field::Text(b"default"), Field::Shown(name)], pen);
+    }
+}
+
+/// Puts the object of a flattened image tree. Requires: the tree was read.
+pub(super) fn put_fit_object<J: JsonPen>(fit: &Fit, json: &mut J)
+    requires held { IsHeld fit.now }
+    ensures { J.puts json.old (json_tokens (fit_listing_object (read_fit fit.now))) json.new }
+{
+    json.put(JsonToken::BeginObject);
+    put_head_members(fit.blob(), json);
+    put_reservations_member(fit.blob(), json);
+    put_images_member(fit.images(), json);
+    put_configurations_member(fit, json);
+    put_member(("default", shown_or_null(fit.default_config())), json);
+    json.put(JsonToken::EndObject);
+}
+
+/// Puts the members for the kind, the boot processor and the size of the blob.
+fn put_head_members<J: JsonPen>(blob: &Blob, json: &mut J)
+    ensures { J.puts json.old (member_tokens (head_members blob.now.cpu blob.now.total_size))
+        json.new }
+{
+    let members = [
+        ("kind", JsonValue::String(Field::Text(b"fit"))),
+        ("boot_cpu", JsonValue::Number(u64::from(blob.boot_cpu()))),
+        (
+            "total_size",
+            JsonValue::Number(u64::from(blob.total_size())),
+        ),
+    ];
+    put_members(&members, json);
+}
+
+/// Puts the member for the memory reservations.
+fn put_reservations_member<J: JsonPen>(blob: &Blob, json: &mut J)
+    ensures { J.puts json.old (member_tokens (reservations_member blob.now.reservations ∷ []))
+        json.new }
+{
+    json.put(JsonToken::Name("reservations"));
+    json.put(JsonToken::BeginArray);
+    put_reservations(blob, json);
+    json.put(JsonToken::EndArray);
+}
+
+/// Puts the member for the images.
+fn put_images_member<J: JsonPen>(images: &[Image], json: &mut J)
+    ensures { J.puts json.old
+        (member_tokens (images_member (map read_image_entry (map image_model images.now)) ∷ []))
+        json.new }
+{
+    json.put(JsonToken::Name("images"));
+    json.put(JsonToken::BeginArray);
+    put_image_objects(images, json);
+    json.put(JsonToken::EndArray);
+}
+
+/// Puts the object of each image.
+fn put_image_objects<J: JsonPen>(images: &[Image], json: &mut J)
+    ensures { J.puts json.old
+        (value_tokens (map image_object (map read_image_entry (map image_model images.now)))) json.new }
+{
+    for image in images {
+        put_image_object(image, json);
     }
 }
 
 /// Puts the object of an image.
-fn put_image_object<P: Pen>(image: &Image, pen: &mut P)
-    ensures { P.puts pen.old (read_image_object (image_model image.now)) pen.new }
+fn put_image_object<J: JsonPen>(image: &Image, json: &mut J)
+    ensures { J.puts json.old (json_tokens (image_object (read_image_entry (image_model image.now))))
+        json.new }
 {
-    put_literal("{", pen);
-    put_members(&[("name", JsonValue::Shown(image.name))], pen);
-    put_literal(",\"payload\":", pen);
-    put_placed_payload(image, pen);
-    put_literal("}", pen)
+    json.put(JsonToken::BeginObject);
+    put_member(("name", JsonValue::String(Field::Shown(image.name))), json);
+    json.put(JsonToken::Name("payload"));
+    put_payload(placed_payload(image), json);
+    json.put(JsonToken::EndObject);
 }
 
-/// Puts the payload of an image in JSON: its property, offset and size, or `null`.
-fn put_placed_payload<P: Pen>(image: &Image, pen: &mut P)
-    ensures { let model = image_model image.now in
-        P.puts pen.old (placed_payload model.payload model.place) pen.new }
+/// Puts the object of a payload, or `null` if there is none.
+fn put_payload<J: JsonPen>(payload: Option<PlacedPayload>, json: &mut J)
+    ensures { J.puts json.old
+        (json_tokens (payload_object (option_map placed_payload_entry payload))) json.new }
 {
-    match (image.payload, image.place) {
-        (Some(payload), Place::Data(offset)) => put_payload_object(payload, "data", offset, pen),
-        (Some(payload), Place::DataOffset(offset)) => {
-            put_payload_object(payload, "data-offset", offset, pen)
+    match payload {
+        Some(payload) => {
+            let property = Field::Text(payload.property.as_bytes());
+            let members = [
+                ("property", JsonValue::String(property)),
+                ("offset", JsonValue::Number(u64::from(payload.offset))),
+                ("size", JsonValue::Number(payload.size as u64)),
+            ];
+            put_object(&members, json);
         }
-        (Some(payload), Place::DataPosition(offset)) => {
-            put_payload_object(payload, "data-position", offset, pen)
-        }
-        _ => pen.put(b"null"),
+        None => put_value(JsonValue::Null, json),
     }
-}
-
-/// Puts the object of a payload.
-fn put_payload_object<P: Pen>(payload: &[u8], property: &str, offset: u32, pen: &mut P)
-    ensures { P.puts pen.old
-        (payload_at property.now offset (length payload.now)) pen.new }
-{
-    let members = [
-        ("property", JsonValue::Text(property.as_bytes())),
-        ("offset", JsonValue::Number(u64::from(offset))),
-        ("size", JsonValue::Number(payload.len() as u64)),
-    ];
-    put_object(&members, pen)
-}
-
-/// Puts the line of an image.
-fn put_image_line<P: Pen>(image: &Image, pen: &mut P)
-    ensures { P.puts pen.old (read_image_line (image_model image.now)) pen.new }
-{
-    let name = image.name;
-    match (image.payload, image.place) {
-        (Some(payload), Place::Data(offset)) => put_payload(name, payload, "data", offset, pen),
-        (Some(payload), Place::DataOffset(offset)) => {
-            put_payload(name, payload, "data-offset", offset, pen)
-        }
-        (Some(payload), Place::DataPosition(offset)) => {
-            put_payload(name, payload, "data-position", offset, pen)
-        }
-        _ => put_line(
-            &[
-                Field::Text(b"image"),
-                Field::Shown(name),
-                Field::Text(b"none"),
-            ],
-            pen,
-        ),
-    }
-}
-
-/// Puts the line of an image of this name with a payload.
-fn put_payload<'a, P: Pen>(
-    name: &'a [u8],
-    payload: &[u8],
-    property: &'a str,
-    offset: u32,
-    pen: &mut P,
-)
-    ensures { P.puts pen.old
-        (payload_line (shown_text name.now) (length payload.now) property.now offset) pen.new }
-{
-    let words = [
-        Field::Text(b"image"),
-        Field::Shown(name),
-        Field::Text(b"size"),
-        Field::Decimal(payload.len() as u64),
-        Field::Text(property.as_bytes()),
-        Field::Text(b"at"),
-        Field::Decimal(u64::from(offset)),
-    ];
-    put_line(&words, pen)
-}
-
-/// Puts what comes after the configurations: the default.
-fn put_after_configurations<P: Pen>(default: Option<&[u8]>, format: Format, pen: &mut P)
-    ensures { P.puts pen.old
-        (after_configurations format (option_map (λ name. name.now) default.entry)) pen.new }
-{
-    match format {
-        Format::Lines => put_default_line(default, pen),
-        Format::Json => put_default_member(default, pen),
-    }
-}
-
-/// Puts the line of the default configuration, if one is named.
-fn put_default_line<P: Pen>(default: Option<&[u8]>, pen: &mut P)
-    ensures { P.puts pen.old
-        (default_line (option_map (λ name. name.now) default.entry)) pen.new }
-{
-    match default {
-        Some(name) => put_line(&[Field::Text(b"default"), Field::Shown(name)], pen),
-        None => (),
-    }
-}
-
-/// Puts the member for the default configuration, and the end of the text.
-fn put_default_member<P: Pen>(default: Option<&[u8]>, pen: &mut P)
-    ensures { P.puts pen.old
-        (after_configurations Json (option_map (λ name. name.now) default.entry)) pen.new }
-{
-    put_literal("],\"default\":", pen);
-    put_json(shown_or_null(default), pen);
-    put_literal("}\n", pen)
 }

@@ -1,140 +1,95 @@
 //! The listing of a legacy image.
 
-ghost use Rattle.std.specs.Prelude.{[], ◌∷◌, ◌++◌, false, length};
-ghost use Rattle.std.specs.Fmt.{decimal};
-ghost use Rattle.bi_base.specs.Sinks.{Wrote};
+ghost use Rattle.std.specs.Prelude.{[], ◌∷◌, map};
 ghost use Rattle.bi_legacy.specs.PlacedParts.{part_model, placed_parts};
-ghost use Rattle.bi_common.specs.Formats.{in_turn};
-ghost use Rattle.bi_common.specs.Json.{json_line};
-ghost use Rattle.bi_report.specs.ListedFiles.{legacy_listing_text};
-ghost use Rattle.bi_report.specs.Listing.{legacy_listing, part_line};
-ghost use Rattle.bi_report.specs.ListingJson.{legacy_listing_object, part_object};
-ghost use Rattle.bi_report.specs.ReadListing.{before_parts, part_text, part_texts};
+ghost use Rattle.bi_common.specs.JsonTokens.{json_tokens, member_tokens, value_tokens};
+ghost use Rattle.bi_common.specs.LineTokens.{line_tokens, tokens_of_lines};
+ghost use Rattle.bi_report.specs.Listing.{legacy_listing, legacy_listing_object, listed_part_line, part_object};
+ghost use Rattle.bi_report.specs.Listing.{parts_lines, parts_member};
 
-use super::texts::{
-    put_codes, put_comma, put_decimal, put_header_members, put_kind_and_fields, put_line,
-    put_object,
-};
-use bi_base::{Error, Pen, Sink, SinkPen, put_literal};
+use bi_common::common_lines::{put_header_lines, put_header_members};
 use bi_common::fields::Field;
-use bi_common::format::Format;
-use bi_common::json::JsonValue;
+use bi_common::json_writer::{JsonPen, JsonToken, JsonValue, put_member, put_object};
+use bi_common::lines::{LinePen, put_line};
 use bi_legacy::{Legacy, Part};
 
-/// Appends the listing of a legacy image that was read, in a form. Fails as the sink does.
-pub(super) fn list_legacy<S: Sink>(
-    image: &Legacy,
-    format: Format,
-    sink: &mut S,
-) -> Result<(), Error>
-    ensures { Wrote S.appends S.fails sink.old (legacy_listing_text format image.now) result
-        sink.new }
-{
-    let mut pen = SinkPen::new(sink);
-    put_listing(image, format, &mut pen);
-    pen.result()
-}
-
-/// Puts the listing of a legacy image that was read, in a form.
-fn put_listing<P: Pen>(image: &Legacy, format: Format, pen: &mut P)
-    ensures { P.puts pen.old (legacy_listing_text format image.now) pen.new }
-{
-    match format {
-        Format::Lines => put_legacy_lines(image, pen),
-        Format::Json => put_legacy_object(image, pen),
-    }
-}
-
 /// Puts the lines of a legacy image.
-fn put_legacy_lines<P: Pen>(image: &Legacy, pen: &mut P)
-    ensures { P.puts pen.old (legacy_listing image.now) pen.new }
+pub(super) fn put_legacy_lines<L: LinePen>(image: &Legacy, pen: &mut L)
+    ensures { L.puts pen.old (tokens_of_lines (legacy_listing image.now)) pen.new }
 {
-    let fields = image.fields();
-    put_kind_and_fields(fields, pen);
-    put_codes(fields, pen);
-    put_parts(image, Format::Lines, pen);
     let unused = Field::Decimal(u64::from(image.unused()));
-    put_line(&[Field::Text(b"unused"), unused], pen)
+    put_header_lines(image.fields(), pen);
+    put_parts_lines(image, pen);
+    put_line(&[Field::Text(b"unused"), unused], pen);
 }
 
-/// Puts the object of a legacy image, and a newline.
-fn put_legacy_object<P: Pen>(image: &Legacy, pen: &mut P)
-    ensures { P.puts pen.old (json_line (legacy_listing_object image.now)) pen.new }
+/// Puts the lines with the number of parts and with each part.
+fn put_parts_lines<L: LinePen>(image: &Legacy, pen: &mut L)
+    ensures { L.puts pen.old (tokens_of_lines (parts_lines image.now.image)) pen.new }
 {
-    let fields = image.fields();
-    pen.put(b"{");
-    put_header_members(fields, pen);
-    put_parts(image, Format::Json, pen);
-    pen.put(b"],\"unused\":");
-    put_decimal(u64::from(image.unused()), pen);
-    pen.put(b"}\n")
-}
-
-/// Puts what comes before the parts, and each part.
-fn put_parts<P: Pen>(image: &Legacy, format: Format, pen: &mut P)
-    ensures { let image = image.now.image in
-        P.puts pen.old (before_parts format (length image.parts)
-        ++ in_turn format false (part_texts format 0 (placed_parts image))) pen.new }
-{
-    put_before_parts(image.part_count(), format, pen);
-    let mut is_later = false;
+    let count = Field::Decimal(image.part_count() as u64);
+    put_line(&[Field::Text(b"parts"), count], pen);
     for (index, part) in image.parts().enumerate() {
-        put_part(index, &part, format, is_later, pen);
-        is_later = true;
+        put_part_line(index, &part, pen);
     }
 }
 
-/// Puts what comes before the parts: a line with their number, or the name of a member.
-fn put_before_parts<P: Pen>(count: usize, format: Format, pen: &mut P)
-    ensures { P.puts pen.old (before_parts format count) pen.new }
+/// Puts the line of a part.
+fn put_part_line<L: LinePen>(index: usize, part: &Part, pen: &mut L)
+    ensures { L.puts pen.old (line_tokens (listed_part_line index (part_model part.now))) pen.new }
 {
-    match format {
-        Format::Lines => put_line(&[Field::Text(b"parts"), Field::Decimal(count as u64)], pen),
-        Format::Json => put_literal(",\"parts\":[", pen),
-    }
+    let words = [
+        Field::Text(b"part"),
+        Field::Decimal(index as u64),
+        Field::Text(b"size"),
+        Field::Decimal(part.bytes.len() as u64),
+        Field::Text(b"at"),
+        Field::Decimal(u64::from(part.place)),
+    ];
+    put_line(&words, pen);
 }
 
-/// Puts a part.
-fn put_part<P: Pen>(index: usize, part: &Part, format: Format, is_later: bool, pen: &mut P)
-    ensures { P.puts pen.old
-        (in_turn format is_later (part_text format index (part_model part.now) ∷ [])) pen.new }
+/// Puts the object of a legacy image.
+pub(super) fn put_legacy_object<J: JsonPen>(image: &Legacy, json: &mut J)
+    ensures { J.puts json.old (json_tokens (legacy_listing_object image.now)) json.new }
 {
-    match format {
-        Format::Lines => put_part_line(index, part, pen),
-        Format::Json => {
-            put_comma(is_later, pen);
-            put_part_object(part, pen)
-        }
+    json.put(JsonToken::BeginObject);
+    put_header_members(image.fields(), json);
+    put_parts_member(image, json);
+    put_member(
+        ("unused", JsonValue::Number(u64::from(image.unused()))),
+        json,
+    );
+    json.put(JsonToken::EndObject);
+}
+
+/// Puts the member for the parts.
+fn put_parts_member<J: JsonPen>(image: &Legacy, json: &mut J)
+    ensures { J.puts json.old (member_tokens (parts_member image.now.image ∷ [])) json.new }
+{
+    json.put(JsonToken::Name("parts"));
+    json.put(JsonToken::BeginArray);
+    put_part_objects(image, json);
+    json.put(JsonToken::EndArray);
+}
+
+/// Puts the object of each part.
+fn put_part_objects<J: JsonPen>(image: &Legacy, json: &mut J)
+    ensures { J.puts json.old (value_tokens (map part_object (placed_parts image.now.image)))
+        json.new }
+{
+    for part in image.parts() {
+        put_part_object(&part, json);
     }
 }
 
 /// Puts the object of a part.
-fn put_part_object<P: Pen>(part: &Part, pen: &mut P)
-    ensures { P.puts pen.old (part_object (part_model part.now)) pen.new }
+fn put_part_object<J: JsonPen>(part: &Part, json: &mut J)
+    ensures { J.puts json.old (json_tokens (part_object (part_model part.now))) json.new }
 {
     let members = [
         ("offset", JsonValue::Number(u64::from(part.place))),
         ("size", JsonValue::Number(part.bytes.len() as u64)),
     ];
-    put_object(&members, pen)
-}
-
-/// Puts the line of a part.
-fn put_part_line<P: Pen>(index: usize, part: &Part, pen: &mut P)
-    ensures { P.puts pen.old (part_line index (part_model part.now)) pen.new }
-{
-    let (size, place) = (part.bytes.len(), part.place);
-    // A listing may have millions of these lines, so a space is not put by itself.
-    put_text_and_number(b"part ", index as u64, pen);
-    put_text_and_number(b" size ", size as u64, pen);
-    put_text_and_number(b" at ", u64::from(place), pen);
-    pen.put(b"\n")
-}
-
-/// Puts a text, and a number in decimal digits.
-fn put_text_and_number<P: Pen>(text: &[u8], number: u64, pen: &mut P)
-    ensures { P.puts pen.old (text.now ++ decimal number) pen.new }
-{
-    pen.put(text);
-    put_decimal(number, pen)
+    put_object(&members, json);
 }

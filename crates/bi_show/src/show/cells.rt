@@ -1,15 +1,15 @@
 //! The cells of a page.
 
-ghost use Rattle.std.specs.Prelude.{◌≡◌, ◌++◌, IfOk, IsAscii, IsTrue, codes, option_map};
-ghost use Rattle.std.specs.Prelude.{string_bytes, unwrap_or};
-ghost use Rattle.std.specs.Fmt.{decimal};
+ghost use Rattle.std.specs.Prelude.{◌≡◌, ◌++◌, IfOk, IfSome, IsAscii, Some, codes, option_map};
+ghost use Rattle.std.specs.Prelude.{string_bytes};
 ghost use Rattle.std.specs.List.{list_all};
 ghost use Rattle.bi_fdt.specs.Views.{node_of};
-ghost use Rattle.bi_common.specs.Fields.{field_text};
-ghost use Rattle.bi_common.specs.Shown.{shown_or_none};
-ghost use Rattle.bi_common.specs.Shown.{is_plain as is_plain_byte};
+ghost use Rattle.bi_common.specs.Json.{string_text};
+ghost use Rattle.bi_common.specs.Lines.{CanPrint, field_text};
+ghost use Rattle.bi_common.specs.MadeFields.{field_of};
+ghost use Rattle.bi_common.specs.Shown.{shown_or_none, is_plain as is_plain_byte};
 ghost use Rattle.bi_common.specs.ValueTexts.{hexadecimal_digits, is_quotable as is_quotable_of};
-ghost use Rattle.bi_common.specs.ValueTexts.{is_printable as is_printable_byte, quoted_text};
+ghost use Rattle.bi_common.specs.ValueTexts.{is_printable as is_printable_byte};
 ghost use Rattle.bi_show.specs.FitPages.{value_in};
 ghost use Rattle.bi_show.specs.PageCells.{IsTimeCell, is_word as is_word_of};
 ghost use Rattle.bi_show.specs.PageCells.{address_cell as cell_of_address};
@@ -23,9 +23,9 @@ mod hashes;
 mod names;
 
 use super::dates::time_text;
-use bi_base::{VecSink, cell_at};
-use bi_common::fields::{Field, is_printable, put_bytes, put_fields};
-use bi_common::json::{JsonValue, put_json};
+use bi_base::{MemoryPen, are_bytes, cell_at};
+use bi_common::fields::{Field, is_printable, put_field};
+use bi_common::json_writer::{JsonValue, JsonWriter, put_value};
 use bi_common::shown::{is_plain, shown_name};
 use bi_fdt::NodeRef;
 pub(super) use hashes::hashes_cell;
@@ -53,21 +53,6 @@ pub(super) fn number_cell(alloc: Global, number: Option<u64>) -> Result<String, 
     }
 }
 
-/// Returns the cell of a code: its name, or its number if it has none.
-pub(super) fn code_cell(
-    alloc: Global,
-    name: Option<&'static str>,
-    code: u8,
-) -> Result<String, AllocError>
-    ensures { IfOk result (λ text. string_bytes text
-        ≡ unwrap_or (option_map (λ name. name.now) name.entry) (decimal code)) }
-{
-    match name {
-        Some(name) => String::from_str(alloc, name),
-        None => format!(in alloc; "{code}"),
-    }
-}
-
 /// Returns the cell of a number of bytes.
 pub(super) fn size_cell(alloc: Global, size: u64) -> Result<String, AllocError>
     ensures { IfOk result (λ text. string_bytes text ≡ cell_of_size size) }
@@ -86,16 +71,16 @@ pub(super) fn text_cell(alloc: Global, text: &[u8]) -> Result<String, AllocError
     }
 }
 
-/// Returns a text in quotes. Requires: it is not empty, and each of its bytes is printable.
+/// Returns a text in quotes, as a string of JSON.
 fn quoted_cell(alloc: Global, text: &[u8]) -> Result<String, AllocError>
-    requires { IsTrue (is_quotable_of text.now) }
-    ensures { IfOk result (λ shown. string_bytes shown ≡ quoted_text text.now) }
+    ensures { IfOk result (λ shown. string_bytes shown ≡ string_text text.now) }
 {
-    let mut sink = VecSink::new(alloc);
-    match put_json(JsonValue::Text(text), &mut sink) {
-        Ok(()) => Ok(text_of(sink)),
-        Err(_) => Err(AllocError),
-    }
+    let mut pen = MemoryPen::new(alloc);
+    put_value(
+        JsonValue::String(Field::Text(text)),
+        &mut JsonWriter::new(&mut pen),
+    );
+    text_of(pen)
 }
 
 /// Returns the cell of the property of this name of a node.
@@ -145,6 +130,7 @@ fn value_cell(alloc: Global, value: &[u8]) -> Result<String, AllocError>
             if *last == 0 && is_word(text) {
                 shown_name(alloc, text)
             } else {
+                are_bytes(value);
                 field_cell(alloc, Field::Value(value))
             }
         }
@@ -167,11 +153,9 @@ fn digits_cell(alloc: Global, bytes: &[u8]) -> Result<String, AllocError>
     ensures { IfOk result (λ text. string_bytes text
         ≡ codes "0x" ++ hexadecimal_digits bytes.now) }
 {
-    let mut sink = VecSink::new(alloc);
-    match put_bytes(bytes, &mut sink) {
-        Ok(()) => Ok(text_of(sink)),
-        Err(_) => Err(AllocError),
-    }
+    are_bytes(bytes);
+    let digits = field_cell(alloc, Field::Digits(bytes))?;
+    format!(in alloc; "0x{digits}")
 }
 
 /// Returns the cell of a name, which may not be there.
@@ -217,24 +201,33 @@ fn are_printable(bytes: &[u8]) -> bool
     bytes.iter().all(|byte| is_printable(*byte))
 }
 
-/// Returns the text of a field. Requires: that text is ASCII.
+/// Returns the text of a field. Requires: the field can be printed.
 pub(super) fn field_cell(alloc: Global, field: Field) -> Result<String, AllocError>
-    requires { IsAscii (field_text field) }
-    ensures { IfOk result (λ text. string_bytes text ≡ field_text field.entry) }
+    requires { CanPrint (field_of field) }
+    ensures { IfOk result (λ text. string_bytes text ≡ field_text (field_of field.entry)) }
 {
-    let mut sink = VecSink::new(alloc);
-    match put_fields(&[field], &mut sink) {
-        Ok(()) => Ok(text_of(sink)),
+    let mut pen = MemoryPen::new(alloc);
+    put_field(field, &mut pen);
+    text_of(pen)
+}
+
+/// Returns the text that was put to a pen. Fails if memory has run out. Requires: it is ASCII.
+fn text_of(pen: MemoryPen) -> Result<String, AllocError>
+    requires { IfSome pen IsAscii }
+    ensures { IfOk result (λ text. pen ≡ Some (string_bytes text)) }
+{
+    match pen.into_vec() {
+        Ok(bytes) => Ok(string_of(bytes)),
         Err(_) => Err(AllocError),
     }
 }
 
-/// Returns the text that was appended to a sink. Requires: the text is ASCII.
-pub(super) fn text_of(sink: VecSink) -> String
-    requires { IsAscii sink }
-    ensures { string_bytes result ≡ sink }
+/// Returns these bytes as a text. Requires: they are ASCII.
+pub(super) fn string_of(bytes: Vec<u8>) -> String
+    requires { IsAscii bytes.items }
+    ensures { string_bytes result ≡ bytes.items }
 {
-    match String::from_utf8(sink.into_vec()) {
+    match String::from_utf8(bytes) {
         Ok(text) => text,
         Err(_) => unreachable!(),
     }

@@ -1,6 +1,6 @@
 //! The table of the configurations of a flattened image tree.
 
-ghost use Rattle.std.specs.Prelude.{◌≡◌, ◌++◌, IfOk, OnOk, map};
+ghost use Rattle.std.specs.Prelude.{◌≡◌, IfOk};
 ghost use Rattle.std.specs.List.{list_any};
 ghost use Rattle.bi_blob.specs.Lookups.{siblings};
 ghost use Rattle.bi_fdt.specs.Views.{node_of};
@@ -11,36 +11,22 @@ ghost use Rattle.bi_show.specs.FitPages.{used_keys as used_keys_of};
 ghost use Rattle.bi_show.specs.Rows.{cells_of_rows, cells_of_row};
 
 use super::cells::{CellForm, name_cell, property_cell};
-use super::tables::Row;
+use super::tables::{Row, Table};
 use bi_fdt::NodeRef;
 use bi_fit::{Fit, Key};
 use std::alloc::{AllocError, Global};
 
 /// Returns the table of the configurations.
-pub(super) fn configuration_rows(alloc: Global, fit: &Fit) -> Result<Vec<Row>, AllocError>
+pub(super) fn configuration_rows(alloc: Global, fit: &Fit) -> Result<Table, AllocError>
     ensures { IfOk result (λ rows. cells_of_rows rows.items
         ≡ configurations_table (siblings (file_configurations fit.now.blob))) }
 {
     let keys = used_keys(alloc, fit)?;
     let mut rows = vec![in alloc; heading(alloc, &keys)?]?;
-    add_configurations(alloc, &mut rows, fit, &keys)?;
-    Ok(rows)
-}
-
-/// Appends the rows of the configurations, with these keys.
-fn add_configurations(
-    alloc: Global,
-    rows: &mut Vec<Row>,
-    fit: &Fit,
-    keys: &[Key],
-) -> Result<(), AllocError>
-    ensures { OnOk result (cells_of_rows rows.new.items ≡ cells_of_rows rows.old.items
-        ++ map (row_of_configuration keys.now) (siblings (file_configurations fit.now.blob))) }
-{
     for node in fit.configuration_nodes() {
-        rows.push(configuration_row(alloc, node, keys)?)?;
+        rows.push(configuration_row(alloc, node, &keys)?)?;
     }
-    Ok(())
+    Ok(rows)
 }
 
 /// Returns the keys that a configuration has.

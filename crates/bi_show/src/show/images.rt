@@ -1,6 +1,6 @@
 //! The table of the images of a flattened image tree.
 
-ghost use Rattle.std.specs.Prelude.{◌≡◌, ◌^◌, ◌<◌, ◌∷◌, ◌++◌, IfOk, IfSome, OnOk, length};
+ghost use Rattle.std.specs.Prelude.{◌≡◌, ◌^◌, ◌<◌, ◌∷◌, IfOk, IfSome, length};
 ghost use Rattle.std.specs.Prelude.{option_map};
 ghost use Rattle.bi_blob.specs.Lookups.{siblings};
 ghost use Rattle.bi_fdt.specs.Views.{node_of};
@@ -12,7 +12,7 @@ ghost use Rattle.bi_show.specs.ReadPages.{read_image_row, read_image_rows};
 ghost use Rattle.bi_show.specs.Rows.{cells_of_rows, cells_of_row};
 
 use super::cells::{CellForm, hashes_cell, name_cell, number_cell, property_cell};
-use super::tables::{Row, words_row};
+use super::tables::{Row, Table, words_row};
 use bi_common::hash_nodes::HashNodes;
 use bi_fdt::NodeRef;
 use bi_fit::{Fit, Image, Place};
@@ -25,7 +25,7 @@ pub(super) fn image_rows<'a>(
     alloc: Global,
     fit: &Fit<'a>,
     digests: &RegionDigests<'a>,
-) -> Result<Vec<Row>, AllocError>
+) -> Result<Table, AllocError>
     requires placed { AreAtTheirPlaces digests.now fit.now.images }
     ensures { IfOk result (λ rows. cells_of_rows rows.items ≡ image_heading
         ∷ read_image_rows (siblings (file_images fit.now.blob)) fit.now.images) }
@@ -43,31 +43,10 @@ pub(super) fn image_rows<'a>(
         "hashes",
     ];
     let mut rows = vec![in alloc; words_row(alloc, &heading)?]?;
-    add_images(alloc, &mut rows, fit, digests)?;
-    Ok(rows)
-}
-
-/// Appends the rows of the images. Requires: in the file of the digests, the payload of each image
-/// is at its place.
-fn add_images<'a>(
-    alloc: Global,
-    rows: &mut Vec<Row>,
-    fit: &Fit<'a>,
-    digests: &RegionDigests<'a>,
-) -> Result<(), AllocError>
-    requires placed { AreAtTheirPlaces digests.now fit.now.images }
-    ensures { OnOk result (cells_of_rows rows.new.items ≡ cells_of_rows rows.old.items
-        ++ read_image_rows (siblings (file_images fit.now.blob)) fit.now.images) }
-{
-    let mut next = fit.images_node().first_child();
-    for image in fit.images() {
-        let Some(node) = next else {
-            return Ok(());
-        };
+    for (node, image) in fit.images_with_nodes() {
         rows.push(image_row(alloc, node, image, digests)?)?;
-        next = node.next_sibling();
     }
-    Ok(())
+    Ok(rows)
 }
 
 /// Returns the row of the image of a node. Requires: in the file of the digests, the payload of the

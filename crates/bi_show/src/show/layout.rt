@@ -13,7 +13,7 @@ pub(super) mod fit;
 pub(super) mod legacy;
 
 use super::cells::{name_cell, number_cell};
-use super::tables::{Row, words_row};
+use super::tables::{Row, Table, words_row};
 use bi_fit::Image;
 use std::alloc::{AllocError, Global};
 
@@ -57,7 +57,7 @@ pub(super) fn layout_rows(
     images: &[Image],
     end: u64,
     size: u64,
-) -> Result<Vec<Row>, AllocError>
+) -> Result<Table, AllocError>
     ensures { IfOk result (λ rows. IsLayout (read_image_names (map image_model images.now))
         regions.items end size (cells_of_rows rows.items)) }
 {

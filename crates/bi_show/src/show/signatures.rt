@@ -13,7 +13,8 @@ ghost use Rattle.bi_show.specs.FitPages.{signatures_table};
 ghost use Rattle.bi_show.specs.Rows.{cells_of_rows, cells_of_row};
 
 use super::cells::{CellForm, field_cell, property_cell};
-use super::tables::{Row, words_row};
+use super::tables::{Row, Table, words_row};
+use bi_base::are_bytes;
 use bi_common::fields::Field;
 use bi_fdt::NodeRef;
 use bi_fit::Fit;
@@ -21,7 +22,7 @@ use bi_fit::nodes::Siblings;
 use std::alloc::{AllocError, Global};
 
 /// Returns the table of the signature nodes.
-pub(super) fn signature_rows(alloc: Global, fit: &Fit) -> Result<Vec<Row>, AllocError>
+pub(super) fn signature_rows(alloc: Global, fit: &Fit) -> Result<Table, AllocError>
     ensures { IfOk result (λ rows. cells_of_rows rows.items
         ≡ signatures_table (siblings (file_images fit.now.blob))
         (siblings (file_configurations fit.now.blob))) }
@@ -100,5 +101,8 @@ fn path_cell(alloc: Global, parent: &[u8], node: &[u8], child: &[u8]) -> Result<
     ensures { IfOk result (λ text. string_bytes text
         ≡ path (parent.now ∷ node.now ∷ child.now ∷ [])) }
 {
+    are_bytes(parent);
+    are_bytes(node);
+    are_bytes(child);
     field_cell(alloc, Field::Path(&[parent, node, child]))
 }

@@ -2,28 +2,30 @@
 
 ghost use Rattle.std.specs.Prelude.{◌≡◌, ◌∷◌, ◌++◌, [], IfOk, OnOk, map, replicate};
 ghost use Rattle.std.specs.Prelude.{string_bytes};
+ghost use Rattle.std.specs.List.{join_with_byte};
 ghost use Rattle.bi_show.specs.Pages.{column_widths, concerns_text_of_page, later_cells};
-ghost use Rattle.bi_show.specs.Pages.{row_text, table_text, with_row};
-ghost use Rattle.bi_show.specs.Rows.{cells_of_rows, cells_of_row};
+ghost use Rattle.bi_show.specs.Pages.{page_text, row_text, table_text, with_row};
+ghost use Rattle.bi_show.specs.Rows.{cells_of_rows, cells_of_row, cells_of_tables};
 
 use std::alloc::{AllocError, Global};
+use std::fmt::Write;
 
 /// The cells of a row.
 pub(super) type Row = Vec<String>;
 
-/// Appends a row of a word and a cell.
-pub(super) fn add_pair(
-    alloc: Global,
-    rows: &mut Vec<Row>,
-    word: &str,
-    cell: String,
-) -> Result<(), AllocError>
-    ensures { OnOk result (cells_of_rows rows.new.items
-        ≡ cells_of_rows rows.old.items ++ (word.now ∷ string_bytes cell ∷ []) ∷ []) }
+/// A table: rows of cells.
+pub(super) type Table = Vec<Row>;
+
+/// Returns a row for each word with its cell.
+pub(super) fn pair_rows(alloc: Global, pairs: &[(&str, &str)]) -> Result<Table, AllocError>
+    ensures { IfOk result (λ rows. cells_of_rows rows.items
+        ≡ map (λ pair. pair.0.now ∷ pair.1.now ∷ []) pairs.now) }
 {
-    let word = String::from_str(alloc, word)?;
-    rows.push(vec![in alloc; word, cell]?)?;
-    Ok(())
+    let mut rows = Vec::new(alloc);
+    for (word, cell) in pairs {
+        rows.push(words_row(alloc, &[*word, *cell])?)?;
+    }
+    Ok(rows)
 }
 
 /// Returns a row of words.
@@ -37,8 +39,29 @@ pub(super) fn words_row(alloc: Global, words: &[&str]) -> Result<Row, AllocError
     Ok(row)
 }
 
+/// Returns the cells of a row as one text, with a space between each two.
+pub(super) fn join_cells(alloc: Global, row: &[String]) -> Result<String, AllocError>
+    ensures { IfOk result (λ text. string_bytes text
+        ≡ join_with_byte 32 (cells_of_row row.now)) }
+{
+    row.join(alloc, " ")
+}
+
+/// Returns a page: its tables, and the lines that `check` gives.
+pub(super) fn page_of(alloc: Global, tables: &[Table], concerns: &str) -> Result<String, AllocError>
+    ensures { IfOk result (λ text. string_bytes text
+        ≡ page_text (cells_of_tables tables.now) concerns.now) }
+{
+    let mut page = String::new(alloc);
+    for table in tables {
+        add_table(alloc, &mut page, table)?;
+    }
+    add_concerns(&mut page, concerns)?;
+    Ok(page)
+}
+
 /// Appends a table and an empty line, or nothing if the table has only one row.
-pub(super) fn add_table(alloc: Global, page: &mut String, table: &[Row]) -> Result<(), AllocError>
+fn add_table(alloc: Global, page: &mut String, table: &[Row]) -> Result<(), AllocError>
     ensures { OnOk result (string_bytes page.new
         ≡ string_bytes page.old ++ table_text (cells_of_rows table.now)) }
 {
@@ -120,13 +143,13 @@ fn add_spaces(page: &mut String, count: usize) -> Result<(), AllocError>
 }
 
 /// Appends the lines that `check` gives, or that there are none.
-pub(super) fn add_concerns(page: &mut String, concerns: &str) -> Result<(), AllocError>
+fn add_concerns(page: &mut String, concerns: &str) -> Result<(), AllocError>
     ensures { OnOk result (string_bytes page.new
         ≡ string_bytes page.old ++ concerns_text_of_page concerns.now) }
 {
     if concerns.is_empty() {
-        return page.push_str("no concerns\n");
+        page.push_str("no concerns\n")
+    } else {
+        write!(page, "concerns\n{concerns}")
     }
-    page.push_str("concerns\n")?;
-    page.push_str(concerns)
 }

@@ -1,10 +1,9 @@
-use Rattle.std.proofs.Common.{drop, false, map, not, ◌==◌}
-use Rattle.bi_common.specs.CommonLines.{reservation_text}
-use Rattle.bi_common.proofs.TextsInTurn.{AreInTurn}
+use Rattle.std.proofs.Common.{flat_map, take}
+use Rattle.bi_common.specs.CommonLines.{reservation_object}
+use Rattle.bi_common.specs.JsonTokens.{json_tokens}
 use Rattle.bi_common.proofs.common_lines.put_reservations.Given as goal
 
--- The reservations that are left follow those that were appended.
+-- The reservations before this one were put.
 abbrev pub invariant-loop-index : goal.invariant-loop-index
 invariant-loop-index g l =
-    AreInTurn g.S.Sink.appends l.initial.sink l.sink l.fn.format false (not (l.index == 0))
-    (map (reservation_text l.fn.format) (drop l.index l.blob.reservations)) (map (reservation_text l.fn.format) l.blob.reservations)
+    g.J.JsonPen.puts l.initial.json (flat_map (λ reservation. json_tokens (reservation_object reservation)) (take l.index l.blob.reservations)) l.json

@@ -8,7 +8,7 @@ use Rattle.bi_fit.specs.ImagesWithNodes.{models_left, nodes_left}
 use Rattle.bi_fit.proofs.FileVerdicts.{verdicts_are}
 use Rattle.bi_fit.proofs.SignatureCounts.{image_children_few}
 use Rattle.bi_common.specs.VerdictCounts.{hash_counts}
-use Rattle.bi_common.proofs.VerdictCounts.{all_counted, counted_all, one_image_counted}
+use Rattle.bi_common.proofs.VerdictCounts.{counted_all, one_image_counted}
 use Rattle.bi_common.proofs.verdict_counts.judge_hashes.Goals as goal
 
 pub loop-node-init : goal.loop-node-init
@@ -52,27 +52,3 @@ loop-node-preserved c =
         length-append (siblings (node_of c.in-Some.node).children) (children_of_each (nodes_left c.next.new.self)),
       );
     }
-
-pub count_image-requires : goal.count_image-requires
-count_image-requires c =
-    let steps = c.in-Some.ensures.steps in
-    let placed = subst (AreAtTheirPlaces c.loop-node.digests) (ap (map image_model) steps.images) c.loop-node.invariant.placed in
-    record {
-      within = (c.region.ensures c.loop-node.digests placed.0).within;
-      few = omega (
-        arith,
-        c.loop-node.invariant.few,
-        ap (λ entries. length (children_of_each entries)) steps.nodes,
-        length-append (siblings (node_of c.in-Some.node).children) (children_of_each (nodes_left c.next.new.self)),
-      );
-    }
-
-pub returns-clause-placed : goal.returns-clause-placed
-returns-clause-placed c =
-    subst (λ file. AreAtTheirPlaces file c.args.fit.now.images) (sym c.loop-node.invariant.same_file)
-    c.region_digests-digests.ensures.placed
-
-pub returns-clause-counts : goal.returns-clause-counts
-returns-clause-counts c =
-    all_counted c.loop-node.counts _ _ (ap (λ nodes. file_verdicts nodes (models_left c.loop-node.node-iterator)) c.in-None.ensures.steps.nodes)
-    c.loop-node.invariant.counted

@@ -1,14 +1,23 @@
-use Rattle.bi_describe.proofs.ComparedTexts.{both_legacy, both_fit, result_of_images}
+use Rattle.std.proofs.Common.{ap, ◌∙◌}
+use Rattle.std.proofs.lemmas.Result.{err_from_is_err_and}
+use Rattle.bi_describe.specs.MadeLines.{made_lines}
+use Rattle.bi_describe.proofs.ComparedImages.{different_compared, error_of_one, error_of_other}
 use Rattle.bi_describe.proofs.compare.compare_images.Goals as goal
 
-pub returns-in-Legacy-Legacy : goal.returns-in-Legacy-Legacy
-returns-in-Legacy-Legacy c =
-    result_of_images c.args.text.now c.args.other_text.now c.args.image.now c.args.other.now c.compare_texts.result
-    (both_legacy c.args.image.now c.args.other.now c.in-Legacy-Legacy.field-0-0 c.in-Legacy-Legacy.field-0-1 c.in-Legacy-Legacy.is-0
-    c.in-Legacy-Legacy.is-1) c.compare_texts.ensures
+pub returns-in_err-kept-clause-failed : goal.returns-in_err-kept-clause-failed
+returns-in_err-kept-clause-failed c =
+    let p = err_from_is_err_and c.from_residual.result c.from_residual.ensures.1 in
+    rw (p.1, p.2) (error_of_one c.args.limits c.args.image.now c.args.other.now _ c.in_err-kept.ensures.failed)
 
-pub returns-in-Fit-Fit : goal.returns-in-Fit-Fit
-returns-in-Fit-Fit c =
-    result_of_images c.args.text.now c.args.other_text.now c.args.image.now c.args.other.now c.compare_texts-in-Fit-Fit.result
-    (both_fit c.args.image.now c.args.other.now c.in-Fit-Fit.field-0-0 c.in-Fit-Fit.field-0-1 c.in-Fit-Fit.is-0 c.in-Fit-Fit.is-1)
-    c.compare_texts-in-Fit-Fit.ensures
+pub returns-in_err-other_kept-clause-failed : goal.returns-in_err-other_kept-clause-failed
+returns-in_err-other_kept-clause-failed c =
+    let p = err_from_is_err_and c.from_residual-in_err-other_kept.result c.from_residual-in_err-other_kept.ensures.1 in
+    rw (p.1, p.2) (error_of_other c.args.limits c.args.image.now c.args.other.now _ c.in_ok-kept.ensures.within
+    c.in_err-other_kept.ensures.failed)
+
+pub returns-clause-compared : goal.returns-clause-compared
+returns-clause-compared c =
+    different_compared c.args.format c.args.limits _ _ _ (made_lines c.deref.result.now) c.in_ok-kept.ensures.within
+    c.in_ok-other_kept.ensures.within
+    (ap made_lines c.deref.ensures.value ∙ c.in_ok-lines.ensures c.in_ok-kept.ensures.kept c.in_ok-other_kept.ensures.kept)
+    c.in_ok-print.ensures

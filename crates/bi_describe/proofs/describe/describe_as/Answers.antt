@@ -11,11 +11,11 @@ returns-in_err-image-clause-failed c =
 
 pub returns-clause-failed : goal.returns-clause-failed
 returns-clause-failed c =
-    failed_of_result c.args.format c.args.limits c.args.file.now c.in_ok-image.image c.describe_image.result c.in_ok-image.ensures.read
-    c.describe_image.ensures.failed
+    failed_of_result c.args.format c.args.limits c.args.file.now c.in_ok-image.image c.text_of_image.result c.in_ok-image.ensures.read
+    c.text_of_image.ensures.failed
 
 pub returns-clause-described : goal.returns-clause-described
 returns-clause-described c =
-    described_of_result string_bytes c.args.format c.args.limits c.args.file.now c.in_ok-image.image c.describe_image.result
+    described_of_result string_bytes c.args.format c.args.limits c.args.file.now c.in_ok-image.image c.text_of_image.result
     c.in_ok-image.ensures.read
-    c.describe_image.ensures.within c.describe_image.ensures.described
+    c.text_of_image.ensures.within c.text_of_image.ensures.described

@@ -4,7 +4,7 @@ use Rattle.bi_legacy.specs.Meaning.{LegacyImage}
 use Rattle.bi_norm.specs.Reading.{meaning_of}
 use Rattle.bi_common.specs.HeldImages.{IsHeldImage}
 use Rattle.bi_describe.specs.Describing.{description_text}
-use Rattle.bi_describe.proofs.AsciiDescriptionJson.{legacy_is_ascii, fit_is_ascii}
+use Rattle.bi_describe.proofs.PrintedDescriptions.{legacy_is_ascii, fit_is_ascii}
 use Rattle.bi_describe.proofs.describe.description_is_ascii.Goals as goal
 
 pub returns-in-Legacy : goal.returns-in-Legacy

@@ -38,7 +38,7 @@ loop-index-preserved c = elim c.match-entry.branch [
       subst (AreInOrderBefore blob.table (c.loop-index.index + 1) c.args.pairs.now) (sym w.pairs-is)
       (no_node_more blob.table c.loop-index.index c.args.pairs.now c.loop-index.pairs
       (no_node_entry blob.file c.entries-entry-items.result.now blob.table c.entries-entry-items.ensures.items c.loop-index.index
-      w.in_default.field-0 _ c.loop-index-test.true w.in_default.is)
+      w.in_default.field-0 w.in_default.field-1 _ c.loop-index-test.true w.in_default.is)
       c.loop-index.invariant)
 ]
 

@@ -1,7 +1,8 @@
-use Rattle.std.proofs.Common.{take, flat_map}
-use Rattle.bi_lay.proofs.BlockBytes.{name_and_zero}
+use Rattle.std.proofs.Common.{take}
+use Rattle.bi_base.specs.Slices.{bytes_of}
+use Rattle.bi_blob.specs.Layout.{strings_of}
 use Rattle.bi_lay.proofs.text.put_names.Given as goal
 
--- The names before this one were appended.
+-- The names before this one were put.
 abbrev pub invariant-loop-name : goal.invariant-loop-name
-invariant-loop-name g l = g.S.Sink.appends l.initial.sink (flat_map name_and_zero (take l.name-index l.names)) l.sink
+invariant-loop-name g l = g.P.Pen.puts l.initial.pen (strings_of (bytes_of (take l.name-index l.names))) l.pen

@@ -1,4 +1,4 @@
-use Rattle.std.proofs.Common.{refl, ap, Err, inl, inr}
+use Rattle.std.proofs.Common.{refl, ap, Err, inl, inr, rules}
 use Rattle.std.proofs.lemmas.Result.{err_from_is_err_and}
 use Rattle.bi_base.specs.declared.fault.Error.TheVariants.{Refused}
 use Rattle.bi_legacy.specs.Emitting.{image_of_parts}
@@ -25,6 +25,6 @@ returns g c =
     let image = image_of_parts c.args.fields c.args.parts.now in
     record {
       refused = λ fault is. absurd (no_emit_fault_no_fault image c.args.limits fault c.in_ok-size.ensures.ok is);
-      written = λ none. c.put_image.ensures;
+      written = λ none. search rules;
       refused_or_written = inl c.in_ok-size.ensures.ok;
     }

@@ -3,7 +3,7 @@ use Rattle.std.specs.Prelude.{IsOk}
 use Rattle.std.proofs.lemmas.Result.{err_from_is_err_and}
 use Rattle.bi_fit.proofs.AppendedTexts.{error_in_memory}
 use Rattle.bi_norm.proofs.NormalForms.{needs_memory}
-use Rattle.bi_common.proofs.AsciiTexts.{appended_utf8}
+use Rattle.bi_common.proofs.PrintedWords.{appended_utf8}
 use Rattle.bi_report.specs.CheckedFiles.{IsChecked, IsCheckError, IsCheckOutput}
 use Rattle.bi_report.proofs.AsciiReports.{checked_is_ascii}
 use Rattle.bi_report.proofs.check.check_as.Goals as goal

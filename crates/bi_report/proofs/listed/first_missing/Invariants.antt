@@ -1,6 +1,6 @@
 use Rattle.std.proofs.Common.{◌≡◌, ◌≤◌, ◌+◌, length}
 use Rattle.bi_fit.specs.Judgement.{listed_names}
-use Rattle.bi_report.specs.ReadListing.{first_missing}
+use Rattle.bi_report.specs.Listed.{first_missing}
 use Rattle.bi_report.proofs.listed.first_missing.Given as goal
 
 -- No name before the remaining ones is missing.

@@ -1,7 +1,7 @@
 use Rattle.std.proofs.Common.{sym, subst, true≢false}
 use Rattle.std.specs.Prelude.{IsOk}
 use Rattle.std.proofs.lemmas.Result.{err_from_is_err_and}
-use Rattle.bi_common.proofs.AsciiTexts.{appended_utf8}
+use Rattle.bi_common.proofs.PrintedWords.{appended_utf8}
 use Rattle.bi_report.specs.VerifiedFiles.{IsVerifyOutput}
 use Rattle.bi_report.proofs.AsciiReports.{report_is_ascii}
 use Rattle.bi_report.proofs.ImageReports.{not_reported}

@@ -1,11 +1,13 @@
 //! The cell of the hash nodes of an image.
 
-ghost use Rattle.std.specs.Prelude.{◌≡◌, ◌∷◌, ◌++◌, IfOk, OnOk, flat_map, string_bytes};
+ghost use Rattle.std.specs.Prelude.{◌≡◌, IfOk, string_bytes};
 ghost use Rattle.bi_fit.specs.JudgementCalls.{checked_hash_of};
 ghost use Rattle.bi_common.specs.HashedImages.{hashes_left};
-ghost use Rattle.bi_show.specs.PageCells.{hash_word, hashes_cell as cell_of_hashes};
+ghost use Rattle.bi_show.specs.PageCells.{hash_word as word_of_hash};
+ghost use Rattle.bi_show.specs.PageCells.{hashes_cell as cell_of_hashes};
 
 use super::name_cell;
+use crate::show::tables::join_cells;
 use bi_common::hash_nodes::HashNodes;
 use bi_fit::Checked;
 use bi_report::verify::verdict_word;
@@ -15,35 +17,22 @@ use std::alloc::{AllocError, Global};
 pub(in crate::show) fn hashes_cell(alloc: Global, hashes: HashNodes) -> Result<String, AllocError>
     ensures { IfOk result (λ text. string_bytes text ≡ cell_of_hashes (hashes_left hashes.entry)) }
 {
-    let mut later = hashes;
-    let Some(first) = later.next() else {
-        return String::from_str(alloc, "-");
-    };
-    let mut text = String::new(alloc);
-    add_hash(alloc, &mut text, &first)?;
-    add_later_hashes(alloc, &mut text, later)?;
-    Ok(text)
-}
-
-/// Appends hash nodes, each after a space.
-fn add_later_hashes(alloc: Global, text: &mut String, hashes: HashNodes) -> Result<(), AllocError>
-    ensures { OnOk result (string_bytes text.new ≡ string_bytes text.old
-        ++ flat_map (λ hash. 32 ∷ hash_word hash) (hashes_left hashes.entry)) }
-{
+    let mut words = Vec::new(alloc);
     for hash in hashes {
-        text.push(' ')?;
-        add_hash(alloc, text, &hash)?;
+        words.push(hash_word(alloc, &hash)?)?;
     }
-    Ok(())
+    if words.is_empty() {
+        String::from_str(alloc, "-")
+    } else {
+        join_cells(alloc, &words)
+    }
 }
 
-/// Appends the algorithm of a hash node, and the verdict on it.
-fn add_hash(alloc: Global, text: &mut String, hash: &Checked) -> Result<(), AllocError>
-    ensures { OnOk result (string_bytes text.new
-        ≡ string_bytes text.old ++ hash_word (checked_hash_of hash.now)) }
+/// Returns the algorithm of a hash node, and the verdict on it.
+fn hash_word(alloc: Global, hash: &Checked) -> Result<String, AllocError>
+    ensures { IfOk result (λ text. string_bytes text ≡ word_of_hash (checked_hash_of hash.now)) }
 {
     let algorithm = name_cell(alloc, hash.algo)?;
-    text.push_str(&algorithm)?;
-    text.push(':')?;
-    text.push_str(verdict_word(hash.verdict))
+    let verdict = verdict_word(hash.verdict);
+    format!(in alloc; "{algorithm}:{verdict}")
 }

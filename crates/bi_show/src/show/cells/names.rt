@@ -1,12 +1,13 @@
 //! The cell of a list of names.
 
-ghost use Rattle.std.specs.Prelude.{◌≡◌, ◌∷◌, ◌++◌, IfOk, OnOk, flat_map, map, string_bytes};
+ghost use Rattle.std.specs.Prelude.{◌≡◌, IfOk, map, string_bytes};
 ghost use Rattle.std.specs.List.{join_with_byte};
 ghost use Rattle.bi_fit.specs.Judgement.{listed_names};
 ghost use Rattle.bi_common.specs.Shown.{shown_text};
 ghost use Rattle.bi_show.specs.PageCells.{names_cell as cell_of_names};
 
 use super::value_cell;
+use crate::show::tables::join_cells;
 use bi_common::shown::shown_name;
 use bi_fit::split_name;
 use std::alloc::{AllocError, Global};
@@ -27,25 +28,11 @@ fn listed_cell(alloc: Global, value: &[u8]) -> Result<String, AllocError>
     ensures { IfOk result (λ text. string_bytes text
         ≡ join_with_byte 32 (map shown_text (listed_names value.now))) }
 {
-    let mut text = String::new(alloc);
-    let Some((first, later)) = split_name(value) else {
-        return Ok(text);
-    };
-    text.push_str(&shown_name(alloc, first)?)?;
-    add_later_names(alloc, &mut text, later)?;
-    Ok(text)
-}
-
-/// Appends the names that a value lists, each after a space.
-fn add_later_names(alloc: Global, text: &mut String, value: &[u8]) -> Result<(), AllocError>
-    ensures { OnOk result (string_bytes text.new ≡ string_bytes text.old
-        ++ flat_map (λ name. 32 ∷ shown_text name) (listed_names value.now)) }
-{
+    let mut names = Vec::new(alloc);
     let mut rest = value;
     while let Some((name, later)) = split_name(rest) {
-        text.push(' ')?;
-        text.push_str(&shown_name(alloc, name)?)?;
+        names.push(shown_name(alloc, name)?)?;
         rest = later;
     }
-    Ok(())
+    join_cells(alloc, &names)
 }

@@ -13,7 +13,7 @@ ghost use Rattle.bi_show.specs.Rows.{cells_of_rows};
 
 use super::{LayoutRegion, RegionKind, layout_rows};
 use crate::show::images::offset_of;
-use crate::show::tables::Row;
+use crate::show::tables::Table;
 use bi_base::cell_at;
 use bi_common::payload_bounds::length_of;
 use bi_fit::{Fit, Image};
@@ -45,7 +45,7 @@ pub(in crate::show) fn fit_layout(
     alloc: Global,
     fit: &Fit,
     layout: bool,
-) -> Result<Vec<Row>, AllocError>
+) -> Result<Table, AllocError>
     requires held { IsHeld fit.now }
     ensures { IfOk result (λ rows. IsLayoutIf layout (read_image_names fit.now.images)
         (read_regions fit.now) (end_of_read_payloads fit.now.blob.total_size fit.now.images)

@@ -10,7 +10,7 @@ ghost use Rattle.bi_show.specs.Rows.{cells_of_rows};
 ghost use Rattle.bi_show.specs.declared.show.layout.RegionKind.TheVariants as kind;
 
 use super::{LayoutRegion, RegionKind, layout_rows};
-use crate::show::tables::Row;
+use crate::show::tables::Table;
 use bi_legacy::codes::{IH_TYPE_MULTI, IH_TYPE_SCRIPT};
 use bi_legacy::{Legacy, Part};
 use std::alloc::{AllocError, Global};
@@ -22,7 +22,7 @@ pub(in crate::show) fn legacy_layout(
     file: &[u8],
     image: &Legacy,
     layout: bool,
-) -> Result<Vec<Row>, AllocError>
+) -> Result<Table, AllocError>
     ensures { IfOk result (λ rows. IsLayoutIf layout [] (legacy_regions image.now.image)
         (length file.now - image.now.unused) (length file.now) (cells_of_rows rows.items)) }
 {

@@ -1,11 +1,9 @@
-use Rattle.std.proofs.Common.{◌≡◌, ◌++◌, ℕ, List, drop, map}
-use Rattle.bi_describe.specs.declared.describe.json.NodePart.TheVariants.{Head}
-use Rattle.bi_describe.specs.EntryJson.{entries_json}
+use Rattle.std.proofs.Common.{flat_map, map, take}
+use Rattle.bi_describe.specs.EntryTokens.{entry_tokens}
 use Rattle.bi_describe.specs.TreeEntries.{as_entry}
 use Rattle.bi_describe.proofs.describe.json.put_entries.Given as goal
 
--- The text of the entries before this one was appended, and that of the others follows.
+-- The tokens of the entries before this one were put.
 abbrev pub invariant-loop-entry : goal.invariant-loop-entry
 invariant-loop-entry g l =
-    (done : List ℕ) × g.S.Sink.appends l.initial.sink done l.sink
-    × (done ++ entries_json l.part (map as_entry (drop l.entry-index l.entries)) ≡ entries_json Head (map as_entry l.entries))
+    g.J.JsonPen.puts l.initial.json (flat_map entry_tokens (map as_entry (take l.entry-index l.entries))) l.json

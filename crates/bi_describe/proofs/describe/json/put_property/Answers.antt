@@ -1,26 +1,13 @@
-use Rattle.std.proofs.Common.{ℕ, List, ◌++◌, sym, ap, ◌∙◌}
-use Rattle.bi_common.proofs.LineChains.{first_of_all_fails, last_writes}
-use Rattle.bi_describe.specs.DescriptionJson.{property_object}
+use Rattle.std.proofs.Common.{[], ◌∷◌, codes, subst, sym}
+use Rattle.bi_common.specs.CommonLines.{name_member}
+use Rattle.bi_common.proofs.WrittenTokens.{member_tokens-append}
+use Rattle.bi_describe.specs.DescriptionJson.{value_member}
 use Rattle.bi_describe.proofs.describe.json.put_property.Goals as goal
-
-pub returns-in_err-put : goal.returns-in_err-put
-returns-in_err-put g c =
-    let S = g.S.Sink in
-    let laws = g.met.S.Sink in
-    let one : List ℕ = c.as_bytes.result.now in
-    let two : List ℕ = property_object (c.args.name.now, c.args.value.now) in
-    first_of_all_fails S.appends S.fails laws.fails_before c.args.sink.now c.put.new.self one two _ _ c.from_residual.result
-    (ap (λ (l : List ℕ). l ++ property_object (c.args.name.now, c.args.value.now))
-    (sym (c.as_bytes.ensures.value ∙ c.before_property.ensures))) c.from_residual.ensures.1 c.in_err-put.ensures
 
 pub returns : goal.returns
 returns g c =
-    let S = g.S.Sink in
-    let laws = g.met.S.Sink in
-    let one : List ℕ = c.as_bytes.result.now in
-    let two : List ℕ = property_object (c.args.name.now, c.args.value.now) in
-    last_writes S.appends S.fails laws.appends_in_turn laws.fails_after c.args.sink.now c.put.new.self c.put_property_object.new.sink
-    one two _ c.put_property_object.result
-    (ap (λ (l : List ℕ). l ++ property_object (c.args.name.now, c.args.value.now))
-    (sym (c.as_bytes.ensures.value ∙ c.before_property.ensures)))
-    c.in_ok-put.ensures c.put_property_object.ensures
+    let then = g.met.J.JsonPen.puts_in_turn in
+    let members = subst (λ tokens. g.J.JsonPen.puts c.put.new.self tokens c.put_value_member.new.json)
+    (sym (member_tokens-append (name_member (codes "name") c.args.name.now ∷ []) (value_member c.args.value.now ∷ [])))
+    (then _ _ _ _ _ c.put_member.ensures c.put_value_member.ensures) in
+    then _ _ _ _ _ c.put.ensures (then _ _ _ _ _ members c.put-2.ensures)

@@ -1,12 +1,11 @@
-use Rattle.std.proofs.Common.{◌≡◌, ◌++◌, ℕ, List, drop, flat_map, map}
-use Rattle.bi_common.specs.Shown.{line}
-use Rattle.bi_describe.specs.Descriptions.{part_words}
+use Rattle.std.proofs.Common.{drop, map}
+use Rattle.bi_common.specs.LineTokens.{tokens_of_lines}
+use Rattle.bi_describe.specs.Descriptions.{part_lines}
 use Rattle.bi_describe.specs.TreeEntries.{digest_made}
 use Rattle.bi_describe.proofs.describe.legacy.put_parts.Given as goal
 
--- The lines of the parts before this one were appended, and those of the others follow.
+-- If the lines of the parts that are left are put next, all were put.
 abbrev pub invariant-loop-index : goal.invariant-loop-index
 invariant-loop-index g l =
-    (done : List ℕ) × g.S.Sink.appends l.initial.sink done l.sink
-    × (done ++ flat_map line (part_words l.index (map digest_made (drop l.index l.parts)))
-    ≡ flat_map line (part_words 0 (map digest_made l.parts)))
+    (new : _) → g.L.LinePen.puts l.pen (tokens_of_lines (part_lines l.index (map digest_made (drop l.index l.parts)))) new →
+    g.L.LinePen.puts l.initial.pen (tokens_of_lines (part_lines 0 (map digest_made l.parts))) new

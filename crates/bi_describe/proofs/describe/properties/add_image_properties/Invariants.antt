@@ -1,15 +1,15 @@
-use Rattle.std.proofs.Common.{◌≡◌, ◌++◌, map}
+use Rattle.std.proofs.Common.{◌≡◌, [], ◌∷◌, ◌++◌, map}
 use Rattle.bi_blob.specs.Tree.{property_of}
 use Rattle.bi_fdt.specs.Views.{node_of}
 use Rattle.bi_fit.specs.NormalNodes.{properties_by_name}
 use Rattle.bi_fit.specs.ImageTree.{without_payload}
-use Rattle.bi_describe.specs.MadeEntries.{property_entries}
-use Rattle.bi_describe.specs.TreeEntries.{PropertyEntry, as_entry}
+use Rattle.bi_describe.specs.TreeEntries.{ChildrenBegin, PropertyEntry, as_entry, property_entries}
 use Rattle.bi_describe.proofs.KeptProperties.{others_of}
 use Rattle.bi_describe.proofs.describe.properties.add_image_properties.Given as goal
 
 -- The entries so far and those of the properties that are left are all.
 abbrev pub invariant-loop-property : goal.invariant-loop-property
 invariant-loop-property l =
-    map as_entry l.entries.items ++ map PropertyEntry (others_of (map (λ keyed. property_of keyed.1) l.property-iterator))
-    ≡ map as_entry l.initial.entries.items ++ property_entries (without_payload (properties_by_name (node_of l.node).own))
+    map as_entry l.entries.items
+    ++ (map PropertyEntry (others_of (map (λ keyed. property_of keyed.1) l.property-iterator)) ++ ChildrenBegin ∷ [])
+    ≡ map as_entry l.fn.entries.items ++ property_entries (without_payload (properties_by_name (node_of l.node).own))

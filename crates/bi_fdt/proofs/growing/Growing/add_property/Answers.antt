@@ -6,7 +6,6 @@ use Rattle.std.specs.Vec.{with_items}
 use Rattle.bi_blob.specs.Tree.{FileProperty}
 use Rattle.bi_fdt.specs.declared.table.Entry.{Entry}
 use Rattle.bi_fdt.specs.declared.table.Entry.TheVariants as entry
-use Rattle.bi_fdt.specs.declared.table.PropertyEntry.{PropertyEntry}
 use Rattle.bi_fdt.specs.Numbers.{IsNumberOf, with_used_name}
 use Rattle.bi_fdt.specs.PropertyMarks.{HasMarked}
 use Rattle.bi_fdt.proofs.PropertyMarks.{bound_more}
@@ -24,8 +23,9 @@ overflow_cast-number c =
       arith,
       number_few grown.file c.args.self.now.entries.items c.args.self.now.names.used c.insert.new.self.used c.args.name.now
           c.in-Some.number grown.is.named
-          c.in_ok-number.ensures.used (subst
-          (λ number. IfSome number (IsNumberOf c.insert.new.self.used c.args.name.now)) c.in-Some.is c.in_ok-number.ensures.number),
+          c.in_ok-number.ensures.added.used (subst
+          (λ number. IfSome number (IsNumberOf c.insert.new.self.used c.args.name.now)) c.in-Some.is
+          c.in_ok-number.ensures.added.is_number),
       c.requires.few,
     )
 
@@ -42,22 +42,23 @@ pub returns-clause-added : goal.returns-clause-added
 returns-clause-added c =
     let old = c.args.self.now in
     let index : ℕ = old.innermost.entry in
-    let p : PropertyEntry = record c.args.property { number = c.in-Some.number } in
-    let pushed : List Entry = old.entries.items ++ entry.Property p ∷ [] in
+    let pushed : List Entry = old.entries.items ++ entry.Property c.args.property c.in-Some.number ∷ [] in
     let now : c.deref_mut.result.now ≡ pushed = c.deref_mut.ensures.value ∙ c.in_ok-push.ensures.items in
     let counted : c.len.result ≡ length c.push.new.self.items = search rules in
     let long : c.len.result ≡ length pushed = counted ∙ ap length c.in_ok-push.ensures.items in
     let held : (with_items c.push.new.self c.set_property_count.new.entries).items ≡ c.set_property_count.new.entries =
     with_items_is c.push.new.self c.set_property_count.new.entries (c.set_property_count.auto.entries ∙ c.deref_mut.ensures.len) in
     let longer : length (with_items c.push.new.self c.set_property_count.new.entries).items ≡ length old.entries.items + 1 =
-    ap length held ∙ c.set_property_count.auto.entries ∙ ap length now ∙ length-append old.entries.items (entry.Property p ∷ []) in
+    ap length held ∙ c.set_property_count.auto.entries ∙ ap length now
+    ∙ length-append old.entries.items (entry.Property c.args.property c.in-Some.number ∷ []) in
     let some : IsSome c.in_ok-number.field-0 = subst IsSome (sym c.in-Some.is) refl in
     let number : IsNumberOf c.insert.new.self.used c.args.name.now c.in-Some.number =
-    subst (λ number. IfSome number (IsNumberOf c.insert.new.self.used c.args.name.now)) c.in-Some.is c.in_ok-number.ensures.number in
+    subst (λ number. IfSome number (IsNumberOf c.insert.new.self.used c.args.name.now)) c.in-Some.is
+    c.in_ok-number.ensures.added.is_number in
     record {
       count = longer;
       strings = c.insert.ensures.strings;
-      is_new = λ file innermost outer growing childless. (c.in_ok-number.ensures.new _ (growing.properties childless)).0 some;
+      is_new = λ file innermost outer growing childless. (c.in_ok-number.ensures.added.is_new _ (growing.properties childless)).0 some;
       grown = λ file innermost outer growing childless named.
           growing_property file old (record {
             entries = with_items c.push.new.self c.set_property_count.new.entries;
@@ -65,18 +66,18 @@ returns-clause-added c =
             innermost = old.innermost;
             outer = old.outer;
           })
-          innermost outer p growing childless
+          innermost outer c.args.property c.in-Some.number growing childless
           (λ n at.
           held
           ∙ c.set_property_count.ensures n (ap (λ l. slice_get l index) now ∙ at)
           ∙ ap (λ l. set l index (entry.Node (record n { property_count = c.len.result - index - 1 }))) now
           ∙ ap (λ k. set pushed index (entry.Node (record n { property_count = k - index - 1 }))) long)
           refl refl
-          (c.in_ok-number.ensures.used ∙ ap (with_used_name old.names.used) (sym named))
+          (c.in_ok-number.ensures.added.used ∙ ap (with_used_name old.names.used) (sym named))
           (subst (λ name. IsNumberOf c.insert.new.self.used name c.in-Some.number) (sym named) number)
-          (c.in_ok-number.ensures.marks _ (omega (arith, longer, innermost_within file old innermost outer growing))
+          (c.in_ok-number.ensures.added.marks _ (omega (arith, longer, innermost_within file old innermost outer growing))
           (bound_more (length old.entries.items) _ old.names.marks (omega (arith, longer)) growing.marks))
           (subst (λ name. HasMarked c.insert.new.self index
           (map (λ (q : FileProperty). q.name) innermost.properties ++ name ∷ [])) (sym named)
-          (c.in_ok-number.ensures.added some _ (growing.properties childless)));
+          (c.in_ok-number.ensures.added.marked some _ (growing.properties childless)));
     }

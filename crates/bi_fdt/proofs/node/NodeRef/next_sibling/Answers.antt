@@ -50,7 +50,8 @@ returns-else-next-node-clause-sibling c =
 pub returns-in-Property-clause-sibling : goal.returns-in-Property-clause-sibling
 returns-in-Property-clause-sibling c =
     let r = c.args.self in
+    let property = entry.Property c.in-Property.field-0 c.in-Property.field-1 in
     let at = ap (drop c.entry-node.result.after) (sym c.entries.ensures.items)
-    ∙ items_here c.args.self.blob.now.file c.entries.result.now c.entry-node.result.after (entry.Property c.in-Property.field-0)
-    (entry.Property c.in-Property.field-0) c.in_ok-entry.ensures.lookup.3.0 (sym (c.in_ok-entry.ensures.lookup.3.1 _) ∙ c.in-Property.is) in
+    ∙ items_here c.args.self.blob.now.file c.entries.result.now c.entry-node.result.after property property
+    c.in_ok-entry.ensures.lookup.3.0 (sym (c.in_ok-entry.ensures.lookup.3.1 _) ∙ c.in-Property.is) in
     absurd (no_property_later r.blob.now.file r.blob.now.table r.index c.entry-node.result c.entry-node.ensures _ _ at)

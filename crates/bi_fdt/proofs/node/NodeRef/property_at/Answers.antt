@@ -47,4 +47,4 @@ returns c =
     ap (λ p. Some (property_of p)) same
     ∙ sym (get_map property_of (first_sibling (drop r.index r.blob.now.table)).own.properties c.args.index property
     (property_there r.blob.now.file c.entries.result.now r.blob.now.table r.index c.entry-node.result c.entries.ensures.items
-    c.entry-node.ensures c.args.index (omega arith) c.in-Property.property _ c.in-Property.is))
+    c.entry-node.ensures c.args.index (omega arith) c.in-Property.property c.in-Property.field-1 _ c.in-Property.is))

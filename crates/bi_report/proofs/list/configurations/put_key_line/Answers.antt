@@ -1,13 +1,25 @@
-use Rattle.std.proofs.Common.{ℕ, List, flat_map, append-nil, ap, sym, subst, ◌∙◌}
-use Rattle.bi_fit.specs.Judgement.{listed_names}
+use Rattle.std.proofs.Common.{[], ◌∷◌, codes, rules, sym, subst}
+use Rattle.bi_fit.specs.Judgement.{ListResult}
+use Rattle.bi_common.specs.Lines.{Text, Decimal}
+use Rattle.bi_common.specs.LineTokens.{tokens_of_lines}
+use Rattle.bi_report.specs.FitListing.{key_line, key_lines}
 use Rattle.bi_report.specs.Listed.{IsListed}
-use Rattle.bi_report.proofs.ListedNames.{images_line}
+use Rattle.bi_report.proofs.PutInTurn.{one_line_put}
 use Rattle.bi_report.proofs.list.configurations.put_key_line.Goals as goal
 
-pub returns-in-Images : goal.returns-in-Images
-returns-in-Images g c result is =
-    let are = subst (IsListed result) c.in-Images.is is in
-    subst (λ text. g.P.Pen.puts c.args.pen.now text c.put_images.new.pen)
-    (sym (ap (flat_map (λ (text : List ℕ). text))
-    (images_line c.args.configuration.now c.args.key result (listed_names c.in-Images.value.now) are) ∙ append-nil _))
-    c.put_images.ensures
+pub returns-in-BadList : goal.returns-in-BadList
+returns-in-BadList g c result is =
+    let puts = g.L.LinePen.puts in
+    let configuration = c.args.configuration.now in
+    subst (λ (result : ListResult). puts c.args.pen.now (tokens_of_lines (key_lines configuration c.args.key result)) c.put_line.new.pen)
+    (sym (subst (IsListed result) c.in-BadList.is is))
+    (one_line_put puts _ _ (key_line configuration c.args.key (Text (codes "bad-list") ∷ [])) (search rules))
+
+pub returns-in-Missing : goal.returns-in-Missing
+returns-in-Missing g c result is =
+    let puts = g.L.LinePen.puts in
+    let configuration = c.args.configuration.now in
+    let pen = c.put_line-in-Missing.new.pen in
+    subst (λ (result : ListResult). puts c.args.pen.now (tokens_of_lines (key_lines configuration c.args.key result)) pen)
+    (sym (subst (IsListed result) c.in-Missing.is is))
+    (one_line_put puts _ _ (key_line configuration c.args.key (Text (codes "missing") ∷ Decimal c.in-Missing.index ∷ [])) (search rules))

@@ -1,5 +1,5 @@
 use Rattle.std.proofs.Common.{take, drop}
-use Rattle.bi_legacy.proofs.HeaderSum.{sum-around_zeros}
+use Rattle.bi_report.proofs.HeaderSum.{sum-around_zeros}
 use Rattle.bi_report.proofs.scan.claims.header_checksum.Goals as goal
 
 pub returns : goal.returns

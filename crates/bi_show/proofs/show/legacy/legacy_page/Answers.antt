@@ -1,14 +1,27 @@
-use Rattle.std.proofs.Common.{ap, ◌∙◌, ◌++◌, List, ℕ, refl, string_bytes, subst}
+use Rattle.std.proofs.Common.{ap, sym, subst, string_bytes, rules}
 use Rattle.bi_legacy.specs.Meaning.{LegacyImage}
+use Rattle.bi_common.specs.declared.format.Format.TheVariants.{Lines}
+use Rattle.bi_report.specs.Checking.{nothing_allowed}
+use Rattle.bi_report.proofs.AsciiReports.{checked_is_ascii}
+use Rattle.bi_report.proofs.CheckedFiles.{legacy_has}
 use Rattle.bi_show.specs.Dates.{IsTimeText}
-use Rattle.bi_show.specs.Pages.{concerns_text_of_page}
 use Rattle.bi_show.specs.Rows.{cells_of_rows}
-use Rattle.bi_show.proofs.ShownPages.{shown_table, three_tables}
+use Rattle.bi_show.specs.ShownFiles.{AreConcernLines}
+use Rattle.bi_show.proofs.ShownPages.{lines_of_concerns}
 use Rattle.bi_show.proofs.show.legacy.legacy_page.Goals as goal
+
+pub concern_lines-requires : goal.concern_lines-requires
+concern_lines-requires c =
+    let limits = c.args.limits in
+    let file = c.args.file.now in
+    checked_is_ascii Lines nothing_allowed limits file _
+    (lines_of_concerns limits file _ _ c.of_legacy.ensures (legacy_has limits file c.args.image.now c.requires.read))
 
 pub returns : goal.returns
 returns c =
-    let time : List ℕ = string_bytes c.in_ok-time.time in
+    let limits = c.args.limits in
+    let file = c.args.file.now in
+    let time = string_bytes c.in_ok-time.time in
     record {
       parsed = c.args.image.now;
       is_read = c.requires.read;
@@ -16,12 +29,8 @@ returns c =
       is_time = subst (λ seconds. IsTimeText seconds time) (ap (λ (image : LegacyImage). image.time) c.fields.ensures) c.in_ok-time.ensures;
       regions = cells_of_rows c.in_ok-legacy_layout.field-0.items;
       are_regions = c.in_ok-legacy_layout.ensures;
-      concerns = string_bytes c.in_ok-concern_lines.field-0;
-      are_concerns = c.in_ok-concern_lines.ensures;
-      is = three_tables _ _ _ _ _ _ _ _ _ c.new-page.ensures.bytes
-          (shown_table _ _ _ _ _ c.in_ok-add_table.ensures c.deref.ensures.value c.in_ok-head_rows.ensures)
-          (shown_table _ _ _ _ _ c.in_ok-add_table-2.ensures c.deref-2.ensures.value c.in_ok-part_rows.ensures)
-          (shown_table _ _ _ _ _ c.in_ok-add_table-3.ensures c.deref-3.ensures.value refl)
-          (c.in_ok-add_concerns.ensures
-          ∙ ap (λ (l : List ℕ). string_bytes c.add_table-3.new.page ++ concerns_text_of_page l) c.deref-4.ensures);
+      concerns = string_bytes c.in_ok-concerns.concerns;
+      are_concerns = subst (AreConcernLines limits file) (sym c.in_ok-concerns.ensures)
+          (lines_of_concerns limits file _ _ c.of_legacy.ensures (legacy_has limits file c.args.image.now c.requires.read));
+      is = search rules;
     }

@@ -1,0 +1,105 @@
+//! The lines of a description, kept in one text.
+
+ghost use Rattle.std.specs.Prelude.{◌≡◌, ◌<◌, ◌≤◌, ◌+◌, IfOk, IsAscii, IsTrue, drop, length};
+ghost use Rattle.std.specs.Prelude.{string_bytes};
+ghost use Rattle.bi_common.specs.Lines.{text_of_lines};
+ghost use Rattle.bi_describe.specs.DescribedImages.{described_lines};
+ghost use Rattle.bi_describe.specs.LineMarks.{marks_fit, cut_line as line_cut};
+ghost use Rattle.bi_describe.specs.LineMarks.{cut_lines as lines_cut};
+ghost use Rattle.bi_describe.specs.MadeLines.{compared_line, compared_lines};
+
+use super::line_keeper::{LineKeeper, Mark};
+use super::signed_lines::ComparedLine;
+use crate::describe::DescribedImage;
+use std::alloc::{AllocError, Global};
+
+/// The lines of a description.
+#[derive(Drop)]
+pub(super) struct KeptLines {
+    /// All lines, each with a newline.
+    text: String,
+    /// How long each line is, and its key.
+    marks: Vec<Mark>,
+    ghost ascii: { IsAscii (string_bytes text) },
+    ghost fit: { IsTrue (marks_fit (string_bytes text) marks.items) },
+}
+
+impl KeptLines {
+    ghost use Rattle.bi_describe.specs.KeptLines.{KeepsLines};
+
+    /// Returns the lines of a description. Requires: they are ASCII.
+    ///
+    /// Fails only if memory runs out.
+    pub(super) fn new(
+        alloc: Global,
+        described: &mut DescribedImage,
+    ) -> Result<KeptLines, AllocError>
+        requires { IsAscii (text_of_lines (described_lines described.old)) }
+        ensures { IfOk result (KeepsLines (described_lines described.old)) }
+    {
+        let mut keeper = LineKeeper::new(alloc);
+        described.put_lines(&mut keeper);
+        let (text, marks) = keeper.into_parts()?;
+        match String::from_utf8(text) {
+            Ok(text) => Ok(KeptLines { text, marks }),
+            Err(_) => unreachable!(),
+        }
+    }
+
+    /// Returns the text of the lines, each with a newline.
+    pub(super) fn text(&self) -> &str
+        ensures { result.now ≡ string_bytes self.entry.now.text }
+    {
+        &self.text
+    }
+
+    /// Returns the lines.
+    ///
+    /// Fails only if memory runs out.
+    pub(super) fn lines(&self, alloc: Global) -> Result<Vec<ComparedLine<'_>>, AllocError>
+        ensures { IfOk result (λ lines. compared_lines lines.items
+            ≡ lines_cut (string_bytes self.entry.now.text) self.entry.now.marks.items) }
+    {
+        cut_lines(alloc, &self.text, &self.marks)
+    }
+}
+
+/// Returns the lines of a text, whose lengths are given. Requires: the text is ASCII, and as long
+/// as all lines.
+///
+/// Fails only if memory runs out.
+fn cut_lines<'a>(
+    alloc: Global,
+    text: &'a str,
+    marks: &[Mark],
+) -> Result<Vec<ComparedLine<'a>>, AllocError>
+    requires ascii { IsAscii text.now }
+    requires fit { IsTrue (marks_fit text.now marks.now) }
+    ensures { IfOk result (λ lines. compared_lines lines.items
+        ≡ lines_cut text.entry.now marks.now) }
+{
+    let mut lines = Vec::new(alloc);
+    let mut rest = text;
+    for mark in marks {
+        let (line, later) = cut_line(rest, *mark);
+        lines.push(line)?;
+        rest = later;
+    }
+    Ok(lines)
+}
+
+/// Returns the first line of a text, whose length is given, and what follows its newline. Requires:
+/// the text is ASCII, and longer than the line.
+fn cut_line(text: &str, mark: Mark) -> (ComparedLine<'_>, &str)
+    requires ascii { IsAscii text.now }
+    requires len { mark.len < length text.now }
+    requires key { mark.key ≤ mark.len }
+    ensures line { compared_line result.0 ≡ line_cut text.entry.now mark }
+    ensures rest { result.1.now ≡ drop (mark.len + 1) text.entry.now }
+{
+    let line = ComparedLine {
+        text: &text[..mark.len],
+        key: &text[..mark.key],
+    };
+    (line, &text[mark.len + 1..])
+}

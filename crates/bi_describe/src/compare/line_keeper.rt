@@ -1,0 +1,268 @@
+//! A pen that keeps lines, and how long their keys are.
+
+ghost use Rattle.std.specs.Prelude.{◌≡◌, ◌⊎◌, ◌++◌, ◌∷◌, ℕ, List, [], Option, Some, None, IfOk};
+ghost use Rattle.std.specs.Option.{option_map};
+ghost use Rattle.bi_base.specs.MemoryPens.{MemoryPuts, memory_puts_nothing, memory_puts_in_turn};
+ghost use Rattle.bi_common.specs.LineTokens.{NextField, is_nothing, line_token_text, space};
+ghost use Rattle.bi_common.specs.MadeFields.{field_of};
+ghost use Rattle.bi_describe.specs.Differences.{words_of_key as words_of, words_of_key_named};
+ghost use Rattle.bi_describe.specs.LineKeeping.{Keeping, Keeps, KeeperPuts, line_after_word};
+ghost use Rattle.bi_describe.specs.LineKeeping.{end_mark};
+ghost use Rattle.bi_describe.specs.LineKeeping.{keeper_puts_nothing, keeper_puts_in_turn};
+ghost use Rattle.bi_describe.specs.LineKeeping.{new_keeping, new_line, kept_length};
+
+use bi_base::Pen;
+use bi_common::fields::{Field, put_field};
+use bi_common::lines::LinePen;
+use std::alloc::{AllocError, Global};
+use std::marker::Model;
+
+/// How long a line is, and how much of that is its key.
+#[derive(Clone, Copy)]
+pub(super) struct Mark {
+    pub(super) len: usize,
+    pub(super) key: usize,
+}
+
+/// The line that is put.
+#[derive(Clone, Copy)]
+struct OpenLine {
+    /// Where it begins in the text.
+    start: usize,
+    /// Where its key ends.
+    key_end: usize,
+    /// How many words are still to come of its key, once the line has a word.
+    missing: Option<usize>,
+    /// Whether something was printed.
+    has_word: bool,
+}
+
+impl OpenLine {
+    /// Returns a line without words, which begins here.
+    fn new(start: usize) -> OpenLine
+        ensures { result ≡ new_line start }
+    {
+        OpenLine {
+            start,
+            key_end: start,
+            missing: None,
+            has_word: false,
+        }
+    }
+
+    /// Returns the line after a word, which ends here.
+    fn line_after_word(self, word: Field, end: usize) -> OpenLine
+        ensures { result ≡ line_after_word self (field_of word.entry) end }
+    {
+        let missing = match self.missing {
+            Some(missing) => missing,
+            None => words_of_key(word),
+        };
+        OpenLine {
+            start: self.start,
+            key_end: if missing == 0 { self.key_end } else { end },
+            missing: Some(missing.saturating_sub(1)),
+            has_word: !is_empty_value(word) || self.has_word,
+        }
+    }
+
+    /// Returns how long the line is, which ends here.
+    fn mark(self, end: usize) -> Mark
+        ensures { result ≡ end_mark self end }
+    {
+        Mark {
+            len: end.saturating_sub(self.start),
+            key: self.key_end.saturating_sub(self.start),
+        }
+    }
+}
+
+/// Returns how many words the key of a line has, by its first word.
+fn words_of_key(first: Field) -> usize
+    ensures { result ≡ words_of (field_of first.entry) }
+{
+    match first {
+        Field::Text(word) => words_of_key_of(word),
+        _ => 1,
+    }
+}
+
+/// Returns how many words the key of a line has, whose first word is this text.
+fn words_of_key_of(word: &[u8]) -> usize
+    ensures { result ≡ words_of_key_named word.now }
+{
+    if word == b"property".as_slice() || word == b"reservation".as_slice() {
+        return 3;
+    }
+    if word == b"node".as_slice() || word == b"payload".as_slice() || word == b"part".as_slice() {
+        return 2;
+    }
+    1
+}
+
+/// Returns whether a field is an empty value, for which nothing is printed.
+fn is_empty_value(word: Field) -> bool
+    ensures { result ≡ is_nothing (field_of word.entry) }
+{
+    match word {
+        Field::Value(value) => value.is_empty(),
+        _ => false,
+    }
+}
+
+/// Puts a word, after a space if it is not the first of its line. Puts nothing for an empty value.
+fn put_next<P: Pen>(word: Field, is_later: bool, pen: &mut P)
+    ensures { P.puts pen.old (line_token_text is_later (NextField (field_of word.entry))) pen.new }
+{
+    if !is_empty_value(word) {
+        put_space(is_later, pen);
+        put_field(word, pen);
+    }
+}
+
+/// Puts what comes before a word: a space, if it is not the first of its line.
+fn put_space<P: Pen>(is_later: bool, pen: &mut P)
+    ensures { P.puts pen.old (space is_later) pen.new }
+{
+    if is_later {
+        pen.put(b" ");
+    }
+}
+
+/// A pen that keeps a text in memory. Contracts see it as the text, or as nothing if an allocation
+/// has failed.
+#[derive(Drop)]
+struct TextPen {
+    text: Option<Vec<u8>>,
+}
+
+impl Model for TextPen {
+    ghost Value = { Option (List ℕ) };
+
+    ghost view = { λ pen. option_map (λ text. text.items) pen.text };
+}
+
+impl TextPen {
+    /// Returns a pen without a text.
+    fn new(alloc: Global) -> TextPen
+        ensures { result ≡ Some [] }
+    {
+        TextPen {
+            text: Some(Vec::new(alloc)),
+        }
+    }
+
+    /// Returns the length of the text: 0 if an allocation has failed.
+    fn len(&self) -> usize
+        ensures { result ≡ kept_length self.now }
+    {
+        match &self.text {
+            Some(text) => text.len(),
+            None => 0,
+        }
+    }
+
+    /// Drops the text, as after an allocation that has failed.
+    fn fail(&mut self)
+        ensures { self.new ≡ None }
+    {
+        self.text = None;
+    }
+
+    /// Returns the text. Fails if an allocation has failed.
+    fn into_vec(self) -> Result<Vec<u8>, AllocError>
+        ensures { IfOk result (λ text. self ≡ Some text.items) }
+    {
+        let TextPen { text } = self;
+        text.ok_or(AllocError)
+    }
+}
+
+impl Pen for TextPen {
+    ghost puts = { MemoryPuts };
+
+    /// Appends the given bytes to the text. If memory runs out, the text is dropped.
+    fn put(&mut self, bytes: &[u8]) {
+        if let Some(text) = &mut self.text {
+            if text.extend_from_slice(bytes).is_err() {
+                self.text = None;
+            }
+        }
+    }
+
+    fn has_failed(&self) -> bool {
+        self.text.is_none()
+    }
+
+    ghost puts_nothing = { memory_puts_nothing };
+
+    ghost puts_in_turn = { memory_puts_in_turn };
+}
+
+/// A pen for lines that keeps their text, and how long each line and its key are. Contracts see it
+/// as these, or as nothing if an allocation has failed.
+#[derive(Drop)]
+pub(super) struct LineKeeper {
+    text: TextPen,
+    marks: Vec<Mark>,
+    line: OpenLine,
+}
+
+impl Model for LineKeeper {
+    ghost Value = { Option Keeping };
+
+    ghost view = { λ keeper. option_map
+        (λ text. record { text = text; marks = keeper.marks.items; line = keeper.line })
+        keeper.text };
+}
+
+impl LineKeeper {
+    /// Returns a pen without lines.
+    pub(super) fn new(alloc: Global) -> LineKeeper
+        ensures { result ≡ Some new_keeping }
+    {
+        LineKeeper {
+            text: TextPen::new(alloc),
+            marks: Vec::new(alloc),
+            line: OpenLine::new(0),
+        }
+    }
+
+    /// Returns the text of the lines, and how long they are. Fails if an allocation has failed.
+    pub(super) fn into_parts(self) -> Result<(Vec<u8>, Vec<Mark>), AllocError>
+        ensures { IfOk result (λ parts. Keeps self parts.0.items parts.1.items) }
+    {
+        let LineKeeper { text, marks, .. } = self;
+        Ok((text.into_vec()?, marks))
+    }
+}
+
+/// Appends a mark. If memory runs out, the text is dropped.
+fn push_mark(marks: &mut Vec<Mark>, mark: Mark, text: &mut TextPen)
+    ensures { (text.new ≡ None) ⊎ ((text.new ≡ text.old)
+        × (marks.new.items ≡ marks.old.items ++ mark ∷ [])) }
+{
+    if marks.push(mark).is_err() {
+        text.fail();
+    }
+}
+
+impl LinePen for LineKeeper {
+    ghost puts = { KeeperPuts };
+
+    fn put_word(&mut self, word: Field) {
+        put_next(word, self.line.has_word, &mut self.text);
+        self.line = self.line.line_after_word(word, self.text.len());
+    }
+
+    fn end_line(&mut self) {
+        let mark = self.line.mark(self.text.len());
+        self.text.put(b"\n");
+        push_mark(&mut self.marks, mark, &mut self.text);
+        self.line = OpenLine::new(self.text.len());
+    }
+
+    ghost puts_nothing = { keeper_puts_nothing };
+
+    ghost puts_in_turn = { keeper_puts_in_turn };
+}

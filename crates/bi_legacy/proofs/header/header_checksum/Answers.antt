@@ -1,6 +1,0 @@
-use Rattle.std.proofs.Common.{take, drop}
-use Rattle.bi_legacy.proofs.HeaderSum.{sum-around_zeros}
-use Rattle.bi_legacy.proofs.header.header_checksum.Goals as goal
-
-pub returns : goal.returns
-returns c = let e = sum-around_zeros (take 4 c.args.file.now) (take 56 (drop 8 c.args.file.now)) in cc
