@@ -1,0 +1,7 @@
+pub mod Paths
+pub mod Signatures
+pub mod Coverage
+pub mod Values
+pub mod NameSets
+pub mod NodeIndices
+pub mod ReferenceOrders

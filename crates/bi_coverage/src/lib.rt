@@ -1,0 +1,18 @@
+//! What the signatures of a flattened image tree cover, if they are valid. No signature is
+//! verified.
+#![tactic(auto)]
+
+mod concern;
+mod covered_names;
+mod listed_paths;
+mod name_set;
+mod needed;
+mod node_index;
+mod paths;
+mod reading;
+mod references;
+mod signed;
+mod strings;
+
+pub use concern::{NeededPath, SignatureConcern};
+pub use reading::{ConfigurationCoverage, SignatureCoverage, read_coverage};
