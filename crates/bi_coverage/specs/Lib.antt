@@ -2,6 +2,5 @@ pub mod Paths
 pub mod Signatures
 pub mod Coverage
 pub mod Values
-pub mod NameSets
 pub mod NodeIndices
 pub mod ReferenceOrders

@@ -20,13 +20,13 @@ pub(crate) struct NameSet<'a> {
 impl<'a> Model for NameSet<'a> {
     ghost use Rattle.std.specs.Prelude.{ℕ, List};
     ghost use Rattle.bi_base.specs.Slices.{bytes_of};
-    ghost use Rattle.bi_coverage.specs.NameSets.{HasNames};
+    ghost use Rattle.bi_blob.specs.NameSets.{HoldsNames};
 
     ghost Value = { List (List ℕ) };
 
     ghost view = { λ set. bytes_of set.names.items };
 
-    ghost invariant = { λ set. HasNames set.found (bytes_of set.names.items) };
+    ghost invariant = { λ set. HoldsNames set.found (bytes_of set.names.items) };
 }
 
 impl<'a> NameSet<'a> {

@@ -1,0 +1,2 @@
+pub mod NamesOnce
+pub mod NodePaths
