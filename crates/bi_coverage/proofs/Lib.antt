@@ -1,2 +1,3 @@
 pub mod NamesOnce
 pub mod NodePaths
+pub mod Ends

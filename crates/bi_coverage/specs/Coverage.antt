@@ -1,4 +1,4 @@
-use Rattle.std.specs.Prelude.{ℕ, ◌+◌, ◌==◌, max, Bool, not, ◌&&◌, List, [], ◌∷◌, ◌++◌, length, map}
+use Rattle.std.specs.Prelude.{ℕ, ◌+◌, ◌==◌, Bool, false, not, ◌&&◌, List, [], ◌∷◌, ◌++◌, length, map}
 use Rattle.std.specs.Prelude.{filter, flat_map, Option, None, Some, codes, nat_le, if◌then◌else◌}
 use Rattle.std.specs.FinMap.{get}
 use Rattle.std.specs.List.{list_all}
@@ -11,8 +11,9 @@ use Rattle.bi_fit.specs.Content.{FitModel, tree_of}
 use Rattle.bi_fit.specs.ImageTree.{ImageTree}
 use Rattle.bi_fit.specs.Judgement.{configuration_nodes}
 use Rattle.bi_fit.specs.Names.{is_payload_name}
+use Rattle.bi_coverage.specs.Numbers.{greatest}
 use Rattle.bi_coverage.specs.Paths.{LocatedNode, path_text, all_nodes, each_once}
-use Rattle.bi_coverage.specs.Signatures.{NeededPart, paths_of_part, needed_parts, needed_paths}
+use Rattle.bi_coverage.specs.Signatures.{NeededPart, paths_of_part, paths_of_parts, needed_parts}
 use Rattle.bi_coverage.specs.Signatures.{recorded_paths, references, signed_nodes}
 
 -- What the signatures of a configuration cover, if they are valid: the concerns about each of them
@@ -52,22 +53,23 @@ uncovered_concerns recorded parts =
 abbrev pub foreign_paths : (recorded needed : List (List ℕ)) → List (List ℕ)
 foreign_paths recorded needed = filter (λ path. not (is_among path needed)) recorded
 
--- The concerns about the paths that a signature node of a configuration records. It may record no
--- list of paths.
-abbrev pub concerns_of_paths : ImageTree → (configuration : Sibling PropertyMap)
+-- The concerns about the paths that a signature node records, if its configuration has these
+-- references and needs these parts. It may record no list of paths.
+abbrev pub concerns_of_paths : (references : List (List ℕ)) → List NeededPart
     → Option (List (List ℕ)) → List SignatureConcern
-concerns_of_paths tree configuration None = NoNodes ∷ []
-concerns_of_paths tree configuration (Some recorded) =
-    image_concerns (references tree configuration)
-    ++ (uncovered_concerns recorded (needed_parts tree configuration)
-    ++ map Foreign (foreign_paths (each_once recorded) (needed_paths tree configuration)))
+concerns_of_paths references parts None = NoNodes ∷ []
+concerns_of_paths references parts (Some recorded) =
+    image_concerns references
+    ++ (uncovered_concerns recorded parts
+    ++ map Foreign (foreign_paths (each_once recorded) (paths_of_parts parts)))
 
 -- All concerns about a signature node of a configuration but that about strings. They are a
 -- function of the image tree.
 abbrev pub path_concerns : ImageTree → (configuration signature : Sibling PropertyMap)
     → List SignatureConcern
 path_concerns tree configuration signature =
-    concerns_of_paths tree configuration (recorded_paths signature)
+    concerns_of_paths (references tree configuration) (needed_parts tree configuration)
+    (recorded_paths signature)
 
 -- ---- the strings block
 
@@ -81,17 +83,16 @@ hashed_strings_name = codes "hashed-strings"
 abbrev pub name_end : (file : List ℕ) → FileProperty → ℕ
 name_end file property = u32_at file (property.place + 8) + length property.name + 1
 
--- The greatest of these numbers, or 0 if there is none.
-abbrev pub greatest : List ℕ → ℕ
-greatest [] = 0
-greatest (number ∷ later) = max number (greatest later)
-
--- Where the last name of the properties of a node ends. Those that hold a payload or name its
--- region do not count, in a node of any kind.
-abbrev pub names_end : (file : List ℕ) → FileNode → ℕ
-names_end file own =
+-- Where the last name of these properties ends. Those that hold a payload or name its region do not
+-- count, in a node of any kind.
+abbrev pub properties_end : (file : List ℕ) → List FileProperty → ℕ
+properties_end file properties =
     greatest
-    (map (name_end file) (filter (λ property. not (is_payload_name property.name)) own.properties))
+    (map (name_end file) (filter (λ property. not (is_payload_name property.name)) properties))
+
+-- Where the last name of the properties of a node ends.
+abbrev pub names_end : (file : List ℕ) → FileNode → ℕ
+names_end file own = properties_end file own.properties
 
 -- Where the last name of the properties of the nodes with these paths ends.
 abbrev pub recorded_end : (file : List ℕ) → Root FileNode → (recorded : List (List ℕ)) → ℕ
@@ -107,10 +108,10 @@ has_strings None end = false
 has_strings (Some value) end = (length value == 8) && nat_le end (u32_at value 4)
 
 -- The concern about the strings of a signature node, if it records a list of paths.
-abbrev pub strings_concerns : (file : List ℕ) → Root FileNode → (value : Option (List ℕ))
+abbrev pub concerns_of_strings : (file : List ℕ) → Root FileNode → (value : Option (List ℕ))
     → Option (List (List ℕ)) → List SignatureConcern
-strings_concerns file root value None = []
-strings_concerns file root value (Some recorded) =
+concerns_of_strings file root value None = []
+concerns_of_strings file root value (Some recorded) =
     if has_strings value (recorded_end file root recorded) then [] else Strings ∷ []
 
 -- ---- all
@@ -120,14 +121,20 @@ pub record SignatureCoverage : Type 0 where
   pub name : List ℕ
   pub concerns : List SignatureConcern
 
+-- The concern about the strings of a signature node of a file, if there is one.
+abbrev pub strings_concerns : FitModel → (signature : Sibling PropertyMap)
+    → List SignatureConcern
+strings_concerns content signature =
+    concerns_of_strings content.blob.file (root_of content.blob)
+    (get signature.own hashed_strings_name) (recorded_paths signature)
+
 -- The concerns about a signature node of a configuration of a file.
 abbrev pub signature_coverage : FitModel → (configuration signature : Sibling PropertyMap)
     → SignatureCoverage
 signature_coverage content configuration signature = record {
   name = signature.name;
   concerns = path_concerns (tree_of content) configuration signature
-      ++ strings_concerns content.blob.file (root_of content.blob)
-      (get signature.own hashed_strings_name) (recorded_paths signature);
+      ++ strings_concerns content signature;
 }
 
 -- A configuration: its name, and its signed nodes in order.

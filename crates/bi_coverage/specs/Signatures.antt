@@ -1,5 +1,5 @@
 use Rattle.std.specs.Prelude.{ℕ, Bool, true, false, ◌&&◌, List, [], ◌∷◌, ◌++◌, length, map}
-use Rattle.std.specs.Prelude.{filter, flat_map, sum, Option, None, Some}
+use Rattle.std.specs.Prelude.{filter, flat_map, Option, None, Some}
 use Rattle.std.specs.Prelude.{option_and_then, unwrap_or, codes, bytes_eq, nat_eq, if◌then◌else◌}
 use Rattle.std.specs.FinMap.{get, entries}
 use Rattle.std.specs.List.{ends_with, list_any}
@@ -10,6 +10,7 @@ use Rattle.bi_fit.specs.ImageTree.{ImageTree, image_nodes, nodes_or_none, childr
 use Rattle.bi_fit.specs.Judgement.{configuration_nodes, listed_names}
 use Rattle.bi_fit.specs.Names.{images_name, configurations_name, value_name, default_name}
 use Rattle.bi_fit.specs.Names.{is_hash_name, is_signature_name}
+use Rattle.bi_coverage.specs.Numbers.{total}
 use Rattle.bi_coverage.specs.Paths.{path_text, each_once}
 
 -- The signatures of configurations, and what they must cover (Flattened Image Tree Specification;
@@ -110,22 +111,33 @@ abbrev pub covered_below : ImageTree → (image : List ℕ) → List (List ℕ)
 covered_below tree image =
     covered_names (names (nodes_or_none (children_of image (images_in tree))))
 
--- What a signature of a configuration must cover: the root, the configuration and its references.
+-- What a signature of the configuration with this name and these references must cover: the root,
+-- the configuration and the references.
+abbrev pub parts_for : ImageTree → (configuration : List ℕ) → (references : List (List ℕ))
+    → List NeededPart
+parts_for tree configuration references =
+    single_part []
+    ∷ single_part (configurations_name ∷ configuration ∷ [])
+    ∷ map (λ image. image_part image (covered_below tree image)) references
+
+-- What a signature of a configuration must cover.
 abbrev pub needed_parts : ImageTree → Sibling PropertyMap → List NeededPart
 needed_parts tree configuration =
-    single_part []
-    ∷ single_part (configurations_name ∷ configuration.name ∷ [])
-    ∷ map (λ image. image_part image (covered_below tree image)) (references tree configuration)
+    parts_for tree configuration.name (references tree configuration)
+
+-- The paths of these parts, in order.
+abbrev pub paths_of_parts : List NeededPart → List (List ℕ)
+paths_of_parts parts = flat_map paths_of_part parts
 
 -- The needed paths of a configuration, in order.
 abbrev pub needed_paths : ImageTree → Sibling PropertyMap → List (List ℕ)
-needed_paths tree configuration = flat_map paths_of_part (needed_parts tree configuration)
+needed_paths tree configuration = paths_of_parts (needed_parts tree configuration)
 
 -- ---- the bound on paths
 
 -- How long some paths are together.
 abbrev pub total_length : List (List ℕ) → ℕ
-total_length paths = sum (map length paths)
+total_length paths = total (map length paths)
 
 -- How long the needed paths of each signed node of a configuration are.
 abbrev pub needed_lengths : ImageTree → Sibling PropertyMap → List ℕ
@@ -137,4 +149,4 @@ needed_lengths tree configuration =
 -- How long those of all signed nodes of all configurations are together.
 abbrev pub all_needed_length : ImageTree → ℕ
 all_needed_length tree =
-    sum (flat_map (needed_lengths tree) (siblings (configuration_nodes tree)))
+    total (flat_map (needed_lengths tree) (siblings (configuration_nodes tree)))

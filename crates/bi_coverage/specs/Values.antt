@@ -1,21 +1,21 @@
 use Rattle.std.specs.Prelude.{ℕ, List, [], ◌∷◌, map}
 use Rattle.std.specs.Borrow.{Bor}
+use Rattle.std.specs.Global.{Vec}
 use Rattle.bi_base.specs.Slices.{bytes_of}
 use Rattle.bi_blob.specs.Lookups.{Sibling}
 use Rattle.bi_blob.specs.Tree.{PropertyMap, FileNode}
+use Rattle.bi_fdt.specs.declared.node.NodeRef.{NodeRef}
+use Rattle.bi_fdt.specs.Views.{node_of}
 use Rattle.bi_fit.specs.Judgement.{listed_names}
-use Rattle.bi_fit.specs.Names.{images_name, configurations_name}
 use Rattle.bi_fit.specs.NormalNodes.{properties_by_name, nodes_by_name}
-use Rattle.bi_coverage.specs.declared.concern.NeededPath.{NeededPath}
-use Rattle.bi_coverage.specs.declared.concern.NeededPath.TheVariants as needed
 use Rattle.bi_coverage.specs.declared.concern.SignatureConcern.{SignatureConcern as ConcernValue}
 use Rattle.bi_coverage.specs.declared.concern.SignatureConcern.TheVariants as concern
-use Rattle.bi_coverage.specs.declared.needed.NeededPart.{NeededPart as PartValue}
+use Rattle.bi_coverage.specs.declared.needed_part.NeededPart.{NeededPart as PartValue}
 use Rattle.bi_coverage.specs.declared.reading.ConfigurationCoverage.{ConfigurationCoverage as ConfigurationValue}
 use Rattle.bi_coverage.specs.declared.reading.SignatureCoverage.{SignatureCoverage as SignatureValue}
 use Rattle.bi_coverage.specs.Coverage.{SignatureConcern, NoNodes, NoImages, Uncovered, Foreign}
 use Rattle.bi_coverage.specs.Coverage.{Strings, SignatureCoverage, ConfigurationCoverage}
-use Rattle.bi_coverage.specs.Paths.{path_text}
+use Rattle.bi_coverage.specs.NeededPaths.{needed_path}
 use Rattle.bi_coverage.specs.Signatures.{NeededPart}
 
 -- Values as the code has them.
@@ -29,15 +29,17 @@ meaning_of sibling = record {
   later = nodes_by_name sibling.later;
 }
 
+-- A node of a blob, in the same way.
+abbrev pub meaning_of_node : NodeRef → Sibling PropertyMap
+meaning_of_node node = meaning_of (node_of node)
+
+-- The names in each of these lists.
+abbrev pub name_lists : List (Vec (Bor (List ℕ))) → List (List (List ℕ))
+name_lists lists = map (λ names. bytes_of names.items) lists
+
 -- The names that a value lists.
 abbrev pub listed_by : Bor (List ℕ) → List (List ℕ)
 listed_by value = listed_names value.now
-
--- A needed path as bytes.
-abbrev pub needed_path : NeededPath → List ℕ
-needed_path needed.Root = path_text []
-needed_path (needed.Configuration name) = path_text (configurations_name ∷ name.now ∷ [])
-needed_path (needed.Image name) = path_text (images_name ∷ name.now ∷ [])
 
 -- A concern.
 abbrev pub concern_value : ConcernValue → SignatureConcern

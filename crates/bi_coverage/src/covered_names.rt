@@ -1,11 +1,10 @@
 //! The children of image nodes that a signature must cover.
 
-ghost use Rattle.std.specs.Prelude.{◌≡◌, map, IfOk};
+ghost use Rattle.std.specs.Prelude.{◌≡◌, IfOk};
 ghost use Rattle.bi_base.specs.Slices.{bytes_of};
-ghost use Rattle.bi_blob.specs.Lookups.{siblings};
 ghost use Rattle.bi_blob.specs.Tree.{names};
 ghost use Rattle.bi_fdt.specs.Views.{node_of};
-ghost use Rattle.bi_fit.specs.HashNodes.{file_images};
+ghost use Rattle.bi_coverage.specs.IndexedFits.{covered_by_images};
 ghost use Rattle.bi_coverage.specs.Signatures.{covered_names};
 ghost use Rattle.bi_coverage.specs.Values.{name_lists};
 
@@ -27,8 +26,8 @@ fn covered_names<'a>(alloc: Global, image: NodeRef<'a, '_>) -> Result<Vec<&'a [u
             found.push(child.name())?;
         }
     }
-    if let Some(cipher) = image.child(b"cipher") {
-        found.push(cipher.name())?;
+    if image.child(b"cipher").is_some() {
+        found.push(b"cipher")?;
     }
     Ok(found)
 }
@@ -39,8 +38,7 @@ pub(crate) fn covered_by_image<'a>(
     alloc: Global,
     fit: &Fit<'a>,
 ) -> Result<Vec<Vec<&'a [u8]>>, AllocError>
-    ensures { IfOk result (λ found. name_lists found.items
-        ≡ map (λ image. covered_names (names image.children)) (siblings (file_images fit.now.blob))) }
+    ensures { IfOk result (λ found. name_lists found.items ≡ covered_by_images fit.now) }
 {
     let mut found = Vec::new(alloc);
     for image in fit.image_nodes() {

@@ -2,12 +2,15 @@
 //! verified.
 #![tactic(auto)]
 
+mod child_numbers;
 mod concern;
 mod covered_names;
 mod listed_paths;
 mod name_set;
 mod needed;
+mod needed_part;
 mod node_index;
+mod path_parts;
 mod paths;
 mod reading;
 mod references;

@@ -1,14 +1,13 @@
 //! The paths that a signature node records.
 
-ghost use Rattle.std.specs.Prelude.{◌≡◌, ◌++◌, map, IfOk, OnOk};
-ghost use Rattle.bi_blob.specs.Layout.{is_among};
+ghost use Rattle.std.specs.Prelude.{◌≡◌, IfOk};
 ghost use Rattle.bi_fit.specs.Judgement.{listed_names};
-ghost use Rattle.bi_coverage.specs.Coverage.{foreign_paths as foreign_paths_of, is_covered};
+ghost use Rattle.bi_coverage.specs.Coverage.{is_covered};
 ghost use Rattle.bi_coverage.specs.Paths.{each_once};
 ghost use Rattle.bi_coverage.specs.Values.{part_value};
 
 use crate::name_set::NameSet;
-use crate::needed::NeededPart;
+use crate::needed_part::NeededPart;
 use bi_fit::split_name;
 use std::alloc::{AllocError, Global};
 
@@ -23,24 +22,6 @@ pub(crate) fn listed_paths<'a>(alloc: Global, value: &'a [u8]) -> Result<NameSet
         rest = later;
     }
     Ok(paths)
-}
-
-/// Returns those of the recorded paths that are not needed. Fails if memory runs out.
-pub(crate) fn foreign_paths<'a>(
-    alloc: Global,
-    recorded: &NameSet<'a>,
-    needed: &NameSet,
-) -> Result<Vec<&'a [u8]>, AllocError>
-    ensures { IfOk result (λ paths. map (λ path. path.now) paths.items
-        ≡ foreign_paths_of recorded.now needed.now) }
-{
-    let mut foreign = Vec::new(alloc);
-    for path in recorded.names() {
-        if !needed.contains(path) {
-            foreign.push(*path)?;
-        }
-    }
-    Ok(foreign)
 }
 
 /// Returns whether all paths of a part are recorded.

@@ -1,28 +1,22 @@
 //! The paths that the signatures of a configuration must cover.
 
-ghost use Rattle.std.specs.Prelude.{◌≡◌, ◌+◌, ◌<◌, ◌≤◌, ◌∷◌, [], map, flat_map, length};
+ghost use Rattle.std.specs.Prelude.{◌≡◌, ◌+◌, ◌<◌, ◌≤◌, [], map};
 ghost use Rattle.std.specs.Prelude.{IfOk, IfErr, OnOk};
 ghost use Rattle.bi_base.specs.Reading.{too_large};
 ghost use Rattle.bi_base.specs.Slices.{bytes_of};
-ghost use Rattle.bi_coverage.specs.Paths.{each_once};
+ghost use Rattle.bi_coverage.specs.Paths.{each_once, with_all_new};
 ghost use Rattle.bi_coverage.specs.Signatures.{image_part as image_part_of, paths_of_part};
+ghost use Rattle.bi_coverage.specs.Signatures.{paths_of_parts};
 ghost use Rattle.bi_coverage.specs.Signatures.{total_length};
-ghost use Rattle.bi_coverage.specs.Values.{needed_path as needed_path_of, part_value};
+ghost use Rattle.bi_coverage.specs.NeededPaths.{needed_path as needed_path_of};
+ghost use Rattle.bi_coverage.specs.Values.{part_value};
 
 use crate::concern::NeededPath;
 use crate::name_set::NameSet;
+use crate::needed_part::NeededPart;
 use crate::paths::path_text;
 use bi_base::{Cause, Fault, refuse};
 use std::alloc::{AllocError, Global};
-
-/// Paths that are needed together: the path of a node, and those of nodes below it.
-#[derive(Drop)]
-pub(crate) struct NeededPart<'a> {
-    pub(crate) subject: NeededPath<'a>,
-    pub(crate) path: Vec<u8>,
-    pub(crate) below: Vec<Vec<u8>>,
-    ghost is_path: { path.items ≡ needed_path_of subject },
-}
 
 /// Returns a needed path as bytes. Fails if memory runs out.
 fn needed_path(alloc: Global, subject: NeededPath) -> Result<Vec<u8>, AllocError>
@@ -120,14 +114,23 @@ pub(crate) fn needed_paths<'p>(
     parts: &'p [NeededPart],
 ) -> Result<NameSet<'p>, AllocError>
     ensures { IfOk result (λ paths. paths
-        ≡ each_once (flat_map paths_of_part (map part_value parts.entry.now))) }
+        ≡ each_once (paths_of_parts (map part_value parts.entry.now))) }
 {
     let mut paths = NameSet::new(alloc);
     for part in parts {
-        paths.add(&part.path)?;
-        for path in &part.below {
-            paths.add(path)?;
-        }
+        add_part(&mut paths, part)?;
     }
     Ok(paths)
+}
+
+/// Adds the paths of a part. Fails if memory runs out.
+fn add_part<'p>(paths: &mut NameSet<'p>, part: &'p NeededPart) -> Result<(), AllocError>
+    ensures { OnOk result (paths.new
+        ≡ with_all_new paths.old (paths_of_part (part_value part.entry.now))) }
+{
+    paths.add(&part.path)?;
+    for path in &part.below {
+        paths.add(path)?;
+    }
+    Ok(())
 }

@@ -1,21 +1,23 @@
 //! An index of the nodes of a tree by their paths.
 
-ghost use Rattle.std.specs.Prelude.{◌≡◌, ◌++◌, ◌≤◌, map, length, drop, IfOk, OnOk, MatchOption};
+ghost use Rattle.std.specs.Prelude.{◌≡◌, ◌++◌, map, IfOk, OnOk};
 ghost use Rattle.bi_blob.specs.Lookups.{siblings};
 ghost use Rattle.bi_blob.specs.Tree.{AreProperties, IsTree, tree_without_places};
 ghost use Rattle.bi_fdt.specs.Content.{root_of};
 ghost use Rattle.bi_fdt.specs.Views.{node_of};
 ghost use Rattle.bi_fit.specs.Judgement.{listed_names};
 ghost use Rattle.bi_coverage.specs.Coverage.{recorded_end as recorded_end_of};
-ghost use Rattle.bi_coverage.specs.NodeIndices.{IsNodeIndex, end_at, HaveTokens, HasNumbersFrom};
-ghost use Rattle.bi_coverage.specs.NodeIndices.{BeginsWithNoSlash, BeginsWithNode};
+ghost use Rattle.bi_coverage.specs.NodeIndices.{end_at, HaveTokens};
 
+use crate::child_numbers::number_names;
+use crate::path_parts::split_path;
 use crate::strings::names_end;
 use bi_fdt::{Blob, NodeRef};
 use bi_fit::nodes::Siblings;
 use bi_fit::split_name;
 use std::alloc::{AllocError, Global};
 use std::collections::BTreeMap;
+use std::marker::Model;
 
 /// The nodes of the tree of a blob by their paths. The root has the number 0, and the children of
 /// each node have the numbers after those of the nodes before them.
@@ -26,8 +28,17 @@ pub(crate) struct NodeIndex<'a, 'b> {
     children: Vec<BTreeMap<&'a [u8], usize>>,
     /// Where the last name of the properties of each node ends in the strings block.
     ends: Vec<usize>,
-    ghost is_index: { IsNodeIndex blob.now.file (root_of blob.now) children.items ends.items },
-    ghost is_tree: { IsTree AreProperties (tree_without_places (root_of blob.now)) },
+}
+
+impl<'a, 'b> Model for NodeIndex<'a, 'b> {
+    ghost use Rattle.bi_fdt.specs.Content.{Blob};
+    ghost use Rattle.bi_coverage.specs.NodeIndices.{IsIndexOf};
+
+    ghost Value = { Blob };
+
+    ghost view = { λ index. index.blob.now };
+
+    ghost invariant = { λ index. IsIndexOf index.blob.now index.children.items index.ends.items };
 }
 
 impl<'a, 'b> NodeIndex<'a, 'b> {
@@ -36,7 +47,7 @@ impl<'a, 'b> NodeIndex<'a, 'b> {
     pub(crate) fn new(alloc: Global, blob: &'b Blob<'a>) -> Result<NodeIndex<'a, 'b>, AllocError>
         requires is_tree { IsTree AreProperties (tree_without_places (root_of blob.now)) }
         requires tokens { HaveTokens blob.now.file (root_of blob.now) }
-        ensures { IfOk result (λ index. index.blob.now ≡ blob.entry.now) }
+        ensures { IfOk result (λ index. index ≡ blob.entry.now) }
     {
         let mut nodes = Vec::new(alloc);
         let mut children = Vec::new(alloc);
@@ -59,7 +70,7 @@ impl<'a, 'b> NodeIndex<'a, 'b> {
     /// Returns where the last name of the properties of the node with this path ends in the strings
     /// block, or 0 if no node has the path. Takes n log n time in the length of the path.
     fn end_at(&self, path: &[u8]) -> usize
-        ensures { result ≡ end_at self.now.blob.now.file (root_of self.now.blob.now) path.now }
+        ensures { result ≡ end_at self.now.file (root_of self.now) path.now }
     {
         if path == b"/".as_slice() {
             return self.ends[0];
@@ -82,7 +93,7 @@ impl<'a, 'b> NodeIndex<'a, 'b> {
     /// Returns where the last name of the properties of the nodes with the paths that a value lists
     /// ends in the strings block.
     pub(crate) fn recorded_end(&self, value: &[u8]) -> usize
-        ensures { result ≡ recorded_end_of self.now.blob.now.file (root_of self.now.blob.now)
+        ensures { result ≡ recorded_end_of self.now.file (root_of self.now)
             (listed_names value.now) }
     {
         let mut end = 0;
@@ -93,21 +104,6 @@ impl<'a, 'b> NodeIndex<'a, 'b> {
         }
         end
     }
-}
-
-/// Returns the first name of a path, and the rest of the path after it. Returns None if the path
-/// does not begin with a `/`.
-fn split_path(path: &[u8]) -> Option<(&[u8], &[u8])>
-    ensures { MatchOption result
-        (BeginsWithNoSlash path.now)
-        (λ split. BeginsWithNode path.now split.0.now split.1.now) }
-{
-    let (first, names) = path.split_first()?;
-    if *first != b'/' {
-        return None;
-    }
-    let end = names.iter().position(|byte| *byte == b'/');
-    Some(names.split_at(end.unwrap_or(names.len())))
 }
 
 /// Adds the children of a node to nodes. Fails if memory runs out.
@@ -122,22 +118,4 @@ fn add_children<'a, 'b>(
         nodes.push(child)?;
     }
     Ok(())
-}
-
-/// Returns the index of each of these nodes from one on, by its name. Fails if memory runs out.
-fn number_names<'a>(
-    alloc: Global,
-    nodes: &[NodeRef<'a, '_>],
-    begin: usize,
-) -> Result<BTreeMap<&'a [u8], usize>, AllocError>
-    requires { begin ≤ length nodes.now }
-    ensures { IfOk result (λ numbers.
-        HasNumbersFrom begin (drop begin (map node_of nodes.now)) numbers) }
-{
-    let mut numbers = BTreeMap::new(alloc);
-    // The first node with a name is inserted last, so its index stays.
-    for index in (begin..nodes.len()).rev() {
-        numbers.insert(nodes[index].name(), index)?;
-    }
-    Ok(numbers)
 }

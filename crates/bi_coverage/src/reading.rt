@@ -1,41 +1,41 @@
 //! Reading what the signatures of configurations cover.
 
-ghost use Rattle.std.specs.Prelude.{◌≡◌, ◌+◌, ◌<◌, ◌≤◌, map, sum, IfOk, IfErr};
+ghost use Rattle.std.specs.Prelude.{◌≡◌, ◌+◌, ◌<◌, ◌≤◌, ◌++◌, map, IfOk, IfErr, IfSome, OnOk};
 ghost use Rattle.std.specs.Option.{option_map};
 ghost use Rattle.bi_base.specs.Errors.{IsFaultOrNoMemory};
 ghost use Rattle.bi_base.specs.Reading.{too_large};
 ghost use Rattle.bi_base.specs.Slices.{bytes_of};
-ghost use Rattle.bi_blob.specs.Lookups.{node_named};
-ghost use Rattle.bi_blob.specs.Tree.{names};
+ghost use Rattle.bi_blob.specs.Lookups.{siblings, siblings_from};
 ghost use Rattle.bi_fdt.specs.Views.{node_of, table_of_node};
 ghost use Rattle.bi_fit.specs.Content.{IsHeld, tree_of};
-ghost use Rattle.bi_fit.specs.HashNodes.{file_images};
+ghost use Rattle.bi_fit.specs.HashNodes.{file_configurations};
 ghost use Rattle.bi_fit.specs.NormalNodes.{HasDistinctNames};
-ghost use Rattle.bi_coverage.specs.Coverage.{coverage_of, configuration_coverage};
-ghost use Rattle.bi_coverage.specs.Coverage.{signature_coverage};
-ghost use Rattle.bi_coverage.specs.ReferenceOrders.{IsNamesOrder};
-ghost use Rattle.bi_coverage.specs.Signatures.{all_needed_length, needed_lengths, needed_paths};
-ghost use Rattle.bi_coverage.specs.Signatures.{needed_parts, total_length, covered_below};
-ghost use Rattle.bi_coverage.specs.Signatures.{covered_names, references as references_of};
+ghost use Rattle.bi_coverage.specs.Coverage.{Foreign, coverage_of, configuration_coverage};
+ghost use Rattle.bi_coverage.specs.Coverage.{concerns_of_paths, strings_concerns};
+ghost use Rattle.bi_coverage.specs.Coverage.{uncovered_concerns, foreign_paths};
+ghost use Rattle.bi_coverage.specs.Numbers.{total as total_of};
+ghost use Rattle.bi_coverage.specs.Paths.{each_once};
+ghost use Rattle.bi_coverage.specs.Signatures.{all_needed_length, needed_lengths, parts_for};
+ghost use Rattle.bi_coverage.specs.Signatures.{paths_of_parts, total_length, covered_below};
+ghost use Rattle.bi_coverage.specs.Signatures.{recorded_paths};
 ghost use Rattle.bi_coverage.specs.Values.{configuration_value, signature_value, concern_value};
-ghost use Rattle.bi_coverage.specs.Values.{meaning_of, part_value, name_lists};
+ghost use Rattle.bi_coverage.specs.Values.{meaning_of_node, part_value};
 
 use crate::concern::{NeededPath, SignatureConcern};
 use crate::covered_names::covered_by_image;
-use crate::listed_paths::{foreign_paths, is_covered, listed_paths};
+use crate::listed_paths::{is_covered, listed_paths};
 use crate::name_set::NameSet;
-use crate::needed::{
-    NeededPart, add_image_length, add_length, image_part, needed_paths, single_part,
-};
+use crate::needed::{add_image_length, add_length, image_part, needed_paths, single_part};
+use crate::needed_part::NeededPart;
 use crate::node_index::NodeIndex;
 use crate::references::{order_by_names, references};
-use crate::signed::{is_signed, recorded_list, signed_count};
+use crate::signed::{recorded_list, signed_nodes};
 use crate::strings::has_strings;
 use bi_base::{Error, Fault, Limits};
 use bi_fdt::{NodeRef, PropertyOrder};
 use bi_fit::Fit;
-use bi_fit::nodes::Siblings;
 use std::alloc::{AllocError, Global};
+use std::marker::Model;
 
 /// A signed node of a configuration, and the concerns about it.
 #[derive(Debug, Drop)]
@@ -76,12 +76,24 @@ pub fn read_coverage<'a>(
     let indexed = IndexedFit::new(alloc, fit, limits.file())?;
     let mut read = Vec::new(alloc);
     let mut total = 0;
-    for configuration in fit.configuration_nodes() {
-        let (coverage, later_total) = indexed.read_configuration(alloc, configuration, total)?;
+    let mut next = first_configuration(fit);
+    while let Some(configuration) = next {
+        let (coverage, sum) = indexed.read_configuration(alloc, configuration, total)?;
         read.push(coverage)?;
-        total = later_total;
+        total = sum;
+        next = configuration.next_sibling();
     }
     Ok(read)
+}
+
+/// Returns the first configuration node, if there is one.
+fn first_configuration<'a, 'b>(fit: &'b Fit<'a>) -> Option<NodeRef<'a, 'b>>
+    ensures node { siblings_from (option_map node_of result)
+        ≡ siblings (file_configurations fit.now.blob) }
+    ensures same_table { IfSome result (λ node. table_of_node node ≡ fit.now.blob.table) }
+{
+    let configurations = fit.blob().root().child(b"configurations")?;
+    configurations.first_child()
 }
 
 /// A flattened image tree with what is looked up in it for its signatures.
@@ -94,11 +106,18 @@ struct IndexedFit<'a, 'b> {
     /// For each image, the names of the children that a signature must cover.
     covered: Vec<Vec<&'a [u8]>>,
     nodes: NodeIndex<'a, 'b>,
-    ghost held: { IsHeld fit.now },
-    ghost ordered: { IsNamesOrder fit.now.blob.table order },
-    ghost are_covered: { name_lists covered.items ≡ map
-        (λ image. covered_names (names image.children)) (siblings (file_images fit.now.blob)) },
-    ghost same_blob: { nodes.blob.now ≡ fit.now.blob },
+}
+
+impl<'a, 'b> Model for IndexedFit<'a, 'b> {
+    ghost use Rattle.bi_coverage.specs.IndexedFits.{IndexedFit, IsIndexedFit};
+    ghost use Rattle.bi_coverage.specs.Values.{name_lists};
+
+    ghost Value = { IndexedFit };
+
+    ghost view = { λ indexed. record { content = indexed.fit.now; limit = indexed.limit } };
+
+    ghost invariant = { λ indexed. IsIndexedFit indexed.fit.now indexed.order
+        (name_lists indexed.covered.items) indexed.nodes };
 }
 
 impl<'a, 'b> IndexedFit<'a, 'b> {
@@ -106,8 +125,8 @@ impl<'a, 'b> IndexedFit<'a, 'b> {
     /// the tree was read.
     fn new(alloc: Global, fit: &'b Fit<'a>, limit: u32) -> Result<IndexedFit<'a, 'b>, AllocError>
         requires held { IsHeld fit.now }
-        ensures fit { IfOk result (λ indexed. indexed.fit.now ≡ fit.entry.now) }
-        ensures limit { IfOk result (λ indexed. indexed.limit ≡ limit) }
+        ensures { IfOk result (λ indexed. indexed
+            ≡ record { content = fit.entry.now; limit = limit }) }
     {
         Ok(IndexedFit {
             fit,
@@ -120,7 +139,7 @@ impl<'a, 'b> IndexedFit<'a, 'b> {
 
     /// Returns the names of the children of an image that a signature must cover.
     fn covered(&self, image: &[u8]) -> &[&'a [u8]]
-        ensures { bytes_of result.now ≡ covered_below (tree_of self.now.fit.now) image.now }
+        ensures { bytes_of result.now ≡ covered_below (tree_of self.now.content) image.now }
     {
         match self.fit.image(image) {
             Some(index) => &self.covered[index],
@@ -128,35 +147,62 @@ impl<'a, 'b> IndexedFit<'a, 'b> {
         }
     }
 
-    /// Reads a configuration.
+    /// Reads a configuration. Also returns the sum of `total` and the lengths of the paths that it
+    /// needs, once for each signed node.
+    ///
+    /// Errors: TooLarge at the limit, only if the sum is more than that; OutOfMemory.
     fn read_configuration(
         &self,
         alloc: Global,
         configuration: NodeRef<'a, '_>,
         total: usize,
     ) -> Result<(ConfigurationCoverage<'a>, usize), Error>
+        requires same_table { table_of_node configuration ≡ self.now.content.blob.table }
+        requires distinct { HasDistinctNames (node_of configuration).own }
+        requires within { total ≤ self.now.limit }
+        ensures read { IfOk result (λ read. configuration_value read.0
+            ≡ configuration_coverage self.now.content (meaning_of_node configuration.entry)) }
+        ensures sum { IfOk result (λ read. read.1 ≡ total
+            + total_of (needed_lengths (tree_of self.now.content)
+            (meaning_of_node configuration.entry))) }
+        ensures within { IfOk result (λ read. read.1 ≤ self.now.limit) }
+        ensures failed { IfErr result (IsFaultOrNoMemory (λ fault.
+            (fault ≡ too_large self.now.limit) × (self.now.limit < total
+            + total_of (needed_lengths (tree_of self.now.content)
+            (meaning_of_node configuration.entry))))) }
     {
         let name = configuration.name();
         let mut signatures = Vec::new(alloc);
-        let mut total = total;
-        if signed_count(configuration) > 0 {
+        let mut sum = total;
+        let signed = signed_nodes(alloc, configuration)?;
+        if !signed.is_empty() {
             let references = references(alloc, self.fit, configuration, &self.order)?;
             let length = self.needed_length(name, references.names())?;
             let parts = self.needed_parts(alloc, name, references.names())?;
             let needed = needed_paths(alloc, &parts)?;
-            for child in Siblings::children(configuration) {
-                if is_signed(child) {
-                    total = add_length(total, length, self.limit)?;
-                    signatures.push(self.read_signature(alloc, child, &parts, &needed)?)?;
-                }
+            for signature in &signed {
+                sum = add_length(sum, length, self.limit)?;
+                signatures.push(self.read_signature(
+                    alloc,
+                    *signature,
+                    references.names(),
+                    &parts,
+                    &needed,
+                )?)?;
             }
         }
-        Ok((ConfigurationCoverage { name, signatures }, total))
+        Ok((ConfigurationCoverage { name, signatures }, sum))
     }
 
     /// Returns how long the needed paths are together of the configuration with this name and
     /// these references. Error: TooLarge at the limit, if that is more.
     fn needed_length(&self, name: &[u8], references: &[&[u8]]) -> Result<usize, Fault>
+        ensures length { IfOk result (λ length. length ≡ total_length (paths_of_parts
+            (parts_for (tree_of self.now.content) name.now (bytes_of references.now)))) }
+        ensures within { IfOk result (λ length. length ≤ self.now.limit) }
+        ensures fault { IfErr result (λ fault. (fault ≡ too_large self.now.limit)
+            × (self.now.limit < total_length (paths_of_parts
+            (parts_for (tree_of self.now.content) name.now (bytes_of references.now))))) }
     {
         // The lengths of the root's path and of `/configurations/`.
         let mut length = add_length(0, 17, self.limit)?;
@@ -175,6 +221,8 @@ impl<'a, 'b> IndexedFit<'a, 'b> {
         name: &'a [u8],
         references: &[&'a [u8]],
     ) -> Result<Vec<NeededPart<'a>>, AllocError>
+        ensures { IfOk result (λ parts. map part_value parts.items ≡ parts_for
+            (tree_of self.now.content) name.entry.now (bytes_of references.now)) }
     {
         let mut parts = Vec::new(alloc);
         parts.push(single_part(alloc, NeededPath::Root)?)?;
@@ -185,20 +233,32 @@ impl<'a, 'b> IndexedFit<'a, 'b> {
         Ok(parts)
     }
 
-    /// Reads a signed node of a configuration that needs these paths.
+    /// Reads a signed node of a configuration with these references, parts and needed paths. Fails
+    /// if memory runs out. Requires: the needed paths are those of the parts.
     fn read_signature(
         &self,
         alloc: Global,
         signature: NodeRef<'a, '_>,
+        references: &[&[u8]],
         parts: &[NeededPart<'a>],
         needed: &NameSet,
     ) -> Result<SignatureCoverage<'a>, AllocError>
+        requires { needed.now ≡ each_once (paths_of_parts (map part_value parts.now)) }
+        ensures { IfOk result (λ read. signature_value read ≡ record {
+            name = (node_of signature.entry).name;
+            concerns = concerns_of_paths (bytes_of references.now) (map part_value parts.now)
+                (recorded_paths (meaning_of_node signature.entry))
+                ++ strings_concerns self.now.content (meaning_of_node signature.entry) }) }
     {
         let mut concerns = Vec::new(alloc);
         match recorded_list(signature) {
             Some(list) => {
                 let recorded = listed_paths(alloc, list)?;
-                add_path_concerns(alloc, &mut concerns, &recorded, parts, needed)?;
+                if references.is_empty() {
+                    concerns.push(SignatureConcern::NoImages)?;
+                }
+                add_uncovered(&mut concerns, &recorded, parts)?;
+                add_foreign(&mut concerns, &recorded, needed)?;
                 let strings = signature.property(b"hashed-strings");
                 if !has_strings(strings, self.nodes.recorded_end(list)) {
                     concerns.push(SignatureConcern::Strings)?;
@@ -213,26 +273,39 @@ impl<'a, 'b> IndexedFit<'a, 'b> {
     }
 }
 
-/// Adds the concerns about the paths that a signature node records.
-fn add_path_concerns<'a>(
-    alloc: Global,
+/// Adds the concerns about the parts that are not covered by recorded paths. Fails if memory runs
+/// out.
+fn add_uncovered<'a>(
     concerns: &mut Vec<SignatureConcern<'a>>,
-    recorded: &NameSet<'a>,
+    recorded: &NameSet,
     parts: &[NeededPart<'a>],
-    needed: &NameSet,
 ) -> Result<(), AllocError>
+    ensures { OnOk result (map concern_value concerns.new.items
+        ≡ map concern_value concerns.old.items
+        ++ uncovered_concerns recorded.now (map part_value parts.now)) }
 {
-    // The first two parts are the root and the configuration, and the others are images.
-    if parts.len() == 2 {
-        concerns.push(SignatureConcern::NoImages)?;
-    }
     for part in parts {
         if !is_covered(recorded, part) {
             concerns.push(SignatureConcern::Uncovered(part.subject))?;
         }
     }
-    for path in foreign_paths(alloc, recorded, needed)? {
-        concerns.push(SignatureConcern::Foreign(path))?;
+    Ok(())
+}
+
+/// Adds the concerns about the recorded paths that are not needed. Fails if memory runs out.
+fn add_foreign<'a>(
+    concerns: &mut Vec<SignatureConcern<'a>>,
+    recorded: &NameSet<'a>,
+    needed: &NameSet,
+) -> Result<(), AllocError>
+    ensures { OnOk result (map concern_value concerns.new.items
+        ≡ map concern_value concerns.old.items
+        ++ map Foreign (foreign_paths recorded.now needed.now)) }
+{
+    for path in recorded.names() {
+        if !needed.contains(path) {
+            concerns.push(SignatureConcern::Foreign(*path))?;
+        }
     }
     Ok(())
 }

@@ -1,7 +1,6 @@
 //! The references of configurations.
 
-ghost use Rattle.std.specs.Prelude.{◌≡◌, ◌++◌, map, filter, flat_map, IfOk, OnOk};
-ghost use Rattle.bi_base.specs.Slices.{bytes_of};
+ghost use Rattle.std.specs.Prelude.{◌≡◌, filter, IfOk, OnOk};
 ghost use Rattle.bi_blob.specs.Layout.{is_among};
 ghost use Rattle.bi_blob.specs.Tree.{names};
 ghost use Rattle.bi_fdt.specs.Views.{node_of, table_of_node};
@@ -10,9 +9,9 @@ ghost use Rattle.bi_fit.specs.Judgement.{listed_names};
 ghost use Rattle.bi_fit.specs.NormalNodes.{HasDistinctNames};
 ghost use Rattle.bi_coverage.specs.Paths.{with_all_new};
 ghost use Rattle.bi_coverage.specs.ReferenceOrders.{IsNamesOrder};
-ghost use Rattle.bi_coverage.specs.Signatures.{images_in, names_in, other_names};
+ghost use Rattle.bi_coverage.specs.Signatures.{images_in, other_names};
 ghost use Rattle.bi_coverage.specs.Signatures.{references as references_of};
-ghost use Rattle.bi_coverage.specs.Values.{meaning_of};
+ghost use Rattle.bi_coverage.specs.Values.{meaning_of_node};
 
 use crate::name_set::NameSet;
 use bi_fdt::{Blob, NodeRef, PropertyOrder, keys_at, rank_names};
@@ -42,7 +41,7 @@ pub(crate) fn references<'a>(
     requires order { IsNamesOrder (table_of_node configuration) order.now }
     requires distinct { HasDistinctNames (node_of configuration).own }
     ensures { IfOk result (λ found. found
-        ≡ references_of (tree_of fit.now) (meaning_of (node_of configuration.entry))) }
+        ≡ references_of (tree_of fit.now) (meaning_of_node configuration.entry)) }
 {
     let mut found = NameSet::new(alloc);
     for (_, property) in configuration.properties_in(order) {

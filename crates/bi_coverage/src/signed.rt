@@ -1,39 +1,51 @@
 //! The signed nodes of configurations, and the lists in them.
 
-ghost use Rattle.std.specs.Prelude.{◌≡◌, length};
+ghost use Rattle.std.specs.Prelude.{◌≡◌, map, IfOk};
 ghost use Rattle.std.specs.Option.{option_map};
-ghost use Rattle.bi_fdt.specs.Views.{node_of};
-ghost use Rattle.bi_fit.specs.NormalNodes.{properties_by_name};
-ghost use Rattle.bi_coverage.specs.Signatures.{is_signed, signed_nodes, list_of_names};
+ghost use Rattle.bi_coverage.specs.Signatures.{is_signed, has_bytes, signed_nodes, list_of_names};
 ghost use Rattle.bi_coverage.specs.Signatures.{recorded_paths};
-ghost use Rattle.bi_coverage.specs.Values.{meaning_of, listed_by};
+ghost use Rattle.bi_coverage.specs.Values.{meaning_of_node, listed_by};
 
 use bi_fdt::NodeRef;
 use bi_fit::nodes::Siblings;
+use std::alloc::{AllocError, Global};
 
 /// Returns whether a child of a configuration node is signed: its name begins with `signature`, and
 /// it has a property `value` that is not empty.
-pub(crate) fn is_signed(child: NodeRef) -> bool
-    ensures { result ≡ is_signed (meaning_of (node_of child.entry)) }
+fn is_signed(child: NodeRef) -> bool
+    ensures { result ≡ is_signed (meaning_of_node child.entry) }
 {
-    child.name().starts_with(b"signature")
-        && match child.property(b"value") {
-            Some(value) => !value.is_empty(),
-            None => false,
-        }
+    if !child.name().starts_with(b"signature") {
+        return false;
+    }
+    has_bytes(child.property(b"value"))
 }
 
-/// Returns the number of the signed nodes of a configuration.
-pub(crate) fn signed_count(configuration: NodeRef) -> usize
-    ensures { result ≡ length (signed_nodes (meaning_of (node_of configuration.entry))) }
+/// Returns whether there is a value, and it is not empty.
+fn has_bytes(value: Option<&[u8]>) -> bool
+    ensures { result ≡ has_bytes (option_map (λ value. value.now) value.entry) }
 {
-    let mut count = 0;
+    match value {
+        Some(value) => !value.is_empty(),
+        None => false,
+    }
+}
+
+/// Returns the signed nodes of a configuration, in order. Fails if memory runs out.
+pub(crate) fn signed_nodes<'a, 'b>(
+    alloc: Global,
+    configuration: NodeRef<'a, 'b>,
+) -> Result<Vec<NodeRef<'a, 'b>>, AllocError>
+    ensures { IfOk result (λ found. map meaning_of_node found.items
+        ≡ signed_nodes (meaning_of_node configuration.entry)) }
+{
+    let mut found = Vec::new(alloc);
     for child in Siblings::children(configuration) {
         if is_signed(child) {
-            count += 1;
+            found.push(child)?;
         }
     }
-    count
+    Ok(found)
 }
 
 /// Returns a value if it is a list of names: its last byte is a zero.
@@ -49,7 +61,7 @@ pub(crate) fn list_of_names(value: &[u8]) -> Option<&[u8]>
 
 /// Returns the list of the paths that a signature node records. Returns None if it records no list.
 pub(crate) fn recorded_list<'a>(signature: NodeRef<'a, '_>) -> Option<&'a [u8]>
-    ensures { option_map listed_by result ≡ recorded_paths (meaning_of (node_of signature.entry)) }
+    ensures { option_map listed_by result ≡ recorded_paths (meaning_of_node signature.entry) }
 {
     list_of_names(signature.property(b"hashed-nodes")?)
 }
