@@ -1,7 +1,13 @@
 use Rattle.std.proofs.Common.{◌≡◌, ℕ, max, List, [], ◌∷◌, ◌++◌, Bool, true, false, cond, map, filter, refl, sym, ap, ◌∙◌, bytes_eq, arith, rules}
 use Rattle.std.specs.Prelude.{◌||◌}
 use Rattle.bi_blob.specs.Layout.{is_among}
+use Rattle.bi_blob.specs.Tree.{FileNode, FileProperty, Root}
+use Rattle.bi_fit.specs.Judgement.{listed_names, BeginsWithName}
+use Rattle.bi_fit.specs.Names.{is_payload_name}
+use Rattle.bi_coverage.specs.Coverage.{name_end, names_end, properties_end, recorded_end}
+use Rattle.bi_coverage.specs.NodeIndices.{end_at}
 use Rattle.bi_coverage.specs.Numbers.{greatest}
+use Rattle.bi_coverage.specs.Paths.{path_text, all_nodes}
 
 -- The greatest numbers of things that are chosen.
 
@@ -37,3 +43,40 @@ module _ {X : Type 0} (key : X → List ℕ) (number : X → ℕ) where
   end_of-among (path ∷ later) things =
       end_of-or (λ thing. bytes_eq path (key thing)) (λ thing. is_among (key thing) later) things
       ∙ ap (max (end_of (λ thing. bytes_eq path (key thing)) things)) (end_of-among later things)
+
+-- Where the last name of recorded nodes ends is the greatest end at one of the paths.
+pub recorded_is : (file : List ℕ) (root : Root FileNode) (recorded : List (List ℕ)) →
+    greatest (map (end_at file root) recorded) ≡ recorded_end file root recorded
+recorded_is file root recorded =
+    sym (end_of-among (λ located. path_text located.names) (λ located. names_end file located.own) recorded (all_nodes root))
+
+-- One more path of a list.
+pub recorded_more : (f : List ℕ → ℕ) (rest name later : List ℕ) (end new all : ℕ) → BeginsWithName rest name later →
+    new ≡ max end (f name) → max end (greatest (map f (listed_names rest))) ≡ all →
+    max new (greatest (map f (listed_names later))) ≡ all
+recorded_more f rest name later end new all begins is so_far =
+    let here : greatest (map f (listed_names rest)) ≡ max (f name) (greatest (map f (listed_names later))) =
+    ap (λ names. greatest (map f names)) begins.listed in
+    omega (arith, here, is, so_far)
+
+-- No path is left.
+pub recorded_all : (f : List ℕ → ℕ) (rest : List ℕ) (end all : ℕ) → listed_names rest ≡ [] →
+    max end (greatest (map f (listed_names rest))) ≡ all → end ≡ all
+recorded_all f rest end all none so_far =
+    let here : greatest (map f (listed_names rest)) ≡ 0 = ap (λ names. greatest (map f names)) none in
+    omega (arith, here, so_far)
+
+module _ (file : List ℕ) (property : FileProperty) (later : List FileProperty) (end new all : ℕ)
+    (so_far : max end (properties_end file (property ∷ later)) ≡ all) where
+  -- The name of a property counts.
+  pub counted_more : is_payload_name property.name ≡ false → new ≡ max end (name_end file property) →
+      max new (properties_end file later) ≡ all
+  counted_more is is_new =
+      let here : properties_end file (property ∷ later) ≡ max (name_end file property) (properties_end file later) = rw is refl in
+      omega (arith, here, is_new, so_far)
+
+  -- Or it does not.
+  pub skipped_more : is_payload_name property.name ≡ true → max end (properties_end file later) ≡ all
+  skipped_more is =
+      let here : properties_end file (property ∷ later) ≡ properties_end file later = rw is refl in
+      omega (arith, here, so_far)

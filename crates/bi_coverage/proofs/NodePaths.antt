@@ -1,7 +1,6 @@
 use Rattle.std.proofs.Common.{◌≡◌, ◌≢◌, ℕ, List, [], ◌∷◌, ◌++◌, Bool, true, false, cond, map, filter, flat_map, Option, Some, None}
 use Rattle.std.proofs.Common.{bytes_eq, refl, sym, ap, subst, ◌∙◌, append_assoc, append-nil, rules, if◌then◌else◌, ◌&&◌, nat_eq, arith}
 use borrow.Author.Tests.{tests}
-use Rattle.std.specs.Prelude.{⊤}
 use Rattle.std.specs.List.{AllByRecursion}
 use Rattle.std.proofs.lemmas.Bool.{false≢true}
 use Rattle.std.proofs.lemmas.Bool.Decides.{nat_tests}
@@ -11,6 +10,7 @@ use Rattle.std.proofs.lemmas.List.Elements.{filter-append}
 use Rattle.std.proofs.lemmas.Slice.Eq.{bytes_eq-Decides}
 use Rattle.bi_blob.specs.Tree.{Nodes, none, node, AreNodes, IsNew, names}
 use Rattle.bi_blob.specs.Lookups.{Sibling, siblings, node_named}
+use Rattle.bi_coverage.specs.PathParts.{IsRestOfPath}
 use Rattle.bi_coverage.specs.Paths.{LocatedNode, path_text, nodes_below}
 
 -- A path has the node that is found name by name.
@@ -18,15 +18,6 @@ use Rattle.bi_coverage.specs.Paths.{LocatedNode, path_text, nodes_below}
 -- The bytes of names, each after a slash.
 abbrev pub joined : List (List ℕ) → List ℕ
 joined names = flat_map (λ name. 47 ∷ name) names
-
--- A path ends, or goes on with a slash.
-abbrev pub IsRest : List ℕ → Type 0
-IsRest [] = ⊤
-IsRest (byte ∷ later) = byte ≡ 47
-
--- No byte is a slash.
-abbrev pub HasNoSlash : List ℕ → Type 0
-HasNoSlash name = AllByRecursion (λ byte. byte ≢ 47) name
 
 -- The path of a child.
 path_text-child : (parent : List (List ℕ)) (name : List ℕ) → path_text (parent ++ name ∷ []) ≡ joined parent ++ 47 ∷ name
@@ -36,7 +27,7 @@ path_text-child (first ∷ later) name =
     ∙ ap (λ l. joined (first ∷ later) ++ 47 ∷ l) (append-nil name)
 
 -- Two paths begin with the same name.
-pub same_name : (name other later rest : List ℕ) → HasNoSlash name → HasNoSlash other → IsRest later → IsRest rest →
+pub same_name : (name other later rest : List ℕ) → AllByRecursion (λ byte. byte ≢ 47) name → AllByRecursion (λ byte. byte ≢ 47) other → IsRestOfPath later → IsRestOfPath rest →
     name ++ later ≡ other ++ rest → (name ≡ other) × (later ≡ rest)
 same_name [] [] later rest plain other_plain is_later is_rest same = (refl, same)
 same_name [] (byte ∷ other) [] rest plain other_plain is_later is_rest same = absurd cc
@@ -151,8 +142,8 @@ module _ {Own : Type 0} where
   owns_found (Some sibling) (byte ∷ later) = owns_with [] sibling.children (byte ∷ later)
 
   -- The node of a path is below the node that has its first name.
-  pub owns_by_name : (IsOwn : Own → Type 0) (nodes : Nodes Own) (name later : List ℕ) → AreNodes IsOwn nodes → HasNoSlash name →
-      IsRest later → owns_with [] nodes (47 ∷ (name ++ later)) ≡ owns_found (node_named nodes name) later
+  pub owns_by_name : (IsOwn : Own → Type 0) (nodes : Nodes Own) (name later : List ℕ) → AreNodes IsOwn nodes → AllByRecursion (λ byte. byte ≢ 47) name →
+      IsRestOfPath later → owns_with [] nodes (47 ∷ (name ++ later)) ≡ owns_found (node_named nodes name) later
   owns_by_name IsOwn none name later are plain is_rest = refl
   owns_by_name IsOwn (node first own children others) name later are plain is_rest =
       by (bytes_eq first name) refl (owns_by_name IsOwn others name later are.2 plain is_rest)
@@ -161,14 +152,14 @@ module _ {Own : Type 0} where
       path = 47 ∷ (name ++ later)
 
       -- Nothing has a path that begins with another name.
-      elsewhere : bytes_eq first name ≡ false → (rest : List ℕ) → IsRest rest → path ≡ 47 ∷ (first ++ rest) → ⊥
+      elsewhere : bytes_eq first name ≡ false → (rest : List ℕ) → IsRestOfPath rest → path ≡ 47 ∷ (first ++ rest) → ⊥
       elsewhere differ rest rest_is same =
           let e : name ++ later ≡ first ++ rest = cc in
           let names = same_name name first later rest plain are.0.is_name.no_slash is_rest rest_is e in
           false≢true (sym differ ∙ (bytes_eq-Decides first name).1 (sym names.0))
 
       -- Below the node of the name is what has the rest of the path.
-      at_name : (rest : List ℕ) → IsRest rest → bytes_eq first name ≡ true →
+      at_name : (rest : List ℕ) → IsRestOfPath rest → bytes_eq first name ≡ true →
           (if bytes_eq (47 ∷ (name ++ rest)) (47 ∷ first) then own ∷ [] else []) ++
           (owns_with (47 ∷ first) children (47 ∷ (name ++ rest)) ++ []) ≡
           owns_found (Some (record { name = first; own = own; children = children; later = others })) rest

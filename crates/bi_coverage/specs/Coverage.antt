@@ -128,14 +128,22 @@ strings_concerns content signature =
     concerns_of_strings content.blob.file (root_of content.blob)
     (get signature.own hashed_strings_name) (recorded_paths signature)
 
--- The concerns about a signature node of a configuration of a file.
-abbrev pub signature_coverage : FitModel → (configuration signature : Sibling PropertyMap)
-    → SignatureCoverage
-signature_coverage content configuration signature = record {
+-- What is known of a signature node of a file, if its configuration has these references and needs
+-- these parts.
+abbrev pub signature_with : FitModel → (references : List (List ℕ)) → List NeededPart
+    → (signature : Sibling PropertyMap) → SignatureCoverage
+signature_with content references parts signature = record {
   name = signature.name;
-  concerns = path_concerns (tree_of content) configuration signature
+  concerns = concerns_of_paths references parts (recorded_paths signature)
       ++ strings_concerns content signature;
 }
+
+-- What is known of a signature node of a configuration of a file.
+abbrev pub signature_coverage : FitModel → (configuration signature : Sibling PropertyMap)
+    → SignatureCoverage
+signature_coverage content configuration signature =
+    signature_with content (references (tree_of content) configuration)
+    (needed_parts (tree_of content) configuration) signature
 
 -- A configuration: its name, and its signed nodes in order.
 pub record ConfigurationCoverage : Type 0 where

@@ -1,9 +1,10 @@
 //! The children of image nodes that a signature must cover.
 
-ghost use Rattle.std.specs.Prelude.{◌≡◌, IfOk};
+ghost use Rattle.std.specs.Prelude.{◌≡◌, filter, IfOk};
 ghost use Rattle.bi_base.specs.Slices.{bytes_of};
 ghost use Rattle.bi_blob.specs.Tree.{names};
 ghost use Rattle.bi_fdt.specs.Views.{node_of};
+ghost use Rattle.bi_fit.specs.Names.{is_hash_name};
 ghost use Rattle.bi_coverage.specs.IndexedFits.{covered_by_images};
 ghost use Rattle.bi_coverage.specs.Signatures.{covered_names};
 ghost use Rattle.bi_coverage.specs.Values.{name_lists};
@@ -20,14 +21,24 @@ fn covered_names<'a>(alloc: Global, image: NodeRef<'a, '_>) -> Result<Vec<&'a [u
     ensures { IfOk result (λ found. bytes_of found.items
         ≡ covered_names (names (node_of image.entry).children)) }
 {
+    let mut found = hash_names(alloc, image)?;
+    if image.child(b"cipher").is_none() {
+        return Ok(found);
+    }
+    found.push(b"cipher")?;
+    Ok(found)
+}
+
+/// Returns the names of the hash nodes of an image node, in order. Fails if memory runs out.
+fn hash_names<'a>(alloc: Global, image: NodeRef<'a, '_>) -> Result<Vec<&'a [u8]>, AllocError>
+    ensures { IfOk result (λ found. bytes_of found.items
+        ≡ filter is_hash_name (names (node_of image.entry).children)) }
+{
     let mut found: Vec<&'a [u8]> = Vec::new(alloc);
     for child in Siblings::children(image) {
         if child.name().starts_with(b"hash") {
             found.push(child.name())?;
         }
-    }
-    if image.child(b"cipher").is_some() {
-        found.push(b"cipher")?;
     }
     Ok(found)
 }

@@ -9,6 +9,7 @@ mod listed_paths;
 mod name_set;
 mod needed;
 mod needed_part;
+mod needs;
 mod node_index;
 mod path_parts;
 mod paths;

@@ -1,6 +1,6 @@
 //! The paths that the signatures of a configuration must cover.
 
-ghost use Rattle.std.specs.Prelude.{◌≡◌, ◌+◌, ◌<◌, ◌≤◌, [], map};
+ghost use Rattle.std.specs.Prelude.{◌≡◌, ◌+◌, ◌*◌, ◌<◌, ◌≤◌, [], map, length};
 ghost use Rattle.std.specs.Prelude.{IfOk, IfErr, OnOk};
 ghost use Rattle.bi_base.specs.Reading.{too_large};
 ghost use Rattle.bi_base.specs.Slices.{bytes_of};
@@ -101,11 +101,23 @@ pub(crate) fn add_image_length(
     let mut sum = add_length(total, 8, limit)?;
     sum = add_length(sum, image.len(), limit)?;
     for child in children {
-        sum = add_length(sum, 9, limit)?;
-        sum = add_length(sum, image.len(), limit)?;
-        sum = add_length(sum, child.len(), limit)?;
+        sum = add_child_length(sum, image, child, limit)?;
     }
     Ok(sum)
+}
+
+/// Adds the length of the path of a child of an image to a length. Error: TooLarge at the limit, if
+/// the sum is more than that. Requires: the length is no more.
+fn add_child_length(total: usize, image: &[u8], child: &[u8], limit: u32) -> Result<usize, Fault>
+    requires { total ≤ limit }
+    ensures sum { IfOk result (λ sum. sum ≡ total + (9 + length image.now + length child.now)) }
+    ensures within { IfOk result (λ sum. sum ≤ limit) }
+    ensures fault { IfErr result (λ fault. (fault ≡ too_large limit)
+        × (limit < total + (9 + length image.now + length child.now))) }
+{
+    let sum = add_length(total, 9, limit)?;
+    let sum = add_length(sum, image.len(), limit)?;
+    add_length(sum, child.len(), limit)
 }
 
 /// Returns the paths of these parts. Fails if memory runs out.
@@ -133,4 +145,27 @@ fn add_part<'p>(paths: &mut NameSet<'p>, part: &'p NeededPart) -> Result<(), All
         paths.add(path)?;
     }
     Ok(())
+}
+
+/// Returns the sum of a total and of a length that is added a number of times. Error: TooLarge at
+/// the limit, if the sum is more than that. Requires: the total is no more.
+pub(crate) fn add_lengths(
+    total: usize,
+    length: usize,
+    count: usize,
+    limit: u32,
+) -> Result<usize, Fault>
+    requires { total ≤ limit }
+    ensures sum { IfOk result (λ sum. sum ≡ total + count * length) }
+    ensures within { IfOk result (λ sum. sum ≤ limit) }
+    ensures fault { IfErr result (λ fault. (fault ≡ too_large limit)
+        × (limit < total + count * length)) }
+{
+    let mut sum = total;
+    let mut left = count;
+    'addition: while left > 0 {
+        sum = add_length(sum, length, limit)?;
+        left -= 1;
+    }
+    Ok(sum)
 }

@@ -53,7 +53,7 @@ impl<'a, 'b> NodeIndex<'a, 'b> {
         let mut children = Vec::new(alloc);
         let mut ends = Vec::new(alloc);
         nodes.push(blob.root())?;
-        while children.len() < nodes.len() {
+        'next_node: while children.len() < nodes.len() {
             let node = nodes[children.len()];
             let begin = nodes.len();
             add_children(&mut nodes, node)?;

@@ -1,6 +1,6 @@
 //! Reading what the signatures of configurations cover.
 
-ghost use Rattle.std.specs.Prelude.{◌≡◌, ◌+◌, ◌<◌, ◌≤◌, ◌++◌, map, IfOk, IfErr, IfSome, OnOk};
+ghost use Rattle.std.specs.Prelude.{◌≡◌, ◌+◌, ◌<◌, ◌≤◌, ◌++◌, map, Some, IfOk, IfErr, IfSome, OnOk};
 ghost use Rattle.std.specs.Option.{option_map};
 ghost use Rattle.bi_base.specs.Errors.{IsFaultOrNoMemory};
 ghost use Rattle.bi_base.specs.Reading.{too_large};
@@ -9,12 +9,12 @@ ghost use Rattle.bi_blob.specs.Lookups.{siblings, siblings_from};
 ghost use Rattle.bi_fdt.specs.Views.{node_of, table_of_node};
 ghost use Rattle.bi_fit.specs.Content.{IsHeld, tree_of};
 ghost use Rattle.bi_fit.specs.HashNodes.{file_configurations};
+ghost use Rattle.bi_fit.specs.Judgement.{listed_names};
 ghost use Rattle.bi_fit.specs.NormalNodes.{HasDistinctNames};
 ghost use Rattle.bi_coverage.specs.Coverage.{Foreign, coverage_of, configuration_coverage};
-ghost use Rattle.bi_coverage.specs.Coverage.{concerns_of_paths, strings_concerns};
+ghost use Rattle.bi_coverage.specs.Coverage.{concerns_of_paths, image_concerns, signature_with, strings_concerns};
 ghost use Rattle.bi_coverage.specs.Coverage.{uncovered_concerns, foreign_paths};
 ghost use Rattle.bi_coverage.specs.Numbers.{total as total_of};
-ghost use Rattle.bi_coverage.specs.Paths.{each_once};
 ghost use Rattle.bi_coverage.specs.Signatures.{all_needed_length, needed_lengths, parts_for};
 ghost use Rattle.bi_coverage.specs.Signatures.{paths_of_parts, total_length, covered_below};
 ghost use Rattle.bi_coverage.specs.Signatures.{recorded_paths};
@@ -25,8 +25,11 @@ use crate::concern::{NeededPath, SignatureConcern};
 use crate::covered_names::covered_by_image;
 use crate::listed_paths::{is_covered, listed_paths};
 use crate::name_set::NameSet;
-use crate::needed::{add_image_length, add_length, image_part, needed_paths, single_part};
+use crate::needed::{
+    add_image_length, add_length, add_lengths, image_part, needed_paths, single_part,
+};
 use crate::needed_part::NeededPart;
+use crate::needs::Needs;
 use crate::node_index::NodeIndex;
 use crate::references::{order_by_names, references};
 use crate::signed::{recorded_list, signed_nodes};
@@ -172,26 +175,41 @@ impl<'a, 'b> IndexedFit<'a, 'b> {
             (meaning_of_node configuration.entry))))) }
     {
         let name = configuration.name();
-        let mut signatures = Vec::new(alloc);
-        let mut sum = total;
         let signed = signed_nodes(alloc, configuration)?;
-        if !signed.is_empty() {
-            let references = references(alloc, self.fit, configuration, &self.order)?;
-            let length = self.needed_length(name, references.names())?;
-            let parts = self.needed_parts(alloc, name, references.names())?;
-            let needed = needed_paths(alloc, &parts)?;
-            for signature in &signed {
-                sum = add_length(sum, length, self.limit)?;
-                signatures.push(self.read_signature(
-                    alloc,
-                    *signature,
-                    references.names(),
-                    &parts,
-                    &needed,
-                )?)?;
-            }
+        if signed.is_empty() {
+            let signatures = Vec::new(alloc);
+            return Ok((ConfigurationCoverage { name, signatures }, total));
         }
+        let references = references(alloc, self.fit, configuration, &self.order)?;
+        let length = self.needed_length(name, references.names())?;
+        let parts = self.needed_parts(alloc, name, references.names())?;
+        let needs = Needs {
+            references: references.names(),
+            parts: &parts,
+            paths: &needed_paths(alloc, &parts)?,
+        };
+        let sum = add_lengths(total, length, signed.len(), self.limit)?;
+        let signatures = self.read_signatures(alloc, &signed, needs)?;
         Ok((ConfigurationCoverage { name, signatures }, sum))
+    }
+
+    /// Reads these signed nodes of a configuration with these needs. Fails if memory runs out.
+    fn read_signatures(
+        &self,
+        alloc: Global,
+        signed: &[NodeRef<'a, '_>],
+        needs: Needs<'a, '_>,
+    ) -> Result<Vec<SignatureCoverage<'a>>, AllocError>
+        ensures { IfOk result (λ read. map signature_value read.items ≡ map
+            (signature_with self.now.content (bytes_of needs.entry.references.now)
+            (map part_value needs.entry.parts.now))
+            (map meaning_of_node signed.now)) }
+    {
+        let mut signatures = Vec::new(alloc);
+        for signature in signed {
+            signatures.push(self.read_signature(alloc, *signature, needs)?)?;
+        }
+        Ok(signatures)
     }
 
     /// Returns how long the needed paths are together of the configuration with this name and
@@ -233,44 +251,81 @@ impl<'a, 'b> IndexedFit<'a, 'b> {
         Ok(parts)
     }
 
-    /// Reads a signed node of a configuration with these references, parts and needed paths. Fails
-    /// if memory runs out. Requires: the needed paths are those of the parts.
+    /// Reads a signed node of a configuration with these needs. Fails if memory runs out.
     fn read_signature(
         &self,
         alloc: Global,
         signature: NodeRef<'a, '_>,
-        references: &[&[u8]],
-        parts: &[NeededPart<'a>],
-        needed: &NameSet,
+        needs: Needs<'a, '_>,
     ) -> Result<SignatureCoverage<'a>, AllocError>
-        requires { needed.now ≡ each_once (paths_of_parts (map part_value parts.now)) }
-        ensures { IfOk result (λ read. signature_value read ≡ record {
-            name = (node_of signature.entry).name;
-            concerns = concerns_of_paths (bytes_of references.now) (map part_value parts.now)
-                (recorded_paths (meaning_of_node signature.entry))
-                ++ strings_concerns self.now.content (meaning_of_node signature.entry) }) }
+        ensures { IfOk result (λ read. signature_value read
+            ≡ signature_with self.now.content (bytes_of needs.entry.references.now)
+            (map part_value needs.entry.parts.now) (meaning_of_node signature.entry)) }
     {
-        let mut concerns = Vec::new(alloc);
-        match recorded_list(signature) {
-            Some(list) => {
-                let recorded = listed_paths(alloc, list)?;
-                if references.is_empty() {
-                    concerns.push(SignatureConcern::NoImages)?;
-                }
-                add_uncovered(&mut concerns, &recorded, parts)?;
-                add_foreign(&mut concerns, &recorded, needed)?;
-                let strings = signature.property(b"hashed-strings");
-                if !has_strings(strings, self.nodes.recorded_end(list)) {
-                    concerns.push(SignatureConcern::Strings)?;
-                }
-            }
-            None => concerns.push(SignatureConcern::NoNodes)?,
-        }
         Ok(SignatureCoverage {
             name: signature.name(),
-            concerns,
+            concerns: self.concerns(alloc, signature, needs)?,
         })
     }
+
+    /// Returns the concerns about a signed node of a configuration with these needs. Fails if memory
+    /// runs out.
+    fn concerns(
+        &self,
+        alloc: Global,
+        signature: NodeRef<'a, '_>,
+        needs: Needs<'a, '_>,
+    ) -> Result<Vec<SignatureConcern<'a>>, AllocError>
+        ensures { IfOk result (λ concerns. map concern_value concerns.items
+            ≡ concerns_of_paths (bytes_of needs.entry.references.now)
+            (map part_value needs.entry.parts.now) (recorded_paths (meaning_of_node signature.entry))
+            ++ strings_concerns self.now.content (meaning_of_node signature.entry)) }
+    {
+        let mut concerns = Vec::new(alloc);
+        let Some(list) = recorded_list(signature) else {
+            concerns.push(SignatureConcern::NoNodes)?;
+            return Ok(concerns);
+        };
+        add_path_concerns(alloc, &mut concerns, list, needs)?;
+        let strings = signature.property(b"hashed-strings");
+        if !has_strings(strings, self.nodes.recorded_end(list)) {
+            concerns.push(SignatureConcern::Strings)?;
+        }
+        Ok(concerns)
+    }
+}
+
+/// Adds the concerns about the paths that a value lists. Fails if memory runs out.
+fn add_path_concerns<'a>(
+    alloc: Global,
+    concerns: &mut Vec<SignatureConcern<'a>>,
+    list: &'a [u8],
+    needs: Needs<'a, '_>,
+) -> Result<(), AllocError>
+    ensures { OnOk result (map concern_value concerns.new.items
+        ≡ map concern_value concerns.old.items
+        ++ concerns_of_paths (bytes_of needs.entry.references.now)
+        (map part_value needs.entry.parts.now) (Some (listed_names list.entry.now))) }
+{
+    let recorded = listed_paths(alloc, list)?;
+    add_image_concern(concerns, needs.references)?;
+    add_uncovered(concerns, &recorded, needs.parts)?;
+    add_foreign(concerns, &recorded, needs.paths)?;
+    Ok(())
+}
+
+/// Adds the concern that there is no reference, if there is none. Fails if memory runs out.
+fn add_image_concern(
+    concerns: &mut Vec<SignatureConcern>,
+    references: &[&[u8]],
+) -> Result<(), AllocError>
+    ensures { OnOk result (map concern_value concerns.new.items
+        ≡ map concern_value concerns.old.items ++ image_concerns (bytes_of references.now)) }
+{
+    if references.is_empty() {
+        concerns.push(SignatureConcern::NoImages)?;
+    }
+    Ok(())
 }
 
 /// Adds the concerns about the parts that are not covered by recorded paths. Fails if memory runs

@@ -1,6 +1,6 @@
 //! The references of configurations.
 
-ghost use Rattle.std.specs.Prelude.{◌≡◌, filter, IfOk, OnOk};
+ghost use Rattle.std.specs.Prelude.{◌≡◌, [], filter, IfOk, OnOk, MatchOption};
 ghost use Rattle.bi_blob.specs.Layout.{is_among};
 ghost use Rattle.bi_blob.specs.Tree.{names};
 ghost use Rattle.bi_fdt.specs.Views.{node_of, table_of_node};
@@ -9,12 +9,13 @@ ghost use Rattle.bi_fit.specs.Judgement.{listed_names};
 ghost use Rattle.bi_fit.specs.NormalNodes.{HasDistinctNames};
 ghost use Rattle.bi_coverage.specs.Paths.{with_all_new};
 ghost use Rattle.bi_coverage.specs.ReferenceOrders.{IsNamesOrder};
-ghost use Rattle.bi_coverage.specs.Signatures.{images_in, other_names};
+ghost use Rattle.bi_coverage.specs.Signatures.{images_in, names_in, other_names};
 ghost use Rattle.bi_coverage.specs.Signatures.{references as references_of};
 ghost use Rattle.bi_coverage.specs.Values.{meaning_of_node};
 
 use crate::name_set::NameSet;
-use bi_fdt::{Blob, NodeRef, PropertyOrder, keys_at, rank_names};
+use crate::signed::list_of_names;
+use bi_fdt::{Blob, NodeRef, Property, PropertyOrder, keys_at, rank_names};
 use bi_fit::{Fit, split_name};
 use std::alloc::{AllocError, Global};
 
@@ -25,7 +26,8 @@ pub(crate) fn order_by_names(alloc: Global, blob: &Blob<'_>) -> Result<PropertyO
 {
     let ranked = rank_names(alloc, blob.names())?;
     let keys = keys_at(alloc, &ranked.ranks, &blob.name_numbers(alloc)?)?;
-    PropertyOrder::new(alloc, blob, &keys)
+    let order = PropertyOrder::new(alloc, blob, &keys)?;
+    Ok(order)
 }
 
 /// Returns the names of the images that the properties of a configuration list, each once, in byte
@@ -45,11 +47,25 @@ pub(crate) fn references<'a>(
 {
     let mut found = NameSet::new(alloc);
     for (_, property) in configuration.properties_in(order) {
-        if !is_other_name(property.name) && property.value.ends_with(b"\0") {
-            add_images(&mut found, fit, property.value)?;
+        if let Some(list) = image_list(property) {
+            add_images(&mut found, fit, list)?;
         }
     }
     Ok(found)
+}
+
+/// Returns the value of a property of a configuration if it is a list of names that may be those of
+/// images.
+fn image_list(property: Property<'_>) -> Option<&[u8]>
+    ensures { MatchOption result
+        (names_in (property.entry.name.now, property.entry.value.now) ≡ [])
+        (λ list. names_in (property.entry.name.now, property.entry.value.now)
+        ≡ listed_names list.now) }
+{
+    if is_other_name(property.name) {
+        return None;
+    }
+    list_of_names(property.value)
 }
 
 /// Returns whether a property of a configuration with this name lists no images, whatever its value
@@ -57,9 +73,9 @@ pub(crate) fn references<'a>(
 fn is_other_name(name: &[u8]) -> bool
     ensures { result ≡ is_among name.now other_names }
 {
-    name == b"description".as_slice()
-        || name == b"compatible".as_slice()
-        || name == b"default".as_slice()
+    b"description".as_slice() == name
+        || b"compatible".as_slice() == name
+        || b"default".as_slice() == name
 }
 
 /// Adds the names of images that a value lists. Fails if memory runs out. Requires: the tree was

@@ -63,5 +63,8 @@ pub(crate) fn list_of_names(value: &[u8]) -> Option<&[u8]>
 pub(crate) fn recorded_list<'a>(signature: NodeRef<'a, '_>) -> Option<&'a [u8]>
     ensures { option_map listed_by result ≡ recorded_paths (meaning_of_node signature.entry) }
 {
-    list_of_names(signature.property(b"hashed-nodes")?)
+    match signature.property(b"hashed-nodes") {
+        Some(value) => list_of_names(value),
+        None => None,
+    }
 }

@@ -1,4 +1,4 @@
-use Rattle.std.proofs.Common.{◌≡◌, filter, length}
+use Rattle.std.proofs.Common.{◌≡◌, ℕ, List, Bool, filter, length}
 use Rattle.bi_blob.specs.Layout.{is_among}
 use Rattle.bi_blob.specs.Tree.{names}
 use Rattle.bi_fit.specs.Content.{tree_of}
@@ -9,7 +9,7 @@ use Rattle.bi_coverage.proofs.references.add_images.Given as goal
 
 abbrev pub invariant-loop-name : goal.invariant-loop-name
 invariant-loop-name l =
-    let is_image = λ name. is_among name (names (images_in (tree_of l.fit))) in
+    let is_image : List ℕ → Bool = λ name. is_among name (names (images_in (tree_of l.fit))) in
     with_all_new l.found (filter is_image (listed_names l.rest))
     ≡ with_all_new l.initial.found (filter is_image (listed_names l.value))
 

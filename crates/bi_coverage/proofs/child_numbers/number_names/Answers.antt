@@ -1,0 +1,13 @@
+use Rattle.std.proofs.Common.{◌-◌, ap, ◌∙◌, arith, rules}
+use Rattle.bi_fdt.specs.Views.{node_of}
+use Rattle.bi_coverage.proofs.ChildNumbers.{numbered_more, none_numbered}
+use Rattle.bi_coverage.proofs.child_numbers.number_names.Goals as goal
+
+pub loop-index-init : goal.loop-index-init
+loop-index-init c = none_numbered _ _ (search rules)
+
+pub loop-index-preserved : goal.loop-index-preserved
+loop-index-preserved c =
+    numbered_more c.args.nodes.now (c.loop-index.index - 1) c.loop-index.index c.index-nodes-index.result _ c.loop-index.numbers
+    c.insert.new.self (omega arith) (omega arith)
+    (c.name.ensures ∙ ap (λ node. (node_of node).name) c.index-nodes-index.is) c.in_ok-insert.ensures.updates c.loop-index.invariant
