@@ -66,17 +66,28 @@ recorded_all f rest end all none so_far =
     let here : greatest (map f (listed_names rest)) ≡ 0 = ap (λ names. greatest (map f names)) none in
     omega (arith, here, so_far)
 
-module _ (file : List ℕ) (property : FileProperty) (later : List FileProperty) (end new all : ℕ)
-    (so_far : max end (properties_end file (property ∷ later)) ≡ all) where
-  -- The name of a property counts.
-  pub counted_more : is_payload_name property.name ≡ false → new ≡ max end (name_end file property) →
-      max new (properties_end file later) ≡ all
-  counted_more is is_new =
-      let here : properties_end file (property ∷ later) ≡ max (name_end file property) (properties_end file later) = rw is refl in
-      omega (arith, here, is_new, so_far)
+-- The ends of the first property and of the later ones.
+pub property_more : (file : List ℕ) (property : FileProperty) (later : List FileProperty) (end new all : ℕ) →
+    max end (properties_end file (property ∷ later)) ≡ all → new ≡ max end (properties_end file (property ∷ [])) →
+    max new (properties_end file later) ≡ all
+property_more file property later end new all so_far is = by (is_payload_name property.name) refl
+  where
+    by : (b : Bool) → is_payload_name property.name ≡ b → max new (properties_end file later) ≡ all
+    by true payload =
+        let first : properties_end file (property ∷ later) ≡ properties_end file later = rw payload refl in
+        let alone : properties_end file (property ∷ []) ≡ 0 = rw payload refl in
+        omega (arith, first, alone, is, so_far)
+    by false payload =
+        let first : properties_end file (property ∷ later) ≡ max (name_end file property) (properties_end file later) = rw payload refl in
+        let alone : properties_end file (property ∷ []) ≡ max (name_end file property) 0 = rw payload refl in
+        omega (arith, first, alone, is, so_far)
 
-  -- Or it does not.
-  pub skipped_more : is_payload_name property.name ≡ true → max end (properties_end file later) ≡ all
-  skipped_more is =
-      let here : properties_end file (property ∷ later) ≡ properties_end file later = rw is refl in
-      omega (arith, here, so_far)
+-- The end of the name of one property.
+pub payload_end : (file : List ℕ) (property : FileProperty) → is_payload_name property.name ≡ true → 0 ≡ properties_end file (property ∷ [])
+payload_end file property is = rw is refl
+
+pub other_end : (file : List ℕ) (property : FileProperty) (end : ℕ) → is_payload_name property.name ≡ false → end ≡ name_end file property →
+    end ≡ properties_end file (property ∷ [])
+other_end file property end is same =
+    let alone : properties_end file (property ∷ []) ≡ max (name_end file property) 0 = rw is refl in
+    omega (arith, alone, same)

@@ -10,3 +10,4 @@ pub mod FoundNodes
 pub mod Concerns
 pub mod ReferenceLists
 pub mod Configurations
+pub mod PathCuts

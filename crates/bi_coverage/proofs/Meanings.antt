@@ -155,8 +155,8 @@ covered_nothing content held name none_there =
 -- A list that takes the things of another one by one has all of them in the end.
 pub gathered : {X Y : Type 0} (done initial : List Y) (f : List X → List Y) (left all : List X) →
     done ++ f left ≡ initial ++ f all → left ≡ [] → f [] ≡ [] → initial ≡ [] → done ≡ f all
-gathered done initial f left all so_far none of_none empty =
-    sym (append-nil done) ∙ ap (λ l. done ++ l) (sym of_none) ∙ ap (λ l. done ++ f l) (sym none) ∙ so_far ∙ ap (λ l. l ++ f all) empty
+gathered done initial f left all so_far nothing of_nothing empty =
+    sym (append-nil done) ∙ ap (λ l. done ++ l) (sym of_nothing) ∙ ap (λ l. done ++ f l) (sym nothing) ∙ so_far ∙ ap (λ l. l ++ f all) empty
 
 -- The list that a signature node records.
 pub recorded_some : (sibling : Sibling FileNode) (found : Option (Bor (List ℕ))) (value : Bor (List ℕ)) →

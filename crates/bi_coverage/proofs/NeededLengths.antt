@@ -23,16 +23,17 @@ total_length-append (path ∷ paths) later = omega (arith, total_length-append p
 
 -- The length of the path of an image.
 pub image_length : (image : List ℕ) → length (path_text (images_name ∷ image ∷ [])) ≡ 8 + length image
-image_length image = rw append-nil (omega arith)
+image_length image = omega (arith, ap length (append-nil image))
 
 -- And of its child.
 pub child_length : (image child : List ℕ) →
     length (path_text (images_name ∷ image ∷ child ∷ [])) ≡ 9 + length image + length child
-child_length image child = rw append-nil (omega (arith, length-append image (47 ∷ child)))
+child_length image child =
+    omega (arith, ap length (append-nil child), length-append image (47 ∷ (child ++ [])))
 
 -- And of a configuration.
 pub configuration_length : (name : List ℕ) → length (path_text (configurations_name ∷ name ∷ [])) ≡ 16 + length name
-configuration_length name = rw append-nil (omega arith)
+configuration_length name = omega (arith, ap length (append-nil name))
 
 -- The lengths of the paths of children of an image.
 abbrev pub children_length : (image : List ℕ) → (children : List (List ℕ)) → ℕ

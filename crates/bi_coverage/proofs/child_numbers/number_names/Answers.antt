@@ -8,6 +8,6 @@ loop-index-init c = none_numbered _ _ (search rules)
 
 pub loop-index-preserved : goal.loop-index-preserved
 loop-index-preserved c =
-    numbered_more c.args.nodes.now (c.loop-index.index - 1) c.loop-index.index c.index-nodes-index.result _ c.loop-index.numbers
+    numbered_more c.args.nodes.now (c.loop-index.index - 1) c.loop-index.index c.index-nodes-index.result c.name.result c.loop-index.numbers
     c.insert.new.self (omega arith) (omega arith)
     (c.name.ensures ∙ ap (λ node. (node_of node).name) c.index-nodes-index.is) c.in_ok-insert.ensures.updates c.loop-index.invariant

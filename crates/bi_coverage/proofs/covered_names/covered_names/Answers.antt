@@ -1,5 +1,4 @@
 use Rattle.std.proofs.Common.{Bor, List, ℕ, [], ◌∷◌, sym, ap, ◌∙◌}
-use Rattle.std.proofs.lemmas.Bool.{not-true, not-false}
 use Rattle.std.proofs.lemmas.List.{map-append}
 use Rattle.bi_base.specs.Slices.{bytes_of}
 use Rattle.bi_fdt.specs.Views.{node_of}
@@ -9,11 +8,11 @@ use Rattle.bi_coverage.proofs.covered_names.covered_names.Goals as goal
 pub returns-then-is_none : goal.returns-then-is_none
 returns-then-is_none c =
     without_cipher (node_of c.args.image).children (bytes_of c.in_ok-found.found.items) node_of c.child.result c.child.ensures.child
-    c.in_ok-found.ensures (not-true _ (sym c.is_none.ensures ∙ c.if-is_none.true))
+    c.in_ok-found.ensures (c.is_none.ensures ∙ ap not c.if-is_none.true)
 
 pub returns : goal.returns
 returns c =
     ap bytes_of c.in_ok-push.ensures.items
     ∙ map-append (λ (name : Bor (List ℕ)). name.now) c.in_ok-found.found.items _
     ∙ with_cipher (node_of c.args.image).children (bytes_of c.in_ok-found.found.items) node_of c.child.result c.child.ensures.child
-    c.in_ok-found.ensures (not-false _ (sym c.is_none.ensures ∙ c.if-is_none.false))
+    c.in_ok-found.ensures (c.is_none.ensures ∙ ap not c.if-is_none.false)

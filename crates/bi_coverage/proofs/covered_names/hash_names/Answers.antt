@@ -8,7 +8,9 @@ use Rattle.bi_coverage.proofs.covered_names.hash_names.Goals as goal
 
 pub returns : goal.returns
 returns c =
-    gathered (bytes_of c.loop-child.found.items) _ (λ l. filter is_hash_name (map (λ sibling. sibling.name) l)) _ _
+    gathered (bytes_of c.loop-child.found.items) (bytes_of c.new-found.result.items)
+    (λ l. filter is_hash_name (map (λ sibling. sibling.name) l)) (siblings_left c.loop-child.child-iterator)
+    (siblings_left c.into_iter-child-iterator.result)
     c.loop-child.invariant c.in-None.ensures.steps.0 refl (ap bytes_of c.new-found.ensures.items)
     ∙ ap (λ l. filter is_hash_name (map (λ sibling. sibling.name) l))
     (ap siblings_left c.into_iter-child-iterator.ensures.into_iter_gives ∙ c.children-child-items.ensures)

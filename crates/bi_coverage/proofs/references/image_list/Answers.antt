@@ -3,7 +3,8 @@ use Rattle.std.proofs.Common.{sym, ◌∙◌}
 use Rattle.bi_coverage.proofs.references.image_list.Goals as goal
 
 pub returns-then-is_other_name : goal.returns-then-is_other_name
-returns-then-is_other_name c = other_lists_none _ (sym c.is_other_name.ensures ∙ c.if-is_other_name.true)
+returns-then-is_other_name c =
+    other_lists_none (c.args.property.name.now, c.args.property.value.now) (sym c.is_other_name.ensures ∙ c.if-is_other_name.true)
 
 pub returns : goal.returns
 returns c =

@@ -9,7 +9,9 @@ use Rattle.bi_coverage.proofs.signed.signed_nodes.Goals as goal
 
 pub returns : goal.returns
 returns c =
-    gathered (map meaning_of_node c.loop-child.found.items) _ (λ l. filter is_signed (map meaning_of l)) _ _
+    gathered (map meaning_of_node c.loop-child.found.items) (map meaning_of_node c.new-found.result.items)
+    (λ l. filter is_signed (map meaning_of l)) (siblings_left c.loop-child.child-iterator)
+    (siblings_left c.into_iter-child-iterator.result)
     c.loop-child.invariant c.in-None.ensures.steps.0 refl (ap (map meaning_of_node) c.new-found.ensures.items)
     ∙ ap (λ l. filter is_signed (map meaning_of l))
     (ap siblings_left c.into_iter-child-iterator.ensures.into_iter_gives ∙ c.children-child-items.ensures)
