@@ -100,7 +100,7 @@ children_numbered front parent children has = record {
           omega (arith, length-append front (siblings parent.children)))
 
 -- What is at an index stays there in a longer list.
-get_front : {X : Type 0} (front later : List X) (index : ℕ) → index < length front →
+pub get_front : {X : Type 0} (front later : List X) (index : ℕ) → index < length front →
     slice_get (front ++ later) index ≡ slice_get front index
 get_front [] later index within = absurd (omega arith)
 get_front (x ∷ front) later zero within = refl

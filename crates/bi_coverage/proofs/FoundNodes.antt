@@ -33,7 +33,7 @@ pub root_is : (root : Root FileNode) → IsTree AreProperties (tree_without_plac
 root_is root is = nodes_are root.children is.children
 
 -- So are the children of one that is found by its name.
-found_are : (nodes : Nodes FileNode) (name : List ℕ) (found : Sibling FileNode) → AreNodes IsOwn nodes →
+pub found_are : (nodes : Nodes FileNode) (name : List ℕ) (found : Sibling FileNode) → AreNodes IsOwn nodes →
     node_named nodes name ≡ Some found → AreNodes IsOwn found.children
 found_are none name found are is = absurd cc
 found_are (node first own children later) name found are is =

@@ -159,40 +159,43 @@ drop_node items index default within =
     drop-map node_of index items ∙ ap (map node_of) (drop_more items index default within)
     ∙ ap (λ l. node_of (get_or items index default) ∷ l) (sym (drop-map node_of (index + 1) items))
 
-module _ (file : List ℕ) (root : Root FileNode) (items : List NodeRef) (children : List Children) (ends : List ℕ) (default : NodeRef)
-    (grown : IsGrown file root (map node_of items) children ends) (within : length children < length items) where
-  -- The next node.
-  abbrev next_node : Sibling FileNode
-  next_node = node_of (get_or items (length children) default)
+module _ (file : List ℕ) (root : Root FileNode) (items : List NodeRef) (children : List Children) (ends : List ℕ)
+    (grown : IsGrown file root (map node_of items) children ends) (within : length children < length items) (next : NodeRef)
+    (is_next : next ≡ get_or items (length children) next) where
+  -- The next node, and those after it.
+  from_next : drop (length children) (map node_of items) ≡ node_of next ∷ drop (length children + 1) (map node_of items)
+  from_next =
+      drop_node items (length children) next within
+      ∙ ap (λ (node : NodeRef). node_of node ∷ drop (length children + 1) (map node_of items)) (sym is_next)
 
   -- Its tokens are in the file.
-  pub tokens_next : HasTokens file next_node
+  pub tokens_next : HasTokens file (node_of next)
   tokens_next =
-      next_tokens file root (map node_of items) children ends grown next_node (drop (length children + 1) (map node_of items))
-      (drop_node items (length children) default within)
+      next_tokens file root (map node_of items) children ends grown (node_of next) (drop (length children + 1) (map node_of items)) from_next
 
   -- It has its children and its end.
   pub grown_next : (more : List NodeRef) (numbers : Children) (later : List Children) (end : ℕ) (later_ends : List ℕ) →
-      map node_of more ≡ map node_of items ++ siblings next_node.children →
+      map node_of more ≡ map node_of items ++ siblings (node_of next).children →
       HasNumbersFrom (length items) (drop (length items) (map node_of more)) numbers →
-      later ≡ children ++ numbers ∷ [] → end ≡ names_end file next_node.own → later_ends ≡ ends ++ end ∷ [] →
+      later ≡ children ++ numbers ∷ [] → end ≡ names_end file (node_of next).own → later_ends ≡ ends ++ end ∷ [] →
       IsGrown file root (map node_of more) later later_ends
   grown_next more numbers later end later_ends is has is_later is_end is_ends =
       let long : length items ≡ length (map node_of items) = sym (simp length-map) in
-      let after : drop (length items) (map node_of more) ≡ siblings next_node.children =
-      ap (drop (length items)) is ∙ drop_front (map node_of items) (siblings next_node.children) (length items) long in
-      let whole = grown_more file root (map node_of items) children ends grown next_node (drop (length children + 1) (map node_of items))
-      (drop_node items (length children) default within) (map node_of more) numbers is
-      (subst (λ n. HasNumbersFrom n (siblings next_node.children) numbers) long (subst (λ l. HasNumbersFrom (length items) l numbers) after has)) in
+      let after : drop (length items) (map node_of more) ≡ siblings (node_of next).children =
+      ap (drop (length items)) is ∙ drop_front (map node_of items) (siblings (node_of next).children) (length items) long in
+      let whole = grown_more file root (map node_of items) children ends grown (node_of next) (drop (length children + 1) (map node_of items))
+      from_next (map node_of more) numbers is
+      (subst (λ n. HasNumbersFrom n (siblings (node_of next).children) numbers) long
+      (subst (λ l. HasNumbersFrom (length items) l numbers) after has)) in
       subst (λ l. IsGrown file root (map node_of more) l later_ends) (sym is_later)
       (subst (IsGrown file root (map node_of more) (children ++ numbers ∷ []))
       (sym (is_ends ∙ ap (λ n. ends ++ n ∷ []) is_end)) whole)
 
   -- Fewer nodes are left after it.
   pub fewer_next : (more : List NodeRef) (later : List Children) (numbers : Children) →
-      map node_of more ≡ map node_of items ++ siblings next_node.children → later ≡ children ++ numbers ∷ [] →
+      map node_of more ≡ map node_of items ++ siblings (node_of next).children → later ≡ children ++ numbers ∷ [] →
       total (map size (drop (length later) (map node_of more))) < total (map size (drop (length children) (map node_of items)))
   fewer_next more later numbers is is_later =
-      fewer_left file root (map node_of items) children ends grown next_node (drop (length children + 1) (map node_of items))
-      (drop_node items (length children) default within) (map node_of more) (length later) is
+      fewer_left file root (map node_of items) children ends grown (node_of next) (drop (length children + 1) (map node_of items))
+      from_next (map node_of more) (length later) is
       (ap length is_later ∙ length-append children (numbers ∷ []))

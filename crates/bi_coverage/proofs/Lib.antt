@@ -11,3 +11,4 @@ pub mod Concerns
 pub mod ReferenceLists
 pub mod Configurations
 pub mod PathCuts
+pub mod SignedConfigurations

@@ -1,4 +1,4 @@
-use Rattle.std.proofs.Common.{◌≡◌, ◌≢◌, ℕ, ◌==◌, List, [], ◌∷◌, ◌++◌, Bool, true, false, take, drop, refl, sym, ap, ◌∙◌, one-add}
+use Rattle.std.proofs.Common.{◌≡◌, ◌≢◌, ℕ, ◌≤◌, ◌==◌, length, List, [], ◌∷◌, ◌++◌, Bool, true, false, take, drop, refl, sym, ap, ◌∙◌, one-add, arith}
 use Rattle.std.proofs.lemmas.List.{take-append-drop}
 use Rattle.std.specs.List.{AllByRecursion, position_or_len}
 use Rattle.std.proofs.lemmas.Bool.{eqb-true, eqb-false}
@@ -24,6 +24,16 @@ cut_at (byte ∷ later) = by (is_slash byte) refl (cut_at later)
         × IsRestOfPath (drop (position_or_len is_slash (byte ∷ later)) (byte ∷ later))
     by true is rest = rw is (tt, eqb-true byte 47 is)
     by false is rest = rw (is, one-add) ((eqb-false byte 47 is, rest.0), rest.1)
+
+-- The first one is within the bytes.
+pub slash_within : (names : List ℕ) → position_or_len is_slash names ≤ length names
+slash_within [] = omega arith
+slash_within (byte ∷ later) = by (is_slash byte) refl (slash_within later)
+  where
+    by : (b : Bool) → is_slash byte ≡ b → position_or_len is_slash later ≤ length later →
+        position_or_len is_slash (byte ∷ later) ≤ length (byte ∷ later)
+    by true is rest = rw is (omega arith)
+    by false is rest = rw is (omega (arith, rest))
 
 -- So a path begins with the name before it.
 pub begins_with_node : (path names name later : List ℕ) (first index : ℕ) → path ≡ first ∷ names → first ≡ 47 →

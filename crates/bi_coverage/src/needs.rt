@@ -11,9 +11,9 @@ use crate::needed_part::NeededPart;
 /// What the signatures of a configuration need: its references, the parts that they must cover, and
 /// the paths of these.
 #[derive(Clone, Copy)]
-pub(crate) struct Needs<'a, 'p> {
+pub(crate) struct Needs<'a, 'p, 'q> {
     pub(crate) references: &'p [&'a [u8]],
     pub(crate) parts: &'p [NeededPart<'a>],
-    pub(crate) paths: &'p NameSet<'p>,
+    pub(crate) paths: &'q NameSet<'p>,
     ghost are_paths: { paths.now ≡ each_once (paths_of_parts (map part_value parts.now)) },
 }

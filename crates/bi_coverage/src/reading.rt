@@ -1,6 +1,6 @@
 //! Reading what the signatures of configurations cover.
 
-ghost use Rattle.std.specs.Prelude.{◌≡◌, ◌+◌, ◌<◌, ◌≤◌, ◌++◌, map, Some, IfOk, IfErr, IfSome, OnOk};
+ghost use Rattle.std.specs.Prelude.{◌≡◌, ◌+◌, ◌<◌, ◌≤◌, ◌++◌, ◌∷◌, [], if◌then◌else◌, map, Some, IfOk, IfErr, IfSome, OnOk};
 ghost use Rattle.std.specs.Option.{option_map};
 ghost use Rattle.bi_base.specs.Errors.{IsFaultOrNoMemory};
 ghost use Rattle.bi_base.specs.Reading.{too_large};
@@ -11,7 +11,8 @@ ghost use Rattle.bi_fit.specs.Content.{IsHeld, tree_of};
 ghost use Rattle.bi_fit.specs.HashNodes.{file_configurations};
 ghost use Rattle.bi_fit.specs.Judgement.{listed_names};
 ghost use Rattle.bi_fit.specs.NormalNodes.{HasDistinctNames};
-ghost use Rattle.bi_coverage.specs.Coverage.{Foreign, coverage_of, configuration_coverage};
+ghost use Rattle.bi_coverage.specs.Coverage.{Foreign, Strings, coverage_of, configuration_coverage};
+ghost use Rattle.bi_coverage.specs.Coverage.{has_strings as reaches};
 ghost use Rattle.bi_coverage.specs.Coverage.{concerns_of_paths, image_concerns, signature_with, strings_concerns};
 ghost use Rattle.bi_coverage.specs.Coverage.{uncovered_concerns, foreign_paths};
 ghost use Rattle.bi_coverage.specs.Numbers.{total as total_of};
@@ -182,15 +183,33 @@ impl<'a, 'b> IndexedFit<'a, 'b> {
         }
         let references = references(alloc, self.fit, configuration, &self.order)?;
         let length = self.needed_length(name, references.names())?;
-        let parts = self.needed_parts(alloc, name, references.names())?;
-        let needs = Needs {
-            references: references.names(),
-            parts: &parts,
-            paths: &needed_paths(alloc, &parts)?,
-        };
         let sum = add_lengths(total, length, signed.len(), self.limit)?;
-        let signatures = self.read_signatures(alloc, &signed, needs)?;
+        let parts = self.needed_parts(alloc, name, references.names())?;
+        let signatures = self.read_all(alloc, &signed, references.names(), &parts)?;
         Ok((ConfigurationCoverage { name, signatures }, sum))
+    }
+
+    /// Reads these signed nodes of a configuration with these references and needed parts. Fails if
+    /// memory runs out.
+    fn read_all(
+        &self,
+        alloc: Global,
+        signed: &[NodeRef<'a, '_>],
+        references: &[&'a [u8]],
+        parts: &[NeededPart<'a>],
+    ) -> Result<Vec<SignatureCoverage<'a>>, AllocError>
+        ensures { IfOk result (λ read. map signature_value read.items ≡ map
+            (signature_with self.now.content (bytes_of references.now)
+            (map part_value parts.now))
+            (map meaning_of_node signed.now)) }
+    {
+        let paths = needed_paths(alloc, parts)?;
+        let needs = Needs {
+            references,
+            parts,
+            paths: &paths,
+        };
+        self.read_signatures(alloc, signed, needs)
     }
 
     /// Reads these signed nodes of a configuration with these needs. Fails if memory runs out.
@@ -198,7 +217,7 @@ impl<'a, 'b> IndexedFit<'a, 'b> {
         &self,
         alloc: Global,
         signed: &[NodeRef<'a, '_>],
-        needs: Needs<'a, '_>,
+        needs: Needs<'a, '_, '_>,
     ) -> Result<Vec<SignatureCoverage<'a>>, AllocError>
         ensures { IfOk result (λ read. map signature_value read.items ≡ map
             (signature_with self.now.content (bytes_of needs.entry.references.now)
@@ -256,7 +275,7 @@ impl<'a, 'b> IndexedFit<'a, 'b> {
         &self,
         alloc: Global,
         signature: NodeRef<'a, '_>,
-        needs: Needs<'a, '_>,
+        needs: Needs<'a, '_, '_>,
     ) -> Result<SignatureCoverage<'a>, AllocError>
         ensures { IfOk result (λ read. signature_value read
             ≡ signature_with self.now.content (bytes_of needs.entry.references.now)
@@ -274,7 +293,7 @@ impl<'a, 'b> IndexedFit<'a, 'b> {
         &self,
         alloc: Global,
         signature: NodeRef<'a, '_>,
-        needs: Needs<'a, '_>,
+        needs: Needs<'a, '_, '_>,
     ) -> Result<Vec<SignatureConcern<'a>>, AllocError>
         ensures { IfOk result (λ concerns. map concern_value concerns.items
             ≡ concerns_of_paths (bytes_of needs.entry.references.now)
@@ -288,9 +307,7 @@ impl<'a, 'b> IndexedFit<'a, 'b> {
         };
         add_path_concerns(alloc, &mut concerns, list, needs)?;
         let strings = signature.property(b"hashed-strings");
-        if !has_strings(strings, self.nodes.recorded_end(list)) {
-            concerns.push(SignatureConcern::Strings)?;
-        }
+        add_strings_concern(&mut concerns, strings, self.nodes.recorded_end(list))?;
         Ok(concerns)
     }
 }
@@ -300,7 +317,7 @@ fn add_path_concerns<'a>(
     alloc: Global,
     concerns: &mut Vec<SignatureConcern<'a>>,
     list: &'a [u8],
-    needs: Needs<'a, '_>,
+    needs: Needs<'a, '_, '_>,
 ) -> Result<(), AllocError>
     ensures { OnOk result (map concern_value concerns.new.items
         ≡ map concern_value concerns.old.items
@@ -311,6 +328,25 @@ fn add_path_concerns<'a>(
     add_image_concern(concerns, needs.references)?;
     add_uncovered(concerns, &recorded, needs.parts)?;
     add_foreign(concerns, &recorded, needs.paths)?;
+    Ok(())
+}
+
+/// Adds the concern that a value of `hashed-strings` does not reach an end in the strings block, if
+/// it does not. Fails if memory runs out.
+fn add_strings_concern(
+    concerns: &mut Vec<SignatureConcern>,
+    strings: Option<&[u8]>,
+    end: usize,
+) -> Result<(), AllocError>
+    ensures { OnOk result (map concern_value concerns.new.items
+        ≡ map concern_value concerns.old.items
+        ++ (if reaches (option_map (λ value. value.now) strings.entry) end
+        then [] else Strings ∷ [])) }
+{
+    if has_strings(strings, end) {
+        return Ok(());
+    }
+    concerns.push(SignatureConcern::Strings)?;
     Ok(())
 }
 

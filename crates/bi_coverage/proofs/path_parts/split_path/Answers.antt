@@ -1,6 +1,9 @@
-use Rattle.std.proofs.Common.{sym, ap, ◌∙◌}
-use Rattle.bi_coverage.proofs.PathCuts.{begins_with_node}
+use Rattle.std.proofs.Common.{arith}
+use Rattle.bi_coverage.proofs.PathCuts.{begins_with_node, slash_within}
 use Rattle.bi_coverage.proofs.path_parts.split_path.Goals as goal
+
+pub split_at-requires : goal.split_at-requires
+split_at-requires c = omega (arith, c.slash_at.ensures, slash_within c.in_ok-first.names.now)
 
 pub returns : goal.returns
 returns c =

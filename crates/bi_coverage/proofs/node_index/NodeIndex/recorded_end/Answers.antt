@@ -9,7 +9,7 @@ use Rattle.bi_coverage.proofs.node_index.NodeIndex.recorded_end.Goals as goal
 pub loop-path-preserved : goal.loop-path-preserved
 loop-path-preserved c =
     recorded_more (end_at c.args.self.now.file (root_of c.args.self.now)) c.loop-path.rest.now c.in-Some.path.now c.in-Some.later.now
-    c.loop-path.end _ _ c.in-Some.ensures (omega (arith, c.end_at.ensures, c.max.ensures)) c.loop-path.invariant
+    c.loop-path.end _ _ c.in-Some.ensures (omega (arith, c.end_at.ensures, c.max-end.ensures)) c.loop-path.invariant
 
 pub returns : goal.returns
 returns c =
