@@ -8,9 +8,11 @@ use Rattle.bi_fdt.specs.declared.node.NodeRef.{NodeRef}
 use Rattle.bi_fit.specs.Content.{FitModel, IsHeld, tree_of, index_of}
 use Rattle.bi_fit.specs.ImageTree.{ImageTree}
 use Rattle.bi_coverage.specs.Coverage.{configuration_coverage, signature_coverage}
+use Rattle.bi_coverage.specs.Coverage.{ConfigurationCoverage, SignatureCoverage, configuration_coverage, signature_coverage, signature_with}
 use Rattle.bi_coverage.specs.IndexedFits.{covered_by_images}
 use Rattle.bi_coverage.specs.Numbers.{total}
-use Rattle.bi_coverage.specs.Signatures.{covered_below, needed_lengths, needed_paths, signed_nodes, total_length}
+use Rattle.bi_coverage.specs.Signatures.{NeededPart, covered_below, needed_lengths, needed_parts, needed_paths, parts_for, paths_of_parts}
+use Rattle.bi_coverage.specs.Signatures.{references, signed_nodes, total_length}
 use Rattle.bi_coverage.specs.Values.{meaning_of_node, name_lists}
 use Rattle.bi_coverage.proofs.Meanings.{covered_at}
 use Rattle.bi_coverage.proofs.NeededLengths.{total_times}
@@ -84,3 +86,48 @@ module _ (content : FitModel) (held : IsHeld content) (lists : List (Vec (Bor (L
   covered_list list here =
       ap (λ (list : Vec (Bor (List ℕ))). bytes_of list.items) here
       ∙ same_Some _ _ (sym (get_mapped (λ (list : Vec (Bor (List ℕ))). bytes_of list.items) lists index list covered_within) ∙ there)
+
+-- What is known of a configuration, by its parts.
+pub coverage_read : (content : FitModel) (configuration : Sibling PropertyMap) (name : List ℕ) (signed : List NodeRef)
+    (names : List (List ℕ)) (parts : List NeededPart) (signatures : List SignatureCoverage) → name ≡ configuration.name →
+    map meaning_of_node signed ≡ signed_nodes configuration → names ≡ references (tree_of content) configuration →
+    parts ≡ parts_for (tree_of content) name names →
+    signatures ≡ map (signature_with content names parts) (map meaning_of_node signed) →
+    record { name = name; signatures = signatures } ≡ configuration_coverage content configuration
+coverage_read content configuration name signed names parts signatures is_name are_signed are_names are_parts are =
+    let tree = tree_of content in
+    let needed : parts ≡ needed_parts tree configuration =
+    are_parts ∙ ap (λ name. parts_for tree name names) is_name ∙ ap (parts_for tree configuration.name) are_names in
+    let all : signatures ≡ map (signature_coverage content configuration) (signed_nodes configuration) =
+    are
+    ∙ ap (λ names. map (signature_with content names parts) (map meaning_of_node signed)) are_names
+    ∙ ap (λ parts. map (signature_with content (references tree configuration) parts) (map meaning_of_node signed)) needed
+    ∙ ap (map (signature_with content (references tree configuration) (needed_parts tree configuration))) are_signed in
+    let make : List ℕ → List SignatureCoverage → ConfigurationCoverage = λ name signatures. record { name = name; signatures = signatures } in
+    ap (λ name. make name signatures) is_name ∙ ap (make configuration.name) all
+
+-- One without signed nodes.
+pub coverage_empty : (content : FitModel) (configuration : Sibling PropertyMap) (name : List ℕ) (signatures : List SignatureCoverage) →
+    name ≡ configuration.name → signed_nodes configuration ≡ [] → signatures ≡ [] →
+    record { name = name; signatures = signatures } ≡ configuration_coverage content configuration
+coverage_empty content configuration name signatures is_name nothing empty =
+    let make : List ℕ → List SignatureCoverage → ConfigurationCoverage = λ name signatures. record { name = name; signatures = signatures } in
+    let all : signatures ≡ map (signature_coverage content configuration) (signed_nodes configuration) =
+    empty ∙ ap (map (signature_coverage content configuration)) (sym nothing) in
+    ap (λ name. make name signatures) is_name ∙ ap (make configuration.name) all
+
+-- Nothing is needed then.
+pub nothing_needed : (tree : ImageTree) (configuration : Sibling PropertyMap) (sum : ℕ) → signed_nodes configuration ≡ [] →
+    sum ≡ sum + total (needed_lengths tree configuration)
+nothing_needed tree configuration sum nothing =
+    let zero_length : total (needed_lengths tree configuration) ≡ 0 =
+    ap (λ nodes. total (map (λ (signature : Sibling PropertyMap). total_length (needed_paths tree configuration)) nodes)) nothing in
+    omega (arith, zero_length)
+
+-- How long the needed paths are, by their parts.
+pub each_length : (tree : ImageTree) (configuration : Sibling PropertyMap) (name : List ℕ) (names : List (List ℕ)) (length : ℕ) →
+    name ≡ configuration.name → names ≡ references tree configuration →
+    length ≡ total_length (paths_of_parts (parts_for tree name names)) → length ≡ total_length (needed_paths tree configuration)
+each_length tree configuration name names length is_name are_names is =
+    is ∙ ap (λ name. total_length (paths_of_parts (parts_for tree name names))) is_name
+    ∙ ap (λ names. total_length (paths_of_parts (parts_for tree configuration.name names))) are_names

@@ -9,3 +9,4 @@ pub mod NodeIndices
 pub mod ReferenceOrders
 pub mod IndexedFits
 pub mod NeededPaths
+pub mod KnownCoverage
