@@ -1,6 +1,9 @@
 use Rattle.std.proofs.Common.{◌≡◌, ◌≢◌, ℕ, suc, zero, ◌<◌, List, [], ◌∷◌, ◌++◌, Bool, true, false, max, map, filter, length, Option, Some, None, slice_get}
-use Rattle.std.proofs.Common.{bytes_eq, refl, sym, ap, subst, ◌∙◌, arith, rules}
+use Rattle.std.proofs.Common.{bytes_eq, get_or, ◌==◌, refl, sym, ap, subst, ◌∙◌, arith, rules}
 use Rattle.std.specs.List.{AllZip}
+use Rattle.std.proofs.lemmas.Bool.{eqb-true, true≢false}
+use Rattle.std.proofs.lemmas.List.{length-map}
+use Rattle.std.proofs.lemmas.Slice.Zip.{AllZip-long}
 use Rattle.std.proofs.lemmas.Option.{same_Some}
 use Rattle.std.proofs.lemmas.Slice.Eq.{bytes_eq-Decides}
 use Rattle.bi_blob.specs.Lookups.{Sibling, root_node, node_named}
@@ -57,6 +60,32 @@ there_within : {X : Type 0} (things : List X) (index : ℕ) → index < length t
 there_within [] index within = absurd (omega arith)
 there_within (thing ∷ later) zero within = (thing, refl)
 there_within (thing ∷ later) (suc index) within = there_within later index (omega arith)
+
+-- What is at an index is within.
+pub within_from_get : {X : Type 0} (things : List X) (index : ℕ) (thing : X) → slice_get things index ≡ Some thing → index < length things
+within_from_get [] index thing is = absurd cc
+within_from_get (first ∷ later) zero thing is = omega arith
+within_from_get (first ∷ later) (suc index) thing is =
+    let rest = within_from_get later index thing is in omega (arith, rest)
+
+-- The thing that is read at an index is there.
+pub got_at : {X : Type 0} (things : List X) (index : ℕ) (thing : X) → index < length things → thing ≡ get_or things index thing →
+    slice_get things index ≡ Some thing
+got_at things index thing within is = there things index within ∙ ap (λ thing. Some thing) (sym is)
+  where
+    there : (things : List X) (index : ℕ) → index < length things → slice_get things index ≡ Some (get_or things index thing)
+    there [] index within = absurd (omega arith)
+    there (first ∷ later) zero within = refl
+    there (first ∷ later) (suc index) within = there later index (omega arith)
+
+-- A path may be empty.
+pub no_path : (path : List ℕ) → (length path == 0) ≡ true → path ≡ []
+no_path [] is = refl
+no_path (byte ∷ path) is = absurd (let e = eqb-true (length (byte ∷ path)) 0 is in omega (arith, e))
+
+pub some_path : (path : List ℕ) → (length path == 0) ≡ false → path ≢ []
+some_path [] is none = true≢false is
+some_path (byte ∷ path) is none = absurd cc
 
 -- What holds of two lists holds at an index.
 zipped_at : {X Y : Type 0} (R : X → Y → Type 0) (things : List X) (others : List Y) (index : ℕ) (thing : X) (other : Y) →
@@ -151,6 +180,18 @@ module _ (file : List ℕ) (root : Root FileNode) (children : List Children) (en
           ap (owns_found (Some at.sibling)) is
           ∙ owns_elsewhere [] at.sibling.children (byte ∷ later) (λ names same. plain names (is ∙ same))
 
+  -- The number is among the children and the ends.
+  pub within_children : number < length children
+  within_children =
+      let within = within_from_get at.index.nodes number at.sibling at.there in
+      let long = AllZip-long _ at.index.nodes children at.index.have_children in
+      omega (arith, within, long)
+
+  pub within_ends : number < length ends
+  within_ends =
+      let within = within_from_get ends number (names_end file at.sibling.own) end_there in
+      omega (arith, within)
+
 -- The numbers of what nodes have.
 ends_of_owns : (file : List ℕ) (nodes : List (LocatedNode FileNode)) →
     map (λ (located : LocatedNode FileNode). names_end file located.own) nodes
@@ -184,3 +225,40 @@ end_root file root is =
   where
     max_zero : (n : ℕ) → max n 0 ≡ n
     max_zero n = omega arith
+
+-- No node has a path.
+pub lost_end : (file : List ℕ) (root : Root FileNode) (path : List ℕ) → bytes_eq path (47 ∷ []) ≡ false →
+    owns_with [] root.children path ≡ [] → 0 ≡ end_at file root path
+lost_end file root path other none_there =
+    sym (end_elsewhere file root path other ∙ ap (λ owns. greatest (map (names_end file) owns)) none_there)
+
+-- No node has the empty path.
+pub empty_end : (file : List ℕ) (root : Root FileNode) (path : List ℕ) → bytes_eq path (47 ∷ []) ≡ false → path ≡ [] →
+    0 ≡ end_at file root path
+empty_end file root path other empty =
+    lost_end file root path other
+    (ap (owns_with [] root.children) empty ∙ owns_elsewhere [] root.children [] (λ rest same. absurd cc))
+
+-- The end at the path of the root that was read.
+pub root_end : (file : List ℕ) (root : Root FileNode) (children : List Children) (ends path : List ℕ) →
+    IsNodeIndex file root children ends → IsTree AreProperties (tree_without_places root) → bytes_eq path (47 ∷ []) ≡ true → (end : ℕ) →
+    end ≡ get_or ends 0 end → end ≡ end_at file root path
+root_end file root children ends path index is same end is_end =
+    let at = at_root file root children ends (47 ∷ []) index is (λ none. absurd cc) in
+    let there = end_there file root children ends (47 ∷ []) 0 (47 ∷ []) at in
+    let within = within_ends file root children ends (47 ∷ []) 0 (47 ∷ []) at in
+    let is_path : path ≡ 47 ∷ [] = (bytes_eq-Decides path (47 ∷ [])).0 same in
+    same_Some _ _ (sym (got_at ends 0 end within is_end) ∙ there) ∙ sym (end_root file root is) ∙ ap (end_at file root) (sym is_path)
+
+-- The end at another path that was read.
+pub found_end : (file : List ℕ) (root : Root FileNode) (children : List Children) (ends path : List ℕ) (number : ℕ) (rest : List ℕ) →
+    IsAtNode file root children ends path number rest → rest ≡ [] → bytes_eq path (47 ∷ []) ≡ false → (end : ℕ) →
+    end ≡ get_or ends number end → end ≡ end_at file root path
+found_end file root children ends path number rest at none_left other end is_end =
+    let there = end_there file root children ends path number rest at in
+    let within = within_ends file root children ends path number rest at in
+    let whole : end_at file root path ≡ max (names_end file at.sibling.own) 0 =
+    end_elsewhere file root path other
+    ∙ ap (λ owns. greatest (map (names_end file) owns)) (at_end file root children ends path number rest at none_left) in
+    let read : end ≡ names_end file at.sibling.own = same_Some _ _ (sym (got_at ends number end within is_end) ∙ there) in
+    omega (arith, whole, read)

@@ -1,4 +1,6 @@
-use Rattle.std.proofs.Common.{◌≡◌, ◌<◌, ℕ, zero, suc, ◌+◌, ◌*◌, List, [], ◌∷◌, Vec, Bor, map, length, get_or, slice_get, Option, Some, refl, sym, ap, subst, ◌∙◌, arith}
+use Rattle.std.proofs.Common.{◌≡◌, ◌<◌, ℕ, zero, suc, ◌+◌, ◌*◌, List, [], ◌∷◌, Bor, map, length, get_or, slice_get, Option}
+use Rattle.std.proofs.Common.{Some, refl, sym, ap, subst, ◌∙◌, arith}
+use Rattle.std.specs.Global.{Vec}
 use Rattle.std.proofs.lemmas.List.{length-map}
 use Rattle.std.proofs.lemmas.Option.{same_Some}
 use Rattle.bi_base.specs.Slices.{bytes_of}
@@ -7,13 +9,13 @@ use Rattle.bi_blob.specs.Tree.{PropertyMap}
 use Rattle.bi_fdt.specs.declared.node.NodeRef.{NodeRef}
 use Rattle.bi_fit.specs.Content.{FitModel, IsHeld, tree_of, index_of}
 use Rattle.bi_fit.specs.ImageTree.{ImageTree}
-use Rattle.bi_coverage.specs.Coverage.{configuration_coverage, signature_coverage}
 use Rattle.bi_coverage.specs.Coverage.{ConfigurationCoverage, SignatureCoverage, configuration_coverage, signature_coverage, signature_with}
 use Rattle.bi_coverage.specs.IndexedFits.{covered_by_images}
 use Rattle.bi_coverage.specs.Numbers.{total}
 use Rattle.bi_coverage.specs.Signatures.{NeededPart, covered_below, needed_lengths, needed_parts, needed_paths, parts_for, paths_of_parts}
 use Rattle.bi_coverage.specs.Signatures.{references, signed_nodes, total_length}
 use Rattle.bi_coverage.specs.Values.{meaning_of_node, name_lists}
+use Rattle.bi_coverage.proofs.FoundNodes.{within_from_get}
 use Rattle.bi_coverage.proofs.Meanings.{covered_at}
 use Rattle.bi_coverage.proofs.NeededLengths.{total_times}
 
@@ -53,13 +55,6 @@ module _ (tree : ImageTree) (configuration : Sibling PropertyMap) (signed : List
       by : (nodes : List (Sibling PropertyMap)) → signed_nodes configuration ≡ nodes → signed_nodes configuration ≡ []
       by [] none = none
       by (first ∷ later) some = absurd (omega (arith, is, how_many, ap length some))
-
--- What is at an index is within.
-within_from_get : {X : Type 0} (things : List X) (index : ℕ) (thing : X) → slice_get things index ≡ Some thing → index < length things
-within_from_get [] index thing is = absurd cc
-within_from_get (first ∷ later) zero thing is = omega arith
-within_from_get (first ∷ later) (suc index) thing is =
-    let rest = within_from_get later index thing is in omega (arith, rest)
 
 -- The thing at an index of a mapped list.
 get_mapped : {X Y : Type 0} (f : X → Y) (things : List X) (index : ℕ) (thing : X) → index < length things →

@@ -10,7 +10,7 @@ use Rattle.bi_coverage.proofs.reading.read_coverage.Given as goal
 abbrev pub invariant-loop-next : goal.invariant-loop-next
 invariant-loop-next l = record {
   to : IsReadTo l.fit (map configuration_value l.read.items) l.total (siblings_from (option_map node_of l.next));
-  within : l.total ≤ l.limits.file;
+  within : l.total ≤ l.fn.limits.file;
   same_table : IfSome l.next (λ node. table_of_node node ≡ l.fit.blob.table);
 }
 

@@ -1,10 +1,10 @@
-use Rattle.std.proofs.Common.{ℕ, List, Bor, Option, map, sym, ap, ◌∙◌}
+use Rattle.std.proofs.Common.{◌++◌, Some, map, sym, ap, ◌∙◌}
 use Rattle.std.specs.Option.{option_map}
 use Rattle.bi_base.specs.Slices.{bytes_of}
 use Rattle.bi_fdt.specs.Content.{Blob, root_of}
 use Rattle.bi_fdt.specs.Views.{node_of}
 use Rattle.bi_fit.specs.Judgement.{listed_names}
-use Rattle.bi_coverage.specs.Coverage.{recorded_end, SignatureConcern, concerns_of_paths}
+use Rattle.bi_coverage.specs.Coverage.{recorded_end, concerns_of_paths}
 use Rattle.bi_coverage.specs.IndexedFits.{IndexedFit}
 use Rattle.bi_coverage.specs.Values.{concern_value, listed_by, part_value}
 use Rattle.bi_coverage.proofs.Concerns.{strings_added}
@@ -21,5 +21,7 @@ returns c =
     ∙ ap (λ (blob : Blob). recorded_end blob.file (root_of blob) (listed_names c.in-Some.list.now)) c.self.invariant.same_blob
     ∙ ap (λ (indexed : IndexedFit). recorded_end indexed.content.blob.file (root_of indexed.content.blob) (listed_names c.in-Some.list.now))
     c.self.view_is)
-    c.in_ok-add_path_concerns.ensures
+    (c.in_ok-add_path_concerns.ensures
+    ∙ ap (λ items. map concern_value items ++ concerns_of_paths (bytes_of c.args.needs.references.now)
+    (map part_value c.args.needs.parts.now) (Some (listed_names c.in-Some.list.now))) c.new-concerns.ensures.items)
     c.in_ok-add_strings_concern.ensures
