@@ -71,7 +71,7 @@ within_from_get (first ∷ later) (suc index) thing is =
 -- The thing that is read at an index is there.
 pub got_at : {X : Type 0} (things : List X) (index : ℕ) (thing : X) → index < length things → thing ≡ get_or things index thing →
     slice_get things index ≡ Some thing
-got_at things index thing within is = there things index within ∙ ap (λ thing. Some thing) (sym is)
+got_at {X = X} things index thing within is = there things index within ∙ ap (λ thing. Some thing) (sym is)
   where
     there : (things : List X) (index : ℕ) → index < length things → slice_get things index ≡ Some (get_or things index thing)
     there [] index within = absurd (omega arith)
@@ -84,8 +84,8 @@ no_path [] is = refl
 no_path (byte ∷ path) is = absurd (let e = eqb-true (length (byte ∷ path)) 0 is in omega (arith, e))
 
 pub some_path : (path : List ℕ) → (length path == 0) ≡ false → path ≢ []
-some_path [] is none = true≢false is
-some_path (byte ∷ path) is none = absurd cc
+some_path [] is empty = true≢false is
+some_path (byte ∷ path) is empty = absurd cc
 
 -- What holds of two lists holds at an index.
 zipped_at : {X Y : Type 0} (R : X → Y → Type 0) (things : List X) (others : List Y) (index : ℕ) (thing : X) (other : Y) →
@@ -243,8 +243,9 @@ empty_end file root path other empty =
 pub root_end : (file : List ℕ) (root : Root FileNode) (children : List Children) (ends path : List ℕ) →
     IsNodeIndex file root children ends → IsTree AreProperties (tree_without_places root) → bytes_eq path (47 ∷ []) ≡ true → (end : ℕ) →
     end ≡ get_or ends 0 end → end ≡ end_at file root path
+unfolding at_root
 root_end file root children ends path index is same end is_end =
-    let at = at_root file root children ends (47 ∷ []) index is (λ none. absurd cc) in
+    let at = at_root file root children ends (47 ∷ []) index is (λ empty. absurd cc) in
     let there = end_there file root children ends (47 ∷ []) 0 (47 ∷ []) at in
     let within = within_ends file root children ends (47 ∷ []) 0 (47 ∷ []) at in
     let is_path : path ≡ 47 ∷ [] = (bytes_eq-Decides path (47 ∷ [])).0 same in
