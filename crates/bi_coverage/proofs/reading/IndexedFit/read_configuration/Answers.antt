@@ -17,7 +17,7 @@ use Rattle.bi_coverage.proofs.reading.IndexedFit.read_configuration.Goals.{After
 names_are : (c : After-needed_length) →
     bytes_of c.names.result.now ≡ references (tree_of c.args.self.now.content) (meaning_of_node c.args.configuration)
 names_are c =
-    c.names.ensures ∙ c.references-2.view_is ∙ c.in_ok-references.ensures
+    c.names.ensures ∙ c.in_ok-references.ensures
     ∙ ap (λ (indexed : IndexedFit). references (tree_of indexed.content) (meaning_of_node c.args.configuration)) c.self.view_is
 
 -- The length of what each signed node needs.
@@ -31,7 +31,7 @@ needed_is c =
 -- Some nodes are signed.
 are_some : (c : After-needed_length) → 0 < length c.in_ok-signed.signed.items
 are_some c =
-    let some = eqb-false (length c.in_ok-signed.signed.items) 0 (sym c.is_empty.ensures ∙ c.if-is_empty.false) in
+    let some = eqb-false _ 0 (sym c.is_empty.ensures ∙ c.if-is_empty.false) in
     omega (arith, some)
 
 pub returns-in_err-length-clause-failed : goal.returns-in_err-length-clause-failed
