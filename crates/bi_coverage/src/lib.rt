@@ -5,6 +5,7 @@
 mod child_numbers;
 mod concern;
 mod covered_names;
+pub mod known_coverage;
 mod listed_paths;
 mod name_set;
 mod needed;

@@ -1,6 +1,7 @@
 //! Reading what the signatures of configurations cover.
 
-ghost use Rattle.std.specs.Prelude.{◌≡◌, ◌+◌, ◌<◌, ◌≤◌, ◌++◌, ◌∷◌, [], if◌then◌else◌, map, Some, IfOk, IfErr, IfSome, OnOk};
+ghost use Rattle.std.specs.Prelude.{◌≡◌, ◌+◌, ◌<◌, ◌≤◌, ◌++◌, ◌∷◌, [], if◌then◌else◌, map, Some};
+ghost use Rattle.std.specs.Prelude.{IfOk, IfErr, IfSome, OnOk};
 ghost use Rattle.std.specs.Option.{option_map};
 ghost use Rattle.bi_base.specs.Errors.{IsFaultOrNoMemory};
 ghost use Rattle.bi_base.specs.Reading.{too_large};
@@ -13,8 +14,8 @@ ghost use Rattle.bi_fit.specs.Judgement.{listed_names};
 ghost use Rattle.bi_fit.specs.NormalNodes.{HasDistinctNames};
 ghost use Rattle.bi_coverage.specs.Coverage.{Foreign, Strings, coverage_of, configuration_coverage};
 ghost use Rattle.bi_coverage.specs.Coverage.{has_strings as reaches};
-ghost use Rattle.bi_coverage.specs.Coverage.{concerns_of_paths, image_concerns, signature_with, strings_concerns};
-ghost use Rattle.bi_coverage.specs.Coverage.{uncovered_concerns, foreign_paths};
+ghost use Rattle.bi_coverage.specs.Coverage.{concerns_of_paths, image_concerns, signature_with};
+ghost use Rattle.bi_coverage.specs.Coverage.{strings_concerns, uncovered_concerns, foreign_paths};
 ghost use Rattle.bi_coverage.specs.Numbers.{total as total_of};
 ghost use Rattle.bi_coverage.specs.Signatures.{all_needed_length, needed_lengths, parts_for};
 ghost use Rattle.bi_coverage.specs.Signatures.{paths_of_parts, total_length, covered_below};
@@ -287,8 +288,8 @@ impl<'a, 'b> IndexedFit<'a, 'b> {
         })
     }
 
-    /// Returns the concerns about a signed node of a configuration with these needs. Fails if memory
-    /// runs out.
+    /// Returns the concerns about a signed node of a configuration with these needs. Fails if
+    /// memory runs out.
     fn concerns(
         &self,
         alloc: Global,
@@ -297,7 +298,8 @@ impl<'a, 'b> IndexedFit<'a, 'b> {
     ) -> Result<Vec<SignatureConcern<'a>>, AllocError>
         ensures { IfOk result (λ concerns. map concern_value concerns.items
             ≡ concerns_of_paths (bytes_of needs.entry.references.now)
-            (map part_value needs.entry.parts.now) (recorded_paths (meaning_of_node signature.entry))
+            (map part_value needs.entry.parts.now)
+            (recorded_paths (meaning_of_node signature.entry))
             ++ strings_concerns self.now.content (meaning_of_node signature.entry)) }
     {
         let mut concerns = Vec::new(alloc);
