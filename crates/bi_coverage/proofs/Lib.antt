@@ -12,3 +12,4 @@ pub mod ReferenceLists
 pub mod Configurations
 pub mod PathCuts
 pub mod SignedConfigurations
+pub mod KnownCoverage
