@@ -34,10 +34,6 @@ BeginWithNoName words =
     (name : ValueNameModel) (later : List (List ℕ)) → IsValueName name
     → words ≢ words_of_value name ++ later
 
--- The path is that of no node, or the name that of no property.
-abbrev pub IsNoProperty : (path name : List ℕ) → Type 0
-IsNoProperty path name = IsNoPath path ⊎ IsNoPropertyName name
-
 -- ---- paths
 
 -- The text is the path of these names.
@@ -96,3 +92,7 @@ pub record IsShownPropertyName (text name : List ℕ) : Type 0 where
 
 abbrev pub IsNoPropertyName : List ℕ → Type 0
 IsNoPropertyName text = (name : List ℕ) → IsPropertyNameOfBytes name → shown_text name ≢ text
+
+-- The first text is the path of no names, or the second is how no name of a property is printed.
+abbrev pub IsNoProperty : (place name : List ℕ) → Type 0
+IsNoProperty place name = IsNoPath place ⊎ IsNoPropertyName name

@@ -7,7 +7,7 @@ use Rattle.bi_blob.specs.Tree.{IsChildName, IsPropertyName}
 use Rattle.bi_common.specs.Shown.{path, shown_text}
 use Rattle.bi_values.specs.declared.value_name.HeaderField.{HeaderField}
 use Rattle.bi_values.specs.declared.value_name.HeaderField.TheVariants.{Name, Time, Load, Entry, Os}
-use Rattle.bi_values.specs.declared.value_name.HeaderField.TheVariants.{Arch, Type, Compression}
+use Rattle.bi_values.specs.declared.value_name.HeaderField.TheVariants.{Arch, ImageType, Compression}
 use Rattle.bi_values.specs.declared.value_name.ValueName.{ValueName}
 use Rattle.bi_values.specs.declared.value_name.ValueName.TheVariants as variant
 
@@ -39,7 +39,7 @@ field_word Load = codes "load"
 field_word Entry = codes "entry"
 field_word Os = codes "os"
 field_word Arch = codes "arch"
-field_word Type = codes "type"
+field_word ImageType = codes "type"
 field_word Compression = codes "compression"
 
 -- A name that a child may have, as bytes.

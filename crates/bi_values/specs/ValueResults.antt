@@ -76,7 +76,7 @@ shown_field field.Load image = Hexadecimal image.load
 shown_field field.Entry image = Hexadecimal image.entry
 shown_field field.Os image = named_field (name_of_code os_names image.os) image.os
 shown_field field.Arch image = named_field (name_of_code arch_names image.arch) image.arch
-shown_field field.Type image =
+shown_field field.ImageType image =
     named_field (name_of_code type_names image.image_type) image.image_type
 shown_field field.Compression image =
     named_field (name_of_code compression_names image.compression) image.compression
@@ -93,7 +93,7 @@ number_of_field field.Load image = Some (Hexadecimal image.load)
 number_of_field field.Entry image = Some (Hexadecimal image.entry)
 number_of_field field.Os image = Some (code_number image.os)
 number_of_field field.Arch image = Some (code_number image.arch)
-number_of_field field.Type image = Some (code_number image.image_type)
+number_of_field field.ImageType image = Some (code_number image.image_type)
 number_of_field field.Compression image = Some (code_number image.compression)
 
 -- The bytes of a field in the header: of the name those before the first zero.
@@ -104,7 +104,7 @@ bytes_of_field field.Load image = cell image.load
 bytes_of_field field.Entry image = cell image.entry
 bytes_of_field field.Os image = image.os ∷ []
 bytes_of_field field.Arch image = image.arch ∷ []
-bytes_of_field field.Type image = image.image_type ∷ []
+bytes_of_field field.ImageType image = image.image_type ∷ []
 bytes_of_field field.Compression image = image.compression ∷ []
 
 -- A field in a form. As texts it is as it is shown.

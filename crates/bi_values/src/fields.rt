@@ -51,7 +51,7 @@ fn shown_field<'a>(fields: Fields<'a>, field: HeaderField) -> Field<'a, 'a>
         HeaderField::Entry => Field::Hexadecimal(fields.entry),
         HeaderField::Os => code_word(os_name(fields.os), fields.os),
         HeaderField::Arch => code_word(arch_name(fields.arch), fields.arch),
-        HeaderField::Type => code_word(type_name(fields.image_type), fields.image_type),
+        HeaderField::ImageType => code_word(type_name(fields.image_type), fields.image_type),
         HeaderField::Compression => {
             code_word(compression_name(fields.compression), fields.compression)
         }
@@ -86,7 +86,7 @@ fn number_of_field<'a>(
         HeaderField::Entry => Ok(ValueOutput::Word(Field::Hexadecimal(fields.entry))),
         HeaderField::Os => Ok(ValueOutput::Code(fields.os)),
         HeaderField::Arch => Ok(ValueOutput::Code(fields.arch)),
-        HeaderField::Type => Ok(ValueOutput::Code(fields.image_type)),
+        HeaderField::ImageType => Ok(ValueOutput::Code(fields.image_type)),
         HeaderField::Compression => Ok(ValueOutput::Code(fields.compression)),
     }
 }
@@ -102,7 +102,7 @@ fn bytes_of_field<'a>(fields: Fields<'a>, field: HeaderField) -> ValueOutput<'a>
         HeaderField::Entry => ValueOutput::Cell(fields.entry),
         HeaderField::Os => ValueOutput::Byte(fields.os),
         HeaderField::Arch => ValueOutput::Byte(fields.arch),
-        HeaderField::Type => ValueOutput::Byte(fields.image_type),
+        HeaderField::ImageType => ValueOutput::Byte(fields.image_type),
         HeaderField::Compression => ValueOutput::Byte(fields.compression),
     }
 }

@@ -14,9 +14,3 @@ pub use get_error::GetError;
 pub use getting::{Getter, get, get_into};
 pub use value_form::ValueForm;
 pub use value_name::{HeaderField, ValueName};
-
-#[cfg(test)]
-mod tests {
-    #[test]
-    fn nothing() {}
-}

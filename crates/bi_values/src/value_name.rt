@@ -30,7 +30,7 @@ pub enum HeaderField {
     /// The code of the processor architecture.
     Arch,
     /// The code of the image type.
-    Type,
+    ImageType,
     /// The code of the compression.
     Compression,
 }
@@ -58,7 +58,7 @@ const FIELDS: [HeaderField; 8] = [
     HeaderField::Entry,
     HeaderField::Os,
     HeaderField::Arch,
-    HeaderField::Type,
+    HeaderField::ImageType,
     HeaderField::Compression,
 ];
 
@@ -82,7 +82,7 @@ impl HeaderField {
             HeaderField::Entry => "entry",
             HeaderField::Os => "os",
             HeaderField::Arch => "arch",
-            HeaderField::Type => "type",
+            HeaderField::ImageType => "type",
             HeaderField::Compression => "compression",
         }
     }
