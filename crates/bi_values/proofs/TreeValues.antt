@@ -2,7 +2,8 @@ use Rattle.std.proofs.Common.{◌≡◌, ◌&&◌, ℕ, Bool, true, false, cond,
 use Rattle.std.proofs.Common.{◌∙◌, rules, subst}
 use Rattle.std.specs.Option.{option_map, option_and_then}
 use Rattle.std.specs.Cmp.Lexicographic.{slice_cmp}
-use Rattle.std.specs.FinMap.{get, get-retain_keys}
+use Rattle.std.specs.FinMap.{get}
+use Rattle.std.proofs.lemmas.Slice.Eq.{bytes_eq-Decides}
 use Rattle.bi_blob.specs.Tree.{Nodes, none, node, PropertyMap, FileNode, properties_of}
 use Rattle.bi_blob.specs.Lookups.{Sibling, node_named, root_node, value_named}
 use Rattle.bi_fdt.specs.Content.{root_of}
@@ -11,8 +12,9 @@ use Rattle.bi_fit.specs.ImageTree.{with_children_of, without_payload, without_pa
 use Rattle.bi_fit.specs.Content.{FitModel, tree_of}
 use Rattle.bi_fit.specs.NormalNodes.{nodes_by_name, properties_by_name}
 use Rattle.bi_fit.proofs.FileNodes.{bare_image, get-by_name, named-by_name, own_and_children, sibling_by_name}
+use Rattle.bi_fit.proofs.PayloadProperties.{get-without}
 use Rattle.bi_values.specs.FoundValues.{node_by_names, value_at}
-use Rattle.bi_values.specs.ValueOutputs.{is_path_of_image}
+use Rattle.bi_values.specs.ImagePaths.{is_path_of_image}
 
 -- The value of a property of an image tree that was read is that of its blob, except for the properties of image nodes that hold a payload
 -- or name its region.
@@ -31,12 +33,15 @@ led_by_name : (from : Sibling FileNode) (names : List (List ℕ)) →
     node_by_names (sibling_by_name from) names ≡ option_map sibling_by_name (node_by_names from names)
 led_by_name from [] = refl
 led_by_name from (name ∷ later) =
-    ap (option_and_then (λ child. node_by_names child later)) (named-by_name from.children name) ∙ by (node_named from.children name)
+    ap (option_and_then (λ child. node_by_names child later)) (named-by_name from.children name)
+    ∙ by (node_named from.children name) (λ child. led_by_name child later)
   where
-    by : (found : Option (Sibling FileNode)) → option_and_then (λ child. node_by_names child later) (option_map sibling_by_name found)
+    by : (found : Option (Sibling FileNode)) →
+        ((child : Sibling FileNode) → node_by_names (sibling_by_name child) later ≡ option_map sibling_by_name (node_by_names child later)) →
+        option_and_then (λ child. node_by_names child later) (option_map sibling_by_name found)
         ≡ option_map sibling_by_name (option_and_then (λ child. node_by_names child later) found)
-    by None = refl
-    by (Some child) = led_by_name child later
+    by None leads = refl
+    by (Some child) leads = leads child
 
 -- So they lead to the same value.
 value_by_name : (from : Sibling FileNode) (names : List (List ℕ)) (name : List ℕ) →
@@ -60,13 +65,8 @@ named-bare (node name own children later) wanted = search (rules, named-bare lat
 -- A property of an image node, if it is not one that holds the payload or names its region.
 bare_value : (image : Sibling FileNode) (name : List ℕ) →
     get (bare_image image).own name ≡ cond (is_payload_name name) None (value_named (properties_of image.own) name)
-bare_value image name =
-    get-retain_keys (properties_by_name image.own) (λ one. not (is_payload_name one)) name same_name
-    ∙ by (is_payload_name name)
+bare_value image name = get-without (properties_by_name image.own) name ∙ by (is_payload_name name)
   where
-    same_name : (one : List ℕ) → slice_cmp nat_cmp name one ≡ Rattle.std.specs.Ordering.Equal → not (is_payload_name one) ≡ not (is_payload_name name)
-    same_name one same = ?
-
     by : (b : Bool) → cond (not b) (get (properties_by_name image.own) name) None ≡ cond b None (value_named (properties_of image.own) name)
     by true = refl
     by false = get-by_name (properties_of image.own) name
@@ -113,13 +113,97 @@ below_images from (image ∷ next ∷ later) name =
 
 -- ---- the root
 
--- A child of the root, with other children if it has the image nodes.
-abbrev root_child : Sibling FileNode → Sibling PropertyMap
-root_child sibling = cond (bytes_eq sibling.name images_name) (images_node sibling) (sibling_by_name sibling)
+-- A child of the root of this name, with other children if it has the image nodes.
+abbrev root_child : (name : List ℕ) → Sibling FileNode → Sibling PropertyMap
+root_child name child = cond (bytes_eq name images_name) (images_node child) (sibling_by_name child)
 
--- It is found by its name as before.
+-- A node is found by its name as before where no node has other children.
+plain_named : (nodes : Nodes FileNode) (wanted : List ℕ) →
+    option_map own_and_children (node_named (nodes_by_name nodes) wanted)
+    ≡ option_map (λ found. own_and_children (sibling_by_name found)) (node_named nodes wanted)
+plain_named nodes wanted = ap (option_map own_and_children) (named-by_name nodes wanted) ∙ by (node_named nodes wanted)
+  where
+    by : (found : Option (Sibling FileNode)) → option_map own_and_children (option_map sibling_by_name found)
+        ≡ option_map (λ found. own_and_children (sibling_by_name found)) found
+    by None = refl
+    by (Some found) = refl
+
+-- So is a child of the root.
 named-root : (nodes : Nodes FileNode) (wanted : List ℕ) →
     option_map own_and_children (node_named (with_children_of images_name without_payloads (nodes_by_name nodes)) wanted)
-    ≡ option_map (λ found. own_and_children (root_child found)) (node_named nodes wanted)
+    ≡ option_map (λ found. own_and_children (root_child wanted found)) (node_named nodes wanted)
 named-root none wanted = refl
-named-root (node name own children later) wanted = ?
+named-root (node name own children later) wanted = by (bytes_eq name images_name) refl (bytes_eq name wanted) refl (named-root later wanted)
+  where
+    as_wanted : bytes_eq name wanted ≡ true → bytes_eq wanted images_name ≡ bytes_eq name images_name
+    as_wanted is_wanted = ap (λ one. bytes_eq one images_name) (sym ((bytes_eq-Decides name wanted).0 is_wanted))
+
+    other_wanted : bytes_eq name images_name ≡ true → bytes_eq name wanted ≡ false → (b : Bool) → bytes_eq wanted images_name ≡ b → b ≡ false
+    other_wanted is is_other false wanted_is = refl
+    other_wanted is is_other true wanted_is =
+        let same : name ≡ wanted = (bytes_eq-Decides name images_name).0 is ∙ sym ((bytes_eq-Decides wanted images_name).0 wanted_is) in
+        let e : true ≡ false = sym ((bytes_eq-Decides name wanted).1 same) ∙ is_other in absurd cc
+
+    by : (p : Bool) → bytes_eq name images_name ≡ p → (q : Bool) → bytes_eq name wanted ≡ q →
+        option_map own_and_children (node_named (with_children_of images_name without_payloads (nodes_by_name later)) wanted)
+        ≡ option_map (λ found. own_and_children (root_child wanted found)) (node_named later wanted) →
+        option_map own_and_children
+        (node_named (with_children_of images_name without_payloads (nodes_by_name (node name own children later))) wanted)
+        ≡ option_map (λ found. own_and_children (root_child wanted found)) (node_named (node name own children later) wanted)
+    by true is true is_wanted rest = rw (as_wanted is_wanted, is, is_wanted) refl
+    by true is false is_wanted rest =
+        let wanted_is : bytes_eq wanted images_name ≡ false = other_wanted is is_wanted (bytes_eq wanted images_name) refl in
+        rw (wanted_is, is, is_wanted) (plain_named later wanted)
+    by false is true is_wanted rest = rw (as_wanted is_wanted, is, is_wanted) refl
+    by false is false is_wanted rest = rw (is, is_wanted) rest
+
+-- The value below a node depends on its properties and its children.
+abbrev value_in : PropertyMap × Nodes PropertyMap → List (List ℕ) → (name : List ℕ) → Option (List ℕ)
+value_in parts [] name = get parts.0 name
+value_in parts (next ∷ later) name =
+    option_and_then (λ (found : Sibling PropertyMap). get found.own name)
+    (option_and_then (λ child. node_by_names child later) (node_named parts.1 next))
+
+value_of_parts : (from : Sibling PropertyMap) (names : List (List ℕ)) (name : List ℕ) →
+    tree_value from names name ≡ value_in (own_and_children from) names name
+value_of_parts from [] name = refl
+value_of_parts from (next ∷ later) name = refl
+
+value_of_found : (found : Option (Sibling PropertyMap)) (names : List (List ℕ)) (name : List ℕ) →
+    option_and_then (λ (one : Sibling PropertyMap). get one.own name) (option_and_then (λ child. node_by_names child names) found)
+    ≡ option_and_then (λ parts. value_in parts names name) (option_map own_and_children found)
+value_of_found None names name = refl
+value_of_found (Some from) names name = value_of_parts from names name
+
+-- Names that do not begin with `images` lead to no image node.
+no_image_path : (first : List ℕ) (later : List (List ℕ)) → bytes_eq first images_name ≡ false → is_path_of_image (first ∷ later) ≡ false
+no_image_path first [] other = refl
+no_image_path first (image ∷ []) other = other
+no_image_path first (image ∷ next ∷ later) other = refl
+
+no_value : (b : Bool) (found : Option (List ℕ)) → found ≡ None → found ≡ cond b None found
+no_value true found is = is
+no_value false found is = refl
+
+-- The value of a property of the tree.
+pub value_found : (content : FitModel) (path : List (List ℕ)) (name : List ℕ) →
+    value_at (tree_of content) path name
+    ≡ cond (is_path_of_image path && is_payload_name name) None (file_value (root_node (root_of content.blob)) path name)
+value_found content [] name = get-by_name (properties_of (root_of content.blob).own) name
+value_found content (first ∷ later) name =
+    value_of_found (node_named (tree_of content).root.children first) later name
+    ∙ ap (option_and_then (λ parts. value_in parts later name)) (named-root (root_of content.blob).children first)
+    ∙ by (node_named (root_of content.blob).children first) (bytes_eq first images_name) refl
+  where
+    by : (found : Option (Sibling FileNode)) (b : Bool) → bytes_eq first images_name ≡ b →
+        option_and_then (λ parts. value_in parts later name) (option_map (λ one. own_and_children (root_child first one)) found)
+        ≡ cond (is_path_of_image (first ∷ later) && is_payload_name name) None
+        (option_and_then (λ (one : Sibling FileNode). value_named (properties_of one.own) name)
+        (option_and_then (λ child. node_by_names child later) found))
+    by None b is = no_value (is_path_of_image (first ∷ later) && is_payload_name name) None refl
+    by (Some child) true is =
+        let names : first ≡ images_name = (bytes_eq-Decides first images_name).0 is in
+        rw is (sym (value_of_parts (images_node child) later name) ∙ below_images child later name
+        ∙ ap (λ one. cond (is_path_of_image (one ∷ later) && is_payload_name name) None (file_value child later name)) (sym names))
+    by (Some child) false is =
+        rw (no_image_path first later is, is) (sym (value_of_parts (sibling_by_name child) later name) ∙ value_by_name child later name)

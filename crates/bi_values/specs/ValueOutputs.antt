@@ -1,7 +1,6 @@
-use Rattle.std.specs.Prelude.{ℕ, Bool, false, List, [], ◌∷◌, bytes_eq, map}
+use Rattle.std.specs.Prelude.{ℕ, List, [], ◌∷◌, map}
 use Rattle.bi_base.specs.Cells.{cell}
 use Rattle.bi_fit.specs.Judgement.{listed_names}
-use Rattle.bi_fit.specs.Names.{images_name}
 use Rattle.bi_common.specs.MadeFields.{field_of}
 use Rattle.bi_values.specs.ValueResults.{ValueResult, ValueBytes, code_number, text_lines}
 use Rattle.bi_values.specs.ValueResults.{word_line}
@@ -27,8 +26,3 @@ output_texts outputs = map output_text outputs
 -- The result that the code has.
 abbrev pub result_of_output : ValueOutput → ValueResult
 result_of_output output = ValueBytes (output_text output)
-
--- Whether names lead from the root to an image node, if they lead to a node.
-abbrev pub is_path_of_image : List (List ℕ) → Bool
-is_path_of_image (first ∷ second ∷ []) = bytes_eq first images_name
-is_path_of_image names = false

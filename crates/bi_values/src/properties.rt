@@ -3,12 +3,13 @@
 ghost use Rattle.std.specs.Prelude.{◌≡◌, IfOk, IfErr};
 ghost use Rattle.std.specs.Option.{option_map};
 ghost use Rattle.bi_fdt.specs.Views.{node_of};
-ghost use Rattle.bi_fit.specs.Content.{IsHeld, tree_of};
+ghost use Rattle.bi_fit.specs.Content.{tree_of};
 ghost use Rattle.bi_common.specs.MadeFields.{field_of};
 ghost use Rattle.bi_values.specs.FoundValues.{node_by_names, value_at};
 ghost use Rattle.bi_values.specs.Getting.{IsValueReason};
 ghost use Rattle.bi_values.specs.ValueNames.{names_of_path};
-ghost use Rattle.bi_values.specs.ValueOutputs.{is_path_of_image, result_of_output};
+ghost use Rattle.bi_values.specs.ImagePaths.{is_path_of_image};
+ghost use Rattle.bi_values.specs.ValueOutputs.{result_of_output};
 ghost use Rattle.bi_values.specs.ValueResults.{number_of_value as number_word};
 ghost use Rattle.bi_values.specs.ValueResults.{result_of_property, result_of_value};
 
@@ -21,7 +22,7 @@ use bi_fdt::NodeRef;
 use bi_fit::{Fit, is_payload_name};
 
 /// Returns what is written in a form for a property of a flattened image tree. `index` is that of
-/// its name in the list of names. Requires: the tree was read.
+/// its name in the list of names.
 ///
 /// Errors: NoProperty; NoText or NoNumber, if the value is not in this form.
 pub(crate) fn output_of_property<'a>(
@@ -31,7 +32,6 @@ pub(crate) fn output_of_property<'a>(
     form: ValueForm,
     index: usize,
 ) -> Result<ValueOutput<'a>, GetError>
-    requires held { IsHeld fit.now }
     ensures output { IfOk result (λ output. result_of_property form
         (value_at (tree_of fit.entry.now) (names_of_path path.now) name.now)
         ≡ result_of_output output) }
@@ -45,9 +45,8 @@ pub(crate) fn output_of_property<'a>(
 }
 
 /// Returns the value of a property of a flattened image tree, if there is one. An image node has no
-/// property that holds its payload or names its region. Requires: the tree was read.
+/// property that holds its payload or names its region.
 fn find_value<'a>(fit: &Fit<'a>, path: &[Vec<u8>], name: &[u8]) -> Option<&'a [u8]>
-    requires held { IsHeld fit.now }
     ensures { option_map (λ value. value.now) result
         ≡ value_at (tree_of fit.entry.now) (names_of_path path.now) name.now }
 {
