@@ -1,1 +1,4 @@
+pub mod Steps
+pub mod ValueWords
 pub mod TreeValues
+pub mod GotValues

@@ -1,8 +1,12 @@
 use Rattle.std.proofs.Common.{◌≡◌, ◌≢◌, ◌<◌, ◌≤◌, ◌+◌, ℕ, List, [], ◌∷◌, ◌++◌, codes, length, refl, sym, ap, ◌∙◌, subst, append_assoc, append-nil}
-use Rattle.std.proofs.Common.{arith, rules, length-append}
-use Rattle.std.specs.List.{AllByRecursion}
-use Rattle.std.proofs.lemmas.Bool.{ne_eqb}
-use Rattle.std.proofs.lemmas.Grind.{flat_map-append}
+use Rattle.std.proofs.Common.{◌==◌, Option, Some, None, get_or, take, drop, suc, zero, true, false, arith, ◌-◌, length-append, length-drop, take-append-drop}
+use Rattle.std.specs.List.{AllByRecursion, position, position_or_len}
+use Rattle.std.proofs.lemmas.Bool.{eqb-false, eqb-true, ne_eqb}
+use Rattle.std.proofs.lemmas.List.{take_all}
+use Rattle.std.proofs.lemmas.List.Sums.{fails_before_first}
+use Rattle.std.proofs.Math.Seq.{take-length}
+use Rattle.std.proofs.lemmas.List.Quantifiers.{position-Some}
+use Rattle.std.proofs.lemmas.Grind.{common_steps, flat_map-append}
 use Rattle.bi_common.specs.Shown.{path, shown_text}
 use Rattle.bi_common.proofs.ReadableWords.Cuts.{Ends, HasNoEnd, cut_agrees, later_same, nothing_before}
 use Rattle.bi_common.proofs.ReadableWords.ShownNames.{is_slash, same_shown, shown_no_slash, some_shown}
@@ -16,6 +20,45 @@ use Rattle.bi_values.specs.ValueNames.{IsChildNameOfBytes, IsNodePath}
 no_slash : (bytes : List ℕ) → AllByRecursion (λ byte. byte ≢ 47) bytes → HasNoEnd is_slash bytes
 no_slash [] none = tt
 no_slash (byte ∷ later) none = (ne_eqb byte 47 none.0, no_slash later none.1)
+
+-- A text up to its first slash, and from there on.
+before_slash : (bytes : List ℕ) (end : ℕ) → ((k : ℕ) → k < end → (get_or bytes k 0 == 47) ≡ false) → AllByRecursion (λ byte. byte ≢ 47) (take end bytes)
+before_slash [] zero others = tt
+before_slash [] (suc end) others = tt
+before_slash (byte ∷ later) zero others = tt
+before_slash (byte ∷ later) (suc end) others =
+    (eqb-false byte 47 (others 0 (omega arith)), before_slash later end (λ k before. others (suc k) (omega (arith, before))))
+
+from_slash : (bytes : List ℕ) (end : ℕ) → (get_or bytes end 0 == 47) ≡ true → IsEmptyOrBeginsWithSlash (drop end bytes)
+from_slash [] zero is = tt
+from_slash [] (suc end) is = tt
+from_slash (byte ∷ later) zero is = eqb-true byte 47 is
+from_slash (byte ∷ later) (suc end) is = from_slash later end is
+
+-- So a text is split after its first slash, if there is another,
+pub split_at : (text rest : List ℕ) (end : ℕ) → text ≡ 47 ∷ rest → position (λ byte. byte == 47) rest ≡ Some end →
+    BeginsWithStep text (take end rest) (take (length rest - end) (drop end rest))
+split_at text rest end begins is =
+    let found = position-Some (λ byte. byte == 47) rest end 0 is in
+    let all : take (length rest - end) (drop end rest) ≡ drop end rest =
+    take_all (length rest - end) (drop end rest) (omega (arith, length-drop end rest)) in
+    subst (BeginsWithStep text (take end rest)) (sym all)
+    (record {
+      is = begins ∙ ap (λ later. 47 ∷ later) (sym (take-append-drop end rest));
+      no_slash = before_slash rest end found.2;
+      ends = from_slash rest end found.1;
+    })
+
+-- and if there is none.
+none_passes : (bytes : List ℕ) → position (λ byte. byte == 47) bytes ≡ None → AllByRecursion (λ byte. byte ≢ 47) bytes
+none_passes bytes is =
+    let past : length bytes ≤ position_or_len (λ byte. byte == 47) bytes = grind (arith, common_steps) in
+    subst (AllByRecursion (λ byte. byte ≢ 47)) (take-length bytes)
+    (before_slash bytes (length bytes) (λ k before. fails_before_first (λ byte. byte == 47) bytes k 0 (omega (arith, past, before))))
+
+pub split_at_end : (text rest : List ℕ) → text ≡ 47 ∷ rest → position (λ byte. byte == 47) rest ≡ None → BeginsWithStep text rest []
+split_at_end text rest begins none =
+    record { is = begins ∙ ap (λ later. 47 ∷ later) (sym (append-nil rest)); no_slash = none_passes rest none; ends = tt }
 
 -- Names and what may follow them end the name before them.
 step_ends : (names : List (List ℕ)) (rest : List ℕ) → IsEmptyOrBeginsWithSlash rest → Ends is_slash (steps_text names ++ rest)

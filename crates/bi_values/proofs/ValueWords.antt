@@ -1,8 +1,11 @@
 use Rattle.std.proofs.Common.{◌≡◌, ◌≢◌, ◌⊎◌, ℕ, Bool, true, false, cond, List, [], ◌∷◌, ◌++◌, Option, Some, None, inl, inr, flat_map, map, refl, sym}
-use Rattle.std.proofs.Common.{ap, ◌∙◌, subst, append_assoc, append-nil, bytes_eq, codes}
+use Rattle.std.proofs.Common.{IfSome, ◌<◌, ◌≤◌, ◌-◌, arith, drop, length, take, ap, ◌∙◌, subst, append_assoc, append-nil, bytes_eq, codes}
 use Rattle.std.specs.List.{AllByRecursion, find}
 use Rattle.std.proofs.lemmas.Grind.{flat_map-append}
 use Rattle.std.proofs.lemmas.Slice.Eq.{bytes_eq-Decides}
+use Rattle.std.proofs.lemmas.List.{drop_all, length-drop, take_all}
+use Rattle.std.specs.Borrow.{Bor}
+use Rattle.bi_common.specs.MadeFields.{bytes_of_names}
 use Rattle.bi_common.specs.Shown.{path, shown_text}
 use Rattle.bi_common.proofs.ReadableWords.Cuts.{begin_apart, first_same, later_same}
 use Rattle.bi_common.proofs.ReadableWords.ShownNames.{same_shown}
@@ -54,6 +57,10 @@ first_passes p (field ∷ fields) found is = by (p field) refl (first_passes p f
 pub word_of_found : (word : List ℕ) (field : HeaderField) → field_by_word word ≡ Some field → field_word field ≡ word
 word_of_found word field is =
     (bytes_eq-Decides (field_word field) word).0 (first_passes (λ one. bytes_eq (field_word one) word) all_fields field is)
+
+pub found_has_word : (word : List ℕ) (found : Option HeaderField) → found ≡ field_by_word word → IfSome found (λ field. field_word field ≡ word)
+found_has_word word None is = tt
+found_has_word word (Some field) is = word_of_found word field (sym is)
 
 -- If none is found, none has the word.
 pub no_field_found : (word : List ℕ) → field_by_word word ≡ None → (field : HeaderField) → field_word field ≢ word
@@ -155,6 +162,30 @@ no_words words rest names valid are some none others also same =
     by ([], is, ends) = some ends
     by (name ∷ more, is, goes_on) =
         none name (flat_map words_of_value more) (valid_after names more name (subst (AllByRecursion IsValueName) is also)) goes_on
+
+-- No names list no words, and a list goes on where it is not at its end.
+some_names : (words : List (Bor (List ℕ))) → 0 < length words → bytes_of_names words ≢ []
+some_names [] some same = omega (arith, some)
+some_names (word ∷ words) some same = absurd cc
+
+-- At the end of the words they are those of the names so far.
+pub words_at_end : (words : List (Bor (List ℕ))) (at : ℕ) (names : List ValueNameModel) → AllByRecursion IsValueName names →
+    flat_map words_of_value names ++ bytes_of_names (drop at words) ≡ bytes_of_names words → length words ≤ at →
+    AreWordsOf (bytes_of_names words) names
+words_at_end words at names valid are past =
+    words_are (bytes_of_names words) names valid
+    (sym (append-nil (flat_map words_of_value names))
+    ∙ ap (λ rest. flat_map words_of_value names ++ bytes_of_names rest) (sym (drop_all at words past)) ∙ are)
+
+-- If no name follows, they are those of no names.
+pub no_words_at : (words : List (Bor (List ℕ))) (at : ℕ) (names : List ValueNameModel) → AllByRecursion IsValueName names →
+    flat_map words_of_value names ++ bytes_of_names (drop at words) ≡ bytes_of_names words → at < length words →
+    BeginWithNoName (bytes_of_names (take (length words - at) (drop at words))) → AreNoWords (bytes_of_names words)
+no_words_at words at names valid are more none =
+    no_words (bytes_of_names words) (bytes_of_names (drop at words)) names valid are
+    (some_names (drop at words) (omega (arith, more, length-drop at words)))
+    (subst (λ rest. BeginWithNoName (bytes_of_names rest))
+    (take_all (length words - at) (drop at words) (omega (arith, length-drop at words))) none)
 
 -- ---- the words for a property
 

@@ -1,4 +1,4 @@
-use Rattle.std.specs.Prelude.{ℕ, ◌==◌, List, [], ◌∷◌, ◌++◌, Option, None, Some, codes, length, map}
+use Rattle.std.specs.Prelude.{ℕ, ◌==◌, false, List, [], ◌∷◌, ◌++◌, Option, None, Some, codes, length, map}
 use Rattle.std.specs.Prelude.{if◌then◌else◌}
 use Rattle.bi_base.specs.Cells.{cell, u32_at, u64_at}
 use Rattle.bi_fit.specs.Judgement.{listed_names}

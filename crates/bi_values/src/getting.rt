@@ -4,7 +4,6 @@ ghost use Rattle.std.specs.Prelude.{◌≡◌, ◌⊎◌, ⊤, IfOk, IfErr, OnOk
 ghost use Rattle.bi_base.specs.Commands.{Appended, CommandFailed};
 ghost use Rattle.bi_base.specs.declared.fault.Error.TheVariants.{OutOfMemory};
 ghost use Rattle.bi_norm.specs.Reading.{meaning_of};
-ghost use Rattle.bi_common.specs.HeldImages.{IsHeldImage};
 ghost use Rattle.bi_values.specs.declared.get_error.GetError.TheVariants.{Failed};
 ghost use Rattle.bi_values.specs.Getting.{IsFirstReason, IsGetError, IsTextOfValues};
 ghost use Rattle.bi_values.specs.Getting.{IsValueReason, get_laws, get_promise};
@@ -108,7 +107,7 @@ impl<'a> Command for Getter<'a> {
     ghost laws = { λ getter. get_laws getter.form (value_name_models getter.names.now) };
 }
 
-/// Returns what is written in a form for the values with these names. Requires: the image was read.
+/// Returns what is written in a form for the values with these names.
 ///
 /// Fails with the first error of a name, or with Failed and OutOfMemory.
 fn outputs_of<'a>(
@@ -117,7 +116,6 @@ fn outputs_of<'a>(
     names: &[ValueName],
     form: ValueForm,
 ) -> Result<Vec<ValueOutput<'a>>, GetError>
-    requires held { IsHeldImage image.now }
     ensures outputs { IfOk result (λ outputs.
         value_results form (meaning_of image.entry.now) (value_name_models names.entry.now)
         ≡ map result_of_output outputs.items) }
@@ -126,21 +124,20 @@ fn outputs_of<'a>(
         error ⊎ (error ≡ Failed OutOfMemory)) }
 {
     let mut outputs = Vec::new(alloc);
-    for (index, name) in names.iter().enumerate() {
-        outputs.push(output_of(image, name, form, index)?)?;
+    for index in 0..names.len() {
+        outputs.push(output_of(image, &names[index], form, index)?)?;
     }
     Ok(outputs)
 }
 
 /// Returns what is written in a form for the value with this name. `index` is that of the name in
-/// the list of names. Requires: the image was read.
+/// the list of names.
 fn output_of<'a>(
     image: &BootImage<'a>,
     name: &ValueName,
     form: ValueForm,
     index: usize,
 ) -> Result<ValueOutput<'a>, GetError>
-    requires held { IsHeldImage image.now }
     ensures output { IfOk result (λ output.
         value_result form (meaning_of image.entry.now) (value_name_model name.entry.now)
         ≡ result_of_output output) }

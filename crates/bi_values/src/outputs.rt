@@ -1,6 +1,7 @@
 //! What is written for values, put to a pen.
 
-ghost use Rattle.std.specs.Prelude.{◌≡◌, ◌<◌, concat};
+ghost use Rattle.std.specs.Prelude.{◌≡◌, ◌<◌};
+ghost use Rattle.std.specs.List.{concat};
 ghost use Rattle.std.specs.Fmt.{digit_glyph};
 ghost use Rattle.bi_base.specs.Cells.{cell};
 ghost use Rattle.bi_fit.specs.Judgement.{listed_names};

@@ -1,6 +1,7 @@
 //! Paths and names of properties, read back from how they are printed.
 
-ghost use Rattle.std.specs.Prelude.{◌≡◌, ◌≢◌, ◌∷◌, ◌<◌, ℕ, List, IfOk, IfErr, IfSome, IfNone, length};
+ghost use Rattle.std.specs.Prelude.{◌≡◌, ◌==◌, ◌<◌, IfOk, IfErr, IfSome, IfNone, length};
+ghost use Rattle.std.specs.List.{position};
 ghost use Rattle.bi_base.specs.declared.fault.Error.TheVariants.{OutOfMemory};
 ghost use Rattle.bi_values.specs.NameWords.{BeginsWithStep, HasNoStep, IsEmptyOrBeginsWithSlash};
 ghost use Rattle.bi_values.specs.NameWords.{IsNoPath, AreStepsOf, IsShownChildName};
@@ -70,14 +71,23 @@ fn split_step(text: &[u8]) -> Option<(&[u8], &[u8])>
     ensures shorter { IfSome result (λ split. length split.1.now < length text.now) }
     ensures none { IfNone result (HasNoStep text.now) }
 {
-    let [b'/', rest @ ..] = text else {
+    let [first, rest @ ..] = text else {
         return None;
     };
-    let end = rest
-        .iter()
-        .position(|byte| *byte == b'/')
-        .unwrap_or(rest.len());
-    Some((&rest[..end], &rest[end..]))
+    if *first != b'/' {
+        return None;
+    }
+    match position_of_slash(rest) {
+        Some(end) => Some((&rest[..end], &rest[end..])),
+        None => Some((rest, &[])),
+    }
+}
+
+/// Returns the index of the first slash, if there is one.
+fn position_of_slash(text: &[u8]) -> Option<usize>
+    ensures { result ≡ position (λ byte. byte == 47) text.now }
+{
+    text.iter().position(|&byte| byte == b'/')
 }
 
 /// Returns the name of a child that is printed as this text. Returns None if no such name is

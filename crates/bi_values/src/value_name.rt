@@ -1,7 +1,7 @@
 //! The names of values.
 
-ghost use Rattle.std.specs.Prelude.{◌≡◌, ◌≢◌, ◌∷◌, ◌<◌, [], IfOk, IfErr, IfSome, IfNone};
-ghost use Rattle.std.specs.Prelude.{bytes_eq, length};
+ghost use Rattle.std.specs.Prelude.{◌≡◌, ◌≢◌, ◌∷◌, ◌<◌, ◌≤◌, [], IfOk, IfErr, IfSome, IfNone};
+ghost use Rattle.std.specs.Prelude.{bytes_eq, drop, length};
 ghost use Rattle.std.specs.List.{find};
 ghost use Rattle.bi_base.specs.declared.fault.Error.TheVariants.{OutOfMemory};
 ghost use Rattle.bi_common.specs.MadeFields.{bytes_of_names};
@@ -114,42 +114,47 @@ impl ValueName {
         ensures failed { IfErr result (λ error. error ≡ OutOfMemory) }
     {
         let mut names = Vec::new(alloc);
-        let mut rest = words;
-        while let Some((name, later)) = first_name(alloc, rest)? {
+        let mut at = 0;
+        while at < words.len() {
+            let Some((name, count)) = first_name(alloc, &words[at..])? else {
+                return Ok(None);
+            };
             names.push(name)?;
-            rest = later;
+            at += count;
         }
-        Ok(if rest.is_empty() { Some(names) } else { None })
+        Ok(Some(names))
     }
 }
 
-/// Returns the name of a value that the first words name, and the words after these. Returns None if
-/// there is no word, or if they name no value. Fails if memory runs out.
-fn first_name<'w, 'a>(
-    alloc: Global,
-    words: &'w [&'a [u8]],
-) -> Result<Option<(ValueName, &'w [&'a [u8]])>, Error>
+/// Returns the name of a value that the first words name, and their number, which is 1 or 2. Returns
+/// None if there is no word, or if they name no value. Fails if memory runs out.
+fn first_name(alloc: Global, words: &[&[u8]]) -> Result<Option<(ValueName, usize)>, Error>
     ensures some { IfOk result (λ found. IfSome found (λ first.
-        BeginWithName (bytes_of_names words.entry.now) (value_name_model first.0)
-        (bytes_of_names first.1.now))) }
-    ensures shorter { IfOk result (λ found. IfSome found (λ first.
-        length first.1.now < length words.entry.now)) }
+        BeginWithName (bytes_of_names words.now) (value_name_model first.0)
+        (bytes_of_names (drop first.1 words.now)))) }
+    ensures more { IfOk result (λ found. IfSome found (λ first. 0 < first.1)) }
+    ensures within { IfOk result (λ found. IfSome found (λ first.
+        first.1 ≤ length words.now)) }
     ensures none { IfOk result (λ found. IfNone found
-        (BeginWithNoName (bytes_of_names words.entry.now))) }
+        (BeginWithNoName (bytes_of_names words.now))) }
     ensures failed { IfErr result (λ error. error ≡ OutOfMemory) }
 {
     let [word, later @ ..] = words else {
         return Ok(None);
     };
     if word.starts_with(b"/") {
-        let [name, later @ ..] = later else {
+        let [name, ..] = later else {
             return Ok(None);
         };
-        let found = property_named(alloc, word, name)?;
-        return Ok(found.map(|name| (name, later)));
+        return Ok(match property_named(alloc, word, name)? {
+            Some(property) => Some((property, 2)),
+            None => None,
+        });
     }
-    let found = HeaderField::from_word(word);
-    Ok(found.map(|field| (ValueName::Field(field), later)))
+    Ok(match HeaderField::from_word(word) {
+        Some(field) => Some((ValueName::Field(field), 1)),
+        None => None,
+    })
 }
 
 /// Returns the name of the property with this path and this name, both as they are printed. Returns
