@@ -1,10 +1,11 @@
-use Rattle.std.proofs.Common.{◌≡◌, ◌⊎◌, ◌<◌, ◌∙◌, ℕ, suc, List, [], ◌∷◌, ◌++◌, inl, inr, length, map, get_or, take, drop, refl, sym, ap, subst, arith}
+use Rattle.std.proofs.Common.{◌≡◌, ◌⊎◌, ◌<◌, ◌∙◌, ℕ, suc, List, [], ◌∷◌, ◌++◌, inl, inr, length, map, get_or, take, drop, Option, Some, None, flat_map, refl, sym, ap, subst, arith}
 use Rattle.std.proofs.Common.{take-append-drop}
 use Rattle.std.proofs.Math.Seq.{drop-cons}
 use Rattle.std.proofs.lemmas.List.{length-map, length-take-le, map-append}
 use Rattle.std.specs.List.{concat}
 use Rattle.bi_base.specs.declared.fault.Error.TheVariants.{OutOfMemory}
 use Rattle.bi_base.specs.Limits.{Limits}
+use Rattle.bi_base.specs.MemoryPens.{MemoryPuts}
 use Rattle.bi_norm.specs.declared.image.BootImage.{BootImage}
 use Rattle.bi_norm.specs.Meaning.{Meaning}
 use Rattle.bi_norm.specs.Reading.{IsBootImageReadError, IsReadBootImage, meaning_of}
@@ -28,7 +29,7 @@ outputs_are_bytes [] = refl
 outputs_are_bytes (output ∷ outputs) = ap (λ later. result_of_output output ∷ later) (outputs_are_bytes outputs)
 
 -- The text of outputs is that of the values.
-pub text_of_file : (form : ValueForm) (names : List ValueNameModel) (limits : Limits) (file : List ℕ) (image : BootImage)
+text_of_file : (form : ValueForm) (names : List ValueNameModel) (limits : Limits) (file : List ℕ) (image : BootImage)
     (outputs : List ValueOutput) → IsReadBootImage limits file image →
     value_results form (meaning_of image) names ≡ map result_of_output outputs →
     IsTextOfValues form names limits file (concat (output_texts outputs))
@@ -37,6 +38,28 @@ text_of_file form names limits file image outputs read are = record {
   means = opened_means limits file image read;
   has_values = record { pieces = output_texts outputs; are_bytes = are ∙ outputs_are_bytes outputs; is_text = refl };
 }
+
+-- What is put for outputs is all of them.
+all_outputs : (outputs : List ValueOutput) → flat_map output_text outputs ≡ concat (output_texts outputs)
+all_outputs [] = refl
+all_outputs (output ∷ outputs) = ap (λ later. output_text output ++ later) (all_outputs outputs)
+
+pub outputs_of_file : (form : ValueForm) (names : List ValueNameModel) (limits : Limits) (file : List ℕ) (image : BootImage)
+    (outputs : List ValueOutput) → IsReadBootImage limits file image →
+    value_results form (meaning_of image) names ≡ map result_of_output outputs →
+    IsTextOfValues form names limits file (flat_map output_text outputs)
+outputs_of_file form names limits file image outputs read are =
+    subst (IsTextOfValues form names limits file) (sym (all_outputs outputs)) (text_of_file form names limits file image outputs read are)
+
+-- A pen without a text that was put the outputs has their text.
+pub text_in_memory : (old new : Option (List ℕ)) (outputs : List ValueOutput) (text : List ℕ) → old ≡ Some [] → new ≡ Some text →
+    MemoryPuts old (flat_map output_text outputs) new → flat_map output_text outputs ≡ text
+text_in_memory (Some old) (Some new) outputs text begins ends put =
+    let first : old ≡ [] = cc in
+    let last : new ≡ text = cc in
+    sym (sym last ∙ put ∙ ap (λ begin. begin ++ flat_map output_text outputs) first)
+text_in_memory None new outputs text begins ends put = absurd cc
+text_in_memory (Some old) None outputs text begins ends put = absurd cc
 
 -- The first reason is that of the file.
 pub get_error_of_file : (form : ValueForm) (names : List ValueNameModel) (limits : Limits) (file : List ℕ) (image : BootImage)

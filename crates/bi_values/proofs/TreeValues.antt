@@ -207,3 +207,37 @@ value_found content (first ∷ later) name =
         ∙ ap (λ one. cond (is_path_of_image (one ∷ later) && is_payload_name name) None (file_value child later name)) (sym names))
     by (Some child) false is =
         rw (no_image_path first later is, is) (sym (value_of_parts (sibling_by_name child) later name) ∙ value_by_name child later name)
+
+-- ---- as it is found
+
+-- An image node has no property that holds its payload or names its region.
+pub no_payload_value : (content : FitModel) (path : List (List ℕ)) (name : List ℕ) → (is_path_of_image path && is_payload_name name) ≡ true →
+    None ≡ value_at (tree_of content) path name
+no_payload_value content path name is =
+    sym (value_found content path name
+    ∙ ap (λ b. cond b None (file_value (root_node (root_of content.blob)) path name)) is)
+
+-- Any other property is that of the node in the blob,
+other_value : (content : FitModel) (path : List (List ℕ)) (name : List ℕ) → (is_path_of_image path && is_payload_name name) ≡ false →
+    (root : Sibling FileNode) → root ≡ root_node (root_of content.blob) → file_value root path name ≡ value_at (tree_of content) path name
+other_value content path name other root is =
+    ap (λ from. file_value from path name) is
+    ∙ sym (value_found content path name
+    ∙ ap (λ b. cond b None (file_value (root_node (root_of content.blob)) path name)) other)
+
+-- if there is a node,
+pub node_value : (content : FitModel) (path : List (List ℕ)) (name : List ℕ) → (is_path_of_image path && is_payload_name name) ≡ false →
+    (root found : Sibling FileNode) → root ≡ root_node (root_of content.blob) → node_by_names root path ≡ Some found →
+    (value : Option (List ℕ)) → value ≡ value_named (properties_of found.own) name → value ≡ value_at (tree_of content) path name
+node_value content path name other root found is leads value has =
+    has
+    ∙ ap (option_and_then (λ (one : Sibling FileNode). value_named (properties_of one.own) name)) (sym leads)
+    ∙ other_value content path name other root is
+
+-- and if there is none.
+pub no_node_value : (content : FitModel) (path : List (List ℕ)) (name : List ℕ) → (is_path_of_image path && is_payload_name name) ≡ false →
+    (root : Sibling FileNode) → root ≡ root_node (root_of content.blob) → node_by_names root path ≡ None →
+    None ≡ value_at (tree_of content) path name
+no_node_value content path name other root is leads =
+    ap (option_and_then (λ (one : Sibling FileNode). value_named (properties_of one.own) name)) (sym leads)
+    ∙ other_value content path name other root is

@@ -1,5 +1,5 @@
 use Rattle.std.proofs.Common.{◌≡◌, ◌≢◌, ◌⊎◌, ℕ, Bool, true, false, cond, List, [], ◌∷◌, ◌++◌, Option, Some, None, inl, inr, flat_map, map, refl, sym}
-use Rattle.std.proofs.Common.{IfSome, ◌<◌, ◌≤◌, ◌-◌, arith, drop, length, take, ap, ◌∙◌, subst, append_assoc, append-nil, bytes_eq, codes}
+use Rattle.std.proofs.Common.{IfNone, IfSome, ◌<◌, ◌≤◌, ◌-◌, arith, drop, length, take, ap, ◌∙◌, subst, append_assoc, append-nil, bytes_eq, codes}
 use Rattle.std.specs.List.{AllByRecursion, find}
 use Rattle.std.proofs.lemmas.Grind.{flat_map-append}
 use Rattle.std.proofs.lemmas.Slice.Eq.{bytes_eq-Decides}
@@ -162,6 +162,11 @@ no_words words rest names valid are some none others also same =
     by ([], is, ends) = some ends
     by (name ∷ more, is, goes_on) =
         none name (flat_map words_of_value more) (valid_after names more name (subst (AllByRecursion IsValueName) is also)) goes_on
+
+-- What is known where there is nothing.
+pub none_holds : {T : Type 0} (P : Type 0) (found : Option T) → found ≡ None → IfNone found P → P
+none_holds P None is holds = holds
+none_holds P (Some found) is holds = absurd cc
 
 -- No names list no words, and a list goes on where it is not at its end.
 some_names : (words : List (Bor (List ℕ))) → 0 < length words → bytes_of_names words ≢ []

@@ -145,8 +145,8 @@ pub record GetErrorsAreKnown : Type 0 where
       (of_image (codes "load") ∷ of_root (codes "x") ∷ of_configurations default_name
       ∷ FieldAt field.Load ∷ [])
       valued_file (error.NoProperty 1)
-  pub field : IsOnlyGetError Shown (FieldAt field.Load ∷ []) valued_file error.WrongKind
-  pub property : IsOnlyGetError Shown (of_root (codes "x") ∷ []) kernel_file error.WrongKind
+  pub field_of_tree : IsOnlyGetError Shown (FieldAt field.Load ∷ []) valued_file error.WrongKind
+  pub property_of_legacy : IsOnlyGetError Shown (of_root (codes "x") ∷ []) kernel_file error.WrongKind
   pub name : IsOnlyGetError Number (FieldAt field.Load ∷ FieldAt field.Name ∷ []) kernel_file
       (error.NoNumber 1)
 

@@ -1,12 +1,11 @@
 //! What is written for values, put to a pen.
 
-ghost use Rattle.std.specs.Prelude.{◌≡◌, ◌<◌};
-ghost use Rattle.std.specs.List.{concat};
+ghost use Rattle.std.specs.Prelude.{◌≡◌, ◌<◌, false, flat_map};
 ghost use Rattle.std.specs.Fmt.{digit_glyph};
 ghost use Rattle.bi_base.specs.Cells.{cell};
 ghost use Rattle.bi_fit.specs.Judgement.{listed_names};
 ghost use Rattle.bi_common.specs.MadeFields.{field_of};
-ghost use Rattle.bi_values.specs.ValueOutputs.{output_text, output_texts};
+ghost use Rattle.bi_values.specs.ValueOutputs.{output_text};
 ghost use Rattle.bi_values.specs.ValueResults.{code_number, text_lines, word_line};
 
 use bi_base::Pen;
@@ -33,7 +32,7 @@ pub(crate) enum ValueOutput<'a> {
 
 /// Puts what is written for values.
 pub(crate) fn put_outputs<P: Pen>(outputs: &[ValueOutput], pen: &mut P)
-    ensures { P.puts pen.old (concat (output_texts outputs.now)) pen.new }
+    ensures { P.puts pen.old (flat_map output_text outputs.now) pen.new }
 {
     for output in outputs {
         put_output(*output, pen);

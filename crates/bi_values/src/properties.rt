@@ -1,9 +1,10 @@
 //! The values of properties.
 
-ghost use Rattle.std.specs.Prelude.{◌≡◌, IfOk, IfErr};
+ghost use Rattle.std.specs.Prelude.{◌≡◌, ◌&&◌, IfOk, IfErr};
 ghost use Rattle.std.specs.Option.{option_map};
 ghost use Rattle.bi_fdt.specs.Views.{node_of};
 ghost use Rattle.bi_fit.specs.Content.{tree_of};
+ghost use Rattle.bi_fit.specs.Names.{is_payload_name as is_payload_name_of};
 ghost use Rattle.bi_common.specs.MadeFields.{field_of};
 ghost use Rattle.bi_values.specs.FoundValues.{node_by_names, value_at};
 ghost use Rattle.bi_values.specs.Getting.{IsValueReason};
@@ -50,10 +51,18 @@ fn find_value<'a>(fit: &Fit<'a>, path: &[Vec<u8>], name: &[u8]) -> Option<&'a [u
     ensures { option_map (λ value. value.now) result
         ≡ value_at (tree_of fit.entry.now) (names_of_path path.now) name.now }
 {
-    if is_image_path(path) && is_payload_name(name) {
+    if is_of_payload(path, name) {
         return None;
     }
     node_at(fit.blob().root(), path)?.property(name)
+}
+
+/// Returns whether a property of the node that these names lead to would hold the payload of an
+/// image node or name its region.
+fn is_of_payload(path: &[Vec<u8>], name: &[u8]) -> bool
+    ensures { result ≡ (is_path_of_image (names_of_path path.now) && is_payload_name_of name.now) }
+{
+    is_image_path(path) && is_payload_name(name)
 }
 
 /// Returns whether these names lead to an image node, if they lead to a node.
