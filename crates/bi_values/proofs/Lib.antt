@@ -2,3 +2,4 @@ pub mod Steps
 pub mod ValueWords
 pub mod TreeValues
 pub mod GotValues
+pub mod OneAnswer

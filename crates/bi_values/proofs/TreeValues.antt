@@ -4,11 +4,11 @@ use Rattle.std.specs.Option.{option_map, option_and_then}
 use Rattle.std.specs.Cmp.Lexicographic.{slice_cmp}
 use Rattle.std.specs.FinMap.{get}
 use Rattle.std.proofs.lemmas.Slice.Eq.{bytes_eq-Decides}
-use Rattle.bi_blob.specs.Tree.{Nodes, none, node, PropertyMap, FileNode, properties_of}
+use Rattle.bi_blob.specs.Tree.{Nodes, none, node, Root, PropertyMap, FileNode, properties_of, tree_without_order, tree_without_places}
 use Rattle.bi_blob.specs.Lookups.{Sibling, node_named, root_node, value_named}
 use Rattle.bi_fdt.specs.Content.{root_of}
 use Rattle.bi_fit.specs.Names.{images_name, is_payload_name}
-use Rattle.bi_fit.specs.ImageTree.{with_children_of, without_payload, without_payloads}
+use Rattle.bi_fit.specs.ImageTree.{tree_without_payloads, with_children_of, without_payload, without_payloads}
 use Rattle.bi_fit.specs.Content.{FitModel, tree_of}
 use Rattle.bi_fit.specs.NormalNodes.{nodes_by_name, properties_by_name}
 use Rattle.bi_fit.proofs.FileNodes.{bare_image, get-by_name, named-by_name, own_and_children, sibling_by_name}
@@ -23,7 +23,7 @@ use Rattle.bi_values.specs.ImagePaths.{is_path_of_image}
 abbrev pub file_value : Sibling FileNode → List (List ℕ) → (name : List ℕ) → Option (List ℕ)
 file_value from names name = option_and_then (λ found. value_named (properties_of found.own) name) (node_by_names from names)
 
-abbrev tree_value : Sibling PropertyMap → List (List ℕ) → (name : List ℕ) → Option (List ℕ)
+abbrev pub tree_value : Sibling PropertyMap → List (List ℕ) → (name : List ℕ) → Option (List ℕ)
 tree_value from names name = option_and_then (λ found. get found.own name) (node_by_names from names)
 
 -- ---- nodes without image nodes below them
@@ -186,14 +186,14 @@ no_value true found is = is
 no_value false found is = refl
 
 -- The value of a property of the tree.
-pub value_found : (content : FitModel) (path : List (List ℕ)) (name : List ℕ) →
-    value_at (tree_of content) path name
-    ≡ cond (is_path_of_image path && is_payload_name name) None (file_value (root_node (root_of content.blob)) path name)
-value_found content [] name = get-by_name (properties_of (root_of content.blob).own) name
-value_found content (first ∷ later) name =
-    value_of_found (node_named (tree_of content).root.children first) later name
-    ∙ ap (option_and_then (λ parts. value_in parts later name)) (named-root (root_of content.blob).children first)
-    ∙ by (node_named (root_of content.blob).children first) (bytes_eq first images_name) refl
+pub value_found : (root : Root FileNode) (path : List (List ℕ)) (name : List ℕ) →
+    tree_value (root_node (tree_without_payloads (tree_without_order (tree_without_places root)))) path name
+    ≡ cond (is_path_of_image path && is_payload_name name) None (file_value (root_node root) path name)
+value_found root [] name = get-by_name (properties_of root.own) name
+value_found root (first ∷ later) name =
+    value_of_found (node_named (with_children_of images_name without_payloads (nodes_by_name root.children)) first) later name
+    ∙ ap (option_and_then (λ parts. value_in parts later name)) (named-root root.children first)
+    ∙ by (node_named root.children first) (bytes_eq first images_name) refl
   where
     by : (found : Option (Sibling FileNode)) (b : Bool) → bytes_eq first images_name ≡ b →
         option_and_then (λ parts. value_in parts later name) (option_map (λ one. own_and_children (root_child first one)) found)
@@ -214,7 +214,7 @@ value_found content (first ∷ later) name =
 pub no_payload_value : (content : FitModel) (path : List (List ℕ)) (name : List ℕ) → (is_path_of_image path && is_payload_name name) ≡ true →
     None ≡ value_at (tree_of content) path name
 no_payload_value content path name is =
-    sym (value_found content path name
+    sym (value_found (root_of content.blob) path name
     ∙ ap (λ b. cond b None (file_value (root_node (root_of content.blob)) path name)) is)
 
 -- Any other property is that of the node in the blob,
@@ -222,7 +222,7 @@ other_value : (content : FitModel) (path : List (List ℕ)) (name : List ℕ) �
     (root : Sibling FileNode) → root ≡ root_node (root_of content.blob) → file_value root path name ≡ value_at (tree_of content) path name
 other_value content path name other root is =
     ap (λ from. file_value from path name) is
-    ∙ sym (value_found content path name
+    ∙ sym (value_found (root_of content.blob) path name
     ∙ ap (λ b. cond b None (file_value (root_node (root_of content.blob)) path name)) other)
 
 -- if there is a node,

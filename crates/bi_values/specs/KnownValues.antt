@@ -49,9 +49,9 @@ valued_tree = record {
       (node configurations_name configurations_values none none);
 }
 
--- A file with this tree.
+-- A file with this tree, and a byte after the blob.
 abbrev pub valued_file : List ℕ
-valued_file = text_of_tree 4 0 [] valued_tree
+valued_file = text_of_tree 4 0 [] valued_tree ++ 0 ∷ []
 
 -- ---- names
 

@@ -6,3 +6,4 @@ pub mod ValueResults
 pub mod ValueOutputs
 pub mod Getting
 pub mod KnownValues
+pub mod ValueLaws

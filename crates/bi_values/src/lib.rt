@@ -4,6 +4,8 @@
 mod fields;
 mod get_error;
 mod getting;
+pub mod known_values;
+pub mod laws;
 mod outputs;
 mod paths;
 mod properties;
