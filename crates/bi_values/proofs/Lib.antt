@@ -3,3 +3,4 @@ pub mod ValueWords
 pub mod TreeValues
 pub mod GotValues
 pub mod OneAnswer
+pub mod ValueFacts
