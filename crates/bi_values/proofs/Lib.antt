@@ -4,3 +4,4 @@ pub mod TreeValues
 pub mod GotValues
 pub mod OneAnswer
 pub mod ValueFacts
+pub mod NameWordFacts

@@ -178,6 +178,6 @@ pub record NameWordsAreKnown : Type 0 where
   pub last_slash : AreNoWords (codes "/a/" ∷ codes "x" ∷ [])
   pub no_child : AreNoWords (codes "/-" ∷ codes "x" ∷ [])
   pub zero : AreNoWords (codes "/a%00" ∷ codes "x" ∷ [])
-  pub no_escape : AreNoWords (codes "/a%2d" ∷ codes "x" ∷ [])
+  pub blank : AreNoWords (codes "/a b" ∷ codes "x" ∷ [])
   pub no_property : AreNoWords (codes "/" ∷ codes "-" ∷ [])
   pub other_field : AreNoWords (codes "size" ∷ [])
