@@ -1,4 +1,5 @@
-use Rattle.std.proofs.Common.{◌≡◌, ◌⊎◌, ◌<◌, ◌∙◌, ℕ, suc, List, [], ◌∷◌, ◌++◌, inl, inr, length, map, get_or, take, drop, Option, Some, None, flat_map, refl, sym, ap, subst, arith}
+use Rattle.std.proofs.Common.{◌≡◌, ◌⊎◌, ◌<◌, ◌∙◌, ℕ, suc, List, [], ◌∷◌, ◌++◌, inl, inr, length, map, get_or, take, drop, Option, Some}
+use Rattle.std.proofs.Common.{None, flat_map, refl, sym, ap, subst, arith}
 use Rattle.std.proofs.Common.{take-append-drop}
 use Rattle.std.proofs.Math.Seq.{drop-cons}
 use Rattle.std.proofs.lemmas.List.{length-map, length-take-le, map-append}
@@ -8,7 +9,7 @@ use Rattle.bi_base.specs.Limits.{Limits}
 use Rattle.bi_base.specs.MemoryPens.{MemoryPuts}
 use Rattle.bi_norm.specs.declared.image.BootImage.{BootImage}
 use Rattle.bi_norm.specs.Meaning.{Meaning}
-use Rattle.bi_norm.specs.Reading.{IsBootImageReadError, IsReadBootImage, meaning_of}
+use Rattle.bi_norm.specs.Reading.{IsReadBootImage, meaning_of}
 use Rattle.bi_norm.proofs.Comparisons.{opened_means}
 use Rattle.bi_norm.proofs.NormalForms.{needs_memory}
 use Rattle.bi_values.specs.Getting.{IsFirstReason, IsGetError, IsTextOfValues, IsValueReason}

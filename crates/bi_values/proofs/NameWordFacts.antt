@@ -4,15 +4,14 @@ use Rattle.std.specs.List.{AllByRecursion, list_all}
 use Rattle.std.proofs.lemmas.Bool.{and_parts, eqb-false, not-true}
 use Rattle.bi_base.proofs.ByteLists.{bytes_by_test}
 use Rattle.bi_blob.specs.Tree.{HasNoZero}
-use Rattle.bi_fit.specs.Names.{configurations_name, default_name, images_name}
-use Rattle.bi_common.specs.Shown.{shown_text}
+use Rattle.bi_fit.specs.Names.{configurations_name, images_name}
 use Rattle.bi_common.proofs.ReadableWords.Cuts.{HasNoEnd, begin_apart}
 use Rattle.bi_common.proofs.ReadableWords.ShownNames.{is_blank, same_shown, shown_no_blank, some_shown}
 use Rattle.bi_values.specs.KnownValues.{NameWordsAreKnown}
-use Rattle.bi_values.specs.NameWords.{AreNoSteps, AreNoWords, IsEmptyOrBeginsWithSlash, IsNoChildName, IsNoPath, steps_text}
-use Rattle.bi_values.specs.ValueNames.{IsChildNameOfBytes, IsNodePath, IsPropertyNameOfBytes}
-use Rattle.bi_values.proofs.Steps.{no_path, no_steps}
-use Rattle.bi_values.proofs.ValueWords.{no_field_found, no_field_word, no_name_word, no_property_words, no_words, words_are}
+use Rattle.bi_values.specs.NameWords.{AreNoSteps, AreNoWords, IsNoChildName, IsNoPath}
+use Rattle.bi_values.specs.ValueNames.{IsChildNameOfBytes, IsPropertyNameOfBytes}
+use Rattle.bi_values.proofs.Steps.{no_path, no_path_steps}
+use Rattle.bi_values.proofs.ValueWords.{no_field_found, no_field_word, no_name_word, no_property_words, no_words, value_words_are}
 
 -- The words for the names of values are known.
 
@@ -76,28 +75,39 @@ no_empty_child name is same = some_shown name same
 -- A step that is no name, alone after the first slash.
 no_first_step : (step : List ℕ) → AllByRecursion (λ byte. byte ≢ 47) step → IsNoChildName step → AreNoSteps (47 ∷ (step ++ []))
 no_first_step step plain none =
-    no_steps (47 ∷ (step ++ [])) [] (47 ∷ (step ++ [])) step [] tt refl (record { is = refl; no_slash = plain; ends = tt }) none
+    no_path_steps (47 ∷ (step ++ [])) [] (47 ∷ (step ++ [])) step [] tt refl (record { is = refl; no_slash = plain; ends = tt }) none
 
 -- ---- the facts
 
 pub name_words_are_known : NameWordsAreKnown
 name_words_are_known = record {
-  two = words_are _ _
-      ((record { are_names = (images, (kernel, tt)); few = lit≤ tt }, property_name 108 (codes "oad") (no_zero (codes "load") refl) refl),
-      ((record { are_names = (configurations, tt); few = lit≤ tt },
-      property_name 100 (codes "efault") (no_zero (codes "default") refl) refl), tt)) refl;
-  root = words_are _ _
+  two = value_words_are _ _ (
+    (record { are_names = (images, (kernel, tt)); few = lit≤ tt }, property_name 108 (codes "oad") (no_zero (codes "load") refl) refl),
+    (
+      (
+        record { are_names = (configurations, tt); few = lit≤ tt },
+        property_name 100 (codes "efault") (no_zero (codes "default") refl) refl,
+      ),
+      tt,
+    ),
+  ) refl;
+  root = value_words_are _ _
       ((record { are_names = tt; few = lit≤ tt }, property_name 109 (codes "odel") (no_zero (codes "model") refl) refl), tt) refl;
-  shown = words_are _ _
-      ((record { are_names = (child_name 97 (codes " b") refl refl, (child_name 45 [] refl refl, tt)); few = lit≤ tt },
-      property_name 112 (codes "/%") (λ e. absurd cc, (λ e. absurd cc, (λ e. absurd cc, tt))) refl), tt) refl;
-  fields = words_are _ _ (tt, (tt, tt)) refl;
+  shown = value_words_are _ _ (
+    (
+      record { are_names = (child_name 97 (codes " b") refl refl, (child_name 45 [] refl refl, tt)); few = lit≤ tt },
+      property_name 112 (codes "/%") (λ e. absurd cc, (λ e. absurd cc, (λ e. absurd cc, tt))) refl,
+    ),
+    tt,
+  ) refl;
+  fields = value_words_are _ _ (tt, (tt, tt)) refl;
   image_type = refl;
   no_name = no_words (codes "/" ∷ []) (codes "/" ∷ []) [] tt refl (λ e. absurd cc) (no_name_word (codes "/") [] refl);
   two_slashes = no_such_path (codes "/") (no_path (codes "//") (λ e. absurd cc)
-      (no_steps (codes "//") [] (codes "//") [] (codes "/") tt refl (record { is = refl; no_slash = tt; ends = refl }) no_empty_child));
+      (no_path_steps (codes "//") [] (codes "//") [] (codes "/") tt refl (record { is = refl; no_slash = tt; ends = refl })
+      no_empty_child));
   last_slash = no_such_path (codes "a/") (no_path (codes "/a/") (λ e. absurd cc)
-      (no_steps (codes "/a/") (codes "a" ∷ []) (codes "/") [] [] (child_name 97 [] refl refl, tt) refl
+      (no_path_steps (codes "/a/") (codes "a" ∷ []) (codes "/") [] [] (child_name 97 [] refl refl, tt) refl
       (record { is = refl; no_slash = tt; ends = tt }) no_empty_child));
   no_child = no_such_path (codes "-") (no_path (codes "/-") (λ e. absurd cc)
       (no_first_step (codes "-") (no_slash_in (codes "-") refl) no_child_without_name));

@@ -4,7 +4,7 @@ use Rattle.bi_base.specs.Limits.{Limits}
 use Rattle.bi_base.specs.declared.fault.Error.TheVariants.{OutOfMemory}
 use Rattle.bi_norm.specs.Meaning.{Meaning, Means}
 use Rattle.bi_values.specs.Getting.{IsFirstReason, IsTextOfResults, IsTextOfValues, IsValueReason, LacksValue}
-use Rattle.bi_values.specs.ValueLaws.{IsOneAnswer, ValuesAreOfMeaning}
+use Rattle.bi_values.specs.ValueLaws.{ValuesAreOfMeaning}
 use Rattle.bi_values.specs.ValueNames.{ValueNameModel}
 use Rattle.bi_values.specs.ValueResults.{HasNoNumber, HasNoText, NoSuchProperty, OfOtherKind, ValueBytes, ValueResult, value_results}
 use Rattle.bi_values.specs.declared.get_error.GetError.{GetError}
@@ -101,16 +101,19 @@ text_or_reason results text given is has =
 
 -- ---- files that mean the same
 
-module _ (form : ValueForm) (names : List ValueNameModel) (limits : Limits) (file : List ℕ) (meaning : Meaning) (means : Means limits file meaning)
+module _ (form : ValueForm) (names : List ValueNameModel) (limits : Limits) (file : List ℕ) (meaning : Meaning)
+    (means : Means limits file meaning)
   where
-  -- The text of a file is that of its meaning.
-  pub text_of_meaning : (text : List ℕ) → IsTextOfValues form names limits file text → IsTextOfResults (value_results form meaning names) text
-  text_of_meaning text is =
-      subst (λ one. IsTextOfResults (value_results form one names) text) (sym (is.means.only meaning means)) is.has_values
+    -- The text of a file is that of its meaning.
+    pub text_of_meaning : (text : List ℕ) → IsTextOfValues form names limits file text →
+        IsTextOfResults (value_results form meaning names) text
+    text_of_meaning text is =
+        subst (λ one. IsTextOfResults (value_results form one names) text) (sym (is.means.only meaning means)) is.has_values
 
-  pub reason_of_meaning : (given : GetError) → LacksValue form names limits file given → IsFirstReason (value_results form meaning names) given
-  reason_of_meaning given is =
-      subst (λ one. IsFirstReason (value_results form one names) given) (sym (is.means.only meaning means)) is.is_first
+    pub reason_of_meaning : (given : GetError) → LacksValue form names limits file given →
+        IsFirstReason (value_results form meaning names) given
+    reason_of_meaning given is =
+        subst (λ one. IsFirstReason (value_results form one names) given) (sym (is.means.only meaning means)) is.is_first
 
 pub values_are_of_meaning : ValuesAreOfMeaning
 values_are_of_meaning form names limits other_limits file other_file meaning means other_means = record {

@@ -1,5 +1,7 @@
-use Rattle.std.proofs.Common.{◌≡◌, ◌≢◌, ◌<◌, ◌≤◌, ◌+◌, ℕ, List, [], ◌∷◌, ◌++◌, codes, length, refl, sym, ap, ◌∙◌, subst, append_assoc, append-nil}
-use Rattle.std.proofs.Common.{◌==◌, Option, Some, None, get_or, take, drop, suc, zero, true, false, arith, ◌-◌, length-append, length-drop, take-append-drop}
+use Rattle.std.proofs.Common.{◌≡◌, ◌≢◌, ◌<◌, ◌≤◌, ℕ, List, [], ◌∷◌, ◌++◌, codes, length, refl, sym, ap, ◌∙◌, subst, append_assoc}
+use Rattle.std.proofs.Common.{append-nil}
+use Rattle.std.proofs.Common.{◌==◌, Some, None, get_or, take, drop, suc, zero, true, false, arith, ◌-◌, length-append, length-drop}
+use Rattle.std.proofs.Common.{take-append-drop}
 use Rattle.std.specs.List.{AllByRecursion, position, position_or_len}
 use Rattle.std.proofs.lemmas.Bool.{eqb-false, eqb-true, ne_eqb}
 use Rattle.std.proofs.lemmas.List.{take_all}
@@ -22,7 +24,8 @@ no_slash [] none = tt
 no_slash (byte ∷ later) none = (ne_eqb byte 47 none.0, no_slash later none.1)
 
 -- A text up to its first slash, and from there on.
-before_slash : (bytes : List ℕ) (end : ℕ) → ((k : ℕ) → k < end → (get_or bytes k 0 == 47) ≡ false) → AllByRecursion (λ byte. byte ≢ 47) (take end bytes)
+before_slash : (bytes : List ℕ) (end : ℕ) → ((k : ℕ) → k < end → (get_or bytes k 0 == 47) ≡ false) →
+    AllByRecursion (λ byte. byte ≢ 47) (take end bytes)
 before_slash [] zero others = tt
 before_slash [] (suc end) others = tt
 before_slash (byte ∷ later) zero others = tt
@@ -91,9 +94,9 @@ first_after [] more name are = are.0
 first_after (other ∷ names) more name are = first_after names more name are.1
 
 -- After some names comes a slash and what is no name: the text is that of no names.
-pub no_steps : (text : List ℕ) (names : List (List ℕ)) (rest step later : List ℕ) → AllByRecursion IsChildNameOfBytes names →
+pub no_path_steps : (text : List ℕ) (names : List (List ℕ)) (rest step later : List ℕ) → AllByRecursion IsChildNameOfBytes names →
     steps_text names ++ rest ≡ text → BeginsWithStep rest step later → IsNoChildName step → AreNoSteps text
-no_steps text names rest step later are begins goes none others also same =
+no_path_steps text names rest step later are begins goes none others also same =
     by (rest_of_steps names others rest are also (subst IsEmptyOrBeginsWithSlash (sym goes.is) refl) (begins ∙ sym same))
   where
     by : (more : List (List ℕ)) × (others ≡ names ++ more) × (rest ≡ steps_text more) → ⊥
@@ -157,7 +160,8 @@ path_begins (name ∷ names) = (shown_text name ++ steps_text names, refl)
 -- Two paths that are the same text are the same.
 pub one_path : (names others : List (List ℕ)) → IsNodePath names → IsNodePath others → path names ≡ path others → names ≡ others
 one_path [] [] is also same = refl
-one_path [] (other ∷ others) is also same = absurd (some_shown other (nothing_before (shown_text other) (steps_text others) (sym (later_same same))))
+one_path [] (other ∷ others) is also same =
+    absurd (some_shown other (nothing_before (shown_text other) (steps_text others) (sym (later_same same))))
 one_path (name ∷ names) [] is also same = absurd (some_shown name (nothing_before (shown_text name) (steps_text names) (later_same same)))
 one_path (name ∷ names) (other ∷ others) is also same =
     by (rest_of_steps (name ∷ names) (other ∷ others) [] is.are_names also.are_names tt (append-nil (steps_text (name ∷ names)) ∙ same))

@@ -1,14 +1,13 @@
-use Rattle.std.proofs.Common.{◌≡◌, ◌&&◌, ℕ, Bool, true, false, cond, List, [], ◌∷◌, Option, Some, None, bytes_eq, nat_cmp, not, refl, sym, ap}
-use Rattle.std.proofs.Common.{◌∙◌, rules, subst}
+use Rattle.std.proofs.Common.{◌≡◌, ◌&&◌, ℕ, Bool, true, false, cond, List, [], ◌∷◌, Option, Some, None, bytes_eq, not, refl, sym, ap}
+use Rattle.std.proofs.Common.{◌∙◌, rules}
 use Rattle.std.specs.Option.{option_map, option_and_then}
-use Rattle.std.specs.Cmp.Lexicographic.{slice_cmp}
 use Rattle.std.specs.FinMap.{get}
 use Rattle.std.proofs.lemmas.Slice.Eq.{bytes_eq-Decides}
 use Rattle.bi_blob.specs.Tree.{Nodes, none, node, Root, PropertyMap, FileNode, properties_of, tree_without_order, tree_without_places}
 use Rattle.bi_blob.specs.Lookups.{Sibling, node_named, root_node, value_named}
 use Rattle.bi_fdt.specs.Content.{root_of}
 use Rattle.bi_fit.specs.Names.{images_name, is_payload_name}
-use Rattle.bi_fit.specs.ImageTree.{tree_without_payloads, with_children_of, without_payload, without_payloads}
+use Rattle.bi_fit.specs.ImageTree.{tree_without_payloads, with_children_of, without_payloads}
 use Rattle.bi_fit.specs.Content.{FitModel, tree_of}
 use Rattle.bi_fit.specs.NormalNodes.{nodes_by_name, properties_by_name}
 use Rattle.bi_fit.proofs.FileNodes.{bare_image, get-by_name, named-by_name, own_and_children, sibling_by_name}
@@ -37,7 +36,8 @@ led_by_name from (name ∷ later) =
     ∙ by (node_named from.children name) (λ child. led_by_name child later)
   where
     by : (found : Option (Sibling FileNode)) →
-        ((child : Sibling FileNode) → node_by_names (sibling_by_name child) later ≡ option_map sibling_by_name (node_by_names child later)) →
+        ((child : Sibling FileNode) →
+        node_by_names (sibling_by_name child) later ≡ option_map sibling_by_name (node_by_names child later)) →
         option_and_then (λ child. node_by_names child later) (option_map sibling_by_name found)
         ≡ option_map sibling_by_name (option_and_then (λ child. node_by_names child later) found)
     by None leads = refl
@@ -49,7 +49,8 @@ value_by_name : (from : Sibling FileNode) (names : List (List ℕ)) (name : List
 value_by_name from names name =
     ap (option_and_then (λ found. get found.own name)) (led_by_name from names) ∙ by (node_by_names from names)
   where
-    by : (found : Option (Sibling FileNode)) → option_and_then (λ (one : Sibling PropertyMap). get one.own name) (option_map sibling_by_name found)
+    by : (found : Option (Sibling FileNode)) →
+        option_and_then (λ (one : Sibling PropertyMap). get one.own name) (option_map sibling_by_name found)
         ≡ option_and_then (λ (one : Sibling FileNode). value_named (properties_of one.own) name) found
     by None = refl
     by (Some found) = get-by_name (properties_of found.own) name
@@ -138,7 +139,8 @@ named-root (node name own children later) wanted = by (bytes_eq name images_name
     as_wanted : bytes_eq name wanted ≡ true → bytes_eq wanted images_name ≡ bytes_eq name images_name
     as_wanted is_wanted = ap (λ one. bytes_eq one images_name) (sym ((bytes_eq-Decides name wanted).0 is_wanted))
 
-    other_wanted : bytes_eq name images_name ≡ true → bytes_eq name wanted ≡ false → (b : Bool) → bytes_eq wanted images_name ≡ b → b ≡ false
+    other_wanted : bytes_eq name images_name ≡ true → bytes_eq name wanted ≡ false → (b : Bool) →
+        bytes_eq wanted images_name ≡ b → b ≡ false
     other_wanted is is_other false wanted_is = refl
     other_wanted is is_other true wanted_is =
         let same : name ≡ wanted = (bytes_eq-Decides name images_name).0 is ∙ sym ((bytes_eq-Decides wanted images_name).0 wanted_is) in
@@ -186,11 +188,11 @@ no_value true found is = is
 no_value false found is = refl
 
 -- The value of a property of the tree.
-pub value_found : (root : Root FileNode) (path : List (List ℕ)) (name : List ℕ) →
+pub tree_value_found : (root : Root FileNode) (path : List (List ℕ)) (name : List ℕ) →
     tree_value (root_node (tree_without_payloads (tree_without_order (tree_without_places root)))) path name
     ≡ cond (is_path_of_image path && is_payload_name name) None (file_value (root_node root) path name)
-value_found root [] name = get-by_name (properties_of root.own) name
-value_found root (first ∷ later) name =
+tree_value_found root [] name = get-by_name (properties_of root.own) name
+tree_value_found root (first ∷ later) name =
     value_of_found (node_named (with_children_of images_name without_payloads (nodes_by_name root.children)) first) later name
     ∙ ap (option_and_then (λ parts. value_in parts later name)) (named-root root.children first)
     ∙ by (node_named root.children first) (bytes_eq first images_name) refl
@@ -211,10 +213,10 @@ value_found root (first ∷ later) name =
 -- ---- as it is found
 
 -- An image node has no property that holds its payload or names its region.
-pub no_payload_value : (content : FitModel) (path : List (List ℕ)) (name : List ℕ) → (is_path_of_image path && is_payload_name name) ≡ true →
-    None ≡ value_at (tree_of content) path name
+pub no_payload_value : (content : FitModel) (path : List (List ℕ)) (name : List ℕ) →
+    (is_path_of_image path && is_payload_name name) ≡ true → None ≡ value_at (tree_of content) path name
 no_payload_value content path name is =
-    sym (value_found (root_of content.blob) path name
+    sym (tree_value_found (root_of content.blob) path name
     ∙ ap (λ b. cond b None (file_value (root_node (root_of content.blob)) path name)) is)
 
 -- Any other property is that of the node in the blob,
@@ -222,7 +224,7 @@ other_value : (content : FitModel) (path : List (List ℕ)) (name : List ℕ) �
     (root : Sibling FileNode) → root ≡ root_node (root_of content.blob) → file_value root path name ≡ value_at (tree_of content) path name
 other_value content path name other root is =
     ap (λ from. file_value from path name) is
-    ∙ sym (value_found (root_of content.blob) path name
+    ∙ sym (tree_value_found (root_of content.blob) path name
     ∙ ap (λ b. cond b None (file_value (root_node (root_of content.blob)) path name)) other)
 
 -- if there is a node,

@@ -1,4 +1,4 @@
-use Rattle.std.proofs.Common.{◌≡◌, ◌⊎◌, ◌∙◌, ℕ, List, [], ◌∷◌, ◌++◌, Option, Some, None, codes, inl, inr, length, lit≤, map, refl, sym, ap, ap₂, subst}
+use Rattle.std.proofs.Common.{◌≡◌, ◌⊎◌, ℕ, List, [], ◌∷◌, ◌++◌, Some, None, codes, inl, inr, length, lit≤, map, refl, ap, ap₂}
 use Rattle.std.specs.Fmt.{digits}
 use Rattle.std.specs.List.{concat}
 use Rattle.bi_base.specs.Cells.{cell, cell8, u32_at, u64_at}
@@ -16,10 +16,10 @@ use Rattle.bi_norm.specs.Comparing.{MeansOnly}
 use Rattle.bi_norm.specs.Meaning.{Meaning, Means, OfFit, OfLegacy}
 use Rattle.bi_norm.proofs.ComparisonFacts.{kernel_means}
 use Rattle.bi_norm.proofs.KindLaws.{one_file_meaning}
-use Rattle.bi_values.specs.FoundValues.{value_at}
 use Rattle.bi_values.specs.Getting.{IsGetError, IsTextOfResults, IsValueReason, LacksValue}
 use Rattle.bi_values.specs.KnownValues.{FieldValuesAreKnown, GetErrorsAreKnown, IsOnlyGetError, IsOnlyGetText, PropertyValuesAreKnown}
-use Rattle.bi_values.specs.KnownValues.{ValueReasonsAreKnown, load_and_default, number_fields, of_configurations, of_hash, of_image, of_root}
+use Rattle.bi_values.specs.KnownValues.{ValueReasonsAreKnown, load_and_default, number_fields, of_configurations, of_hash, of_image}
+use Rattle.bi_values.specs.KnownValues.{of_root}
 use Rattle.bi_values.specs.KnownValues.{valued_file, valued_tree}
 use Rattle.bi_values.specs.ValueNames.{FieldAt, PropertyAt, ValueNameModel}
 use Rattle.bi_values.specs.ValueResults.{HasNoNumber, HasNoText, NoSuchProperty, OfOtherKind, ValueBytes, ValueResult, result_of_property}
@@ -30,7 +30,7 @@ use Rattle.bi_values.specs.declared.value_form.ValueForm.{ValueForm}
 use Rattle.bi_values.specs.declared.value_form.ValueForm.TheVariants.{Shown, Text, Number, Raw}
 use Rattle.bi_values.specs.declared.value_name.HeaderField.TheVariants as field
 use Rattle.bi_values.proofs.OneAnswer.{no_reason_in_bytes, one_reason, one_text, reason_of_meaning, text_of_meaning}
-use Rattle.bi_values.proofs.TreeValues.{value_found}
+use Rattle.bi_values.proofs.TreeValues.{tree_value_found}
 
 -- The values of small files are known.
 
@@ -76,7 +76,8 @@ module _ (one_legacy : OneLegacyMeaning) (file : List ℕ) (meaning : Meaning) (
   only_text : (form : ValueForm) (names : List ValueNameModel) (pieces : List (List ℕ)) →
       value_results form meaning names ≡ map ValueBytes pieces → IsOnlyGetText form names file (concat pieces)
   only_text form names pieces are =
-      let has : IsTextOfResults (value_results form meaning names) (concat pieces) = record { pieces = pieces; are_bytes = are; is_text = refl } in
+      let has : IsTextOfResults (value_results form meaning names) (concat pieces) =
+      record { pieces = pieces; are_bytes = are; is_text = refl } in
       record {
         is = record { meaning = meaning; means = means_only; has_values = has };
         only = λ other is.
@@ -119,31 +120,34 @@ abbrev result_in : ValueForm → ValueNameModel → ValueResult
 result_in form name = value_result form (OfFit valued_meaning) name
 
 load_result : (form : ValueForm) → result_in form (of_image (codes "load")) ≡ result_of_property form (Some (cell 0x80080000))
-load_result form = ap (result_of_property form) (value_found file_root (images_name ∷ codes "kernel-1" ∷ []) (codes "load"))
+load_result form = ap (result_of_property form) (tree_value_found file_root (images_name ∷ codes "kernel-1" ∷ []) (codes "load"))
 
 wide_result : (form : ValueForm) → result_in form (of_image (codes "wide")) ≡ result_of_property form (Some (cell8 0x180000000))
-wide_result form = ap (result_of_property form) (value_found file_root (images_name ∷ codes "kernel-1" ∷ []) (codes "wide"))
+wide_result form = ap (result_of_property form) (tree_value_found file_root (images_name ∷ codes "kernel-1" ∷ []) (codes "wide"))
 
 nothing_result : (form : ValueForm) → result_in form (of_image (codes "nothing")) ≡ result_of_property form (Some [])
-nothing_result form = ap (result_of_property form) (value_found file_root (images_name ∷ codes "kernel-1" ∷ []) (codes "nothing"))
+nothing_result form = ap (result_of_property form) (tree_value_found file_root (images_name ∷ codes "kernel-1" ∷ []) (codes "nothing"))
 
 payload_result : (form : ValueForm) → result_in form (of_image data_name) ≡ result_of_property form None
-payload_result form = ap (result_of_property form) (value_found file_root (images_name ∷ codes "kernel-1" ∷ []) data_name)
+payload_result form = ap (result_of_property form) (tree_value_found file_root (images_name ∷ codes "kernel-1" ∷ []) data_name)
 
 hash_result : (form : ValueForm) → result_in form (of_hash data_name) ≡ result_of_property form (Some (codes "x" ++ 0 ∷ []))
-hash_result form = ap (result_of_property form) (value_found file_root (images_name ∷ codes "kernel-1" ∷ codes "hash-1" ∷ []) data_name)
+hash_result form =
+    ap (result_of_property form) (tree_value_found file_root (images_name ∷ codes "kernel-1" ∷ codes "hash-1" ∷ []) data_name)
 
-default_result : (form : ValueForm) → result_in form (of_configurations default_name) ≡ result_of_property form (Some (codes "conf-1" ++ 0 ∷ []))
-default_result form = ap (result_of_property form) (value_found file_root (configurations_name ∷ []) default_name)
+default_result : (form : ValueForm) → result_in form (of_configurations default_name)
+    ≡ result_of_property form (Some (codes "conf-1" ++ 0 ∷ []))
+default_result form = ap (result_of_property form) (tree_value_found file_root (configurations_name ∷ []) default_name)
 
-model_result : (form : ValueForm) → result_in form (of_root (codes "model")) ≡ result_of_property form (Some (codes "two" ++ 0 ∷ codes "texts" ++ 0 ∷ []))
-model_result form = ap (result_of_property form) (value_found file_root [] (codes "model"))
+model_result : (form : ValueForm) → result_in form (of_root (codes "model"))
+    ≡ result_of_property form (Some (codes "two" ++ 0 ∷ codes "texts" ++ 0 ∷ []))
+model_result form = ap (result_of_property form) (tree_value_found file_root [] (codes "model"))
 
 x_result : (form : ValueForm) → result_in form (of_root (codes "x")) ≡ result_of_property form None
-x_result form = ap (result_of_property form) (value_found file_root [] (codes "x"))
+x_result form = ap (result_of_property form) (tree_value_found file_root [] (codes "x"))
 
 none_result : (form : ValueForm) → result_in form (PropertyAt (images_name ∷ codes "none" ∷ []) (codes "x")) ≡ result_of_property form None
-none_result form = ap (result_of_property form) (value_found file_root (images_name ∷ codes "none" ∷ []) (codes "x"))
+none_result form = ap (result_of_property form) (tree_value_found file_root (images_name ∷ codes "none" ∷ []) (codes "x"))
 
 one : {result bytes : ValueResult} → result ≡ bytes → result ∷ [] ≡ bytes ∷ []
 one is = ap (λ result. result ∷ []) is
@@ -187,7 +191,8 @@ field_values_are_known one_legacy = record {
       (codes "0x00000000\n" ∷ codes "0x00008000\n" ∷ codes "0x00008000\n" ∷ codes "0x05\n" ∷ codes "0x02\n" ∷ codes "0x02\n"
       ∷ codes "0x00\n" ∷ []) refl;
   raw = text Raw (FieldAt field.Name ∷ number_fields)
-      (codes "k" ∷ (0 ∷ 0 ∷ 0 ∷ 0 ∷ []) ∷ (0 ∷ 0 ∷ 0x80 ∷ 0 ∷ []) ∷ (0 ∷ 0 ∷ 0x80 ∷ 0 ∷ []) ∷ (5 ∷ []) ∷ (2 ∷ []) ∷ (2 ∷ []) ∷ (0 ∷ []) ∷ [])
+      (codes "k" ∷ (0 ∷ 0 ∷ 0 ∷ 0 ∷ []) ∷ (0 ∷ 0 ∷ 0x80 ∷ 0 ∷ []) ∷ (0 ∷ 0 ∷ 0x80 ∷ 0 ∷ []) ∷ (5 ∷ []) ∷ (2 ∷ []) ∷ (2 ∷ [])
+      ∷ (0 ∷ []) ∷ [])
       refl;
 }
   where
@@ -207,14 +212,16 @@ get_errors_are_known one_legacy = record {
   no_node = fails Shown (PropertyAt (images_name ∷ codes "none" ∷ []) (codes "x") ∷ []) (error.NoProperty 0)
       (no_value (PropertyAt (images_name ∷ codes "none" ∷ []) (codes "x")) (none_result Shown))
       (no_value (PropertyAt (images_name ∷ codes "none" ∷ []) (codes "x")) (none_result Shown));
-  no_property = fails Shown (of_root (codes "x") ∷ []) (error.NoProperty 0) (no_value (of_root (codes "x")) (x_result Shown)) (no_value (of_root (codes "x")) (x_result Shown));
-  payload = fails Shown (of_image data_name ∷ []) (error.NoProperty 0) (no_value (of_image data_name) (payload_result Shown)) (no_value (of_image data_name) (payload_result Shown));
+  no_property = fails Shown (of_root (codes "x") ∷ []) (error.NoProperty 0)
+      (no_value (of_root (codes "x")) (x_result Shown)) (no_value (of_root (codes "x")) (x_result Shown));
+  payload = fails Shown (of_image data_name ∷ []) (error.NoProperty 0)
+      (no_value (of_image data_name) (payload_result Shown)) (no_value (of_image data_name) (payload_result Shown));
   no_text = fails Text load_and_default (error.NoText 0) no_text no_text;
   no_number = fails Number load_and_default (error.NoNumber 1) no_number no_number;
   first = fails Number many (error.NoProperty 1) first first;
   field_of_tree = fails Shown (FieldAt field.Load ∷ []) error.WrongKind other_kind other_kind;
-  property_of_legacy = only_error one_legacy kernel_file (OfLegacy kernel_image) kernel_means Shown (of_root (codes "x") ∷ []) error.WrongKind
-      other other;
+  property_of_legacy = only_error one_legacy kernel_file (OfLegacy kernel_image) kernel_means Shown (of_root (codes "x") ∷ [])
+      error.WrongKind other other;
   name = only_error one_legacy kernel_file (OfLegacy kernel_image) kernel_means Number (FieldAt field.Load ∷ FieldAt field.Name ∷ [])
       (error.NoNumber 1) no_name_number no_name_number;
 }
@@ -253,8 +260,8 @@ get_errors_are_known one_legacy = record {
 
     other_kind : LacksValue Shown (FieldAt field.Load ∷ []) widest valued_file error.WrongKind
     other_kind =
-        lacks_value one_legacy valued_file (OfFit valued_meaning) valued_means Shown (FieldAt field.Load ∷ []) [] OfOtherKind [] error.WrongKind
-        refl refl
+        lacks_value one_legacy valued_file (OfFit valued_meaning) valued_means Shown (FieldAt field.Load ∷ []) [] OfOtherKind []
+        error.WrongKind refl refl
 
     other : LacksValue Shown (of_root (codes "x") ∷ []) widest kernel_file error.WrongKind
     other =

@@ -1,17 +1,19 @@
-use Rattle.std.proofs.Common.{◌≡◌, ◌≢◌, ◌⊎◌, ℕ, Bool, true, false, cond, List, [], ◌∷◌, ◌++◌, Option, Some, None, inl, inr, flat_map, map, refl, sym}
-use Rattle.std.proofs.Common.{IfNone, IfSome, ◌<◌, ◌≤◌, ◌-◌, arith, drop, length, take, ap, ◌∙◌, subst, append_assoc, append-nil, bytes_eq, codes}
+use Rattle.std.proofs.Common.{◌≡◌, ◌≢◌, ◌⊎◌, ℕ, Bool, true, false, cond, List, [], ◌∷◌, ◌++◌, Option, Some, None, inl, inr, flat_map, refl}
+use Rattle.std.proofs.Common.{sym}
+use Rattle.std.proofs.Common.{IfNone, IfSome, ◌<◌, ◌≤◌, ◌-◌, arith, drop, length, take, ap, ◌∙◌, subst, append_assoc, append-nil, bytes_eq}
+use Rattle.std.proofs.Common.{codes}
 use Rattle.std.specs.List.{AllByRecursion, find}
 use Rattle.std.proofs.lemmas.Grind.{flat_map-append}
 use Rattle.std.proofs.lemmas.Slice.Eq.{bytes_eq-Decides}
 use Rattle.std.proofs.lemmas.List.{drop_all, length-drop, take_all}
 use Rattle.std.specs.Borrow.{Bor}
 use Rattle.bi_common.specs.MadeFields.{bytes_of_names}
-use Rattle.bi_common.specs.Shown.{path, shown_text}
+use Rattle.bi_common.specs.Shown.{path}
 use Rattle.bi_common.proofs.ReadableWords.Cuts.{begin_apart, first_same, later_same}
 use Rattle.bi_common.proofs.ReadableWords.ShownNames.{same_shown}
 use Rattle.bi_values.specs.NameWords.{AreNoWords, AreWordsOf, BeginWithName, BeginWithNoName, IsNoPath, IsNoProperty, IsNoPropertyName}
 use Rattle.bi_values.specs.NameWords.{IsPathWord, IsShownPropertyName}
-use Rattle.bi_values.specs.ValueNames.{FieldAt, IsValueName, PropertyAt, ValueNameModel, field_word, words_of_value}
+use Rattle.bi_values.specs.ValueNames.{FieldAt, IsValueName, PropertyAt, ValueNameModel, field_word, header_fields, words_of_value}
 use Rattle.bi_values.specs.declared.value_name.HeaderField.{HeaderField}
 use Rattle.bi_values.specs.declared.value_name.HeaderField.TheVariants.{Name, Time, Load, Entry, Os, Arch, ImageType, Compression}
 use Rattle.bi_values.proofs.Steps.{one_path, path_begins}
@@ -20,12 +22,9 @@ use Rattle.bi_values.proofs.Steps.{one_path, path_begins}
 
 -- ---- fields
 
--- The fields in their order.
-abbrev pub all_fields : List HeaderField
-all_fields = Name ∷ Time ∷ Load ∷ Entry ∷ Os ∷ Arch ∷ ImageType ∷ Compression ∷ []
-
+-- The field with a word.
 abbrev field_by_word : List ℕ → Option HeaderField
-field_by_word word = find (λ one. bytes_eq (field_word one) word) all_fields
+field_by_word word = find (λ one. bytes_eq (field_word one) word) header_fields
 
 -- The word of a field finds it.
 found_by_word : (field : HeaderField) → field_by_word (field_word field) ≡ Some field
@@ -56,9 +55,10 @@ first_passes p (field ∷ fields) found is = by (p field) refl (first_passes p f
 -- A field that is found has the word.
 pub word_of_found : (word : List ℕ) (field : HeaderField) → field_by_word word ≡ Some field → field_word field ≡ word
 word_of_found word field is =
-    (bytes_eq-Decides (field_word field) word).0 (first_passes (λ one. bytes_eq (field_word one) word) all_fields field is)
+    (bytes_eq-Decides (field_word field) word).0 (first_passes (λ one. bytes_eq (field_word one) word) header_fields field is)
 
-pub found_has_word : (word : List ℕ) (found : Option HeaderField) → found ≡ field_by_word word → IfSome found (λ field. field_word field ≡ word)
+pub found_has_word : (word : List ℕ) (found : Option HeaderField) → found ≡ field_by_word word →
+    IfSome found (λ field. field_word field ≡ word)
 found_has_word word None is = tt
 found_has_word word (Some field) is = word_of_found word field (sym is)
 
@@ -135,9 +135,9 @@ one_more_value words rest later names name are is =
     ∙ are
 
 -- If no word is left, the words are those of the names.
-pub words_are : (words : List (List ℕ)) (names : List ValueNameModel) → AllByRecursion IsValueName names →
+pub value_words_are : (words : List (List ℕ)) (names : List ValueNameModel) → AllByRecursion IsValueName names →
     flat_map words_of_value names ≡ words → AreWordsOf words names
-words_are words names valid are = record { valid = valid; are = are; only = only }
+value_words_are words names valid are = record { valid = valid; are = are; only = only }
   where
     by : (others : List ValueNameModel) → (more : List ValueNameModel) × (others ≡ names ++ more) × ([] ≡ flat_map words_of_value more) →
         others ≡ names
@@ -154,7 +154,8 @@ pub no_words : (words rest : List (List ℕ)) (names : List ValueNameModel) → 
 no_words words rest names valid are some none others also same =
     by (rest_of_words names others rest valid also (are ∙ sym same))
   where
-    valid_after : (names more : List ValueNameModel) (name : ValueNameModel) → AllByRecursion IsValueName (names ++ name ∷ more) → IsValueName name
+    valid_after : (names more : List ValueNameModel) (name : ValueNameModel) → AllByRecursion IsValueName (names ++ name ∷ more) →
+        IsValueName name
     valid_after [] more name all = all.0
     valid_after (first ∷ names) more name all = valid_after names more name all.1
 
@@ -178,7 +179,7 @@ pub words_at_end : (words : List (Bor (List ℕ))) (at : ℕ) (names : List Valu
     flat_map words_of_value names ++ bytes_of_names (drop at words) ≡ bytes_of_names words → length words ≤ at →
     AreWordsOf (bytes_of_names words) names
 words_at_end words at names valid are past =
-    words_are (bytes_of_names words) names valid
+    value_words_are (bytes_of_names words) names valid
     (sym (append-nil (flat_map words_of_value names))
     ∙ ap (λ rest. flat_map words_of_value names ++ bytes_of_names rest) (sym (drop_all at words past)) ∙ are)
 
@@ -203,7 +204,8 @@ words_of_property place name names own is also = record {
 }
 
 -- Words after them.
-pub words_then : (words later : List (List ℕ)) (name : ValueNameModel) → BeginWithName words name [] → BeginWithName (words ++ later) name later
+pub words_then : (words later : List (List ℕ)) (name : ValueNameModel) → BeginWithName words name [] →
+    BeginWithName (words ++ later) name later
 words_then words later name begin = record {
   valid = begin.valid;
   are = ap (λ all. all ++ later) (begin.are ∙ append-nil (words_of_value name));

@@ -32,8 +32,8 @@ pub record IsTextOfValues (form : ValueForm) (names : List ValueNameModel) (limi
     pub means : MeansOnly limits file meaning
     pub has_values : IsTextOfResults (value_results form meaning names) text
 
--- A result is the reason that an error names, and the name of the value is the one at this index, if
--- the error has one.
+-- A result is the reason that an error names, and the name of the value is the one at this index,
+-- if the error has one.
 abbrev pub IsValueReason : (index : ℕ) → ValueResult → GetError → Type 0
 IsValueReason index result (error.Failed failed) = ⊥
 IsValueReason index result error.WrongKind = result ≡ OfOtherKind

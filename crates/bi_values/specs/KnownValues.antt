@@ -1,4 +1,5 @@
-use Rattle.std.specs.Prelude.{◌≡◌, ◌⊎◌, ℕ, List, [], ◌∷◌, ◌++◌, codes}
+use Rattle.std.specs.Prelude.{◌≡◌, ◌⊎◌, ℕ, List, [], ◌∷◌, ◌++◌, codes, Vec}
+use Rattle.std.specs.declared.alloc.Global.{Global}
 use Rattle.bi_base.specs.Cells.{cell, cell8}
 use Rattle.bi_base.specs.Limits.{widest}
 use Rattle.bi_base.specs.declared.fault.Error.TheVariants.{OutOfMemory}
@@ -9,13 +10,14 @@ use Rattle.bi_legacy.specs.KnownImages.{kernel_file}
 use Rattle.bi_values.specs.Getting.{IsValueReason, get_promise}
 use Rattle.bi_values.specs.NameWords.{AreNoWords, AreWordsOf}
 use Rattle.bi_values.specs.ValueNames.{FieldAt, PropertyAt, ValueNameModel, field_word}
+use Rattle.bi_values.specs.ValueNames.{names_of_path, value_name_model, value_name_models}
+use Rattle.bi_values.specs.declared.value_name.ValueName.TheVariants as variant
 use Rattle.bi_values.specs.ValueResults.{HasNoNumber, HasNoText, NoSuchProperty, OfOtherKind}
-use Rattle.bi_values.specs.ValueResults.{ValueBytes, ValueResult}
+use Rattle.bi_values.specs.ValueResults.{ValueBytes}
 use Rattle.bi_values.specs.declared.get_error.GetError.{GetError}
 use Rattle.bi_values.specs.declared.get_error.GetError.TheVariants as error
 use Rattle.bi_values.specs.declared.value_form.ValueForm.{ValueForm}
 use Rattle.bi_values.specs.declared.value_form.ValueForm.TheVariants.{Shown, Text, Number, Raw}
-use Rattle.bi_values.specs.declared.value_name.HeaderField.{HeaderField}
 use Rattle.bi_values.specs.declared.value_name.HeaderField.TheVariants as field
 
 -- Values of small files, and the words for their names, by which a reader can judge the
@@ -24,29 +26,29 @@ use Rattle.bi_values.specs.declared.value_name.HeaderField.TheVariants as field
 -- ---- a small flattened image tree
 
 -- What the root, the image `kernel-1`, its hash node and the configurations say.
-abbrev pub root_values : List Property
-root_values = (codes "model", codes "two" ++ 0 ∷ codes "texts" ++ 0 ∷ []) ∷ []
+abbrev pub valued_root : List Property
+valued_root = (codes "model", codes "two" ++ 0 ∷ codes "texts" ++ 0 ∷ []) ∷ []
 
-abbrev pub image_values : List Property
-image_values =
+abbrev pub valued_image : List Property
+valued_image =
     (data_name, codes "q")
     ∷ (codes "load", cell 0x80080000)
     ∷ (codes "wide", cell8 0x180000000)
     ∷ (codes "nothing", [])
     ∷ []
 
-abbrev pub hash_values : List Property
-hash_values = (data_name, codes "x" ++ 0 ∷ []) ∷ []
+abbrev pub valued_hash : List Property
+valued_hash = (data_name, codes "x" ++ 0 ∷ []) ∷ []
 
-abbrev pub configurations_values : List Property
-configurations_values = (default_name, codes "conf-1" ++ 0 ∷ []) ∷ []
+abbrev pub valued_configurations : List Property
+valued_configurations = (default_name, codes "conf-1" ++ 0 ∷ []) ∷ []
 
 abbrev pub valued_tree : Root (List Property)
 valued_tree = record {
-  own = root_values;
+  own = valued_root;
   children = node images_name []
-      (node (codes "kernel-1") image_values (node (codes "hash-1") hash_values none none) none)
-      (node configurations_name configurations_values none none);
+      (node (codes "kernel-1") valued_image (node (codes "hash-1") valued_hash none none) none)
+      (node configurations_name valued_configurations none none);
 }
 
 -- A file with this tree, and a byte after the blob.
@@ -146,7 +148,8 @@ pub record GetErrorsAreKnown : Type 0 where
       ∷ FieldAt field.Load ∷ [])
       valued_file (error.NoProperty 1)
   pub field_of_tree : IsOnlyGetError Shown (FieldAt field.Load ∷ []) valued_file error.WrongKind
-  pub property_of_legacy : IsOnlyGetError Shown (of_root (codes "x") ∷ []) kernel_file error.WrongKind
+  pub property_of_legacy : IsOnlyGetError Shown (of_root (codes "x") ∷ []) kernel_file
+      error.WrongKind
   pub name : IsOnlyGetError Number (FieldAt field.Load ∷ FieldAt field.Name ∷ []) kernel_file
       (error.NoNumber 1)
 
@@ -159,6 +162,15 @@ pub record ValueReasonsAreKnown : Type 0 where
   pub other_index : ¬ (IsValueReason 3 NoSuchProperty (error.NoProperty 2))
   pub bytes : (index : ℕ) (bytes : List ℕ) (given : GetError)
       → ¬ (IsValueReason index (ValueBytes bytes) given)
+
+-- Names as the code has them.
+pub record NamesOfValuesAreKnown : Type 0 where
+  pub of_field : value_name_models (variant.Field field.Load ∷ []) ≡ FieldAt field.Load ∷ []
+  pub of_path : (first second : Vec ℕ Global)
+      → names_of_path (first ∷ second ∷ []) ≡ first.items ∷ second.items ∷ []
+  pub of_property : (path : Vec (Vec ℕ Global) Global) (name first : Vec ℕ Global)
+      → path.items ≡ first ∷ []
+      → value_name_model (variant.Property path name) ≡ PropertyAt (first.items ∷ []) name.items
 
 -- ---- words
 

@@ -1,5 +1,5 @@
-use Rattle.std.specs.Prelude.{◌≡◌, ◌≢◌, ◌≤◌, ◌<◌, ℕ, List, [], ◌∷◌, ◌++◌, codes, length, map}
-use Rattle.std.specs.Prelude.{flat_map, ⊤, Vec}
+use Rattle.std.specs.Prelude.{◌≤◌, ℕ, List, [], ◌∷◌, codes, length, map}
+use Rattle.std.specs.Prelude.{⊤, Vec}
 use Rattle.std.specs.declared.alloc.Global.{Global}
 use Rattle.std.specs.List.{AllByRecursion}
 use Rattle.bi_base.specs.Cells.{AreBytes}
@@ -7,7 +7,8 @@ use Rattle.bi_blob.specs.Tree.{IsChildName, IsPropertyName}
 use Rattle.bi_common.specs.Shown.{path, shown_text}
 use Rattle.bi_values.specs.declared.value_name.HeaderField.{HeaderField}
 use Rattle.bi_values.specs.declared.value_name.HeaderField.TheVariants.{Name, Time, Load, Entry, Os}
-use Rattle.bi_values.specs.declared.value_name.HeaderField.TheVariants.{Arch, ImageType, Compression}
+use Rattle.bi_values.specs.declared.value_name.HeaderField.TheVariants.{Arch, ImageType}
+use Rattle.bi_values.specs.declared.value_name.HeaderField.TheVariants.{Compression}
 use Rattle.bi_values.specs.declared.value_name.ValueName.{ValueName}
 use Rattle.bi_values.specs.declared.value_name.ValueName.TheVariants as variant
 
@@ -30,6 +31,10 @@ value_name_model (variant.Field field) = FieldAt field
 
 abbrev pub value_name_models : List ValueName → List ValueNameModel
 value_name_models names = map value_name_model names
+
+-- The fields, in the order of a listing.
+abbrev pub header_fields : List HeaderField
+header_fields = Name ∷ Time ∷ Load ∷ Entry ∷ Os ∷ Arch ∷ ImageType ∷ Compression ∷ []
 
 -- The word for a field: the key of its line in a listing.
 abbrev pub field_word : HeaderField → List ℕ

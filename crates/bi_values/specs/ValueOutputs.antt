@@ -24,5 +24,5 @@ abbrev pub output_texts : List ValueOutput → List (List ℕ)
 output_texts outputs = map output_text outputs
 
 -- The result that the code has.
-abbrev pub result_of_output : ValueOutput → ValueResult
+abbrev pub result_of_output : (output : ValueOutput) → ValueResult
 result_of_output output = ValueBytes (output_text output)

@@ -1,4 +1,5 @@
-use Rattle.std.specs.Prelude.{ℕ, ◌==◌, false, List, [], ◌∷◌, ◌++◌, Option, None, Some, codes, length, map}
+use Rattle.std.specs.Prelude.{ℕ, ◌==◌, false, List, [], ◌∷◌, ◌++◌, Option, None, Some, codes}
+use Rattle.std.specs.Prelude.{length, map}
 use Rattle.std.specs.Prelude.{if◌then◌else◌}
 use Rattle.bi_base.specs.Cells.{cell, u32_at, u64_at}
 use Rattle.bi_fit.specs.Judgement.{listed_names}
@@ -7,7 +8,7 @@ use Rattle.bi_legacy.specs.Codes.{compression_names}
 use Rattle.bi_legacy.specs.Meaning.{LegacyImage}
 use Rattle.bi_norm.specs.Meaning.{Meaning, OfLegacy, OfFit}
 use Rattle.bi_common.specs.CommonLines.{named_field}
-use Rattle.bi_common.specs.Lines.{Field, Line, Text, Decimal, Hexadecimal, Hexadecimal64, Value}
+use Rattle.bi_common.specs.Lines.{Field, Text, Decimal, Hexadecimal, Hexadecimal64, Value}
 use Rattle.bi_common.specs.Lines.{Name as ShownName, text_of_lines}
 use Rattle.bi_common.specs.Shown.{digits_of_byte}
 use Rattle.bi_common.specs.ValueTexts.{are_quotable_texts}
@@ -117,7 +118,8 @@ result_of_field form field image = ValueBytes (word_line (shown_field field imag
 
 -- A value of what a boot image means, in a form.
 abbrev pub value_result : ValueForm → Meaning → ValueNameModel → ValueResult
-value_result form (OfFit tree) (PropertyAt path name) = result_of_property form (value_at tree path name)
+value_result form (OfFit tree) (PropertyAt path name) =
+    result_of_property form (value_at tree path name)
 value_result form (OfLegacy image) (FieldAt field) = result_of_field form field image
 value_result form meaning name = OfOtherKind
 

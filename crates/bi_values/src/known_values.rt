@@ -4,7 +4,7 @@
 
 ghost use Rattle.bi_values.specs.KnownValues.{FieldValuesAreKnown, GetErrorsAreKnown};
 ghost use Rattle.bi_values.specs.KnownValues.{NameWordsAreKnown, PropertyValuesAreKnown};
-ghost use Rattle.bi_values.specs.KnownValues.{ValueReasonsAreKnown};
+ghost use Rattle.bi_values.specs.KnownValues.{NamesOfValuesAreKnown, ValueReasonsAreKnown};
 
 /// The values of some properties of a small flattened image tree are known, in each form.
 pub fn property_values_are_known()
@@ -35,4 +35,9 @@ pub fn value_reasons_are_known()
 /// Known words are those of known names of values, and others are those of none.
 pub fn name_words_are_known()
     ensures { NameWordsAreKnown }
+{}
+
+/// The names of values, as the code has them, are known names.
+pub fn names_of_values_are_known()
+    ensures { NamesOfValuesAreKnown }
 {}

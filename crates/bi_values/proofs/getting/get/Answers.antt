@@ -28,7 +28,8 @@ returns-clause-values c =
     let names = value_name_models c.args.names.now in
     subst (IsTextOfValues c.args.form names c.args.limits c.args.file.now)
     (text_in_memory c.new-pen.result c.put_outputs.new.pen c.in_ok-outputs.outputs.items c.in_ok-into_vec.field-0.items
-    c.new-pen.ensures c.in_ok-into_vec.ensures.text (subst (λ (outputs : List ValueOutput). MemoryPuts c.new-pen.result (flat_map output_text outputs) c.put_outputs.new.pen)
+    c.new-pen.ensures c.in_ok-into_vec.ensures.text
+    (subst (λ (outputs : List ValueOutput). MemoryPuts c.new-pen.result (flat_map output_text outputs) c.put_outputs.new.pen)
     c.deref.ensures.value c.put_outputs.ensures))
     (outputs_of_file c.args.form names c.args.limits c.args.file.now c.in_ok-image.image c.in_ok-outputs.outputs.items
     c.in_ok-image.ensures.read c.in_ok-outputs.ensures.outputs)

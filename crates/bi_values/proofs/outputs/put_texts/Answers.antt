@@ -16,8 +16,7 @@ text_lines-snoc texts text =
 pub loop-text-preserved : goal.loop-text-preserved
 loop-text-preserved g c =
     let before = c.loop-text.invariant.0 in
-    let text = c.in-Some.text.now in
-    (
+    let text = c.in-Some.text.now in (
       before ++ text ∷ [],
       c.loop-text.invariant.1 ∙ ap (λ names. before ++ names) c.in-Some.ensures.listed
           ∙ sym (append_assoc before (text ∷ []) (listed_names c.in-Some.later.now)),

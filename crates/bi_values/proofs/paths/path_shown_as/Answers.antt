@@ -18,6 +18,11 @@ returns-clause-none c =
       | then-len-gt-MOST_STEPS w ↦ subst HasNone (sym w.result-is)
           (no_long_path text (names_of_path c.in-Some.names.items)
           (λ same. other_bytes text c.as_slice.result.now (sym c.eq.ensures ∙ c.if-eq.false) (same ∙ sym c.as_slice.ensures)) are
-          (omega (arith, w.if-len-gt-MOST_STEPS.true, c.len.ensures, length-map c.in-Some.names.items (λ (name : Vec ℕ Global). name.items))))
+          (omega (
+            arith,
+            w.if-len-gt-MOST_STEPS.true,
+            c.len.ensures,
+            length-map c.in-Some.names.items (λ (name : Vec ℕ Global). name.items),
+          )))
       | else-len-gt-MOST_STEPS w ↦ subst HasNone (sym w.result-is) tt
     ]

@@ -1,4 +1,4 @@
-use Rattle.bi_values.proofs.ValueWords.{found_has_word, no_field_found}
+use Rattle.bi_values.proofs.ValueWords.{found_has_word}
 use Rattle.bi_values.proofs.value_name.HeaderField.from_word.Goals as goal
 
 pub returns-clause-some : goal.returns-clause-some
