@@ -1,0 +1,74 @@
+use Rattle.std.specs.Prelude.{◌≡◌, ◌≢◌, ◌≤◌, ◌⊎◌, ℕ, List, [], ◌∷◌, ◌++◌, codes, length, Ok}
+use Rattle.std.specs.List.{join_with_byte}
+use Rattle.hex.specs.Hex.{decode_of}
+use Rattle.bi_base.specs.Cells.{AreBytes}
+use Rattle.bi_common.specs.Shown.{Words, path, shown_text}
+use Rattle.bi_common.specs.ValueTexts.{value_words}
+use Rattle.bi_edit.specs.declared.edit.Edit.{Edit}
+use Rattle.bi_edit.specs.declared.edit.Edit.TheVariants.{RemoveNode, RemoveProperty}
+use Rattle.bi_edit.specs.Places.{IsNodePath, IsChildNameOfBytes, IsPropertyNameOfBytes, Place}
+
+-- The words for edits on the command line: nodes, properties and values are given as they are
+-- printed in a description (profile of this project).
+
+-- The word for the path of a node.
+pub record IsPathWord (word : List ℕ) (names : List (List ℕ)) : Type 0 where
+  pub is_path : IsNodePath names
+  pub is : path names ≡ word
+
+-- The word for the name of a child, and for that of a property.
+pub record IsChildWord (word name : List ℕ) : Type 0 where
+  pub is_name : IsChildNameOfBytes name
+  pub is : shown_text name ≡ word
+
+pub record IsPropertyWord (word name : List ℕ) : Type 0 where
+  pub is_name : IsPropertyNameOfBytes name
+  pub is : shown_text name ≡ word
+
+-- The text is how this value is printed, and how no other is.
+abbrev pub value_text : List ℕ → List ℕ
+value_text value = join_with_byte 32 (value_words value)
+
+-- The text is `0x` and two hexadecimal digits, of either case, for each byte of this value.
+pub record IsHexadecimal (text value : List ℕ) : Type 0 where
+  pub digits : List ℕ
+  pub is : text ≡ codes "0x" ++ digits
+  pub are_digits : decode_of digits ≡ Ok value
+
+-- The text is `0x` and digits of either case, or how the value is printed.
+abbrev pub IsValueText : List ℕ → List ℕ → Type 0
+IsValueText text value =
+    IsHexadecimal text value ⊎ (AreBytes value × (value_text value ≡ text))
+
+-- The words for a property: the path of its node, and its name.
+abbrev pub place_words : Place → Words
+place_words place = path place.path ∷ shown_text place.name ∷ []
+
+-- The word for a removal: the path of a node; or that of the node of a property, a space, and the
+-- name of the property.
+abbrev pub IsRemovalWord : List ℕ → Edit → Type 0
+IsRemovalWord word (RemoveNode names) = path names ≡ word
+IsRemovalWord word (RemoveProperty place) = join_with_byte 32 (place_words place) ≡ word
+IsRemovalWord word edit = ⊥
+
+-- What is after the name of a property: nothing for an empty value; or else a space, and a text
+-- that is not empty for the value.
+pub data IsValueAfter : (after value : List ℕ) → Type 0 where
+  NoText : IsValueAfter [] []
+  AfterSpace : (text value : List ℕ) → text ≢ [] → IsValueText text value
+      → IsValueAfter (32 ∷ text) value
+
+-- The word for a new value of a property: the path of its node, a space, the name, and the value.
+pub record IsSettingWord (word : List ℕ) (place : Place) (value : List ℕ) : Type 0 where
+  pub after : List ℕ
+  pub is : word ≡ join_with_byte 32 (place_words place) ++ after
+  pub is_value : IsValueAfter after value
+
+-- The word for a new payload: the name of the image, `=@`, and the name of a file, which is not
+-- empty. The name of the image ends at the first `=@` of the word.
+pub record IsPayloadWord (word image file : List ℕ) : Type 0 where
+  pub is_name : IsChildNameOfBytes image
+  pub is : word ≡ shown_text image ++ (codes "=@" ++ file)
+  pub first : (before after : List ℕ) → word ≡ before ++ (codes "=@" ++ after)
+      → length (shown_text image) ≤ length before
+  pub some : file ≢ []

@@ -1,0 +1,6 @@
+pub mod Places
+pub mod Plain
+pub mod Edits
+pub mod Cuts
+pub mod Unquoted
+pub mod EditWords

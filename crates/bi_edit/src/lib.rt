@@ -1,0 +1,9 @@
+//! Edits of boot images: what they make of an image, and the words for them.
+#![tactic(auto)]
+
+mod edit;
+mod places;
+pub mod words;
+
+pub use edit::{Edit, FieldValue};
+pub use places::{ImageName, NodePath, NodePlace, PropertyPlace};

@@ -1,0 +1,117 @@
+//! The words for edits on the command line.
+
+ghost use Rattle.std.specs.Prelude.{◌≡◌, ◌≢◌, ℕ, List, IfOk, IfErr, IfSome, IfNone};
+ghost use Rattle.bi_base.specs.declared.fault.Error.TheVariants.{OutOfMemory};
+ghost use Rattle.bi_edit.specs.declared.edit.Edit.{Edit};
+ghost use Rattle.bi_edit.specs.Places.{IsPlace, Place, IsRemovable};
+ghost use Rattle.bi_edit.specs.EditWords.{IsRemovalWord, IsSettingWord, IsPayloadWord};
+
+mod cut;
+mod names;
+mod paths;
+mod values;
+
+use crate::edit::Edit;
+use crate::places::{ImageName, NodePlace, PropertyPlace};
+use bi_base::Error;
+use cut::cut;
+pub use names::{child_name, property_name};
+pub use paths::node_path;
+use std::alloc::Global;
+pub use values::value;
+
+/// Parses the word for a removal: the path of a node, or the path and the name of a property with a
+/// space between them, each as it is printed. Returns None exactly for any other word, for the root
+/// and the node `images` below it, and for a property of an image node that holds its payload or
+/// names its region.
+///
+/// Fails only with OutOfMemory.
+pub fn removal<'a>(alloc: Global, word: &[u8]) -> Result<Option<Edit<'a>>, Error> {
+    let (first, name) = cut(word, b' ');
+    let Some(path) = node_path(alloc, first)? else {
+        return Ok(None);
+    };
+    let Some(name) = name else {
+        return Ok(NodePlace::new(path).map(Edit::RemoveNode));
+    };
+    let Some(name) = property_name(alloc, name)? else {
+        return Ok(None);
+    };
+    Ok(PropertyPlace::new(path, name).map(Edit::RemoveProperty))
+}
+
+/// A new value of a property.
+#[derive(Debug, Drop)]
+pub struct Setting {
+    /// The property.
+    pub place: PropertyPlace,
+    /// The value.
+    pub value: Vec<u8>,
+}
+
+/// Parses the word for a new value of a property: the path of its node, its name, and the value
+/// unless it is empty, with a space between each two. Path and name are as they are printed. So is
+/// the value; or it is `0x` and an even number of hexadecimal digits of either case. Returns None
+/// exactly for any other word, and for a property of an image node that holds its payload or names
+/// its region.
+///
+/// Fails only with OutOfMemory.
+pub fn setting(alloc: Global, word: &[u8]) -> Result<Option<Setting>, Error> {
+    let (first, rest) = cut(word, b' ');
+    let Some(rest) = rest else {
+        return Ok(None);
+    };
+    let (second, text) = cut(rest, b' ');
+    let Some(path) = node_path(alloc, first)? else {
+        return Ok(None);
+    };
+    let Some(name) = property_name(alloc, second)? else {
+        return Ok(None);
+    };
+    let Some(place) = PropertyPlace::new(path, name) else {
+        return Ok(None);
+    };
+    let Some(value) = value_after(alloc, text)? else {
+        return Ok(None);
+    };
+    Ok(Some(Setting { place, value }))
+}
+
+/// Parses the text for a value, if there is one. Without a text the value is empty.
+fn value_after(alloc: Global, text: Option<&[u8]>) -> Result<Option<Vec<u8>>, Error> {
+    match text {
+        None => Ok(Some(Vec::new(alloc))),
+        Some([]) => Ok(None),
+        Some(text) => value(alloc, text),
+    }
+}
+
+/// Where the payload of an image comes from.
+#[derive(Debug, Drop)]
+pub struct PayloadWord<'a> {
+    /// The name of the image.
+    pub image: ImageName,
+    /// The name of the file that has the payload.
+    pub file: &'a str,
+}
+
+/// Parses the word for a new payload: the name of an image as it is printed, `=@`, and the name of
+/// a file. The name of the image ends at the first `=@`. Returns None exactly for any other word,
+/// also if the name of the file is empty.
+///
+/// Fails only with OutOfMemory.
+pub fn payload<'a>(alloc: Global, word: &'a str) -> Result<Option<PayloadWord<'a>>, Error> {
+    let Some((shown, file)) = word.split_once("=@") else {
+        return Ok(None);
+    };
+    if file.is_empty() {
+        return Ok(None);
+    }
+    let Some(name) = child_name(alloc, shown.as_bytes())? else {
+        return Ok(None);
+    };
+    let Some(image) = ImageName::new(name) else {
+        return Ok(None);
+    };
+    Ok(Some(PayloadWord { image, file }))
+}

@@ -1,0 +1,88 @@
+//! Values as they are printed.
+
+ghost use Rattle.std.specs.Prelude.{◌≡◌, ◌≢◌, [], ℕ, List, IfOk, IfErr, IfSome, IfNone, OnOk};
+ghost use Rattle.bi_base.specs.declared.fault.Error.TheVariants.{OutOfMemory};
+ghost use Rattle.bi_base.specs.Cells.{AreBytes};
+ghost use Rattle.bi_edit.specs.EditWords.{IsValueText, value_text};
+ghost use Rattle.bi_edit.specs.Unquoted.{unquoted as unquoted_of, Outside};
+
+use bi_base::{Error, MemoryPen, are_bytes};
+use bi_common::fields::{Field, put_field};
+use hex::FromHexError;
+use std::alloc::{AllocError, Global};
+
+/// Returns the value that a text is for: `0x` and an even number of hexadecimal digits of either
+/// case, or a value as it is printed. Returns None if there is none.
+///
+/// Fails only with OutOfMemory.
+pub fn value(alloc: Global, text: &[u8]) -> Result<Option<Vec<u8>>, Error>
+    ensures some { IfOk result (λ found. IfSome found (λ value. IsValueText text.now value.items)) }
+    ensures none { IfOk result (λ found. IfNone found
+        ((value : List ℕ) → IsValueText text.now value → ⊥)) }
+    ensures failed { IfErr result (λ error. error ≡ OutOfMemory) }
+{
+    match text {
+        [b'0', b'x', digits @ ..] => bytes_of_digits(alloc, digits),
+        _ => printed_value(alloc, text),
+    }
+}
+
+/// Returns the bytes of hexadecimal digits. Returns None if the text is none, or their number is
+/// odd. Fails only with OutOfMemory.
+fn bytes_of_digits(alloc: Global, digits: &[u8]) -> Result<Option<Vec<u8>>, Error> {
+    match hex::decode(alloc, digits) {
+        Ok(bytes) => Ok(Some(bytes)),
+        Err(FromHexError::OutOfMemory) => Err(Error::OutOfMemory),
+        Err(_) => Ok(None),
+    }
+}
+
+/// Returns the value that is printed as a text. Returns None if there is none. Fails only with
+/// OutOfMemory. Requires: the text does not begin with `0x`.
+fn printed_value(alloc: Global, text: &[u8]) -> Result<Option<Vec<u8>>, Error> {
+    let value = unquoted(alloc, text)?;
+    are_bytes(&value);
+    let mut pen = MemoryPen::new(alloc);
+    put_field(Field::Value(&value), &mut pen);
+    let printed = pen.into_vec()?;
+    Ok(if printed == text { Some(value) } else { None })
+}
+
+/// Where a byte of a text is.
+#[derive(Clone, Copy)]
+enum Quoting {
+    /// Outside quotes.
+    Outside,
+    /// Inside quotes.
+    Inside,
+    /// Inside quotes, after a backslash.
+    Escaped,
+}
+
+/// Returns the bytes inside quotes in a text, without the backslashes before others, and a zero for
+/// each quote that ends some. Fails if memory runs out.
+fn unquoted(alloc: Global, text: &[u8]) -> Result<Vec<u8>, AllocError>
+    ensures { IfOk result (λ bytes. bytes.items ≡ unquoted_of Outside text.now) }
+{
+    let mut bytes = Vec::new(alloc);
+    let mut quoting = Quoting::Outside;
+    for byte in text {
+        let (next, some) = after_byte(quoting, *byte);
+        if let Some(byte) = some {
+            bytes.push(byte)?;
+        }
+        quoting = next;
+    }
+    Ok(bytes)
+}
+
+/// Returns where the byte after this one is, and what this one stands for.
+fn after_byte(quoting: Quoting, byte: u8) -> (Quoting, Option<u8>) {
+    match (quoting, byte) {
+        (Quoting::Outside, b'"') => (Quoting::Inside, None),
+        (Quoting::Outside, _) => (Quoting::Outside, None),
+        (Quoting::Inside, b'"') => (Quoting::Outside, Some(0)),
+        (Quoting::Inside, b'\\') => (Quoting::Escaped, None),
+        (Quoting::Inside | Quoting::Escaped, _) => (Quoting::Inside, Some(byte)),
+    }
+}
