@@ -1,0 +1,4 @@
+pub mod Changes
+pub mod NodeCodes
+pub mod Properties
+pub mod TreeNodes

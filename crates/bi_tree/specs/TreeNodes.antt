@@ -1,0 +1,42 @@
+use Rattle.std.specs.Prelude.{ℕ, ◌+◌, ◌≤◌, List, [], ◌∷◌, refl, map}
+use Rattle.std.proofs.Common.{arith}
+use Rattle.std.specs.Coded.{Coded, code_by, coded×, coded_list, coded_ℕ}
+use denote.Param.Weighed.{most}
+use Rattle.bi_blob.specs.Tree.{Nodes, none, node, Property, Root, node_count}
+use Rattle.bi_tree.specs.NodeCodes.{nodes_code}
+
+-- What a node of a tree that can be changed shows.
+
+-- Its name, its properties, and the nodes below it.
+pub record NodeModel : Type 0 where
+  pub name : List ℕ
+  pub own : List Property
+  pub children : Nodes (List Property)
+
+-- It is stored as these three.
+abbrev pub node_code : Coded NodeModel
+node_code =
+    code_by (List ℕ × (List Property × Nodes (List Property)))
+    (coded× (coded_list coded_ℕ)
+    (coded× (coded_list (coded× (coded_list coded_ℕ) (coded_list coded_ℕ))) nodes_code))
+    (λ top. (top.name, (top.own, top.children)))
+    (λ parts. record { name = parts.0; own = parts.1.0; children = parts.1.1 })
+    (λ _. refl)
+
+-- Nodes, as a list of them shows them.
+abbrev pub nodes_of : List NodeModel → Nodes (List Property)
+nodes_of [] = none
+nodes_of (first ∷ later) = node first.name first.own first.children (nodes_of later)
+
+-- A node without its name.
+abbrev pub below : NodeModel → Root (List Property)
+below top = record { own = top.own; children = top.children }
+
+-- How many nodes there are below a node, with itself.
+abbrev pub node_size : NodeModel → ℕ
+node_size top = node_count top.children + 1
+
+pub most_le_count : (nodes : List NodeModel)
+    → most (λ top. node_size top + 1) nodes ≤ node_count (nodes_of nodes) + 1
+most_le_count [] = omega arith
+most_le_count (first ∷ later) = omega (arith, most_le_count later)
