@@ -87,7 +87,8 @@ pub record LegacyElementsAreKnown : Type 0 where
   pub fields : AreLegacyFields 0x7fffffff 64 kernel_file_with_rest (kernel_fields 2)
   pub multi_fields : AreLegacyFields 0x7fffffff 64 multi_file (kernel_fields 4)
   pub part : ArePartRegions 0x7fffffff 64 kernel_file_with_rest (region_at_offset 64 9 ∷ []) 7
-  pub parts : ArePartRegions 0x7fffffff 64 multi_file (region_at_offset 76 5 ∷ region_at_offset 84 3 ∷ []) 0
+  pub parts : ArePartRegions 0x7fffffff 64 multi_file
+      (region_at_offset 76 5 ∷ region_at_offset 84 3 ∷ []) 0
 
 -- The hash node of the image of a tree. It is good.
 abbrev pub shown_hash_element : HashElement
@@ -106,7 +107,8 @@ pub record TreeElementsAreKnown : Type 0 where
   pub reservations : AreReservationElements 0x7fffffff 64 shown_file [] 0
   pub images : AreImageElements 0x7fffffff 64 shown_file
       (record { name = region_at_offset 112 1; payload = region_at_offset 596 3; place = 2 } ∷ []) 0
-  pub configurations : AreConfigurationRegions 0x7fffffff 64 shown_file (region_at_offset 360 1 ∷ []) 0
+  pub configurations : AreConfigurationRegions 0x7fffffff 64 shown_file
+      (region_at_offset 360 1 ∷ []) 0
   pub kernels : AreImageIndices 0x7fffffff 64 0 shown_file (codes "c") (0 ∷ []) 0
   pub hashes : AreHashElements 0x7fffffff 64 shown_file
       (shown_hash_element ∷ []) 0

@@ -113,6 +113,7 @@ pub record BuiltPartsAreKnown : Type 0 where
       × IsBuiltAs limits form head plan images output
   pub fit_fault : (form : Form) (head : Head) (plan : PlanSpecModel) (limits : Limits)
       (fault : Fault)
-      → (build_fit_promise form head plan kernel_and_tree mixed_parts limits).has_error (codes "abcd")
+      → (build_fit_promise form head plan kernel_and_tree mixed_parts limits).has_error
+      (codes "abcd")
       (Refused fault)
       → fault ≡ record { cause = BadPart; offset = 3 }

@@ -1,5 +1,6 @@
 use Rattle.std.proofs.Common.{◌≡◌, ℕ, zero, suc, ◌^◌, ◌+◌, ◌/◌, ◌%◌, ◌<◌, not, Bool, true, false, cond, ltb}
-use Rattle.std.proofs.Common.{List, [], ◌∷◌, ◌++◌, append-nil, append_assoc, arith, codes, flat_map, get_or, length, nat_le, refl, subst, sym, ◌∙◌}
+use Rattle.std.proofs.Common.{List, [], ◌∷◌, ◌++◌, append-nil, append_assoc, arith}
+use Rattle.std.proofs.Common.{codes, flat_map, get_or, length, nat_le, refl, subst, sym, ◌∙◌}
 use Rattle.std.specs.Fmt.{decimal}
 use Rattle.std.specs.List.{AllByRecursion, list_all}
 use Rattle.std.proofs.lemmas.Bool.{and_parts}
@@ -7,7 +8,8 @@ use Rattle.std.proofs.lemmas.Bool.Decides.{nat_tests}
 use Rattle.std.proofs.lemmas.Fmt.{decimal_digit, decimal_nonempty, first_decimal}
 use Rattle.bi_common.specs.Json.{Json, JsonValues, JsonMembers, bool_text, is_plain_byte, json_text, members_text, string_byte}
 use Rattle.bi_common.specs.Json.{string_text, values_text, HasNumbers, HaveNumbers, MembersHaveNumbers, json_values}
-use Rattle.bi_common.specs.Json.{json_null, json_bool, json_number, json_string, array_of, object_of, no_value, next_value, no_member, next_member}
+use Rattle.bi_common.specs.Json.{json_null, json_bool, json_number, json_string, array_of}
+use Rattle.bi_common.specs.Json.{object_of, no_value, next_value, no_member, next_member}
 use Rattle.bi_common.specs.JsonGrammar.{AreCharacters, NoCharacter, Unescaped, Escaped, ByNumber, is_escaped, is_hexadecimal, is_unescaped}
 use Rattle.bi_common.specs.JsonGrammar.{IsDigits, Digit, Digits, is_digit, IsInteger, Zero, OneDigit, FirstDigit, is_first_digit}
 use Rattle.bi_common.specs.JsonGrammar.{NoMinus, NoFraction, NoExponent, IsJsonString, Quoted, IsStructural, NoSpace}

@@ -11,7 +11,8 @@ use Rattle.bi_base.proofs.ByteLists.{AreBytes-right}
 use Rattle.bi_base.proofs.ListMembers.{each-append}
 use Rattle.bi_common.specs.Json.{Json, JsonValues, JsonMembers, bool_text, comma, is_plain_byte, json_line, json_text, members_text}
 use Rattle.bi_common.specs.Json.{string_byte, string_text, values_text}
-use Rattle.bi_common.specs.Json.{json_null, json_bool, json_number, json_string, array_of, object_of, no_value, next_value, no_member, next_member}
+use Rattle.bi_common.specs.Json.{json_null, json_bool, json_number, json_string, array_of}
+use Rattle.bi_common.specs.Json.{object_of, no_value, next_value, no_member, next_member}
 use Rattle.bi_common.specs.JsonLaws.{JsonLinesAreAscii}
 use Rattle.bi_common.specs.Shown.{digits_of_byte, is_plain}
 use Rattle.bi_common.specs.ValueTexts.{is_printable, needs_backslash}

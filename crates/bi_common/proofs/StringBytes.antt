@@ -6,7 +6,7 @@ use Rattle.bi_common.specs.Json.{is_plain_byte, string_byte}
 use Rattle.bi_common.specs.Shown.{digits_of_byte}
 use Rattle.bi_common.specs.ValueTexts.{needs_backslash}
 
--- Bytes of a string that stand for themselves, and what is put for a string.
+-- Bytes of a string that are written as they are, and what is put for a string.
 
 pub plain_bytes : (bytes : List ℕ) → list_all is_plain_byte bytes ≡ true → flat_map string_byte bytes ≡ bytes
 plain_bytes [] are = refl

@@ -1,4 +1,5 @@
-use Rattle.std.proofs.Common.{◌≡◌, ℕ, ◌||◌, not, Bool, true, false, cond, List, [], ◌∷◌, ◌++◌, append-nil, append_assoc, flat_map, refl, sym, ap, ◌∙◌}
+use Rattle.std.proofs.Common.{◌≡◌, ℕ, ◌||◌, not, Bool, true, false, cond, List, [], ◌∷◌}
+use Rattle.std.proofs.Common.{◌++◌, append-nil, append_assoc, flat_map, refl, sym, ap, ◌∙◌}
 use Rattle.std.proofs.Common.{arith, subst}
 use Rattle.std.specs.List.{join_with_byte}
 use Rattle.bi_common.specs.LineTokens.{LineToken, EndOfLine, is_nothing, line_tokens, line_writing, one_field, end_of_line, space}
@@ -76,7 +77,8 @@ words_written (word ∷ words) is_later rest =
     let text : List ℕ = cond (is_nothing word) [] (space is_later ++ field_text word) in
     ap (λ (later : List ℕ). text ++ later) (words_written words (not (is_nothing word) || is_later) rest)
     ∙ sym (append_assoc text _ _)
-    ∙ ap (λ (later : List ℕ). later ++ (10 ∷ tokens_text line_writing false rest)) (sym (word_before word is_later (flat_map field_texts words)))
+    ∙ ap (λ (later : List ℕ). later ++ (10 ∷ tokens_text line_writing false rest))
+    (sym (word_before word is_later (flat_map field_texts words)))
 
 -- Lines.
 line_written : (words : Line) (rest : List LineToken) →
@@ -98,4 +100,5 @@ pub lines_put : {P : Type 0} (puts : P → List ℕ → P → Type 0) (old new b
     old ≡ begin → new ≡ end → puts old (tokens_text line_writing before (tokens_of_lines lines)) new → puts begin (text_of_lines lines) end
 lines_put puts old new begin end before lines first begins ends put =
     rw (sym begins, sym ends)
-    (subst (λ (text : List ℕ). puts old text new) (ap (λ b. tokens_text line_writing b (tokens_of_lines lines)) first ∙ text_of_tokens lines) put)
+    (subst (λ (text : List ℕ). puts old text new)
+    (ap (λ b. tokens_text line_writing b (tokens_of_lines lines)) first ∙ text_of_tokens lines) put)

@@ -1,8 +1,11 @@
 use Rattle.std.proofs.Common.{◌≤◌, length, take, take_all}
-use Rattle.std.proofs.Common.{◌≡◌, ℕ, Bool, true, false, List, [], ◌∷◌, ◌++◌, append-nil, append_assoc, refl, sym, ap, ◌∙◌, flat_map, map, subst}
+use Rattle.std.proofs.Common.{◌≡◌, ℕ, Bool, true, false, List, [], ◌∷◌, ◌++◌}
+use Rattle.std.proofs.Common.{append-nil, append_assoc, refl, sym, ap, ◌∙◌, flat_map, map, subst}
 use Rattle.bi_common.specs.Json.{Json, JsonValues, JsonMembers, Member, comma, json_text, members_text, string_text, values_text}
-use Rattle.bi_common.specs.Json.{json_null, json_bool, json_number, json_string, array_of, object_of, no_value, next_value, no_member, next_member}
-use Rattle.bi_common.specs.JsonTokens.{JsonToken, EndArray, EndObject, MemberName, json_writing, one, json_tokens, tokens_of_members, tokens_of_values}
+use Rattle.bi_common.specs.Json.{json_null, json_bool, json_number, json_string, array_of}
+use Rattle.bi_common.specs.Json.{object_of, no_value, next_value, no_member, next_member}
+use Rattle.bi_common.specs.JsonTokens.{JsonToken, EndArray, EndObject, MemberName}
+use Rattle.bi_common.specs.JsonTokens.{json_writing, one, json_tokens, tokens_of_members, tokens_of_values}
 use Rattle.bi_common.specs.JsonTokens.{member_tokens, value_tokens}
 use Rattle.bi_common.specs.Tokens.{tokens_text}
 
@@ -58,7 +61,8 @@ pub value_put : {P : Type 0} (puts : P → List ℕ → P → Type 0) (old new b
     old ≡ begin → new ≡ end → puts old (tokens_text json_writing before (json_tokens value)) new → puts begin (json_text value) end
 value_put puts old new begin end before value first begins ends put =
     rw (sym begins, sym ends)
-    (subst (λ (text : List ℕ). puts old text new) (ap (λ b. tokens_text json_writing b (json_tokens value)) first ∙ text_of_value value) put)
+    (subst (λ (text : List ℕ). puts old text new)
+    (ap (λ b. tokens_text json_writing b (json_tokens value)) first ∙ text_of_value value) put)
 
 -- The tokens of values, and of members, for the elements of a list.
 values_each : {X : Type 0} (f : X → Json) (xs : List X) → value_tokens (map f xs) ≡ flat_map (λ x. json_tokens (f x)) xs
@@ -97,4 +101,5 @@ member_tokens-append [] ys = refl
 member_tokens-append (x ∷ xs) ys =
     ap (λ (tokens : List JsonToken). one (MemberName x.0) ++ (json_tokens x.1 ++ tokens)) (member_tokens-append xs ys)
     ∙ sym (append_assoc (one (MemberName x.0)) (json_tokens x.1 ++ member_tokens xs) (member_tokens ys)
-    ∙ ap (λ (tokens : List JsonToken). one (MemberName x.0) ++ tokens) (append_assoc (json_tokens x.1) (member_tokens xs) (member_tokens ys)))
+    ∙ ap (λ (tokens : List JsonToken). one (MemberName x.0) ++ tokens)
+    (append_assoc (json_tokens x.1) (member_tokens xs) (member_tokens ys)))

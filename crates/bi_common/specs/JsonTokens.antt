@@ -57,7 +57,7 @@ is_end EndArray = true
 is_end EndObject = true
 is_end token = false
 
--- Whether a comma comes before what follows a token, if that is no end.
+-- Whether a comma comes before what follows a token, if that is not an end.
 abbrev pub needs_comma : JsonToken → Bool
 needs_comma (Scalar value) = true
 needs_comma token = is_end token
@@ -71,7 +71,7 @@ bare_text EndObject = codes "}"
 bare_text (MemberName name) = string_text name ++ codes ":"
 bare_text (Scalar value) = json_text value
 
--- A token after others. `is_later` is whether a comma comes before it, if it is no end.
+-- A token after others. `is_later` is whether a comma comes before it, if it is not an end.
 abbrev pub token_text : (is_later : Bool) → JsonToken → List ℕ
 token_text is_later token =
     (if is_end token then [] else comma is_later) ++ bare_text token

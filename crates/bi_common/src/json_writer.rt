@@ -153,7 +153,7 @@ fn is_end_token(token: JsonToken) -> bool
     matches!(token, JsonToken::EndArray | JsonToken::EndObject)
 }
 
-/// Returns whether a comma comes before what follows a token, if that is no end.
+/// Returns whether a comma comes before what follows a token, if that is not an end.
 fn is_before_comma(token: JsonToken) -> bool
     ensures { result ≡ needs_comma (json_token_of token.entry) }
 {

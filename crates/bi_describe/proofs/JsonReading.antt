@@ -151,7 +151,7 @@ read_number m n x y small also end ending same =
     (digits_go_on (decimal n) (decimal_above n) (decimal_below n)) end ending same in
     (decimal_injective m n small also cut.0, cut.1)
 
--- A number does not begin with a character that is no digit.
+-- A number does not begin with a character that is not a digit.
 no_number : (n byte : ℕ) (x y : List ℕ) → n < 2 ^ 64 → ltb 47 byte && ltb byte 58 ≡ false → decimal n ++ x ≡ byte ∷ y → ⊥
 no_number n byte x y small differs same = by (decimal n) (decimal_above n) (decimal_below n) (decimal_nonempty n small) same
   where

@@ -13,7 +13,8 @@ use Rattle.bi_files.specs.declared.memory_files.StepKind.{StepKind}
 use Rattle.bi_files.specs.declared.memory_files.StepKind.TheVariants as kind
 use Rattle.bi_files.specs.declared.memory_files.WrittenFile.{WrittenFile}
 use Rattle.bi_files.specs.Files.{Directory, Entry, Names, NoFile, OtherFile, RegularFile, Unusable}
-use Rattle.bi_files.specs.FilesAfter.{AreRecorded, no_names, after_renaming, after_step, after_steps, HasContents, HaveContents, with_entry_at, with_file}
+use Rattle.bi_files.specs.FilesAfter.{AreRecorded, no_names, after_renaming, after_step}
+use Rattle.bi_files.specs.FilesAfter.{after_steps, HasContents, HaveContents, with_entry_at, with_file}
 use Rattle.bi_files.specs.FilesAfter.{with_files, with_files_in, without_file, written_bytes}
 use Rattle.bi_files.specs.MemoryFiles.{AreLookedUp, IsOccupant, IsOccupantToo, recorded_names, recorded_steps, recorded_step, named_step}
 use Rattle.bi_files.specs.MemoryFiles.{writing_trace}

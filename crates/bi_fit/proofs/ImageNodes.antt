@@ -12,7 +12,8 @@ use Rattle.bi_fit.specs.ImageTree.{without_payload}
 use Rattle.bi_fit.specs.Text.{alignment_of, blob_alignment, with_payload, with_payloads, end_after}
 use Rattle.bi_lay.specs.Contents.{Doc}
 use Rattle.bi_fit.specs.TakenDigests.{HaveImageDigests, algorithm_if_hashed, with_first_digest}
-use Rattle.bi_fit.specs.NormalNodes.{HasCellSize, HasDistinctNames, next_begin, next_end, AreWithin, properties_by_name, nodes_by_name, begin_events}
+use Rattle.bi_fit.specs.NormalNodes.{HasCellSize, HasDistinctNames, next_begin, next_end}
+use Rattle.bi_fit.specs.NormalNodes.{AreWithin, properties_by_name, nodes_by_name, begin_events}
 use Rattle.bi_fit.specs.NormalNodes.{image_properties}
 use Rattle.bi_fit.specs.NormalNodes.{sorted_image_children, sorted_images}
 use Rattle.bi_fit.proofs.FormAlignments.{form-positive}

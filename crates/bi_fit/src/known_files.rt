@@ -145,8 +145,8 @@ pub fn updates_are_known()
 {}
 
 /// What texts in the form External keep of where the payloads of small files are is known: of a
-/// file whose payloads are at multiples of 4096, of one with a fixed position, and of one that loses
-/// nothing. So is what they keep of payloads at known offsets.
+/// file whose payloads are at multiples of 4096, of one with a fixed position, and of one that
+/// loses nothing. So is what they keep of payloads at known offsets.
 pub fn kept_is_known()
     ensures files { KeptOfFilesIsKnown }
     ensures payloads { KeptOfPayloadsIsKnown }

@@ -38,7 +38,8 @@ use Rattle.bi_common.specs.ValueTexts.{is_printable}
 use Rattle.bi_common.proofs.PrintedTexts.{json_lines_are_ascii}
 use Rattle.bi_common.proofs.PrintedWords.{CanPrintLine, CanPrintLines, header_can, line_texts_are_ascii, reservations_can}
 use Rattle.bi_report.specs.FitListing.{configuration_entry, configuration_lines, default_lines, fit_entries, fit_listing}
-use Rattle.bi_report.specs.FitListing.{fit_listing_object, listed_image_entries, image_line, key_lines, payload_entry, listed_payload_words, source_word}
+use Rattle.bi_report.specs.FitListing.{fit_listing_object, listed_image_entries, image_line}
+use Rattle.bi_report.specs.FitListing.{key_lines, payload_entry, listed_payload_words, source_word}
 use Rattle.bi_report.specs.ListedFiles.{IsListing, OfLegacyImage, OfImageTree, text_in}
 use Rattle.bi_report.specs.Listing.{legacy_listing, legacy_listing_object, listed_part_lines, parts_lines}
 

@@ -20,7 +20,8 @@ use Rattle.bi_norm.specs.declared.image.BootImage.{BootImage}
 use Rattle.bi_norm.specs.declared.image.BootImage.TheVariants.{Legacy, Fit}
 use Rattle.bi_norm.specs.Reading.{IsReadBootImage}
 use Rattle.bi_common.specs.declared.format.Format.{Format}
-use Rattle.bi_report.specs.FitListing.{ConfigurationEntry, FitEntries, ImageEntry, configuration_entry, fit_entries, fit_listing, fit_listing_object}
+use Rattle.bi_report.specs.FitListing.{ConfigurationEntry, FitEntries, ImageEntry}
+use Rattle.bi_report.specs.FitListing.{configuration_entry, fit_entries, fit_listing, fit_listing_object}
 use Rattle.bi_report.specs.FitListing.{listed_image_entries, payload_entry}
 use Rattle.bi_report.specs.ListedFiles.{IsListing, OfImageTree, OfLegacyImage, text_in}
 use Rattle.bi_report.specs.ReadListing.{read_configuration, read_configurations, read_fit, read_image_entry, lines_of_listing, read_object}

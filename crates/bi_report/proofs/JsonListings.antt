@@ -22,7 +22,8 @@ use Rattle.bi_common.specs.Shown.{shown_text}
 use Rattle.bi_common.proofs.JsonSizes.{IsSmallPart, placed_parts_small}
 use Rattle.bi_common.proofs.JsonTexts.{have_numbers, json_lines_are_json}
 use Rattle.bi_common.proofs.PrintedWords.{header_numbers, reservation_numbers}
-use Rattle.bi_report.specs.FitListing.{configuration_entry, configuration_object, fit_entries, fit_listing_object, listed_image_entries, image_object}
+use Rattle.bi_report.specs.FitListing.{configuration_entry, configuration_object, fit_entries}
+use Rattle.bi_report.specs.FitListing.{fit_listing_object, listed_image_entries, image_object}
 use Rattle.bi_report.specs.FitListing.{key_objects, payload_entry, payload_object}
 use Rattle.bi_report.specs.JsonLaws.{ListingsAreJson}
 use Rattle.bi_report.specs.ListedFiles.{OfLegacyImage, OfImageTree}
@@ -122,4 +123,5 @@ listings_are_json limits file text range (OfLegacyImage parsed is same) =
     subst IsJsonLine (sym same) (json_lines_are_json (legacy_listing_object parsed) (legacy_numbers limits file parsed range is))
 listings_are_json limits file text range (OfImageTree is) =
     subst IsJsonLine (sym is.is)
-    (json_lines_are_json (fit_listing_object (fit_entries file is.means.is_file.images is.tree)) (fit_numbers limits file is.tree range is.means))
+    (json_lines_are_json (fit_listing_object (fit_entries file is.means.is_file.images is.tree))
+    (fit_numbers limits file is.tree range is.means))

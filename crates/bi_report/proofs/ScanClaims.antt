@@ -181,7 +181,8 @@ counted_next input image left after total end offset claim new_end old next is c
     last_of (suc more) claimed with_claim without = λ at ends. (
       suc more,
       subst (λ (image : List ℕ). IsClaim image (suc more))
-          (is ∙ ap (λ (at : ℕ). input_from at input) (let same : offset ≡ at = omega (arith, ends, with_claim (omega arith)) in same)) claimed,
+          (is ∙ ap (λ (at : ℕ). input_from at input) (let same : offset ≡ at = omega (arith, ends, with_claim (omega arith)) in same))
+          claimed,
       omega arith,
     )
 

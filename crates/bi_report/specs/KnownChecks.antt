@@ -16,8 +16,8 @@ use Rattle.bi_report.specs.CheckedFiles.{HoldsTooMuch, IsCheckError}
 use Rattle.bi_report.specs.Checking.{nothing_allowed}
 use Rattle.bi_report.specs.CleanFiles.{IsClean, ProtectImages}
 
--- Small image trees with what checking them finds: one that is built, and one whose payloads are too
--- long together, by which a reader can judge the definitions.
+-- Small image trees with what checking them finds: one that is built, and one whose payloads are
+-- too long together, by which a reader can judge the definitions.
 
 -- A text of 824 bytes is built of a kernel and a ramdisk. It is clean, and checking it has no error
 -- but that memory runs out.

@@ -23,7 +23,8 @@ text_in form.Json lines value = json_line value
 
 -- The listing of a legacy image, in a form.
 abbrev pub legacy_listing_text : Format → LegacyModel → List ℕ
-legacy_listing_text format parsed = text_in format (legacy_listing parsed) (legacy_listing_object parsed)
+legacy_listing_text format parsed =
+    text_in format (legacy_listing parsed) (legacy_listing_object parsed)
 
 -- The listing of a flattened image tree that a file with these image nodes means, in a form.
 abbrev pub fit_listing_text : Format → (file : List ℕ) → Nodes FileNode → ImageTree → List ℕ

@@ -2,7 +2,8 @@
 //! nothing: what it ensures is a fact about the definitions. Some of them call the function of a
 //! law, from which their facts follow.
 
-ghost use Rattle.bi_report.specs.KnownChecks.{BuiltCheckIsKnown, PayloadBoundIsKnown, ProtectionIsKnown};
+ghost use Rattle.bi_report.specs.KnownChecks.{BuiltCheckIsKnown};
+ghost use Rattle.bi_report.specs.KnownChecks.{PayloadBoundIsKnown, ProtectionIsKnown};
 ghost use Rattle.bi_report.specs.KnownConcerns.{ConcernsAreKnown, StrongAlgorithmsAreKnown};
 ghost use Rattle.bi_report.specs.KnownConcerns.{TrailingBytesAreKnown, LegacyConcernsAreKnown};
 ghost use Rattle.bi_report.specs.KnownConcerns.{AllowedKindsAreKnown};

@@ -23,7 +23,8 @@ use Rattle.bi_norm.proofs.ComparisonFacts.{compared_files_are_known, kernel_mean
 use Rattle.bi_norm.proofs.KindLaws.{one_file_meaning}
 use Rattle.std.specs.Borrow.{Bor}
 use Rattle.bootimg.specs.ComparedFiles.{IsCompareOutput}
-use Rattle.bootimg.specs.KnownInputs.{ComparedInputsAreKnown, ComparedOutputsAreKnown, ComparesFiles, ExplanationsAreKnown, FailsAbout, FailsToOpen}
+use Rattle.bootimg.specs.KnownInputs.{ComparedInputsAreKnown, ComparedOutputsAreKnown}
+use Rattle.bootimg.specs.KnownInputs.{ComparesFiles, ExplanationsAreKnown, FailsAbout, FailsToOpen}
 use Rattle.bootimg.specs.KnownInputs.{ImagesAtAreKnown, one_file, two_files, without_files}
 use Rattle.bootimg.specs.KnownRequests.{IsFileNamed}
 use Rattle.bootimg.specs.KnownRuns.{compared_plan}

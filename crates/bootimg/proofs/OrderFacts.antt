@@ -23,7 +23,8 @@ use Rattle.bootimg.specs.declared.failure.Failure.{Failure}
 use Rattle.bootimg.specs.declared.failure.Failure.TheVariants.{BadValue, NoChange}
 use Rattle.bootimg.proofs.ArgumentFacts.{decimal_digits, limits_are_known}
 use Rattle.bootimg.proofs.FirstFailureFacts.{change_fails}
-use Rattle.bootimg.proofs.RequestFacts.{all_requests_are_known, file_is_named, flag_is, no_time_given, number_of_argument, option_is, value_is}
+use Rattle.bootimg.proofs.RequestFacts.{all_requests_are_known, file_is_named, flag_is}
+use Rattle.bootimg.proofs.RequestFacts.{no_time_given, number_of_argument, option_is, value_is}
 
 -- What whole command lines request, or why they request nothing, is known.
 

@@ -414,7 +414,8 @@ module _ (options : ArgMatches) (escaped : Bool) where
   image_selected argument wanted given names (select.Part index) is = absurd (not_given_and_missing _ argument given is.1.image_is)
   image_selected argument wanted given names (select.Image name) is =
       names name.items (subst (λ a. IsNameOf escaped a name.items) (same_value _ is.0 argument is.1.image_is given) is.3)
-  image_selected argument wanted given names (select.Config name key index) is = absurd (not_given_and_missing _ argument given is.1.image_is)
+  image_selected argument wanted given names (select.Config name key index) is =
+      absurd (not_given_and_missing _ argument given is.1.image_is)
   image_selected argument wanted given names (select.Default key index) is = absurd (not_given_and_missing _ argument given is.0.image_is)
 
   entry_selected : option_of options (codes "config") ≡ Some (codes "c") → escaped ≡ false

@@ -1,6 +1,7 @@
 use Rattle.std.specs.Prelude.{◌≡◌, ◌<◌, ◌⊎◌, ℕ, Bool, true, false, List, [], ◌∷◌, ◌++◌, Option}
 use Rattle.std.specs.Prelude.{None, Some, IfSome}
-use Rattle.std.specs.Prelude.{Result, Ok, Err, bytes_eq, codes, if◌then◌else◌, length, map, drop, flat_map}
+use Rattle.std.specs.Prelude.{Result, Ok, Err, bytes_eq, codes}
+use Rattle.std.specs.Prelude.{if◌then◌else◌, length, map, drop, flat_map}
 use Rattle.bi_base.specs.Causes.{name_of}
 use Rattle.bi_base.specs.Commands.{CommandPromise, unit_promise}
 use Rattle.bi_base.specs.Limits.{Limits, widest}

@@ -1,6 +1,6 @@
 //! Small command lines of `build-fit` with what they request, which inputs commands read, and
-//! what some write. Each function does nothing: what it ensures is a fact about the definitions. One
-//! of them calls the function of a law, from which its facts follow.
+//! what some write. Each function does nothing: what it ensures is a fact about the definitions.
+//! One of them calls the function of a law, from which its facts follow.
 
 ghost use Rattle.bootimg.specs.KnownBuildRequests.{HashOptionsAreKnown, ConfigurationsAreKnown};
 ghost use Rattle.bootimg.specs.KnownBuildRequests.{NodeTextsAreKnown, FirstFailuresAreKnown};

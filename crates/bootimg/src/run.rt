@@ -81,9 +81,9 @@ pub fn run_with_files<'a, R: Read, W: Write, E: Write, F: FileSystem>(
 /// None if memory ran out for the record of the steps.
 ///
 /// A run leaves this: after success the file that the arguments name for the output has the output,
-/// and each other name has what it had; after `extract --all` the directory has exactly the files of
-/// the payloads. After a failure each name has what it had, whichever step failed; only a new file
-/// or directory that cannot be removed is left.
+/// and each other name has what it had; after `extract --all` the directory has exactly the files
+/// of the payloads. After a failure each name has what it had, whichever step failed; only a new
+/// file or directory that cannot be removed is left.
 pub fn run_in_memory<'a, 'b, R: Read, W: Write, E: Write>(
     alloc: Global,
     arguments: &'a [&'a str],

@@ -94,7 +94,8 @@ words_read count [] can = tt
 words_read zero (word ∷ words) can = word_before word (flat_map field_texts words) can.0 (words_read zero words can.1)
 words_read (suc count) (word ∷ words) can =
     let is = one_text word can.0 in
-    subst (λ texts. AreReadableWords (suc count) (texts ++ flat_map field_texts words)) (sym is.only) (is.bare, words_read count words can.1)
+    subst (λ texts. AreReadableWords (suc count) (texts ++ flat_map field_texts words)) (sym is.only)
+    (is.bare, words_read count words can.1)
 
 line_read : (words : Line) → CanReadLine words → IsLine (flat_map field_texts words)
 line_read [] can = absurd can

@@ -1,4 +1,5 @@
-use Rattle.std.proofs.Common.{◌≡◌, ◌≢◌, ◌⊎◌, inl, inr, ℕ, ◌+◌, Bool, true, ◌||◌, List, [], ◌∷◌, Some, flat_map, map, Contains, IsFalse, IsSome}
+use Rattle.std.proofs.Common.{◌≡◌, ◌≢◌, ◌⊎◌, inl, inr, ℕ, ◌+◌, Bool, true, ◌||◌, List}
+use Rattle.std.proofs.Common.{[], ◌∷◌, Some, flat_map, map, Contains, IsFalse, IsSome}
 use Rattle.std.proofs.Common.{IsTrue, bytes_eq, refl, sym, ap, subst, ◌∙◌, true≢false}
 use Rattle.std.specs.List.{AllByRecursion, list_any}
 use Rattle.std.proofs.lemmas.Slice.Eq.{bytes_eq-Decides}
@@ -177,7 +178,8 @@ module _ (allowed : Allowed) (head : HeadModel) (plan : PlanModel) (images : Lis
     unhashed = λ refused. each-weaker _ IsHashed (λ image is some. good_of_test image is) (images_of tree)
         (of_images HasGoodOne (ProtectImages allowed plan.algorithms)
         (λ protect image. some_good 1 plan.algorithms image (protect.unhashed refused)) protected);
-    weak_hash = λ refused. each-weaker _ IsNotWeak (λ image is some good. strong_of_test image (is (test_of_good image good))) (images_of tree)
+    weak_hash = λ refused. each-weaker _ IsNotWeak (λ image is some good. strong_of_test image (is (test_of_good image good)))
+        (images_of tree)
         (of_images HasStrongIfGood (ProtectImages allowed plan.algorithms)
         (λ protect image. strong_if_good plan.algorithms image (protect.weak_hash refused)) protected);
     bad_list = λ refused. lists_are_good head plan images has;

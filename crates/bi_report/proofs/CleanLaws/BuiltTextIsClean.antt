@@ -1,4 +1,5 @@
-use Rattle.std.proofs.Common.{◌≡◌, ◌↔◌, ◌⊎◌, inl, inr, ℕ, ◌<◌, ◌≤◌, ◌||◌, List, [], ◌∷◌, ◌++◌, Option, Some, None, length, map, refl, sym, ap}
+use Rattle.std.proofs.Common.{◌≡◌, ◌↔◌, ◌⊎◌, inl, inr, ℕ, ◌<◌, ◌≤◌, ◌||◌, List, []}
+use Rattle.std.proofs.Common.{◌∷◌, ◌++◌, Option, Some, None, length, map, refl, sym, ap}
 use Rattle.std.proofs.Common.{subst, arith}
 use Rattle.std.proofs.lemmas.Slice.Eq.{bytes_eq-Decides}
 use Rattle.bi_base.specs.declared.fault.Error.{Error}
@@ -21,7 +22,8 @@ use Rattle.bi_fit.proofs.Meanings.{one_fit_meaning}
 use Rattle.bi_norm.specs.declared.fit_building.ImageSpec.{ImageSpec}
 use Rattle.bi_norm.specs.FitBuilding.{BuildCheck, BuildPasses, HasDefault, HasKnownDefault, PlanSpecModel, ImageTextsModel}
 use Rattle.bi_norm.specs.FitBuilding.{FitsLimit, configuration_checks, early_checks}
-use Rattle.bi_norm.specs.FitBuilding.{given_images, names_of_specs, plan_of_tree, spec_checks, spec_model, spec_models, tree_of_images, whole_plan}
+use Rattle.bi_norm.specs.FitBuilding.{given_images, names_of_specs, plan_of_tree}
+use Rattle.bi_norm.specs.FitBuilding.{spec_checks, spec_model, spec_models, tree_of_images, whole_plan}
 use Rattle.bi_norm.specs.Meaning.{Meaning, Means, OfFit, OfLegacy}
 use Rattle.bi_report.specs.declared.check.Allowed.{Allowed}
 use Rattle.bi_report.specs.CheckedFiles.{IsCheckError}

@@ -6,7 +6,8 @@ ghost use Rattle.bi_fit.specs.Content.{IsHeld, image_model};
 ghost use Rattle.bi_common.specs.CommonLines.{reservations_member};
 ghost use Rattle.bi_common.specs.JsonTokens.{json_tokens, member_tokens, value_tokens};
 ghost use Rattle.bi_common.specs.LineTokens.{line_tokens, tokens_of_lines};
-ghost use Rattle.bi_report.specs.FitListing.{default_lines, fit_listing, fit_listing_object, listing_head};
+ghost use Rattle.bi_report.specs.FitListing.{default_lines, fit_listing};
+ghost use Rattle.bi_report.specs.FitListing.{fit_listing_object, listing_head};
 ghost use Rattle.bi_report.specs.FitListing.{head_members, image_line, image_object};
 ghost use Rattle.bi_report.specs.FitListing.{images_member, payload_object};
 ghost use Rattle.bi_report.specs.ReadListing.{placed_entry, placed_payload_entry, read_fit};
@@ -54,7 +55,8 @@ fn put_head_lines<L: LinePen>(blob: &Blob, pen: &mut L)
 /// Puts the line of each image.
 fn put_image_lines<L: LinePen>(images: &[Image], pen: &mut L)
     ensures { L.puts pen.old
-        (tokens_of_lines (map image_line (map read_image_entry (map image_model images.now)))) pen.new }
+        (tokens_of_lines (map image_line (map read_image_entry (map image_model images.now))))
+        pen.new }
 {
     for image in images {
         put_image_line(image, pen);
@@ -185,7 +187,8 @@ fn put_images_member<J: JsonPen>(images: &[Image], json: &mut J)
 /// Puts the object of each image.
 fn put_image_objects<J: JsonPen>(images: &[Image], json: &mut J)
     ensures { J.puts json.old
-        (value_tokens (map image_object (map read_image_entry (map image_model images.now)))) json.new }
+        (value_tokens (map image_object (map read_image_entry (map image_model images.now))))
+        json.new }
 {
     for image in images {
         put_image_object(image, json);
@@ -194,7 +197,8 @@ fn put_image_objects<J: JsonPen>(images: &[Image], json: &mut J)
 
 /// Puts the object of an image.
 fn put_image_object<J: JsonPen>(image: &Image, json: &mut J)
-    ensures { J.puts json.old (json_tokens (image_object (read_image_entry (image_model image.now))))
+    ensures { J.puts json.old
+        (json_tokens (image_object (read_image_entry (image_model image.now))))
         json.new }
 {
     json.put(JsonToken::BeginObject);

@@ -4,7 +4,8 @@ ghost use Rattle.std.specs.Prelude.{[], ◌∷◌, map};
 ghost use Rattle.bi_legacy.specs.PlacedParts.{part_model, placed_parts};
 ghost use Rattle.bi_common.specs.JsonTokens.{json_tokens, member_tokens, value_tokens};
 ghost use Rattle.bi_common.specs.LineTokens.{line_tokens, tokens_of_lines};
-ghost use Rattle.bi_report.specs.Listing.{legacy_listing, legacy_listing_object, listed_part_line, part_object};
+ghost use Rattle.bi_report.specs.Listing.{legacy_listing};
+ghost use Rattle.bi_report.specs.Listing.{legacy_listing_object, listed_part_line, part_object};
 ghost use Rattle.bi_report.specs.Listing.{parts_lines, parts_member};
 
 use bi_common::common_lines::{put_header_lines, put_header_members};

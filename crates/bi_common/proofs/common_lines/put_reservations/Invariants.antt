@@ -6,4 +6,5 @@ use Rattle.bi_common.proofs.common_lines.put_reservations.Given as goal
 -- The reservations before this one were put.
 abbrev pub invariant-loop-index : goal.invariant-loop-index
 invariant-loop-index g l =
-    g.J.JsonPen.puts l.initial.json (flat_map (λ reservation. json_tokens (reservation_object reservation)) (take l.index l.blob.reservations)) l.json
+    g.J.JsonPen.puts l.initial.json (flat_map (λ reservation. json_tokens (reservation_object reservation))
+    (take l.index l.blob.reservations)) l.json

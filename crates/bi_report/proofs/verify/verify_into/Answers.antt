@@ -10,7 +10,8 @@ returns-in_err-append_legacy_report-in-Legacy-clause-failed g c =
     let p = err_from_is_err_and c.from_residual-in_err-append_legacy_report-in-Legacy.result
     c.from_residual-in_err-append_legacy_report-in-Legacy.ensures.1 in
     rw (p.1, p.2)
-    (SinkFailed _ c.in_err-append_legacy_report-in-Legacy.field-0.0 (legacy_reported c.args.format c.args.limits c.args.file.now c.in-Legacy._image
+    (SinkFailed _ c.in_err-append_legacy_report-in-Legacy.field-0.0
+    (legacy_reported c.args.format c.args.limits c.args.file.now c.in-Legacy._image
     (search rules)).report
     c.in_err-append_legacy_report-in-Legacy.ensures refl)
 

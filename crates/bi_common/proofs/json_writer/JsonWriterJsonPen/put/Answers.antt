@@ -8,7 +8,8 @@ unfolding one
 returns g c =
     let pen = c.args.self.now in (
       refl,
-      subst (λ text. g.P.Pen.puts pen.pen.now text c.put_token.new.pen) (sym (append-nil (token_text pen.needs_comma (json_token_of c.args.token))))
+      subst (λ text. g.P.Pen.puts pen.pen.now text c.put_token.new.pen)
+          (sym (append-nil (token_text pen.needs_comma (json_token_of c.args.token))))
           c.put_token.ensures,
       c.is_before_comma-self.ensures,
     )
