@@ -1,4 +1,6 @@
-use Rattle.std.specs.Prelude.{ℕ, ◌+◌, ◌≤◌, List, [], ◌∷◌, refl, map}
+use Rattle.std.specs.Prelude.{ℕ, ◌+◌, ◌≤◌, suc, List, [], ◌∷◌, refl, map, Vec, bytes_eq}
+use Rattle.std.specs.Prelude.{if◌then◌else◌}
+use Rattle.std.specs.declared.alloc.Global.{Global}
 use Rattle.std.proofs.Common.{arith}
 use Rattle.std.specs.Coded.{Coded, code_by, coded×, coded_list, coded_ℕ}
 use denote.Param.Weighed.{most}
@@ -40,3 +42,16 @@ pub most_le_count : (nodes : List NodeModel)
     → most (λ top. node_size top + 1) nodes ≤ node_count (nodes_of nodes) + 1
 most_le_count [] = omega arith
 most_le_count (first ∷ later) = omega (arith, most_le_count later)
+
+-- The index of the first of these names that is this one, or the number of names if none is.
+abbrev pub index_named : (name : List ℕ) → List (List ℕ) → ℕ
+index_named name [] = 0
+index_named name (first ∷ later) = if bytes_eq first name then 0 else suc (index_named name later)
+
+-- The names of nodes.
+abbrev pub names_of_nodes : List NodeModel → List (List ℕ)
+names_of_nodes nodes = map (λ top. top.name) nodes
+
+-- Names, as the code has them.
+abbrev pub names_of : List (Vec ℕ Global) → List (List ℕ)
+names_of names = map (λ name. name.items) names

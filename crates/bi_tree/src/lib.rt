@@ -2,5 +2,7 @@
 #![tactic(auto)]
 
 mod node;
+mod properties;
 
 pub use node::TreeNode;
+pub use properties::TreeProperty;

@@ -1,20 +1,16 @@
 //! Nodes of trees that can be changed.
 
-ghost use Rattle.std.specs.Prelude.{◌≡◌, [], OnOk, IfSome, IfNone};
+ghost use Rattle.std.specs.Prelude.{◌≡◌, ◌<◌, ◌≤◌, [], OnOk, IfOk, length};
+ghost use Rattle.std.specs.Cow.{cow_slice_items};
 ghost use Rattle.bi_blob.specs.Tree.{none};
+ghost use Rattle.bi_tree.specs.Changes.{with_new_node};
+ghost use Rattle.bi_tree.specs.Properties.{with_value_at};
+ghost use Rattle.bi_tree.specs.TreeNodes.{below, index_named, names_of, names_of_nodes, nodes_of};
 
+use crate::properties::{TreeProperty, set_value};
 use std::alloc::{AllocError, Global};
 use std::borrow::CowSlice;
 use std::marker::Model;
-
-/// A property.
-#[derive(Drop)]
-pub struct TreeProperty<'a> {
-    /// The name.
-    pub name: &'a [u8],
-    /// The value.
-    pub value: CowSlice<'a, u8, Global>,
-}
 
 /// A node with all nodes below it. Names are borrowed, not copied.
 #[derive(Drop)]
@@ -25,15 +21,14 @@ pub struct TreeNode<'a> {
 }
 
 impl<'a> Model for TreeNode<'a> {
+    ghost use Rattle.std.proofs.Common.{arith};
+    ghost use Rattle.bi_tree.specs.Properties.{properties_of};
     ghost use Rattle.bi_tree.specs.TreeNodes.{NodeModel, node_code, nodes_of, node_size};
     ghost use Rattle.bi_tree.specs.TreeNodes.{most_le_count};
-    ghost use Rattle.std.proofs.Common.{arith};
 
     ghost Value = { NodeModel };
 
     ghost coded = { node_code };
-
-    ghost use Rattle.bi_tree.specs.Properties.{properties_of};
 
     ghost view = { λ node. record {
         name = node.name.now;
@@ -57,4 +52,69 @@ impl<'a> TreeNode<'a> {
             children: Vec::new(alloc),
         }
     }
+
+    /// Sets the value of a property of the node at a path below this one, or adds the property.
+    /// Nodes of the path that are not there are added, each as the last child of its parent.
+    ///
+    /// Fails if memory runs out. What the tree then has is not specified.
+    pub fn set_property(
+        &mut self,
+        alloc: Global,
+        path: &'a [Vec<u8>],
+        name: &'a [u8],
+        value: CowSlice<'a, u8, Global>,
+    ) -> Result<(), AllocError>
+        ensures set { OnOk result (below self.new
+            ≡ with_value_at (names_of path.entry.now) name.entry.now (cow_slice_items value.entry)
+            (below self.old)) }
+        ensures name { OnOk result (self.new.name ≡ self.old.name) }
+    {
+        let [first, later @ ..] = path else {
+            return set_value(&mut self.properties, name, value);
+        };
+        let index = child_or_new(alloc, &mut self.children, first)?;
+        self.children[index].set_property(alloc, later, name, value)?;
+        Ok(())
+    }
+
+    /// Returns the name.
+    fn name(&self) -> &'a [u8]
+        ensures { result.now ≡ self.now.name }
+    {
+        self.name
+    }
+}
+
+/// Returns the index of the first of these nodes with this name. If there is none, a node without
+/// properties and children is added as the last. Fails if memory runs out, and then changes
+/// nothing.
+fn child_or_new<'a>(
+    alloc: Global,
+    children: &mut Vec<TreeNode<'a>>,
+    name: &'a [u8],
+) -> Result<usize, AllocError>
+    ensures nodes { OnOk result (nodes_of children.new.items
+        ≡ with_new_node [] name.entry.now (nodes_of children.old.items)) }
+    ensures index { IfOk result (λ index.
+        index ≡ index_named name.entry.now (names_of_nodes children.new.items)) }
+    ensures within { IfOk result (λ index. index < length children.new.items) }
+{
+    let index = find_child(children, name);
+    if index == children.len() {
+        children.push(TreeNode::new(alloc, name))?;
+    }
+    Ok(index)
+}
+
+/// Returns the index of the first of these nodes with this name, or their number if there is none.
+fn find_child(children: &[TreeNode<'_>], name: &[u8]) -> usize
+    ensures index { result ≡ index_named name.now (names_of_nodes children.now) }
+    ensures within { result ≤ length children.now }
+{
+    for (index, child) in children.iter().enumerate() {
+        if child.name() == name {
+            return index;
+        }
+    }
+    children.len()
 }

@@ -1,0 +1,34 @@
+use Rattle.std.proofs.Common.{◌≡◌, ℕ, Bool, true, false, List, [], ◌∷◌, refl, ap}
+use Rattle.std.proofs.Common.{bytes_eq}
+use Rattle.bi_blob.specs.Tree.{Nodes, none, node, Property, Root}
+use Rattle.bi_tree.specs.Changes.{with_node, with_new_node, with_change_at, with_node_at}
+use Rattle.bi_tree.specs.Properties.{with_value, with_value_at}
+
+-- Changes of trees, one after the other.
+
+-- Two changes of the node with a name are one.
+abbrev AreOne : {Own : Type 0} → List ℕ → (change first_change : Root Own → Root Own) → Nodes Own → Type 0
+AreOne name change first_change nodes =
+    with_node name change (with_node name first_change nodes) ≡ with_node name (λ root. change (first_change root)) nodes
+
+one_first : {Own : Type 0} (name other : List ℕ) (change first_change : Root Own → Root Own) (own : Own) (children later : Nodes Own) →
+    AreOne name change first_change later → (b : Bool) → bytes_eq other name ≡ b →
+    AreOne name change first_change (node other own children later)
+one_first name other change first_change own children later rest true same = rw same (rw same refl)
+one_first name other change first_change own children later rest false differs =
+    rw differs (rw differs (ap (λ l. node other own children l) rest))
+
+pub are_one : {Own : Type 0} (name : List ℕ) (change first_change : Root Own → Root Own) (nodes : Nodes Own) →
+    AreOne name change first_change nodes
+are_one name change first_change none = refl
+are_one name change first_change (node other own children later) =
+    one_first name other change first_change own children later (are_one name change first_change later) (bytes_eq other name) refl
+
+-- A value is set in a node below another one by adding the node that leads to it and setting it there.
+pub set_below : (name : List ℕ) (path : List (List ℕ)) (property value : List ℕ) (root : Root (List Property)) →
+    with_value_at (name ∷ path) property value root
+    ≡ record { own = root.own; children = with_node name (with_value_at path property value) (with_new_node [] name root.children) }
+set_below name path property value root =
+    ap (λ nodes. record { own = root.own; children = nodes })
+    (are_one name (with_change_at path (with_value property value)) (with_node_at [] path)
+    (with_new_node [] name root.children))

@@ -1,0 +1,3 @@
+pub mod NodeLists
+pub mod PropertyLists
+pub mod ChangedTrees

@@ -1,0 +1,117 @@
+use Rattle.std.proofs.Common.{◌≡◌, ℕ, ◌<◌, Bool, true, false, List, [], ◌∷◌, ◌++◌, length, set, get_or, refl, sym, ap, subst, ◌∙◌, arith}
+use Rattle.std.proofs.Common.{bytes_eq}
+use Rattle.std.specs.List.{remove}
+use Rattle.bi_blob.specs.Tree.{none, node, Property, Root}
+use Rattle.bi_tree.specs.Changes.{with_node, with_new_node, without_node}
+use Rattle.bi_tree.specs.TreeNodes.{NodeModel, below, index_named, names_of_nodes, nodes_of}
+
+-- What a change of one node makes of a list of nodes.
+
+-- Where a name is among nodes.
+abbrev pub place_of : List ℕ → List NodeModel → ℕ
+place_of name nodes = index_named name (names_of_nodes nodes)
+
+-- The first node with the name is changed.
+abbrev IsChanged : List ℕ → (Root (List Property) → Root (List Property)) → (new other : NodeModel) → List NodeModel → Type 0
+IsChanged name change new other nodes = place_of name nodes < length nodes →
+    new.name ≡ (get_or nodes (place_of name nodes) other).name → below new ≡ change (below (get_or nodes (place_of name nodes) other))
+    → nodes_of (set nodes (place_of name nodes) new) ≡ with_node name change (nodes_of nodes)
+
+change_first : (first : NodeModel) (later : List NodeModel) (name : List ℕ) (change : Root (List Property) → Root (List Property))
+    (new other : NodeModel) → IsChanged name change new other later → (b : Bool) → bytes_eq first.name name ≡ b →
+    IsChanged name change new other (first ∷ later)
+change_first first later name change new other rest true same within named is =
+    let name_is = rw same at named in
+    let below_is = rw same at is in
+    rw same (λ i. node (name_is i) (below_is i).own (below_is i).children (nodes_of later))
+change_first first later name change new other rest false differs within named is =
+    let less = rw differs at within in
+    let name_is = rw differs at named in
+    let below_is = rw differs at is in
+    rw differs (ap (λ l. node first.name first.own first.children l) (rest (omega (arith, less)) name_is below_is))
+
+pub changed : (nodes : List NodeModel) (name : List ℕ) (change : Root (List Property) → Root (List Property)) (new other : NodeModel) →
+    IsChanged name change new other nodes
+changed [] name change new other within named is = absurd (omega (arith, within))
+changed (first ∷ later) name change new other within named is =
+    change_first first later name change new other (changed later name change new other) (bytes_eq first.name name) refl within named is
+
+-- A node with a new name is added.
+abbrev new_node : List ℕ → NodeModel
+new_node name = record { name = name; own = []; children = none }
+
+abbrev IsAdded : List ℕ → List NodeModel → Type 0
+IsAdded name nodes = place_of name nodes ≡ length nodes →
+    (nodes_of (nodes ++ new_node name ∷ []) ≡ with_new_node [] name (nodes_of nodes))
+    × (place_of name (nodes ++ new_node name ∷ []) ≡ length nodes)
+
+add_later : (first : NodeModel) (later : List NodeModel) (name : List ℕ) → IsAdded name later → (b : Bool) → bytes_eq first.name name ≡ b →
+    IsAdded name (first ∷ later)
+add_later first later name rest true same new = let no = rw same at new in absurd (omega (arith, no))
+add_later first later name rest false differs new =
+    let more = rw differs at new in
+    let is = rest (omega (arith, more)) in
+    (rw differs (ap (λ l. node first.name first.own first.children l) is.0), rw differs (omega (arith, is.1)))
+
+added : (nodes : List NodeModel) (name : List ℕ) → bytes_eq name name ≡ true → IsAdded name nodes
+added [] name same new = (refl, rw same refl)
+added (first ∷ later) name same new = add_later first later name (added later name same) (bytes_eq first.name name) refl new
+
+-- If a node has the name, none is added.
+abbrev IsThere : List ℕ → List NodeModel → Type 0
+IsThere name nodes = place_of name nodes < length nodes → nodes_of nodes ≡ with_new_node [] name (nodes_of nodes)
+
+there_later : (first : NodeModel) (later : List NodeModel) (name : List ℕ) → IsThere name later → (b : Bool) → bytes_eq first.name name ≡ b →
+    IsThere name (first ∷ later)
+there_later first later name rest true same within = rw same refl
+there_later first later name rest false differs within =
+    let less = rw differs at within in
+    rw differs (ap (λ l. node first.name first.own first.children l) (rest (omega (arith, less))))
+
+there : (nodes : List NodeModel) (name : List ℕ) → IsThere name nodes
+there [] name within = absurd (omega (arith, within))
+there (first ∷ later) name within = there_later first later name (there later name) (bytes_eq first.name name) refl within
+
+-- The first node with a name is removed.
+abbrev IsRemoved : List ℕ → List NodeModel → Type 0
+IsRemoved name nodes = place_of name nodes < length nodes →
+    nodes_of (remove nodes (place_of name nodes)) ≡ without_node name (nodes_of nodes)
+
+remove_first : (first : NodeModel) (later : List NodeModel) (name : List ℕ) → IsRemoved name later → (b : Bool) →
+    bytes_eq first.name name ≡ b → IsRemoved name (first ∷ later)
+remove_first first later name rest true same within = rw same refl
+remove_first first later name rest false differs within =
+    let less = rw differs at within in
+    rw differs (ap (λ l. node first.name first.own first.children l) (rest (omega (arith, less))))
+
+removed : (nodes : List NodeModel) (name : List ℕ) → IsRemoved name nodes
+removed [] name within = absurd (omega (arith, within))
+removed (first ∷ later) name within = remove_first first later name (removed later name) (bytes_eq first.name name) refl within
+
+-- The same, by the index that a search of a slice of the nodes gave.
+module _ (nodes slice : List NodeModel) (same : slice ≡ nodes) (index : ℕ) (name : List ℕ) (is : index ≡ place_of name slice) where
+  at_place : index ≡ place_of name nodes
+  at_place = is ∙ ap (λ l. place_of name l) same
+
+  pub added_after : bytes_eq name name ≡ true → (new : NodeModel) → new ≡ new_node name → index ≡ length nodes →
+      (nodes_of (nodes ++ new ∷ []) ≡ with_new_node [] name (nodes_of nodes)) × (index ≡ place_of name (nodes ++ new ∷ []))
+  added_after equal new is_new absent =
+      let both = added nodes name equal (sym at_place ∙ absent) in
+      (ap (λ n. nodes_of (nodes ++ n ∷ [])) is_new ∙ both.0,
+       absent ∙ sym both.1 ∙ ap (λ n. place_of name (nodes ++ n ∷ [])) (sym is_new))
+
+  pub none_added : index < length nodes → nodes_of nodes ≡ with_new_node [] name (nodes_of nodes)
+  none_added within = there nodes name (subst (λ n. n < length nodes) at_place within)
+
+  pub removed_at : index < length nodes → nodes_of (remove nodes index) ≡ without_node name (nodes_of nodes)
+  removed_at within =
+      ap (λ n. nodes_of (remove nodes n)) at_place ∙ removed nodes name (subst (λ n. n < length nodes) at_place within)
+
+  pub changed_at : (change : Root (List Property) → Root (List Property)) (new other : NodeModel) → index < length nodes →
+      new.name ≡ (get_or nodes index other).name → below new ≡ change (below (get_or nodes index other)) →
+      nodes_of (set nodes index new) ≡ with_node name change (nodes_of nodes)
+  changed_at change new other within named below_is =
+      ap (λ n. nodes_of (set nodes n new)) at_place
+      ∙ changed nodes name change new other (subst (λ n. n < length nodes) at_place within)
+      (named ∙ ap (λ n. (get_or nodes n other).name) at_place)
+      (below_is ∙ ap (λ n. change (below (get_or nodes n other))) at_place)

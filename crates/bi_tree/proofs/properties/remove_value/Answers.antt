@@ -1,0 +1,18 @@
+use Rattle.std.proofs.Common.{ap, ◌∙◌, arith}
+use Rattle.bi_tree.specs.Properties.{properties_of}
+use Rattle.bi_tree.proofs.PropertyLists.{removed_at, kept_without}
+use Rattle.bi_tree.proofs.properties.remove_value.Goals as goal
+
+pub returns-then-index-len : goal.returns-then-index-len
+returns-then-index-len c = record {
+  removed = kept_without c.args.properties.now.items c.deref.result.now c.deref.ensures.value c.find_property-index.result
+      c.args.name.now c.find_property-index.ensures.index (omega (arith, c.if-index-len.true, c.len.ensures));
+}
+
+pub returns : goal.returns
+returns c = record {
+  removed = ap properties_of c.remove.ensures.items
+      ∙ removed_at c.args.properties.now.items c.deref.result.now c.deref.ensures.value c.find_property-index.result
+      c.args.name.now c.find_property-index.ensures.index
+      (omega (arith, c.if-index-len.false, c.len.ensures, c.find_property-index.ensures.within, c.deref.ensures.len));
+}
