@@ -1,8 +1,10 @@
-use Rattle.std.proofs.Common.{◌≡◌, ℕ, Bool, true, false, List, [], ◌∷◌, refl, ap}
+use Rattle.std.proofs.Common.{◌≡◌, ℕ, Bool, true, false, List, [], ◌∷◌, ◌≤◌, ◌-◌, length, take, drop, get_or, refl, sym, ap, ap₂, arith, true≢false, Vec, Global, ◌==◌}
+use Rattle.std.proofs.lemmas.List.{take_all}
 use Rattle.std.proofs.Common.{bytes_eq}
 use Rattle.bi_blob.specs.Tree.{Nodes, none, node, Property, Root}
-use Rattle.bi_tree.specs.Changes.{with_node, with_new_node, with_change_at, with_node_at}
+use Rattle.bi_tree.specs.Changes.{with_node, with_new_node, with_change_at, with_node_at, without_node_at}
 use Rattle.bi_tree.specs.Properties.{with_value, with_value_at}
+use Rattle.bi_tree.specs.TreeNodes.{names_of}
 
 -- Changes of trees, one after the other.
 
@@ -32,3 +34,21 @@ set_below name path property value root =
     ap (λ nodes. record { own = root.own; children = nodes })
     (are_one name (with_change_at path (with_value property value)) (with_node_at [] path)
     (with_new_node [] name root.children))
+
+-- A node below a child is removed in the child.
+pub removed_below : {Own : Type 0} (name : List ℕ) (later : List (List ℕ)) (root : Root Own) → 1 ≤ length later →
+    without_node_at (name ∷ later) root ≡ record { own = root.own; children = with_node name (without_node_at later) root.children }
+removed_below name [] root some = absurd (omega (arith, some))
+removed_below name (next ∷ later) root some = refl
+
+-- A list that is not empty has a name.
+pub some_names : (names : List (Vec ℕ Global)) → (length names == 0) ≡ false → 1 ≤ length (names_of names)
+some_names [] some = absurd (true≢false some)
+some_names (name ∷ later) some = omega arith
+
+-- A path that has a name is its first name and the others.
+pub path_is : {V : Type 0} (path : List V) (first : V) → 1 ≤ length path → first ≡ get_or path 0 first →
+    path ≡ first ∷ take (length path - 1) (drop 1 path)
+path_is [] first some is = absurd (omega (arith, some))
+path_is (other ∷ rest) first some is =
+    ap₂ (λ x xs. x ∷ xs) (sym is) (sym (take_all (length (other ∷ rest) - 1) rest (omega arith)))

@@ -1,8 +1,9 @@
 use Rattle.std.proofs.Common.{◌≡◌, ℕ, ◌<◌, Bool, true, false, List, [], ◌∷◌, ◌++◌, length, set, get_or, refl, sym, ap, subst, ◌∙◌, arith}
-use Rattle.std.proofs.Common.{bytes_eq}
-use Rattle.std.specs.List.{remove}
+use Rattle.std.proofs.Common.{bytes_eq, option_map, slice_get, ◌≤◌, Option, Some, None, Bor, MatchOption}
+use Rattle.std.proofs.lemmas.Option.{slice_get_past, slice_get_read}
+use Rattle.std.specs.List.{HoldsAt, remove}
 use Rattle.bi_blob.specs.Tree.{none, node, Property, Root}
-use Rattle.bi_tree.specs.Changes.{with_node, with_new_node, without_node}
+use Rattle.bi_tree.specs.Changes.{with_node, with_new_node, without_node, child_named}
 use Rattle.bi_tree.specs.TreeNodes.{NodeModel, below, index_named, names_of_nodes, nodes_of}
 
 -- What a change of one node makes of a list of nodes.
@@ -88,10 +89,55 @@ removed : (nodes : List NodeModel) (name : List ℕ) → IsRemoved name nodes
 removed [] name within = absurd (omega (arith, within))
 removed (first ∷ later) name within = remove_first first later name (removed later name) (bytes_eq first.name name) refl within
 
+-- Without a node of the name all stay.
+abbrev IsKept : List ℕ → (Root (List Property) → Root (List Property)) → List NodeModel → Type 0
+IsKept name change nodes = place_of name nodes ≡ length nodes →
+    (nodes_of nodes ≡ without_node name (nodes_of nodes)) × (nodes_of nodes ≡ with_node name change (nodes_of nodes))
+
+keep_first : (first : NodeModel) (later : List NodeModel) (name : List ℕ) (change : Root (List Property) → Root (List Property)) →
+    IsKept name change later → (b : Bool) → bytes_eq first.name name ≡ b → IsKept name change (first ∷ later)
+keep_first first later name change rest true same absent = let no = rw same at absent in absurd (omega (arith, no))
+keep_first first later name change rest false differs absent =
+    let more = rw differs at absent in
+    let both = rest (omega (arith, more)) in
+    (rw differs (ap (λ l. node first.name first.own first.children l) both.0),
+     rw differs (ap (λ l. node first.name first.own first.children l) both.1))
+
+kept : (nodes : List NodeModel) (name : List ℕ) (change : Root (List Property) → Root (List Property)) → IsKept name change nodes
+kept [] name change absent = (refl, refl)
+kept (first ∷ later) name change absent =
+    keep_first first later name change (kept later name change) (bytes_eq first.name name) refl absent
+
+-- The first node with a name is the one at its index, if there is one.
+abbrev IsFound : List ℕ → List NodeModel → Type 0
+IsFound name nodes = child_named (nodes_of nodes) name ≡ option_map below (slice_get nodes (place_of name nodes))
+
+find_first : (first : NodeModel) (later : List NodeModel) (name : List ℕ) → IsFound name later → (b : Bool) → bytes_eq first.name name ≡ b →
+    IsFound name (first ∷ later)
+find_first first later name rest true same = rw same refl
+find_first first later name rest false differs = rw differs rest
+
+found : (nodes : List NodeModel) (name : List ℕ) → IsFound name nodes
+found [] name = refl
+found (first ∷ later) name = find_first first later name (found later name) (bytes_eq first.name name) refl
+
+-- What a slice of nodes gives at an index.
+pub read_at : (nodes slice : List NodeModel) (index : ℕ) (result : Option (Bor NodeModel)) → slice ≡ nodes →
+    MatchOption result (length slice ≤ index) (λ x. (index < length slice) × HoldsAt (λ y. x.now ≡ y) slice index) →
+    option_map (λ top. below top.now) result ≡ option_map below (slice_get nodes index)
+read_at nodes slice index None same past =
+    ap (option_map below) (sym (slice_get_past slice index past)) ∙ ap (λ list. option_map below (slice_get list index)) same
+read_at nodes slice index (Some found) same read =
+    ap (option_map below) (sym (slice_get_read slice (length slice) index found.now refl read.0 (read.1 found.now)))
+    ∙ ap (λ list. option_map below (slice_get list index)) same
+
 -- The same, by the index that a search of a slice of the nodes gave.
 module _ (nodes slice : List NodeModel) (same : slice ≡ nodes) (index : ℕ) (name : List ℕ) (is : index ≡ place_of name slice) where
   at_place : index ≡ place_of name nodes
   at_place = is ∙ ap (λ l. place_of name l) same
+
+  pub found_at : child_named (nodes_of nodes) name ≡ option_map below (slice_get nodes index)
+  found_at = found nodes name ∙ ap (λ n. option_map below (slice_get nodes n)) (sym at_place)
 
   pub added_after : bytes_eq name name ≡ true → (new : NodeModel) → new ≡ new_node name → index ≡ length nodes →
       (nodes_of (nodes ++ new ∷ []) ≡ with_new_node [] name (nodes_of nodes)) × (index ≡ place_of name (nodes ++ new ∷ []))
@@ -115,3 +161,10 @@ module _ (nodes slice : List NodeModel) (same : slice ≡ nodes) (index : ℕ) (
       ∙ changed nodes name change new other (subst (λ n. n < length nodes) at_place within)
       (named ∙ ap (λ n. (get_or nodes n other).name) at_place)
       (below_is ∙ ap (λ n. change (below (get_or nodes n other))) at_place)
+
+  pub kept_without : index ≡ length nodes → nodes_of nodes ≡ without_node name (nodes_of nodes)
+  kept_without absent = (kept nodes name (λ root. root) (sym at_place ∙ absent)).0
+
+  pub not_changed : (change : Root (List Property) → Root (List Property)) → index ≡ length nodes →
+      nodes_of nodes ≡ with_node name change (nodes_of nodes)
+  not_changed change absent = (kept nodes name change (sym at_place ∙ absent)).1

@@ -1,19 +1,25 @@
 use Rattle.std.specs.Prelude.{ℕ, List, [], ◌∷◌, Option, Some, None, bytes_eq}
-use Rattle.std.specs.Prelude.{if◌then◌else◌, option_and_then}
-use Rattle.bi_blob.specs.Lookups.{node_named}
+use Rattle.std.specs.Prelude.{if◌then◌else◌, option_and_then, option_map}
+use Rattle.bi_blob.specs.Lookups.{Sibling, node_named}
 use Rattle.bi_blob.specs.Tree.{Nodes, none, node, Root}
 
 -- What a change of one node makes of a tree (Devicetree Specification, 2.2). A `Root` is here any
 -- node with all nodes below it, without its own name.
+
+-- A node without its name and the nodes after it.
+abbrev pub below_sibling : {Own : Type 0} → Sibling Own → Root Own
+below_sibling sibling = record { own = sibling.own; children = sibling.children }
+
+-- The node with this name in a list.
+abbrev pub child_named : {Own : Type 0} → Nodes Own → (name : List ℕ) → Option (Root Own)
+child_named nodes name = option_map below_sibling (node_named nodes name)
 
 -- The node that a path leads to from this one: the first name of the path is that of a child of it,
 -- the second that of a child of this child, and so on.
 abbrev pub node_by_path : {Own : Type 0} → Root Own → (path : List (List ℕ)) → Option (Root Own)
 node_by_path from [] = Some from
 node_by_path from (name ∷ later) =
-    option_and_then
-    (λ child. node_by_path (record { own = child.own; children = child.children }) later)
-    (node_named from.children name)
+    option_and_then (λ child. node_by_path child later) (child_named from.children name)
 
 -- A node with this name in a list.
 abbrev pub named_node : {Own : Type 0} → (name : List ℕ) → Root Own → (later : Nodes Own)

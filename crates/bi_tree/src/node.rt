@@ -1,13 +1,14 @@
 //! Nodes of trees that can be changed.
 
-ghost use Rattle.std.specs.Prelude.{◌≡◌, ◌<◌, ◌≤◌, [], OnOk, IfOk, length};
+ghost use Rattle.std.specs.Prelude.{◌≡◌, ◌<◌, ◌≤◌, [], OnOk, IfOk, length, option_map};
 ghost use Rattle.std.specs.Cow.{cow_slice_items};
 ghost use Rattle.bi_blob.specs.Tree.{none};
-ghost use Rattle.bi_tree.specs.Changes.{with_new_node};
-ghost use Rattle.bi_tree.specs.Properties.{with_value_at};
+ghost use Rattle.bi_tree.specs.Changes.{child_named, node_by_path, with_change_at, with_new_node};
+ghost use Rattle.bi_tree.specs.Changes.{without_node, without_node_at};
+ghost use Rattle.bi_tree.specs.Properties.{with_value_at, without_value};
 ghost use Rattle.bi_tree.specs.TreeNodes.{below, index_named, names_of, names_of_nodes, nodes_of};
 
-use crate::properties::{TreeProperty, set_value};
+use crate::properties::{TreeProperty, remove_value, set_value};
 use std::alloc::{AllocError, Global};
 use std::borrow::CowSlice;
 use std::marker::Model;
@@ -53,6 +54,26 @@ impl<'a> TreeNode<'a> {
         }
     }
 
+    /// Returns the node at a path below this one. Returns None if there is none.
+    pub fn node(&self, path: &[Vec<u8>]) -> Option<&TreeNode<'a>>
+        ensures { option_map (λ node. below node.now) result
+            ≡ node_by_path (below self.now) (names_of path.now) }
+    {
+        let [first, later @ ..] = path else {
+            return Some(self);
+        };
+        self.child(first)?.node(later)
+    }
+
+    /// Returns the first child with this name. Returns None if there is none.
+    pub fn child(&self, name: &[u8]) -> Option<&TreeNode<'a>>
+        ensures { option_map (λ child. below child.now) result
+            ≡ child_named self.now.children name.now }
+    {
+        let index = find_child(&self.children, name);
+        self.children.get(index)
+    }
+
     /// Sets the value of a property of the node at a path below this one, or adds the property.
     /// Nodes of the path that are not there are added, each as the last child of its parent.
     ///
@@ -75,6 +96,42 @@ impl<'a> TreeNode<'a> {
         let index = child_or_new(alloc, &mut self.children, first)?;
         self.children[index].set_property(alloc, later, name, value)?;
         Ok(())
+    }
+
+    /// Removes the node at a path below this one, with all nodes below it. Without such a node, and
+    /// for the path of this one, nothing changes.
+    pub fn remove_node(&mut self, path: &[Vec<u8>])
+        ensures removed { below self.new ≡ without_node_at (names_of path.now) (below self.old) }
+        ensures name { self.new.name ≡ self.old.name }
+    {
+        let [first, later @ ..] = path else {
+            return;
+        };
+        if later.is_empty() {
+            remove_child(&mut self.children, first);
+            return;
+        }
+        let index = find_child(&self.children, first);
+        if index < self.children.len() {
+            self.children[index].remove_node(later);
+        }
+    }
+
+    /// Removes a property of the node at a path below this one. Without such a node or property
+    /// nothing changes.
+    pub fn remove_property(&mut self, path: &[Vec<u8>], name: &[u8])
+        ensures removed { below self.new
+            ≡ with_change_at (names_of path.now) (without_value name.now) (below self.old) }
+        ensures name { self.new.name ≡ self.old.name }
+    {
+        let [first, later @ ..] = path else {
+            remove_value(&mut self.properties, name);
+            return;
+        };
+        let index = find_child(&self.children, first);
+        if index < self.children.len() {
+            self.children[index].remove_property(later, name);
+        }
     }
 
     /// Returns the name.
@@ -104,6 +161,16 @@ fn child_or_new<'a>(
         children.push(TreeNode::new(alloc, name))?;
     }
     Ok(index)
+}
+
+/// Removes the first of these nodes with this name. If there is none, nothing changes.
+fn remove_child(children: &mut Vec<TreeNode<'_>>, name: &[u8])
+    ensures { nodes_of children.new.items ≡ without_node name.now (nodes_of children.old.items) }
+{
+    let index = find_child(children, name);
+    if index < children.len() {
+        let _ = children.remove(index);
+    }
 }
 
 /// Returns the index of the first of these nodes with this name, or their number if there is none.

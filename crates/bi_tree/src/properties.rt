@@ -38,17 +38,15 @@ pub(crate) fn set_value<'a>(
     Ok(())
 }
 
-/// Removes the first of these properties with this name. Returns whether there was one.
-pub(crate) fn remove_value(properties: &mut Vec<TreeProperty<'_>>, name: &[u8]) -> bool
-    ensures removed { properties_of properties.new.items
+/// Removes the first of these properties with this name. If there is none, nothing changes.
+pub(crate) fn remove_value(properties: &mut Vec<TreeProperty<'_>>, name: &[u8])
+    ensures { properties_of properties.new.items
         ≡ without_property name.now (properties_of properties.old.items) }
 {
     let index = find_property(properties, name);
-    if index == properties.len() {
-        return false;
+    if index < properties.len() {
+        let _ = properties.remove(index);
     }
-    let _ = properties.remove(index);
-    true
 }
 
 /// Returns the index of the first of these properties with this name, or their number if there is

@@ -4,15 +4,13 @@ use Rattle.bi_tree.proofs.PropertyLists.{removed_at, kept_without}
 use Rattle.bi_tree.proofs.properties.remove_value.Goals as goal
 
 pub returns-then-index-len : goal.returns-then-index-len
-returns-then-index-len c = record {
-  removed = kept_without c.args.properties.now.items c.deref.result.now c.deref.ensures.value c.find_property-index.result
-      c.args.name.now c.find_property-index.ensures.index (omega (arith, c.if-index-len.true, c.len.ensures));
-}
+returns-then-index-len c =
+    ap properties_of c.remove.ensures.items
+    ∙ removed_at c.args.properties.now.items c.deref.result.now c.deref.ensures.value c.find_property-index.result
+    c.args.name.now c.find_property-index.ensures.index (omega (arith, c.if-index-len.true, c.len.ensures))
 
-pub returns : goal.returns
-returns c = record {
-  removed = ap properties_of c.remove.ensures.items
-      ∙ removed_at c.args.properties.now.items c.deref.result.now c.deref.ensures.value c.find_property-index.result
-      c.args.name.now c.find_property-index.ensures.index
-      (omega (arith, c.if-index-len.false, c.len.ensures, c.find_property-index.ensures.within, c.deref.ensures.len));
-}
+pub returns-else-index-len : goal.returns-else-index-len
+returns-else-index-len c =
+    kept_without c.args.properties.now.items c.deref.result.now c.deref.ensures.value c.find_property-index.result
+    c.args.name.now c.find_property-index.ensures.index
+    (omega (arith, c.if-index-len.false, c.len.ensures, c.find_property-index.ensures.within, c.deref.ensures.len))

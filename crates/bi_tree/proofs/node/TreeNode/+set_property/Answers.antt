@@ -1,19 +1,11 @@
-use Rattle.std.proofs.Common.{◌≡◌, ◌≤◌, ◌-◌, List, [], ◌∷◌, length, take, drop, get_or, refl, sym, ap, ap₂, ◌∙◌, arith}
-use Rattle.std.proofs.lemmas.List.{take_all}
+use Rattle.std.proofs.Common.{◌-◌, [], ◌∷◌, length, take, drop, refl, sym, ap, ◌∙◌}
 use Rattle.std.specs.Cow.{cow_slice_items}
 use Rattle.bi_tree.specs.Changes.{with_node, with_new_node}
 use Rattle.bi_tree.specs.Properties.{properties_of, with_value_at}
 use Rattle.bi_tree.specs.TreeNodes.{below, names_of}
-use Rattle.bi_tree.proofs.ChangedTrees.{set_below}
+use Rattle.bi_tree.proofs.ChangedTrees.{path_is, set_below}
 use Rattle.bi_tree.proofs.NodeLists.{changed_at}
 use Rattle.bi_tree.proofs.node.TreeNode.+set_property.Goals as goal
-
--- A path that has a name is its first name and the others.
-path_is : {V : Type 0} (path : List V) (first : V) → 1 ≤ length path → first ≡ get_or path 0 first →
-    path ≡ first ∷ take (length path - 1) (drop 1 path)
-path_is [] first some is = absurd (omega (arith, some))
-path_is (other ∷ rest) first some is =
-    ap₂ (λ x xs. x ∷ xs) (sym is) (sym (take_all (length (other ∷ rest) - 1) rest (omega arith)))
 
 pub returns-clause-set : goal.returns-clause-set
 returns-clause-set t c =
