@@ -1,4 +1,5 @@
 use Rattle.std.specs.Prelude.{◌≡◌, ◌≢◌, ◌≤◌, ◌⊎◌, ℕ, List, [], ◌∷◌, ◌++◌, codes, length, Ok}
+use Rattle.std.specs.Prelude.{Option, Some, None, flat_map}
 use Rattle.std.specs.List.{join_with_byte}
 use Rattle.hex.specs.Hex.{decode_of}
 use Rattle.bi_base.specs.Cells.{AreBytes}
@@ -6,7 +7,9 @@ use Rattle.bi_common.specs.Shown.{Words, path, shown_text}
 use Rattle.bi_common.specs.ValueTexts.{value_words}
 use Rattle.bi_edit.specs.declared.edit.Edit.{Edit}
 use Rattle.bi_edit.specs.declared.edit.Edit.TheVariants.{RemoveNode, RemoveProperty}
-use Rattle.bi_edit.specs.Places.{IsNodePath, IsChildNameOfBytes, IsPropertyNameOfBytes, Place}
+use Rattle.bi_edit.specs.Cuts.{from_byte}
+use Rattle.bi_edit.specs.Places.{IsNodePath, IsChildNameOfBytes, IsPlace, IsPropertyNameOfBytes}
+use Rattle.bi_edit.specs.Places.{IsRemovable, Place}
 
 -- The words for edits on the command line: nodes, properties and values are given as they are
 -- printed in a description (profile of this project).
@@ -15,6 +18,15 @@ use Rattle.bi_edit.specs.Places.{IsNodePath, IsChildNameOfBytes, IsPropertyNameO
 pub record IsPathWord (word : List ℕ) (names : List (List ℕ)) : Type 0 where
   pub is_path : IsNodePath names
   pub is : path names ≡ word
+
+-- A slash and the name of a node.
+abbrev pub slashed : List ℕ → List ℕ
+slashed name = 47 ∷ shown_text name
+
+-- The names are those in a text, with a slash between each two.
+pub record AreNamesIn (text : List ℕ) (names : List (List ℕ)) : Type 0 where
+  pub is_path : IsNodePath names
+  pub are : flat_map slashed names ≡ 47 ∷ text
 
 -- The word for the name of a child, and for that of a property.
 pub record IsChildWord (word name : List ℕ) : Type 0 where
@@ -25,7 +37,7 @@ pub record IsPropertyWord (word name : List ℕ) : Type 0 where
   pub is_name : IsPropertyNameOfBytes name
   pub is : shown_text name ≡ word
 
--- The text is how this value is printed, and how no other is.
+-- How a value is printed: nothing for an empty one.
 abbrev pub value_text : List ℕ → List ℕ
 value_text value = join_with_byte 32 (value_words value)
 
@@ -47,21 +59,23 @@ place_words place = path place.path ∷ shown_text place.name ∷ []
 -- The word for a removal: the path of a node; or that of the node of a property, a space, and the
 -- name of the property.
 abbrev pub IsRemovalWord : List ℕ → Edit → Type 0
-IsRemovalWord word (RemoveNode names) = path names ≡ word
-IsRemovalWord word (RemoveProperty place) = join_with_byte 32 (place_words place) ≡ word
+IsRemovalWord word (RemoveNode names) = IsRemovable names × (path names ≡ word)
+IsRemovalWord word (RemoveProperty place) =
+    IsPlace place × (join_with_byte 32 (place_words place) ≡ word)
 IsRemovalWord word edit = ⊥
 
--- What is after the name of a property: nothing for an empty value; or else a space, and a text
--- that is not empty for the value.
-pub data IsValueAfter : (after value : List ℕ) → Type 0 where
-  NoText : IsValueAfter [] []
-  AfterSpace : (text value : List ℕ) → text ≢ [] → IsValueText text value
-      → IsValueAfter (32 ∷ text) value
+-- What is after the name of a property, if a space and something are after it: the text for a value
+-- that is not empty. Without them the value is empty.
+abbrev pub IsValueAfter : (after : Option (List ℕ)) → (value : List ℕ) → Type 0
+IsValueAfter None value = value ≡ []
+IsValueAfter (Some text) value = (text ≢ []) × IsValueText text value
 
--- The word for a new value of a property: the path of its node, a space, the name, and the value.
+-- The word for a new value of a property: the path of its node, a space, the name, and the value
+-- after one more space, unless it is empty.
 pub record IsSettingWord (word : List ℕ) (place : Place) (value : List ℕ) : Type 0 where
-  pub after : List ℕ
-  pub is : word ≡ join_with_byte 32 (place_words place) ++ after
+  pub is_place : IsPlace place
+  pub after : Option (List ℕ)
+  pub is : join_with_byte 32 (place_words place) ++ from_byte 32 after ≡ word
   pub is_value : IsValueAfter after value
 
 -- The word for a new payload: the name of the image, `=@`, and the name of a file, which is not

@@ -1,10 +1,11 @@
 use Rattle.std.specs.Prelude.{◌≡◌, ℕ, ◌+◌, ◌≤◌, ⊤, ◌⊎◌, Bool, true, false, List, [], ◌∷◌, ◌++◌}
-use Rattle.std.specs.Prelude.{filter, fold, None, Option, Some, bytes_eq, if◌then◌else◌}
+use Rattle.std.specs.Prelude.{filter, length, None, bytes_eq, if◌then◌else◌}
 use Rattle.std.specs.Fmt.{decimal}
-use Rattle.std.specs.FinMap.{get, insert}
+use Rattle.std.specs.FinMap.{empty, get}
 use Rattle.bi_base.specs.Cells.{cell}
 use Rattle.bi_base.specs.Limits.{Limits}
 use Rattle.bi_blob.specs.Tree.{Nodes, none, node, Root, PropertyMap}
+use Rattle.bi_tree.specs.Changes.{node_by_path, with_change_at, with_node_at, without_node_at}
 use Rattle.bi_fit.specs.ImageTree.{ImageTree, with_image_nodes}
 use Rattle.bi_fit.specs.Names.{data_name, timestamp_name}
 use Rattle.bi_fit.specs.Updating.{with_digests_of}
@@ -15,10 +16,9 @@ use Rattle.bi_edit.specs.declared.edit.Edit.TheVariants.{RemoveNode, RemovePrope
 use Rattle.bi_edit.specs.declared.edit.Edit.TheVariants.{SetField, SetPayload, SetTime, SetDigests}
 use Rattle.bi_edit.specs.declared.edit.FieldValue.{FieldValue}
 use Rattle.bi_edit.specs.declared.edit.FieldValue.TheVariants as field
-use Rattle.bi_edit.specs.Places.{Place, image_path}
-use Rattle.bi_edit.specs.Plain.{plain_root, with_plain_root, node_by_path, value_at}
-use Rattle.bi_edit.specs.Plain.{with_change_at, with_node_at, without_node_at}
-use Rattle.bi_edit.specs.Plain.{with_value, without_value}
+use Rattle.bi_edit.specs.Places.{image_path}
+use Rattle.bi_edit.specs.Plain.{plain_root, with_plain_root, value_at_place}
+use Rattle.bi_edit.specs.Plain.{with_own_value, without_own_value}
 
 -- What edits make of the meaning of a boot image (profile of this project).
 
@@ -67,13 +67,15 @@ with_payload_digests (node name own children later) =
 -- A plain tree after an edit. A field of a legacy image is no part of it.
 abbrev pub edited_root : Root PropertyMap → Edit → Root PropertyMap
 edited_root root (RemoveNode path) = without_node_at path root
-edited_root root (RemoveProperty place) = with_change_at place.path (without_value place.name) root
+edited_root root (RemoveProperty place) =
+    with_change_at place.path (without_own_value place.name) root
 edited_root root (SetProperty place value) =
-    with_change_at place.path (with_value place.name value.items) (with_node_at place.path root)
+    with_change_at place.path (with_own_value place.name value.items)
+    (with_node_at empty place.path root)
 edited_root root (SetField value) = root
 edited_root root (SetPayload image payload) =
-    with_change_at (image_path image) (with_value data_name payload.now) root
-edited_root root (SetTime time) = with_value timestamp_name (cell time) root
+    with_change_at (image_path image) (with_own_value data_name payload.now) root
+edited_root root (SetTime time) = with_own_value timestamp_name (cell time) root
 edited_root root SetDigests = with_image_nodes with_payload_digests root
 
 -- A plain tree after edits, one after the other.
@@ -157,7 +159,7 @@ IsTooDeep limits edit = ⊥
 -- An edit has nothing to remove, or no image to change.
 abbrev pub FindsNothing : Root PropertyMap → Edit → Type 0
 FindsNothing root (RemoveNode path) = node_by_path root path ≡ None
-FindsNothing root (RemoveProperty place) = value_at root place ≡ None
+FindsNothing root (RemoveProperty place) = value_at_place root place ≡ None
 FindsNothing root (SetPayload image payload) = node_by_path root (image_path image) ≡ None
 FindsNothing root edit = ⊥
 

@@ -1,4 +1,4 @@
-use Rattle.std.specs.Prelude.{ℕ, ◌==◌, List, [], ◌∷◌, ◌++◌, if◌then◌else◌}
+use Rattle.std.specs.Prelude.{ℕ, ◌==◌, List, [], ◌∷◌, ◌++◌, if◌then◌else◌, Option, Some, None}
 use Rattle.bi_edit.specs.declared.words.values.Quoting.{Quoting}
 use Rattle.bi_edit.specs.declared.words.values.Quoting.TheVariants.{Outside, Inside, Escaped}
 
@@ -23,3 +23,8 @@ abbrev pub unquoted : Quoting → List ℕ → List ℕ
 unquoted quoting [] = []
 unquoted quoting (byte ∷ later) =
     unquoted_byte quoting byte ++ unquoted (next_quoting quoting byte) later
+
+-- A byte as a list, if there is one.
+abbrev pub bytes_or_none : Option ℕ → List ℕ
+bytes_or_none None = []
+bytes_or_none (Some byte) = byte ∷ []

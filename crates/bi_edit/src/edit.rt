@@ -3,7 +3,7 @@
 use crate::places::{ImageName, NodePlace, PropertyPlace};
 
 /// A value of a field of a legacy header. The type cannot be set.
-#[derive(Debug, Drop, PartialEq, Eq)]
+#[derive(Drop)]
 pub enum FieldValue {
     /// The name.
     Name(Vec<u8>),
@@ -23,7 +23,7 @@ pub enum FieldValue {
 
 /// An edit of a boot image. Edits are made in this order, whatever their order in a list: removals,
 /// new values, payloads, times, digests. Edits of one kind are made in their order in the list.
-#[derive(Debug, Drop)]
+#[derive(Drop)]
 pub enum Edit<'a> {
     /// Removes a node of a flattened image tree with all nodes below it.
     RemoveNode(NodePlace),

@@ -15,7 +15,7 @@ pub(crate) const MOST_NAMES: usize = 63;
 
 /// The path of a node: the names of the nodes from a child of the root down to it. There are at
 /// most 63, and none for the root.
-#[derive(Debug, Drop)]
+#[derive(Drop)]
 pub struct NodePath {
     names: Vec<Vec<u8>>,
 }
@@ -35,8 +35,9 @@ impl NodePath {
     /// Returns the path with these names. Returns None exactly if one of them is not a name that a
     /// child may have, or there are more than 63.
     pub fn new(names: Vec<Vec<u8>>) -> Option<NodePath>
-        ensures some { IfSome result (λ path. path ≡ names_of names.entry.items) }
-        ensures none { IfNone result (IsNodePath (names_of names.entry.items) → ⊥) }
+        ensures some { IfSome result (λ path.
+            (path ≡ names_of names.items) × IsNodePath path) }
+        ensures none { IfNone result (IsNodePath (names_of names.items) → ⊥) }
     {
         if names.len() <= MOST_NAMES && are_child_names(&names) {
             Some(NodePath { names })
@@ -75,7 +76,7 @@ fn is_child_name_of_bytes(name: &[u8]) -> bool
 }
 
 /// A node that can be removed: it is neither the root nor the node `images` below it.
-#[derive(Debug, Drop)]
+#[derive(Drop)]
 pub struct NodePlace {
     path: NodePath,
 }
@@ -95,8 +96,8 @@ impl NodePlace {
     /// Returns the node at this path. Returns None exactly for the root and the node `images` below
     /// it.
     pub fn new(path: NodePath) -> Option<NodePlace>
-        ensures some { IfSome result (λ place. place ≡ path.entry) }
-        ensures none { IfNone result (IsRemovable path.entry → ⊥) }
+        ensures some { IfSome result (λ place. (place ≡ path) × IsRemovable place) }
+        ensures none { IfNone result (IsRemovable path → ⊥) }
     {
         if is_removable(&path) {
             Some(NodePlace { path })
@@ -120,14 +121,14 @@ fn is_removable(path: &NodePath) -> bool
 {
     match path.names() {
         [] => false,
-        [name] => name != b"images",
+        [name] => name.as_slice() != b"images".as_slice(),
         _ => true,
     }
 }
 
 /// A property that can be set and removed: it is none of the four of an image node that hold a
 /// payload or name its region.
-#[derive(Debug, Drop)]
+#[derive(Drop)]
 pub struct PropertyPlace {
     path: NodePath,
     name: Vec<u8>,
@@ -148,9 +149,9 @@ impl PropertyPlace {
     /// name is not one that a property may have, or it is one of the four of an image node.
     pub fn new(path: NodePath, name: Vec<u8>) -> Option<PropertyPlace>
         ensures some { IfSome result (λ place.
-            place ≡ record { path = path.entry; name = name.entry.items }) }
+            (place ≡ record { path = path; name = name.items }) × IsPlace place) }
         ensures none { IfNone result
-            (IsPlace (record { path = path.entry; name = name.entry.items }) → ⊥) }
+            (IsPlace (record { path = path; name = name.items }) → ⊥) }
     {
         are_bytes(&name);
         if is_property_name(&name) && !(is_image_path(&path) && is_payload_name(&name)) {
@@ -181,13 +182,13 @@ fn is_image_path(path: &NodePath) -> bool
     ensures { result ≡ is_image path.now }
 {
     match path.names() {
-        [first, _] => first == b"images",
+        [first, _] => first.as_slice() == b"images".as_slice(),
         _ => false,
     }
 }
 
 /// The name of an image.
-#[derive(Debug, Drop)]
+#[derive(Drop)]
 pub struct ImageName {
     name: Vec<u8>,
 }
@@ -206,8 +207,9 @@ impl Model for ImageName {
 impl ImageName {
     /// Returns this name. Returns None exactly if it is not one that a child may have.
     pub fn new(name: Vec<u8>) -> Option<ImageName>
-        ensures some { IfSome result (λ image. image ≡ name.entry.items) }
-        ensures none { IfNone result (IsChildNameOfBytes name.entry.items → ⊥) }
+        ensures some { IfSome result (λ image.
+            (image ≡ name.items) × IsChildNameOfBytes image) }
+        ensures none { IfNone result (IsChildNameOfBytes name.items → ⊥) }
     {
         if is_child_name_of_bytes(&name) {
             Some(ImageName { name })

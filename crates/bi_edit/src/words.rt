@@ -1,10 +1,11 @@
 //! The words for edits on the command line.
 
-ghost use Rattle.std.specs.Prelude.{◌≡◌, ◌≢◌, ℕ, List, IfOk, IfErr, IfSome, IfNone};
+ghost use Rattle.std.specs.Prelude.{◌≡◌, ℕ, List, IfOk, IfErr, IfSome, IfNone};
+ghost use Rattle.std.specs.Option.{option_map};
 ghost use Rattle.bi_base.specs.declared.fault.Error.TheVariants.{OutOfMemory};
 ghost use Rattle.bi_edit.specs.declared.edit.Edit.{Edit};
-ghost use Rattle.bi_edit.specs.Places.{IsPlace, Place, IsRemovable};
-ghost use Rattle.bi_edit.specs.EditWords.{IsRemovalWord, IsSettingWord, IsPayloadWord};
+ghost use Rattle.bi_edit.specs.Places.{Place};
+ghost use Rattle.bi_edit.specs.EditWords.{IsRemovalWord, IsSettingWord, IsPayloadWord, IsValueAfter};
 
 mod cut;
 mod names;
@@ -18,7 +19,7 @@ use cut::cut;
 pub use names::{child_name, property_name};
 pub use paths::node_path;
 use std::alloc::Global;
-pub use values::value;
+pub use values::parse_value;
 
 /// Parses the word for a removal: the path of a node, or the path and the name of a property with a
 /// space between them, each as it is printed. Returns None exactly for any other word, for the root
@@ -26,7 +27,12 @@ pub use values::value;
 /// names its region.
 ///
 /// Fails only with OutOfMemory.
-pub fn removal<'a>(alloc: Global, word: &[u8]) -> Result<Option<Edit<'a>>, Error> {
+pub fn parse_removal<'a>(alloc: Global, word: &[u8]) -> Result<Option<Edit<'a>>, Error>
+    ensures some { IfOk result (λ found. IfSome found (λ edit. IsRemovalWord word.now edit)) }
+    ensures none { IfOk result (λ found. IfNone found
+        ((edit : Edit) → IsRemovalWord word.now edit → ⊥)) }
+    ensures failed { IfErr result (λ error. error ≡ OutOfMemory) }
+{
     let (first, name) = cut(word, b' ');
     let Some(path) = node_path(alloc, first)? else {
         return Ok(None);
@@ -41,7 +47,7 @@ pub fn removal<'a>(alloc: Global, word: &[u8]) -> Result<Option<Edit<'a>>, Error
 }
 
 /// A new value of a property.
-#[derive(Debug, Drop)]
+#[derive(Drop)]
 pub struct Setting {
     /// The property.
     pub place: PropertyPlace,
@@ -56,7 +62,13 @@ pub struct Setting {
 /// its region.
 ///
 /// Fails only with OutOfMemory.
-pub fn setting(alloc: Global, word: &[u8]) -> Result<Option<Setting>, Error> {
+pub fn parse_setting(alloc: Global, word: &[u8]) -> Result<Option<Setting>, Error>
+    ensures some { IfOk result (λ found. IfSome found (λ setting.
+        IsSettingWord word.now setting.place setting.value.items)) }
+    ensures none { IfOk result (λ found. IfNone found
+        ((place : Place) (value : List ℕ) → IsSettingWord word.now place value → ⊥)) }
+    ensures failed { IfErr result (λ error. error ≡ OutOfMemory) }
+{
     let (first, rest) = cut(word, b' ');
     let Some(rest) = rest else {
         return Ok(None);
@@ -78,16 +90,22 @@ pub fn setting(alloc: Global, word: &[u8]) -> Result<Option<Setting>, Error> {
 }
 
 /// Parses the text for a value, if there is one. Without a text the value is empty.
-fn value_after(alloc: Global, text: Option<&[u8]>) -> Result<Option<Vec<u8>>, Error> {
+fn value_after(alloc: Global, text: Option<&[u8]>) -> Result<Option<Vec<u8>>, Error>
+    ensures some { let after = option_map (λ text. text.now) text.entry in
+        IfOk result (λ found. IfSome found (λ value. IsValueAfter after value.items)) }
+    ensures none { let after = option_map (λ text. text.now) text.entry in
+        IfOk result (λ found. IfNone found ((value : List ℕ) → IsValueAfter after value → ⊥)) }
+    ensures failed { IfErr result (λ error. error ≡ OutOfMemory) }
+{
     match text {
         None => Ok(Some(Vec::new(alloc))),
         Some([]) => Ok(None),
-        Some(text) => value(alloc, text),
+        Some(text) => parse_value(alloc, text),
     }
 }
 
 /// Where the payload of an image comes from.
-#[derive(Debug, Drop)]
+#[derive(Drop)]
 pub struct PayloadWord<'a> {
     /// The name of the image.
     pub image: ImageName,
@@ -100,7 +118,13 @@ pub struct PayloadWord<'a> {
 /// also if the name of the file is empty.
 ///
 /// Fails only with OutOfMemory.
-pub fn payload<'a>(alloc: Global, word: &'a str) -> Result<Option<PayloadWord<'a>>, Error> {
+pub fn parse_payload<'a>(alloc: Global, word: &'a str) -> Result<Option<PayloadWord<'a>>, Error>
+    ensures some { IfOk result (λ found. IfSome found (λ payload.
+        IsPayloadWord word.entry.now payload.image payload.file.now)) }
+    ensures none { IfOk result (λ found. IfNone found
+        ((image file : List ℕ) → IsPayloadWord word.entry.now image file → ⊥)) }
+    ensures failed { IfErr result (λ error. error ≡ OutOfMemory) }
+{
     let Some((shown, file)) = word.split_once("=@") else {
         return Ok(None);
     };

@@ -2,7 +2,8 @@
 
 ghost use Rattle.std.specs.Prelude.{◌≡◌, ℕ, List, IfOk, IfErr, IfSome, IfNone};
 ghost use Rattle.bi_base.specs.declared.fault.Error.TheVariants.{OutOfMemory};
-ghost use Rattle.bi_edit.specs.EditWords.{IsPathWord};
+ghost use Rattle.bi_edit.specs.EditWords.{AreNamesIn, IsPathWord};
+ghost use Rattle.bi_edit.specs.Places.{names_of};
 
 use crate::places::{MOST_NAMES, NodePath};
 use crate::words::cut::cut;
@@ -32,8 +33,14 @@ pub fn node_path(alloc: Global, text: &[u8]) -> Result<Option<NodePath>, Error>
 }
 
 /// Returns the names that are printed in a text with a slash between each two. Returns None if
-/// there are none, or more than 63.
-fn names_in(alloc: Global, text: &[u8]) -> Result<Option<Vec<Vec<u8>>>, Error> {
+/// there are none, or more than 63. Fails only with OutOfMemory.
+fn names_in(alloc: Global, text: &[u8]) -> Result<Option<Vec<Vec<u8>>>, Error>
+    ensures some { IfOk result (λ found. IfSome found
+        (λ names. AreNamesIn text.now (names_of names.items))) }
+    ensures none { IfOk result (λ found. IfNone found
+        ((names : List (List ℕ)) → AreNamesIn text.now names → ⊥)) }
+    ensures failed { IfErr result (λ error. error ≡ OutOfMemory) }
+{
     let mut names = Vec::new(alloc);
     let mut left = Some(text);
     while let Some(rest) = left {

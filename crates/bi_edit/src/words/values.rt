@@ -1,10 +1,13 @@
 //! Values as they are printed.
 
-ghost use Rattle.std.specs.Prelude.{◌≡◌, ◌≢◌, [], ℕ, List, IfOk, IfErr, IfSome, IfNone, OnOk};
+ghost use Rattle.std.specs.Prelude.{◌≡◌, ◌≢◌, ◌++◌, ℕ, List, codes, Ok, IfOk, IfErr, IfSome, IfNone};
 ghost use Rattle.bi_base.specs.declared.fault.Error.TheVariants.{OutOfMemory};
 ghost use Rattle.bi_base.specs.Cells.{AreBytes};
 ghost use Rattle.bi_edit.specs.EditWords.{IsValueText, value_text};
-ghost use Rattle.bi_edit.specs.Unquoted.{unquoted as unquoted_of, Outside};
+ghost use Rattle.bi_edit.specs.Unquoted.{bytes_or_none, next_quoting, unquoted as unquoted_of};
+ghost use Rattle.bi_edit.specs.Unquoted.{unquoted_byte};
+ghost use Rattle.bi_edit.specs.declared.words.values.Quoting.TheVariants.{Outside};
+ghost use Rattle.hex.specs.Hex.{decode_of};
 
 use bi_base::{Error, MemoryPen, are_bytes};
 use bi_common::fields::{Field, put_field};
@@ -15,7 +18,7 @@ use std::alloc::{AllocError, Global};
 /// case, or a value as it is printed. Returns None if there is none.
 ///
 /// Fails only with OutOfMemory.
-pub fn value(alloc: Global, text: &[u8]) -> Result<Option<Vec<u8>>, Error>
+pub fn parse_value(alloc: Global, text: &[u8]) -> Result<Option<Vec<u8>>, Error>
     ensures some { IfOk result (λ found. IfSome found (λ value. IsValueText text.now value.items)) }
     ensures none { IfOk result (λ found. IfNone found
         ((value : List ℕ) → IsValueText text.now value → ⊥)) }
@@ -29,7 +32,13 @@ pub fn value(alloc: Global, text: &[u8]) -> Result<Option<Vec<u8>>, Error>
 
 /// Returns the bytes of hexadecimal digits. Returns None if the text is none, or their number is
 /// odd. Fails only with OutOfMemory.
-fn bytes_of_digits(alloc: Global, digits: &[u8]) -> Result<Option<Vec<u8>>, Error> {
+fn bytes_of_digits(alloc: Global, digits: &[u8]) -> Result<Option<Vec<u8>>, Error>
+    ensures some { IfOk result (λ found. IfSome found
+        (λ bytes. decode_of digits.now ≡ Ok bytes.items)) }
+    ensures none { IfOk result (λ found. IfNone found
+        ((bytes : List ℕ) → decode_of digits.now ≢ Ok bytes)) }
+    ensures failed { IfErr result (λ error. error ≡ OutOfMemory) }
+{
     match hex::decode(alloc, digits) {
         Ok(bytes) => Ok(Some(bytes)),
         Err(FromHexError::OutOfMemory) => Err(Error::OutOfMemory),
@@ -39,13 +48,20 @@ fn bytes_of_digits(alloc: Global, digits: &[u8]) -> Result<Option<Vec<u8>>, Erro
 
 /// Returns the value that is printed as a text. Returns None if there is none. Fails only with
 /// OutOfMemory. Requires: the text does not begin with `0x`.
-fn printed_value(alloc: Global, text: &[u8]) -> Result<Option<Vec<u8>>, Error> {
+fn printed_value(alloc: Global, text: &[u8]) -> Result<Option<Vec<u8>>, Error>
+    requires { (digits : List ℕ) → text.now ≢ codes "0x" ++ digits }
+    ensures some { IfOk result (λ found. IfSome found (λ value.
+        AreBytes value.items × (value_text value.items ≡ text.now))) }
+    ensures none { IfOk result (λ found. IfNone found
+        ((value : List ℕ) → value_text value ≢ text.now)) }
+    ensures failed { IfErr result (λ error. error ≡ OutOfMemory) }
+{
     let value = unquoted(alloc, text)?;
     are_bytes(&value);
     let mut pen = MemoryPen::new(alloc);
     put_field(Field::Value(&value), &mut pen);
     let printed = pen.into_vec()?;
-    Ok(if printed == text { Some(value) } else { None })
+    Ok(if printed.as_slice() == text { Some(value) } else { None })
 }
 
 /// Where a byte of a text is.
@@ -77,7 +93,10 @@ fn unquoted(alloc: Global, text: &[u8]) -> Result<Vec<u8>, AllocError>
 }
 
 /// Returns where the byte after this one is, and what this one stands for.
-fn after_byte(quoting: Quoting, byte: u8) -> (Quoting, Option<u8>) {
+fn after_byte(quoting: Quoting, byte: u8) -> (Quoting, Option<u8>)
+    ensures next { result.0 ≡ next_quoting quoting byte }
+    ensures bytes { bytes_or_none result.1 ≡ unquoted_byte quoting byte }
+{
     match (quoting, byte) {
         (Quoting::Outside, b'"') => (Quoting::Inside, None),
         (Quoting::Outside, _) => (Quoting::Outside, None),
