@@ -1,4 +1,4 @@
-use Rattle.std.proofs.Common.{◌≡◌, ◌≢◌, ℕ, leb, eqb, true, false, List, [], ◌∷◌, ◌++◌, refl, sym, ap, subst, ◌∙◌, true≢false}
+use Rattle.std.proofs.Common.{◌≡◌, ◌≢◌, ℕ, leb, eqb, Bool, true, false, List, [], ◌∷◌, ◌++◌, refl, sym, ap, subst, ◌∙◌, true≢false}
 use Rattle.std.proofs.Common.{Option, Some, None}
 use Rattle.std.proofs.lemmas.Bool.{ne_eqb, eq-eqb}
 use Rattle.std.specs.List.{AllByRecursion}
@@ -9,14 +9,14 @@ use Rattle.bi_edit.specs.Cuts.{from_byte, IsCut, LacksByte}
 -- A text that is cut at a byte is cut in one way.
 
 -- A byte that ends a text, as a test.
-abbrev pub is_byte : (byte : ℕ) → ℕ → _
+abbrev pub is_byte : (byte : ℕ) → ℕ → Bool
 is_byte byte other = eqb other byte
 
-no_end : (byte : ℕ) (bytes : List ℕ) → LacksByte byte bytes → HasNoEnd (is_byte byte) bytes
+pub no_end : (byte : ℕ) (bytes : List ℕ) → LacksByte byte bytes → HasNoEnd (is_byte byte) bytes
 no_end byte [] lacks = tt
 no_end byte (first ∷ later) lacks = (ne_eqb first byte lacks.0, no_end byte later lacks.1)
 
-ends-from_byte : (byte : ℕ) (after : Option (List ℕ)) → Ends (is_byte byte) (from_byte byte after)
+pub ends-from_byte : (byte : ℕ) (after : Option (List ℕ)) → Ends (is_byte byte) (from_byte byte after)
 ends-from_byte byte None = tt
 ends-from_byte byte (Some after) = eq-eqb byte byte refl
 

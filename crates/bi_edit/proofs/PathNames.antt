@@ -1,12 +1,12 @@
 use Rattle.std.proofs.Common.{◌≡◌, ◌≢◌, ◌≤◌, ◌+◌, ℕ, suc, List, [], ◌∷◌, ◌++◌, length, flat_map, refl, sym, ap, subst, ◌∙◌, arith, append_assoc}
-use Rattle.std.proofs.Common.{Option, Some, None, append-nil, length-append}
+use Rattle.std.proofs.Common.{◌<◌, Option, Some, None, Vec, Global, append-nil, length-append}
 use Rattle.std.specs.List.{AllByRecursion}
 use Rattle.bi_common.specs.Shown.{path, shown_text}
-use Rattle.bi_common.proofs.ReadableWords.Cuts.{HasNoEnd, Ends, cut_agrees, goes_on-append, later_same}
-use Rattle.bi_common.proofs.ReadableWords.ShownNames.{is_blank, is_slash, same_shown, shown_no_blank, shown_no_slash}
-use Rattle.bi_edit.specs.Cuts.{from_byte, LacksByte}
-use Rattle.bi_edit.specs.EditWords.{slashed}
-use Rattle.bi_edit.specs.Places.{AreChildNames}
+use Rattle.bi_common.proofs.ReadableWords.Cuts.{HasNoEnd, Ends, cut_agrees, goes_on-append, later_same, nothing_before}
+use Rattle.bi_common.proofs.ReadableWords.ShownNames.{is_blank, is_slash, same_shown, shown_no_blank, shown_no_slash, some_shown}
+use Rattle.bi_edit.specs.Cuts.{from_byte, IsCut, LacksByte}
+use Rattle.bi_edit.specs.EditWords.{AreNamesIn, IsChildWord, slashed}
+use Rattle.bi_edit.specs.Places.{AreChildNames, IsChildNameOfBytes, IsNodePath, names_of}
 use Rattle.bi_edit.proofs.CutTexts.{no_end, no_space, ends-from_byte}
 
 -- The names of a path are read back from how it is printed.
@@ -34,10 +34,10 @@ next_name (name ∷ others) shown later are lacks same =
     record { name = name; others = others; are = refl; is = parts.0; rest = parts.1 }
 
 -- Names that are printed at the beginning are the first of all that are printed.
-pub record HasRest (names all : List (List ℕ)) (rest : List ℕ) : Type 0 where
+pub record HasRest (names all : List (List ℕ)) (later : List ℕ) : Type 0 where
   pub others : List (List ℕ)
   pub are : all ≡ names ++ others
-  pub rest : flat_map slashed others ≡ rest
+  pub rest : flat_map slashed others ≡ later
 
 pub rest_of_names : (names all : List (List ℕ)) (rest : List ℕ) → AreChildNames names → AreChildNames all → Ends is_slash rest →
     flat_map slashed all ≡ flat_map slashed names ++ rest → HasRest names all rest
@@ -73,3 +73,83 @@ path_no_space (name ∷ names) = no_space (path (name ∷ names)) (steps_bare (n
 
 pub shown_no_space : (name : List ℕ) → LacksByte 32 (shown_text name)
 shown_no_space name = no_space (shown_text name) (shown_no_blank name)
+
+-- Two paths that are printed as one text are the same.
+none_printed : (names : List (List ℕ)) → flat_map slashed names ≡ [] → names ≡ []
+none_printed [] is = refl
+none_printed (name ∷ names) is = absurd cc
+
+pub same_names : (one other : List (List ℕ)) → AreChildNames one → AreChildNames other → flat_map slashed one ≡ flat_map slashed other →
+    one ≡ other
+same_names one other are also same =
+    let more = rest_of_names other one [] also are tt (same ∙ sym (append-nil (flat_map slashed other))) in
+    more.are ∙ ap (λ l. other ++ l) (none_printed more.others more.rest) ∙ append-nil other
+
+root_is_alone : (name : List ℕ) (names : List (List ℕ)) → flat_map slashed (name ∷ names) ≡ 47 ∷ [] → ⊥
+root_is_alone name names is = some_shown name (nothing_before (shown_text name) (flat_map slashed names) (later_same is))
+
+pub same_path : (one other : List (List ℕ)) → AreChildNames one → AreChildNames other → path one ≡ path other → one ≡ other
+same_path [] [] are also same = refl
+same_path [] (name ∷ names) are also same = absurd (root_is_alone name names (sym same))
+same_path (name ∷ names) [] are also same = absurd (root_is_alone name names same)
+same_path (a ∷ one) (b ∷ other) are also same = same_names (a ∷ one) (b ∷ other) are also same
+
+-- ---- reading the names of a path one by one
+
+later_names : (names others : List (List ℕ)) → AreChildNames (names ++ others) → AreChildNames others
+later_names [] others are = are
+later_names (name ∷ names) others are = later_names names others are.1
+
+more_names : (names : List (List ℕ)) (name : List ℕ) → AreChildNames names → IsChildNameOfBytes name → AreChildNames (names ++ name ∷ [])
+more_names [] name are is = (is, tt)
+more_names (first ∷ names) name are is = (are.0, more_names names name are.1 is)
+
+pub names_of_more : (names : List (Vec ℕ Global)) (name : Vec ℕ Global) → names_of (names ++ name ∷ []) ≡ names_of names ++ name.items ∷ []
+names_of_more [] name = refl
+names_of_more (first ∷ names) name = ap (λ l. first.items ∷ l) (names_of_more names name)
+
+module _ (text : List ℕ) (names : List (List ℕ)) (rest shown : List ℕ) (later : Option (List ℕ)) (is_path : IsNodePath names)
+    (begins : flat_map slashed names ++ 47 ∷ rest ≡ 47 ∷ text) (cut : IsCut 47 rest shown later) where
+  others_of : (all : List (List ℕ)) → AreNamesIn text all → HasRest names all (47 ∷ rest)
+  others_of all is = rest_of_names names all (47 ∷ rest) is_path.are_names is.is_path.are_names refl (is.are ∙ sym begins)
+
+  next_of : (all : List (List ℕ)) (is : AreNamesIn text all) → HasNext (others_of all is).others shown (from_byte 47 later)
+  next_of all is =
+      let more = others_of all is in
+      next_name more.others shown later (later_names names more.others (subst AreChildNames more.are is.is_path.are_names)) cut.first
+      (more.rest ∙ ap (λ l. 47 ∷ l) cut.is)
+
+  -- The next name is that of a child.
+  pub no_child : ((name : List ℕ) → IsChildWord shown name → ⊥) → (all : List (List ℕ)) → AreNamesIn text all → ⊥
+  no_child none all is =
+      let more = others_of all is in
+      let next = next_of all is in
+      let are = later_names names more.others (subst AreChildNames more.are is.is_path.are_names) in
+      none next.name (record { is_name = (subst AreChildNames next.are are).0; is = next.is })
+
+  -- There are not too many.
+  pub too_many : length names ≡ 63 → (all : List (List ℕ)) → AreNamesIn text all → ⊥
+  too_many count all is =
+      let more = others_of all is in
+      let next = next_of all is in
+      let e = ap length more.are in
+      let f = ap length next.are in
+      omega (arith, is.is_path.few, count, e, f, length-append names more.others)
+
+  -- One more is read.
+  pub path_grows : (name : List ℕ) → length names ≢ 63 → IsChildWord shown name →
+      IsNodePath (names ++ name ∷ []) × (flat_map slashed (names ++ name ∷ []) ++ from_byte 47 later ≡ 47 ∷ text)
+  path_grows name fewer is = (
+    record {
+      are_names = more_names names name is_path.are_names is.is_name;
+      few = omega (arith, is_path.few, fewer, length-append names (name ∷ []));
+    },
+    ap (λ l. l ++ from_byte 47 later) (one_more names name)
+    ∙ append_assoc (flat_map slashed names) (slashed name) (from_byte 47 later)
+    ∙ ap (λ l. flat_map slashed names ++ (47 ∷ (l ++ from_byte 47 later))) is.is
+    ∙ ap (λ l. flat_map slashed names ++ 47 ∷ l) (sym cut.is) ∙ begins,
+  )
+
+  -- Less is left.
+  pub less_left : length (from_byte 47 later) < length (47 ∷ rest)
+  less_left = let e = ap length cut.is in omega (arith, e, length-append shown (from_byte 47 later))

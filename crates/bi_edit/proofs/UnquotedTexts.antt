@@ -1,4 +1,4 @@
-use Rattle.std.proofs.Common.{◌≡◌, ◌≢◌, ◌||◌, ◌==◌, ℕ, Bool, true, false, cond, List, [], ◌∷◌, ◌++◌, map, refl, sym, ap, ◌∙◌, codes, append_assoc}
+use Rattle.std.proofs.Common.{◌≡◌, ◌≢◌, ◌||◌, ◌==◌, ℕ, Bool, true, false, cond, List, [], ◌∷◌, ◌++◌, map, refl, sym, ap, ◌∙◌, codes, append_assoc, append-nil}
 use Rattle.std.specs.List.{flat_map, join_with_byte}
 use Rattle.bi_blob.specs.Layout.{strings_of}
 use Rattle.bi_fit.specs.Judgement.{listed_names}
@@ -33,8 +33,10 @@ unquoted_quoted text later =
 -- Texts in quotes.
 unquoted_texts : (texts : List (List ℕ)) → unquoted Outside (join_with_byte 32 (map quoted_text texts)) ≡ strings_of texts
 unquoted_texts [] = refl
-unquoted_texts (text ∷ []) = ?
-unquoted_texts (text ∷ next ∷ texts) = ?
+unquoted_texts (text ∷ []) = unquoted_inside text [] ∙ sym (append-nil (text ++ 0 ∷ []))
+unquoted_texts (text ∷ next ∷ texts) =
+    unquoted_quoted text (32 ∷ join_with_byte 32 (map quoted_text (next ∷ texts)))
+    ∙ ap (λ l. text ++ 0 ∷ l) (unquoted_texts (next ∷ texts)) ∙ sym (append_assoc text (0 ∷ []) (strings_of (next ∷ texts)))
 
 -- A value that is not printed in digits.
 pub unquoted_value : (value text : List ℕ) → value_text value ≡ text → ((digits : List ℕ) → text ≢ codes "0x" ++ digits) →

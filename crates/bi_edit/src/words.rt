@@ -1,10 +1,12 @@
 //! The words for edits on the command line.
 
-ghost use Rattle.std.specs.Prelude.{◌≡◌, ℕ, List, IfOk, IfErr, IfSome, IfNone};
+ghost use Rattle.std.specs.Prelude.{◌≡◌, ◌≢◌, ◌≤◌, ◌++◌, ℕ, List, codes, length};
+ghost use Rattle.std.specs.Prelude.{IfOk, IfErr, IfSome, IfNone};
 ghost use Rattle.std.specs.Option.{option_map};
 ghost use Rattle.bi_base.specs.declared.fault.Error.TheVariants.{OutOfMemory};
 ghost use Rattle.bi_edit.specs.declared.edit.Edit.{Edit};
-ghost use Rattle.bi_edit.specs.Places.{Place};
+ghost use Rattle.bi_edit.specs.declared.edit.Edit.TheVariants.{RemoveNode};
+ghost use Rattle.bi_edit.specs.Places.{IsRemovable, Place};
 ghost use Rattle.bi_edit.specs.EditWords.{IsRemovalWord, IsSettingWord, IsPayloadWord, IsValueAfter};
 
 mod cut;
@@ -13,7 +15,7 @@ mod paths;
 mod values;
 
 use crate::edit::Edit;
-use crate::places::{ImageName, NodePlace, PropertyPlace};
+use crate::places::{ImageName, NodePath, NodePlace, PropertyPlace};
 use bi_base::Error;
 use cut::cut;
 pub use names::{child_name, property_name};
@@ -38,12 +40,26 @@ pub fn parse_removal<'a>(alloc: Global, word: &[u8]) -> Result<Option<Edit<'a>>,
         return Ok(None);
     };
     let Some(name) = name else {
-        return Ok(NodePlace::new(path).map(Edit::RemoveNode));
+        return Ok(removed_node(path));
     };
     let Some(name) = property_name(alloc, name)? else {
         return Ok(None);
     };
-    Ok(PropertyPlace::new(path, name).map(Edit::RemoveProperty))
+    match PropertyPlace::new(path, name) {
+        Some(place) => Ok(Some(Edit::RemoveProperty(place))),
+        None => Ok(None),
+    }
+}
+
+/// Returns the edit that removes the node at a path. Returns None exactly if it cannot be removed.
+fn removed_node<'a>(path: NodePath) -> Option<Edit<'a>>
+    ensures some { IfSome result (λ edit. (edit ≡ RemoveNode path) × IsRemovable path) }
+    ensures none { IfNone result (IsRemovable path → ⊥) }
+{
+    match NodePlace::new(path) {
+        Some(place) => Some(Edit::RemoveNode(place)),
+        None => None,
+    }
 }
 
 /// A new value of a property.
@@ -125,7 +141,7 @@ pub fn parse_payload<'a>(alloc: Global, word: &'a str) -> Result<Option<PayloadW
         ((image file : List ℕ) → IsPayloadWord word.entry.now image file → ⊥)) }
     ensures failed { IfErr result (λ error. error ≡ OutOfMemory) }
 {
-    let Some((shown, file)) = word.split_once("=@") else {
+    let Some((shown, file)) = split_word(word) else {
         return Ok(None);
     };
     if file.is_empty() {
@@ -138,4 +154,17 @@ pub fn parse_payload<'a>(alloc: Global, word: &'a str) -> Result<Option<PayloadW
         return Ok(None);
     };
     Ok(Some(PayloadWord { image, file }))
+}
+
+/// Returns what is before the first `=@` of a word, and what is after it. Returns None if there is
+/// none.
+fn split_word(word: &str) -> Option<(&str, &str)>
+    ensures some { IfSome result (λ parts.
+        word.entry.now ≡ parts.0.now ++ (codes "=@" ++ parts.1.now)) }
+    ensures first { IfSome result (λ parts. (before after : List ℕ)
+        → word.entry.now ≡ before ++ (codes "=@" ++ after) → length parts.0.now ≤ length before) }
+    ensures none { IfNone result ((before after : List ℕ)
+        → word.entry.now ≢ before ++ (codes "=@" ++ after)) }
+{
+    word.split_once("=@")
 }

@@ -24,9 +24,20 @@ pub fn parse_value(alloc: Global, text: &[u8]) -> Result<Option<Vec<u8>>, Error>
         ((value : List ℕ) → IsValueText text.now value → ⊥)) }
     ensures failed { IfErr result (λ error. error ≡ OutOfMemory) }
 {
+    match digits_in(text) {
+        Some(digits) => bytes_of_digits(alloc, digits),
+        None => printed_value(alloc, text),
+    }
+}
+
+/// Returns what is after the `0x` that a text begins with. Returns None if it does not begin so.
+fn digits_in(text: &[u8]) -> Option<&[u8]>
+    ensures some { IfSome result (λ digits. text.now ≡ codes "0x" ++ digits.now) }
+    ensures none { IfNone result ((digits : List ℕ) → text.now ≢ codes "0x" ++ digits) }
+{
     match text {
-        [b'0', b'x', digits @ ..] => bytes_of_digits(alloc, digits),
-        _ => printed_value(alloc, text),
+        [b'0', b'x', digits @ ..] => Some(digits),
+        _ => None,
     }
 }
 
@@ -58,10 +69,21 @@ fn printed_value(alloc: Global, text: &[u8]) -> Result<Option<Vec<u8>>, Error>
 {
     let value = unquoted(alloc, text)?;
     are_bytes(&value);
+    let printed = printed_text(alloc, &value)?;
+    if printed.as_slice() != text {
+        return Ok(None);
+    }
+    Ok(Some(value))
+}
+
+/// Returns how a value is printed. Fails only with OutOfMemory.
+fn printed_text(alloc: Global, value: &[u8]) -> Result<Vec<u8>, Error>
+    ensures text { IfOk result (λ text. text.items ≡ value_text value.now) }
+    ensures failed { IfErr result (λ error. error ≡ OutOfMemory) }
+{
     let mut pen = MemoryPen::new(alloc);
-    put_field(Field::Value(&value), &mut pen);
-    let printed = pen.into_vec()?;
-    Ok(if printed.as_slice() == text { Some(value) } else { None })
+    put_field(Field::Value(value), &mut pen);
+    pen.into_vec()
 }
 
 /// Where a byte of a text is.

@@ -8,7 +8,7 @@ use Rattle.bi_edit.proofs.words.paths.names_in.Given as goal
 abbrev pub invariant-loop-left : goal.invariant-loop-left
 invariant-loop-left l =
     IsNodePath (names_of l.names.items)
-    × (flat_map slashed (names_of l.names.items) ++ from_byte 47 (option_map (λ rest. rest.now) l.left) ≡ 47 ∷ l.text.now)
+    × (flat_map slashed (names_of l.names.items) ++ from_byte 47 (option_map (λ rest. rest.now) l.left) ≡ 47 ∷ l.text)
 
 abbrev pub decreases-loop-left : goal.decreases-loop-left
 decreases-loop-left l = length (from_byte 47 (option_map (λ rest. rest.now) l.left))

@@ -1,0 +1,46 @@
+use Rattle.std.proofs.Common.{◌≡◌, ◌∷◌, ◌++◌, length, flat_map, sym, ap, subst, ◌∙◌, arith, append-nil}
+use Rattle.std.specs.Option.{option_map}
+use Rattle.bi_edit.specs.Cuts.{from_byte}
+use Rattle.bi_edit.specs.EditWords.{IsChildWord, slashed}
+use Rattle.bi_edit.specs.Places.{IsNodePath, names_of}
+use Rattle.bi_edit.proofs.Outcomes.{none_holds, some_holds}
+use Rattle.bi_edit.proofs.PathNames.{less_left, names_of_more, no_child, path_grows, too_many}
+use Rattle.bi_edit.proofs.words.paths.names_in.Goals as goal
+use Rattle.bi_edit.proofs.words.paths.names_in.Goals.{In-Some}
+
+-- What is left begins with a slash.
+begins : (c : In-Some) → flat_map slashed (names_of c.loop-left.names.items) ++ 47 ∷ c.in-Some.rest.now ≡ 47 ∷ c.args.text.now
+begins c =
+    ap (λ left. flat_map slashed (names_of c.loop-left.names.items) ++ from_byte 47 (option_map (λ rest. rest.now) left))
+    (sym c.in-Some.is) ∙ c.loop-left.invariant.1
+
+pub loop-left-init : goal.loop-left-init
+loop-left-init c = (
+  subst (λ items. IsNodePath (names_of items)) (sym c.new-names.ensures.items) (record { are_names = tt; few = omega arith }),
+  ap (λ items. flat_map slashed (names_of items) ++ 47 ∷ c.args.text.now) c.new-names.ensures.items,
+)
+
+pub returns-in_default-2-clause-none : goal.returns-in_default-2-clause-none
+returns-in_default-2-clause-none c =
+    no_child c.args.text.now (names_of c.loop-left.names.items) c.in-Some.rest.now c.cut.result.0.now
+    (option_map (λ later. later.now) c.cut.result.1) c.loop-left.invariant.0 (begins c.in-Some) c.cut.ensures
+    (none_holds c.in_ok-name.field-0 c.in_default-2.is c.in_ok-name.ensures.none)
+
+pub returns-then-len-eq-MOST_NAMES-clause-none : goal.returns-then-len-eq-MOST_NAMES-clause-none
+returns-then-len-eq-MOST_NAMES-clause-none c =
+    too_many c.args.text.now (names_of c.loop-left.names.items) c.in-Some.rest.now c.cut.result.0.now
+    (option_map (λ later. later.now) c.cut.result.1) c.loop-left.invariant.0 (begins c.in-Some) c.cut.ensures ?
+
+pub loop-left-preserved : goal.loop-left-preserved
+loop-left-preserved c = ?
+
+pub loop-left-smaller : goal.loop-left-smaller
+loop-left-smaller c = ?
+
+pub returns-clause-some : goal.returns-clause-some
+returns-clause-some c = record {
+  is_path = c.loop-left.invariant.0;
+  are = sym (append-nil (flat_map slashed (names_of c.loop-left.names.items)))
+      ∙ ap (λ left. flat_map slashed (names_of c.loop-left.names.items) ++ from_byte 47 (option_map (λ rest. rest.now) left))
+      (sym c.in_default.is) ∙ c.loop-left.invariant.1;
+}
