@@ -24,10 +24,10 @@ none_of None from holds = from holds
 none_of (Some value) from holds = tt
 
 -- The two cases of an option.
-pub if_some : {V : Type 0} {A : Type 0} (P : V → Type 0) (found : Option V) → MatchOption found A P → IfSome found P
-if_some P None holds = tt
-if_some P (Some value) holds = holds
+pub if_some : {V : Type 0} (A : Type 0) (P : V → Type 0) (found : Option V) → MatchOption found A P → IfSome found P
+if_some A P None holds = tt
+if_some A P (Some value) holds = holds
 
-pub if_none : {V : Type 0} {A : Type 0} (P : V → Type 0) (found : Option V) → MatchOption found A P → IfNone found A
-if_none P None holds = holds
-if_none P (Some value) holds = tt
+pub if_none : {V : Type 0} (A : Type 0) (P : V → Type 0) (found : Option V) → MatchOption found A P → IfNone found A
+if_none A P None holds = holds
+if_none A P (Some value) holds = tt

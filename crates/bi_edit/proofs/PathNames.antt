@@ -1,5 +1,5 @@
 use Rattle.std.proofs.Common.{◌≡◌, ◌≢◌, ◌≤◌, ◌+◌, ℕ, suc, List, [], ◌∷◌, ◌++◌, length, flat_map, refl, sym, ap, subst, ◌∙◌, arith, append_assoc}
-use Rattle.std.proofs.Common.{◌<◌, Option, Some, None, Vec, Global, append-nil, length-append}
+use Rattle.std.proofs.Common.{◌<◌, Option, Some, None, Vec, Global, Bor, option_map, append-nil, length-append}
 use Rattle.std.specs.List.{AllByRecursion}
 use Rattle.bi_common.specs.Shown.{path, shown_text}
 use Rattle.bi_common.proofs.ReadableWords.Cuts.{HasNoEnd, Ends, cut_agrees, goes_on-append, later_same, nothing_before}
@@ -107,6 +107,16 @@ more_names (first ∷ names) name are is = (are.0, more_names names name are.1 i
 pub names_of_more : (names : List (Vec ℕ Global)) (name : Vec ℕ Global) → names_of (names ++ name ∷ []) ≡ names_of names ++ name.items ∷ []
 names_of_more [] name = refl
 names_of_more (first ∷ names) name = ap (λ l. first.items ∷ l) (names_of_more names name)
+
+pub count_of : (names : List (Vec ℕ Global)) → length (names_of names) ≡ length names
+count_of [] = refl
+count_of (name ∷ names) = let e = count_of names in omega (arith, e)
+
+-- What is left of a text begins with a slash.
+pub begins_of : (names : List (List ℕ)) (left : Option (Bor (List ℕ))) (rest : Bor (List ℕ)) (text : List ℕ) → left ≡ Some rest →
+    flat_map slashed names ++ from_byte 47 (option_map (λ rest. rest.now) left) ≡ 47 ∷ text → flat_map slashed names ++ 47 ∷ rest.now ≡ 47 ∷ text
+begins_of names left rest text is same =
+    ap (λ left. flat_map slashed names ++ from_byte 47 (option_map (λ rest. rest.now) left)) (sym is) ∙ same
 
 module _ (text : List ℕ) (names : List (List ℕ)) (rest shown : List ℕ) (later : Option (List ℕ)) (is_path : IsNodePath names)
     (begins : flat_map slashed names ++ 47 ∷ rest ≡ 47 ∷ text) (cut : IsCut 47 rest shown later) where
