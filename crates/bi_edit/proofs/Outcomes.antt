@@ -31,3 +31,10 @@ if_some A P (Some value) holds = holds
 pub if_none : {V : Type 0} (A : Type 0) (P : V → Type 0) (found : Option V) → MatchOption found A P → IfNone found A
 if_none A P None holds = holds
 if_none A P (Some value) holds = tt
+
+-- What follows of the value.
+pub some_from : {V E : Type 0} {P : V → Type 0} (Q : V → Type 0) (result : Result (Option V) E) → ((value : V) → P value → Q value) →
+    IfOk result (λ found. IfSome found P) → IfOk result (λ found. IfSome found Q)
+some_from Q (Ok None) from holds = tt
+some_from Q (Ok (Some value)) from holds = from value holds
+some_from Q (Err error) from holds = tt

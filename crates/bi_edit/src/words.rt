@@ -113,11 +113,13 @@ fn value_after(alloc: Global, text: Option<&[u8]>) -> Result<Option<Vec<u8>>, Er
         IfOk result (λ found. IfNone found ((value : List ℕ) → IsValueAfter after value → ⊥)) }
     ensures failed { IfErr result (λ error. error ≡ OutOfMemory) }
 {
-    match text {
-        None => Ok(Some(Vec::new(alloc))),
-        Some([]) => Ok(None),
-        Some(text) => parse_value(alloc, text),
+    let Some(text) = text else {
+        return Ok(Some(Vec::new(alloc)));
+    };
+    if text.is_empty() {
+        return Ok(None);
     }
+    parse_value(alloc, text)
 }
 
 /// Where the payload of an image comes from.
