@@ -4,7 +4,7 @@ use Rattle.std.proofs.lemmas.Bool.{ne_eqb, eq-eqb}
 use Rattle.std.specs.List.{AllByRecursion}
 use Rattle.bi_common.proofs.ReadableWords.Cuts.{HasNoEnd, Ends, cut_agrees}
 use Rattle.bi_common.proofs.ReadableWords.ShownNames.{is_blank}
-use Rattle.bi_edit.specs.Cuts.{from_byte, IsCut, LacksByte}
+use Rattle.bi_edit.specs.Cuts.{from_byte, IsCutAt, LacksByte}
 
 -- A text that is cut at a byte is cut in one way.
 
@@ -27,7 +27,7 @@ same_after byte (Some after) None same = absurd cc
 same_after byte (Some one) (Some other) same = let is : one ≡ other = cc in ap Some is
 
 -- Bytes without the byte, and what is from it on, are the two parts.
-pub cut_is : (byte : ℕ) (text before : List ℕ) (after : Option (List ℕ)) → IsCut byte text before after →
+pub cut_is : (byte : ℕ) (text before : List ℕ) (after : Option (List ℕ)) → IsCutAt byte text before after →
     (first : List ℕ) (rest : Option (List ℕ)) → LacksByte byte first → first ++ from_byte byte rest ≡ text →
     (first ≡ before) × (rest ≡ after)
 cut_is byte text before after cut first rest lacks same =

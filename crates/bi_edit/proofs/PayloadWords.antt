@@ -1,4 +1,5 @@
-use Rattle.std.proofs.Common.{◌≡◌, ◌≢◌, ◌≤◌, ◌<◌, ◌+◌, ◌⊎◌, inl, inr, ℕ, List, [], ◌∷◌, ◌++◌, length, take, drop, Option, Some, None, Bor, MatchOption}
+use Rattle.std.proofs.Common.{◌≡◌, ◌≢◌, ◌≤◌, ◌<◌, ◌+◌, ◌⊎◌, inl, inr, ℕ, List}
+use Rattle.std.proofs.Common.{[], ◌∷◌, ◌++◌, length, take, drop, Option, Some, None, Bor, MatchOption}
 use Rattle.std.proofs.Common.{IfSome, codes, refl, sym, ap, ◌∙◌, arith}
 use Rattle.std.proofs.Math.Seq.{drop-append_seam}
 use Rattle.std.proofs.lemmas.Bool.{cases_lt}
@@ -40,10 +41,10 @@ same_front (a ∷ one) (b ∷ other) x y count same =
     (cc, rest.1)
 
 -- The two parts of a word for a payload are those at the first `=@`.
-pub same_parts : (word shown name : List ℕ) → word ≡ shown ++ (codes "=@" ++ name) →
+pub same_payload_parts : (word shown name : List ℕ) → word ≡ shown ++ (codes "=@" ++ name) →
     ((before after : List ℕ) → word ≡ before ++ (codes "=@" ++ after) → length shown ≤ length before) → (image file : List ℕ) →
     IsPayloadWord word image file → (shown_text image ≡ shown) × (file ≡ name)
-same_parts word shown name is first image file is_word =
+same_payload_parts word shown name is first image file is_word =
     let less = first (shown_text image) file is_word.is in
     let more = is_word.first shown name is in
     let parts = same_front (shown_text image) shown (codes "=@" ++ file) (codes "=@" ++ name) (omega (arith, less, more))

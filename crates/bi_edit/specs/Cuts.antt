@@ -13,6 +13,6 @@ abbrev pub LacksByte : (byte : ℕ) → List ℕ → Type 0
 LacksByte byte bytes = AllByRecursion (λ other. other ≢ byte) bytes
 
 -- The text is cut at its first byte of this kind, if there is one.
-pub record IsCut (byte : ℕ) (text before : List ℕ) (after : Option (List ℕ)) : Type 0 where
+pub record IsCutAt (byte : ℕ) (text before : List ℕ) (after : Option (List ℕ)) : Type 0 where
   pub is : text ≡ before ++ from_byte byte after
   pub first : LacksByte byte before

@@ -9,7 +9,7 @@ use Rattle.bi_edit.specs.declared.edit.Edit.{Edit}
 use Rattle.bi_edit.specs.declared.edit.Edit.TheVariants.{RemoveNode, RemoveProperty}
 use Rattle.bi_edit.specs.Cuts.{from_byte}
 use Rattle.bi_edit.specs.Places.{IsNodePath, IsChildNameOfBytes, IsPlace, IsPropertyNameOfBytes}
-use Rattle.bi_edit.specs.Places.{IsRemovable, Place}
+use Rattle.bi_edit.specs.Places.{IsRemovable, PropertyPlaceModel}
 
 -- The words for edits on the command line: nodes, properties and values are given as they are
 -- printed in a description (profile of this project).
@@ -20,13 +20,13 @@ pub record IsPathWord (word : List ℕ) (names : List (List ℕ)) : Type 0 where
   pub is : path names ≡ word
 
 -- A slash and the name of a node.
-abbrev pub slashed : List ℕ → List ℕ
-slashed name = 47 ∷ shown_text name
+abbrev pub slash_and_name : List ℕ → List ℕ
+slash_and_name name = 47 ∷ shown_text name
 
 -- The names are those in a text, with a slash between each two.
-pub record AreNamesIn (text : List ℕ) (names : List (List ℕ)) : Type 0 where
+pub record ArePathNamesIn (text : List ℕ) (names : List (List ℕ)) : Type 0 where
   pub is_path : IsNodePath names
-  pub are : flat_map slashed names ≡ 47 ∷ text
+  pub are : flat_map slash_and_name names ≡ 47 ∷ text
 
 -- The word for the name of a child, and for that of a property.
 pub record IsChildWord (word name : List ℕ) : Type 0 where
@@ -53,7 +53,7 @@ IsValueText text value =
     IsHexadecimal text value ⊎ (AreBytes value × (value_text value ≡ text))
 
 -- The words for a property: the path of its node, and its name.
-abbrev pub place_words : Place → Words
+abbrev pub place_words : PropertyPlaceModel → Words
 place_words place = path place.path ∷ shown_text place.name ∷ []
 
 -- The word for a removal: the path of a node; or that of the node of a property, a space, and the
@@ -72,7 +72,7 @@ IsValueAfter (Some text) value = (text ≢ []) × IsValueText text value
 
 -- The word for a new value of a property: the path of its node, a space, the name, and the value
 -- after one more space, unless it is empty.
-pub record IsSettingWord (word : List ℕ) (place : Place) (value : List ℕ) : Type 0 where
+pub record IsSettingWord (word : List ℕ) (place : PropertyPlaceModel) (value : List ℕ) : Type 0 where
   pub is_place : IsPlace place
   pub after : Option (List ℕ)
   pub is : join_with_byte 32 (place_words place) ++ from_byte 32 after ≡ word

@@ -49,8 +49,8 @@ is_digests other = false
 
 -- Edits in the order in which they are made: removals first, then new values, payloads, the time,
 -- and the digests. Edits of one kind keep their order.
-abbrev pub in_order : List Edit → List Edit
-in_order edits =
+abbrev pub in_edit_order : List Edit → List Edit
+in_edit_order edits =
     filter is_removal edits
     ++ (filter is_setting edits
     ++ (filter is_payload edits ++ (filter is_time edits ++ filter is_digests edits)))
@@ -85,7 +85,7 @@ root_after root (edit ∷ later) = root_after (edited_root root edit) later
 
 -- A flattened image tree after edits, in the order in which they are made.
 abbrev pub edited_tree : List Edit → ImageTree → ImageTree
-edited_tree edits tree = with_plain_root (root_after (plain_root tree) (in_order edits)) tree
+edited_tree edits tree = with_plain_root (root_after (plain_root tree) (in_edit_order edits)) tree
 
 -- ---- legacy images
 
@@ -124,9 +124,9 @@ legacy_after image (edit ∷ later) = legacy_after (edited_legacy image edit) la
 -- ---- boot images
 
 -- What a boot image means after edits.
-abbrev pub edited : List Edit → Meaning → Meaning
-edited edits (OfLegacy image) = OfLegacy (legacy_after image (in_order edits))
-edited edits (OfFit tree) = OfFit (edited_tree edits tree)
+abbrev pub meaning_after : List Edit → Meaning → Meaning
+meaning_after edits (OfLegacy image) = OfLegacy (legacy_after image (in_edit_order edits))
+meaning_after edits (OfFit tree) = OfFit (edited_tree edits tree)
 
 -- ---- which edits can be made
 

@@ -1,7 +1,5 @@
 use Rattle.std.specs.Prelude.{◌≡◌, ◌≢◌, ◌≤◌, ◌&&◌, ℕ, Bool, false, List, [], ◌∷◌, bytes_eq, length}
-use Rattle.std.specs.Prelude.{map, Vec}
 use Rattle.std.specs.List.{AllByRecursion}
-use Rattle.std.specs.declared.alloc.Global.{Global}
 use Rattle.bi_base.specs.Cells.{AreBytes}
 use Rattle.bi_blob.specs.Tree.{IsChildName, IsPropertyName}
 use Rattle.bi_fit.specs.Names.{images_name, is_payload_name}
@@ -39,7 +37,7 @@ pub record IsRemovable (path : List (List ℕ)) : Type 0 where
   pub not_images : path ≢ images_path
 
 -- A property: the path of its node, and its name.
-pub record Place : Type 0 where
+pub record PropertyPlaceModel : Type 0 where
   pub path : List (List ℕ)
   pub name : List ℕ
 
@@ -55,11 +53,7 @@ is_image_path path = false
 
 -- A property that can be set and removed: an image node has none of the four that hold a payload or
 -- name its region.
-pub record IsPlace (place : Place) : Type 0 where
+pub record IsPlace (place : PropertyPlaceModel) : Type 0 where
   pub is_path : IsNodePath place.path
   pub is_name : IsPropertyNameOfBytes place.name
   pub no_payload : is_image_path place.path && is_payload_name place.name ≡ false
-
--- Names, as the code has them.
-abbrev pub names_of : List (Vec ℕ Global) → List (List ℕ)
-names_of names = map (λ name. name.items) names

@@ -6,7 +6,7 @@ use Rattle.bi_fit.specs.ImageTree.{ImageTree, each_own, image_nodes, nodes_or_no
 use Rattle.bi_fit.specs.ImageTree.{tree_without_payloads, with_image_nodes}
 use Rattle.bi_fit.specs.Names.{data_name}
 use Rattle.bi_fit.specs.Text.{with_payloads}
-use Rattle.bi_edit.specs.Places.{Place}
+use Rattle.bi_edit.specs.Places.{PropertyPlaceModel}
 
 -- A flattened image tree as a plain tree, in which each image node has its payload as the value of
 -- the property `data` (profile of this project).
@@ -26,7 +26,7 @@ with_plain_root root tree =
     record tree { root = tree_without_payloads root; payloads = plain_payloads root }
 
 -- The value of the property at a place, if there is one.
-abbrev pub value_at_place : Root PropertyMap → Place → Option (List ℕ)
+abbrev pub value_at_place : Root PropertyMap → PropertyPlaceModel → Option (List ℕ)
 value_at_place root place =
     option_and_then (λ found. get found.own place.name) (node_by_path root place.path)
 

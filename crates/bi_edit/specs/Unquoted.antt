@@ -19,10 +19,10 @@ unquoted_byte Inside byte =
 unquoted_byte Escaped byte = byte ∷ []
 
 -- The bytes that a text stands for, if its first byte is there.
-abbrev pub unquoted : Quoting → List ℕ → List ℕ
-unquoted quoting [] = []
-unquoted quoting (byte ∷ later) =
-    unquoted_byte quoting byte ++ unquoted (next_quoting quoting byte) later
+abbrev pub bytes_in_quotes : Quoting → List ℕ → List ℕ
+bytes_in_quotes quoting [] = []
+bytes_in_quotes quoting (byte ∷ later) =
+    unquoted_byte quoting byte ++ bytes_in_quotes (next_quoting quoting byte) later
 
 -- A byte as a list, if there is one.
 abbrev pub bytes_or_none : Option ℕ → List ℕ

@@ -2,7 +2,8 @@
 
 ghost use Rattle.std.specs.Prelude.{◌≡◌, ◌↔◌, IfSome, IfNone, IsTrue};
 ghost use Rattle.bi_edit.specs.Places.{IsNodePath, IsPlace, IsPropertyNameOfBytes, IsRemovable};
-ghost use Rattle.bi_edit.specs.Places.{AreChildNames, IsChildNameOfBytes, names_of};
+ghost use Rattle.bi_edit.specs.Places.{AreChildNames, IsChildNameOfBytes};
+ghost use Rattle.bi_tree.specs.TreeNodes.{names_of_path};
 ghost use Rattle.bi_edit.specs.Places.{is_image_path as is_image};
 
 use bi_base::are_bytes;
@@ -22,13 +23,14 @@ pub struct NodePath {
 
 impl Model for NodePath {
     ghost use Rattle.std.specs.Prelude.{ℕ, List};
-    ghost use Rattle.bi_edit.specs.Places.{IsNodePath, names_of};
+    ghost use Rattle.bi_edit.specs.Places.{IsNodePath};
+    ghost use Rattle.bi_tree.specs.TreeNodes.{names_of_path};
 
     ghost Value = { List (List ℕ) };
 
-    ghost view = { λ path. names_of path.names.items };
+    ghost view = { λ path. names_of_path path.names.items };
 
-    ghost invariant = { λ path. IsNodePath (names_of path.names.items) };
+    ghost invariant = { λ path. IsNodePath (names_of_path path.names.items) };
 }
 
 impl NodePath {
@@ -36,8 +38,8 @@ impl NodePath {
     /// child may have, or there are more than 63.
     pub fn new(names: Vec<Vec<u8>>) -> Option<NodePath>
         ensures some { IfSome result (λ path.
-            (path ≡ names_of names.items) × IsNodePath path) }
-        ensures none { IfNone result (IsNodePath (names_of names.items) → ⊥) }
+            (path ≡ names_of_path names.items) × IsNodePath path) }
+        ensures none { IfNone result (IsNodePath (names_of_path names.items) → ⊥) }
     {
         if names.len() <= MOST_NAMES && are_child_names(&names) {
             Some(NodePath { names })
@@ -48,7 +50,7 @@ impl NodePath {
 
     /// Returns the names.
     pub fn names(&self) -> &[Vec<u8>]
-        ensures names { names_of result.now ≡ self.now }
+        ensures names { names_of_path result.now ≡ self.now }
         ensures path { IsNodePath self.now }
     {
         &self.names
@@ -57,7 +59,7 @@ impl NodePath {
 
 /// Returns whether each of these names is one that a child may have.
 fn are_child_names(names: &[Vec<u8>]) -> bool
-    ensures { IsTrue result ↔ AreChildNames (names_of names.now) }
+    ensures { IsTrue result ↔ AreChildNames (names_of_path names.now) }
 {
     for name in names {
         if !is_child_name_of_bytes(name) {
@@ -135,9 +137,9 @@ pub struct PropertyPlace {
 }
 
 impl Model for PropertyPlace {
-    ghost use Rattle.bi_edit.specs.Places.{Place, IsPlace};
+    ghost use Rattle.bi_edit.specs.Places.{PropertyPlaceModel, IsPlace};
 
-    ghost Value = { Place };
+    ghost Value = { PropertyPlaceModel };
 
     ghost view = { λ place. record { path = place.path; name = place.name.items } };
 

@@ -6,7 +6,7 @@ ghost use Rattle.std.specs.Option.{option_map};
 ghost use Rattle.bi_base.specs.declared.fault.Error.TheVariants.{OutOfMemory};
 ghost use Rattle.bi_edit.specs.declared.edit.Edit.{Edit};
 ghost use Rattle.bi_edit.specs.declared.edit.Edit.TheVariants.{RemoveNode};
-ghost use Rattle.bi_edit.specs.Places.{IsRemovable, Place};
+ghost use Rattle.bi_edit.specs.Places.{IsRemovable, PropertyPlaceModel};
 ghost use Rattle.bi_edit.specs.EditWords.{IsRemovalWord, IsSettingWord, IsPayloadWord, IsValueAfter};
 
 mod cut;
@@ -82,7 +82,7 @@ pub fn parse_setting(alloc: Global, word: &[u8]) -> Result<Option<Setting>, Erro
     ensures some { IfOk result (λ found. IfSome found (λ setting.
         IsSettingWord word.now setting.place setting.value.items)) }
     ensures none { IfOk result (λ found. IfNone found
-        ((place : Place) (value : List ℕ) → IsSettingWord word.now place value → ⊥)) }
+        ((place : PropertyPlaceModel) (value : List ℕ) → IsSettingWord word.now place value → ⊥)) }
     ensures failed { IfErr result (λ error. error ≡ OutOfMemory) }
 {
     let (first, rest) = cut(word, b' ');

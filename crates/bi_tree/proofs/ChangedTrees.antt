@@ -1,10 +1,11 @@
-use Rattle.std.proofs.Common.{◌≡◌, ℕ, Bool, true, false, List, [], ◌∷◌, ◌≤◌, ◌-◌, length, take, drop, get_or, refl, sym, ap, ap₂, arith, true≢false, Vec, Global, ◌==◌}
+use Rattle.std.proofs.Common.{◌≡◌, ℕ, Bool, true, false, List, [], ◌∷◌, ◌≤◌, ◌-◌, length}
+use Rattle.std.proofs.Common.{take, drop, get_or, refl, sym, ap, ap₂, arith, true≢false, Vec, Global, ◌==◌}
 use Rattle.std.proofs.lemmas.List.{take_all}
 use Rattle.std.proofs.Common.{bytes_eq}
 use Rattle.bi_blob.specs.Tree.{Nodes, none, node, Property, Root}
 use Rattle.bi_tree.specs.Changes.{with_node, with_new_node, with_change_at, with_node_at, without_node_at}
-use Rattle.bi_tree.specs.Properties.{with_value, with_value_at}
-use Rattle.bi_tree.specs.TreeNodes.{names_of}
+use Rattle.bi_tree.specs.Properties.{with_own_property, with_value_at}
+use Rattle.bi_tree.specs.TreeNodes.{names_of_path}
 
 -- Changes of trees, one after the other.
 
@@ -32,7 +33,7 @@ pub set_below : (name : List ℕ) (path : List (List ℕ)) (property value : Lis
     ≡ record { own = root.own; children = with_node name (with_value_at path property value) (with_new_node [] name root.children) }
 set_below name path property value root =
     ap (λ nodes. record { own = root.own; children = nodes })
-    (are_one name (with_change_at path (with_value property value)) (with_node_at [] path)
+    (are_one name (with_change_at path (with_own_property property value)) (with_node_at [] path)
     (with_new_node [] name root.children))
 
 -- A node below a child is removed in the child.
@@ -42,7 +43,7 @@ removed_below name [] root some = absurd (omega (arith, some))
 removed_below name (next ∷ later) root some = refl
 
 -- A list that is not empty has a name.
-pub some_names : (names : List (Vec ℕ Global)) → (length names == 0) ≡ false → 1 ≤ length (names_of names)
+pub some_names : (names : List (Vec ℕ Global)) → (length names == 0) ≡ false → 1 ≤ length (names_of_path names)
 some_names [] some = absurd (true≢false some)
 some_names (name ∷ later) some = omega arith
 

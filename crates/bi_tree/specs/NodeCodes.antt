@@ -10,10 +10,10 @@ use Rattle.bi_blob.specs.Tree.{Nodes, none, node, Property}
 abbrev pub Step : Type 0
 Step = Option (List ℕ × List Property)
 
-abbrev pub steps_of : Nodes (List Property) → List Step
-steps_of none = None ∷ []
-steps_of (node name own children later) =
-    steps_of children ++ (steps_of later ++ Some (name, own) ∷ [])
+abbrev pub node_steps : Nodes (List Property) → List Step
+node_steps none = None ∷ []
+node_steps (node name own children later) =
+    node_steps children ++ (node_steps later ++ Some (name, own) ∷ [])
 
 -- The lists of nodes that are made, the last of them first, after steps.
 abbrev pub made_by : List Step → List (Nodes (List Property)) → List (Nodes (List Property))
@@ -30,22 +30,22 @@ last_made (last ∷ made) = last
 
 made_by_steps : (nodes : Nodes (List Property)) (steps : List Step)
     (made : List (Nodes (List Property)))
-    → made_by (steps_of nodes ++ steps) made ≡ made_by steps (nodes ∷ made)
+    → made_by (node_steps nodes ++ steps) made ≡ made_by steps (nodes ∷ made)
 made_by_steps none steps made = refl
 made_by_steps (node name own children later) steps made =
     ap (λ all. made_by all made)
-    (append_assoc (steps_of children) (steps_of later ++ Some (name, own) ∷ []) steps
-    ∙ ap (λ more. steps_of children ++ more)
-    (append_assoc (steps_of later) (Some (name, own) ∷ []) steps))
-    ∙ made_by_steps children (steps_of later ++ Some (name, own) ∷ steps) made
+    (append_assoc (node_steps children) (node_steps later ++ Some (name, own) ∷ []) steps
+    ∙ ap (λ more. node_steps children ++ more)
+    (append_assoc (node_steps later) (Some (name, own) ∷ []) steps))
+    ∙ made_by_steps children (node_steps later ++ Some (name, own) ∷ steps) made
     ∙ made_by_steps later (Some (name, own) ∷ steps) (children ∷ made)
 
-pub made_again : (nodes : Nodes (List Property))
-    → last_made (made_by (steps_of nodes) []) ≡ nodes
-made_again none = refl
-made_again (node name own children later) =
+pub nodes_made_again : (nodes : Nodes (List Property))
+    → last_made (made_by (node_steps nodes) []) ≡ nodes
+nodes_made_again none = refl
+nodes_made_again (node name own children later) =
     ap last_made
-    (made_by_steps children (steps_of later ++ Some (name, own) ∷ []) []
+    (made_by_steps children (node_steps later ++ Some (name, own) ∷ []) []
     ∙ made_by_steps later (Some (name, own) ∷ []) (children ∷ []))
 
 -- How nodes are stored.
@@ -55,4 +55,4 @@ nodes_code =
     (coded_list (coded_option
     (coded× (coded_list coded_ℕ)
     (coded_list (coded× (coded_list coded_ℕ) (coded_list coded_ℕ))))))
-    steps_of (λ steps. last_made (made_by steps [])) made_again
+    node_steps (λ steps. last_made (made_by steps [])) nodes_made_again

@@ -7,16 +7,16 @@ use denote.Param.Weighed.{most}
 use Rattle.bi_blob.specs.Tree.{Nodes, none, node, Property, Root, node_count}
 use Rattle.bi_tree.specs.NodeCodes.{nodes_code}
 
--- What a node of a tree that can be changed shows.
+-- What a node of a tree that can be change_first_named shows.
 
 -- Its name, its properties, and the nodes below it.
-pub record NodeModel : Type 0 where
+pub record TreeNodeModel : Type 0 where
   pub name : List ℕ
   pub own : List Property
   pub children : Nodes (List Property)
 
 -- It is stored as these three.
-abbrev pub node_code : Coded NodeModel
+abbrev pub node_code : Coded TreeNodeModel
 node_code =
     code_by (List ℕ × (List Property × Nodes (List Property)))
     (coded× (coded_list coded_ℕ)
@@ -26,20 +26,20 @@ node_code =
     (λ _. refl)
 
 -- Nodes, as a list of them shows them.
-abbrev pub nodes_of : List NodeModel → Nodes (List Property)
-nodes_of [] = none
-nodes_of (first ∷ later) = node first.name first.own first.children (nodes_of later)
+abbrev pub nodes_of_models : List TreeNodeModel → Nodes (List Property)
+nodes_of_models [] = none
+nodes_of_models (first ∷ later) = node first.name first.own first.children (nodes_of_models later)
 
 -- A node without its name.
-abbrev pub below : NodeModel → Root (List Property)
+abbrev pub below : TreeNodeModel → Root (List Property)
 below top = record { own = top.own; children = top.children }
 
 -- How many nodes there are below a node, with itself.
-abbrev pub node_size : NodeModel → ℕ
+abbrev pub node_size : TreeNodeModel → ℕ
 node_size top = node_count top.children + 1
 
-pub most_le_count : (nodes : List NodeModel)
-    → most (λ top. node_size top + 1) nodes ≤ node_count (nodes_of nodes) + 1
+pub most_le_count : (nodes : List TreeNodeModel)
+    → most (λ top. node_size top + 1) nodes ≤ node_count (nodes_of_models nodes) + 1
 most_le_count [] = omega arith
 most_le_count (first ∷ later) = omega (arith, most_le_count later)
 
@@ -49,9 +49,9 @@ index_named name [] = 0
 index_named name (first ∷ later) = if bytes_eq first name then 0 else suc (index_named name later)
 
 -- The names of nodes.
-abbrev pub names_of_nodes : List NodeModel → List (List ℕ)
-names_of_nodes nodes = map (λ top. top.name) nodes
+abbrev pub names_of_models : List TreeNodeModel → List (List ℕ)
+names_of_models nodes = map (λ top. top.name) nodes
 
 -- Names, as the code has them.
-abbrev pub names_of : List (Vec ℕ Global) → List (List ℕ)
-names_of names = map (λ name. name.items) names
+abbrev pub names_of_path : List (Vec ℕ Global) → List (List ℕ)
+names_of_path names = map (λ name. name.items) names

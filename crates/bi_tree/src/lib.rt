@@ -1,4 +1,4 @@
-//! Trees of devicetrees that can be changed.
+//! Trees of devicetrees that can be change_first_named.
 #![tactic(auto)]
 
 mod node;

@@ -1,12 +1,12 @@
-//! Nodes of trees that can be changed.
+//! Nodes of trees that can be change_first_named.
 
 ghost use Rattle.std.specs.Prelude.{◌≡◌, ◌<◌, ◌≤◌, [], OnOk, IfOk, length, option_map};
 ghost use Rattle.std.specs.Cow.{cow_slice_items};
 ghost use Rattle.bi_blob.specs.Tree.{none};
 ghost use Rattle.bi_tree.specs.Changes.{child_named, node_by_path, with_change_at, with_new_node};
 ghost use Rattle.bi_tree.specs.Changes.{without_node, without_node_at};
-ghost use Rattle.bi_tree.specs.Properties.{with_value_at, without_value};
-ghost use Rattle.bi_tree.specs.TreeNodes.{below, index_named, names_of, names_of_nodes, nodes_of};
+ghost use Rattle.bi_tree.specs.Properties.{with_value_at, without_own_property};
+ghost use Rattle.bi_tree.specs.TreeNodes.{below, index_named, names_of_path, names_of_models, nodes_of_models};
 
 use crate::properties::{TreeProperty, remove_value, set_value};
 use std::alloc::{AllocError, Global};
@@ -23,18 +23,18 @@ pub struct TreeNode<'a> {
 
 impl<'a> Model for TreeNode<'a> {
     ghost use Rattle.std.proofs.Common.{arith};
-    ghost use Rattle.bi_tree.specs.Properties.{properties_of};
-    ghost use Rattle.bi_tree.specs.TreeNodes.{NodeModel, node_code, nodes_of, node_size};
+    ghost use Rattle.bi_tree.specs.Properties.{tree_properties};
+    ghost use Rattle.bi_tree.specs.TreeNodes.{TreeNodeModel, node_code, nodes_of_models, node_size};
     ghost use Rattle.bi_tree.specs.TreeNodes.{most_le_count};
 
-    ghost Value = { NodeModel };
+    ghost Value = { TreeNodeModel };
 
     ghost coded = { node_code };
 
     ghost view = { λ node. record {
         name = node.name.now;
-        own = properties_of node.properties.items;
-        children = nodes_of node.children.items;
+        own = tree_properties node.properties.items;
+        children = nodes_of_models node.children.items;
     } };
 
     ghost size = { node_size };
@@ -57,7 +57,7 @@ impl<'a> TreeNode<'a> {
     /// Returns the node at a path below this one. Returns None if there is none.
     pub fn node(&self, path: &[Vec<u8>]) -> Option<&TreeNode<'a>>
         ensures { option_map (λ node. below node.now) result
-            ≡ node_by_path (below self.now) (names_of path.now) }
+            ≡ node_by_path (below self.now) (names_of_path path.now) }
     {
         let [first, later @ ..] = path else {
             return Some(self);
@@ -86,7 +86,7 @@ impl<'a> TreeNode<'a> {
         value: CowSlice<'a, u8, Global>,
     ) -> Result<(), AllocError>
         ensures set { OnOk result (below self.new
-            ≡ with_value_at (names_of path.entry.now) name.entry.now (cow_slice_items value.entry)
+            ≡ with_value_at (names_of_path path.entry.now) name.entry.now (cow_slice_items value.entry)
             (below self.old)) }
         ensures name { OnOk result (self.new.name ≡ self.old.name) }
     {
@@ -101,7 +101,7 @@ impl<'a> TreeNode<'a> {
     /// Removes the node at a path below this one, with all nodes below it. Without such a node, and
     /// for the path of this one, nothing changes.
     pub fn remove_node(&mut self, path: &[Vec<u8>])
-        ensures removed { below self.new ≡ without_node_at (names_of path.now) (below self.old) }
+        ensures removed { below self.new ≡ without_node_at (names_of_path path.now) (below self.old) }
         ensures name { self.new.name ≡ self.old.name }
     {
         let [first, later @ ..] = path else {
@@ -121,7 +121,7 @@ impl<'a> TreeNode<'a> {
     /// nothing changes.
     pub fn remove_property(&mut self, path: &[Vec<u8>], name: &[u8])
         ensures removed { below self.new
-            ≡ with_change_at (names_of path.now) (without_value name.now) (below self.old) }
+            ≡ with_change_at (names_of_path path.now) (without_own_property name.now) (below self.old) }
         ensures name { self.new.name ≡ self.old.name }
     {
         let [first, later @ ..] = path else {
@@ -150,10 +150,10 @@ fn child_or_new<'a>(
     children: &mut Vec<TreeNode<'a>>,
     name: &'a [u8],
 ) -> Result<usize, AllocError>
-    ensures nodes { OnOk result (nodes_of children.new.items
-        ≡ with_new_node [] name.entry.now (nodes_of children.old.items)) }
+    ensures nodes { OnOk result (nodes_of_models children.new.items
+        ≡ with_new_node [] name.entry.now (nodes_of_models children.old.items)) }
     ensures index { IfOk result (λ index.
-        index ≡ index_named name.entry.now (names_of_nodes children.new.items)) }
+        index ≡ index_named name.entry.now (names_of_models children.new.items)) }
     ensures within { IfOk result (λ index. index < length children.new.items) }
 {
     let index = find_child(children, name);
@@ -165,7 +165,7 @@ fn child_or_new<'a>(
 
 /// Removes the first of these nodes with this name. If there is none, nothing changes.
 fn remove_child(children: &mut Vec<TreeNode<'_>>, name: &[u8])
-    ensures { nodes_of children.new.items ≡ without_node name.now (nodes_of children.old.items) }
+    ensures { nodes_of_models children.new.items ≡ without_node name.now (nodes_of_models children.old.items) }
 {
     let index = find_child(children, name);
     if index < children.len() {
@@ -175,7 +175,7 @@ fn remove_child(children: &mut Vec<TreeNode<'_>>, name: &[u8])
 
 /// Returns the index of the first of these nodes with this name, or their number if there is none.
 fn find_child(children: &[TreeNode<'_>], name: &[u8]) -> usize
-    ensures index { result ≡ index_named name.now (names_of_nodes children.now) }
+    ensures index { result ≡ index_named name.now (names_of_models children.now) }
     ensures within { result ≤ length children.now }
 {
     for (index, child) in children.iter().enumerate() {

@@ -1,8 +1,8 @@
-//! The properties of nodes of trees that can be changed.
+//! The properties of nodes of trees that can be change_first_named.
 
 ghost use Rattle.std.specs.Prelude.{◌≡◌, ◌≤◌, length, map, OnOk};
 ghost use Rattle.std.specs.Cow.{cow_slice_items};
-ghost use Rattle.bi_tree.specs.Properties.{properties_of, with_property, without_property};
+ghost use Rattle.bi_tree.specs.Properties.{tree_properties, with_property_in, without_property_in};
 ghost use Rattle.bi_tree.specs.TreeNodes.{index_named};
 
 use std::alloc::{AllocError, Global};
@@ -24,9 +24,9 @@ pub(crate) fn set_value<'a>(
     name: &'a [u8],
     value: CowSlice<'a, u8, Global>,
 ) -> Result<(), AllocError>
-    ensures { OnOk result (properties_of properties.new.items
-        ≡ with_property name.entry.now (cow_slice_items value.entry)
-        (properties_of properties.old.items)) }
+    ensures { OnOk result (tree_properties properties.new.items
+        ≡ with_property_in name.entry.now (cow_slice_items value.entry)
+        (tree_properties properties.old.items)) }
 {
     let index = find_property(properties, name);
     let property = TreeProperty { name, value };
@@ -40,8 +40,8 @@ pub(crate) fn set_value<'a>(
 
 /// Removes the first of these properties with this name. If there is none, nothing changes.
 pub(crate) fn remove_value(properties: &mut Vec<TreeProperty<'_>>, name: &[u8])
-    ensures { properties_of properties.new.items
-        ≡ without_property name.now (properties_of properties.old.items) }
+    ensures { tree_properties properties.new.items
+        ≡ without_property_in name.now (tree_properties properties.old.items) }
 {
     let index = find_property(properties, name);
     if index < properties.len() {

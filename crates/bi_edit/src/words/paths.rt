@@ -2,8 +2,8 @@
 
 ghost use Rattle.std.specs.Prelude.{◌≡◌, ℕ, List, IfOk, IfErr, IfSome, IfNone};
 ghost use Rattle.bi_base.specs.declared.fault.Error.TheVariants.{OutOfMemory};
-ghost use Rattle.bi_edit.specs.EditWords.{AreNamesIn, IsPathWord};
-ghost use Rattle.bi_edit.specs.Places.{names_of};
+ghost use Rattle.bi_edit.specs.EditWords.{ArePathNamesIn, IsPathWord};
+ghost use Rattle.bi_tree.specs.TreeNodes.{names_of_path};
 
 use crate::places::{MOST_NAMES, NodePath};
 use crate::words::cut::cut;
@@ -36,9 +36,9 @@ pub fn node_path(alloc: Global, text: &[u8]) -> Result<Option<NodePath>, Error>
 /// there are none, or more than 63. Fails only with OutOfMemory.
 fn names_in(alloc: Global, text: &[u8]) -> Result<Option<Vec<Vec<u8>>>, Error>
     ensures some { IfOk result (λ found. IfSome found
-        (λ names. AreNamesIn text.now (names_of names.items))) }
+        (λ names. ArePathNamesIn text.now (names_of_path names.items))) }
     ensures none { IfOk result (λ found. IfNone found
-        ((names : List (List ℕ)) → AreNamesIn text.now names → ⊥)) }
+        ((names : List (List ℕ)) → ArePathNamesIn text.now names → ⊥)) }
     ensures failed { IfErr result (λ error. error ≡ OutOfMemory) }
 {
     let mut names = Vec::new(alloc);

@@ -4,7 +4,7 @@ ghost use Rattle.std.specs.Prelude.{◌≡◌, ◌≢◌, ◌++◌, ℕ, List, c
 ghost use Rattle.bi_base.specs.declared.fault.Error.TheVariants.{OutOfMemory};
 ghost use Rattle.bi_base.specs.Cells.{AreBytes};
 ghost use Rattle.bi_edit.specs.EditWords.{IsValueText, value_text};
-ghost use Rattle.bi_edit.specs.Unquoted.{bytes_or_none, next_quoting, unquoted as unquoted_of};
+ghost use Rattle.bi_edit.specs.Unquoted.{bytes_or_none, next_quoting, bytes_in_quotes as bytes_in_quotes_of};
 ghost use Rattle.bi_edit.specs.Unquoted.{unquoted_byte};
 ghost use Rattle.bi_edit.specs.declared.words.values.Quoting.TheVariants.{Outside};
 ghost use Rattle.hex.specs.Hex.{decode_of};
@@ -67,7 +67,7 @@ fn printed_value(alloc: Global, text: &[u8]) -> Result<Option<Vec<u8>>, Error>
         ((value : List ℕ) → value_text value ≢ text.now)) }
     ensures failed { IfErr result (λ error. error ≡ OutOfMemory) }
 {
-    let value = unquoted(alloc, text)?;
+    let value = bytes_in_quotes(alloc, text)?;
     are_bytes(&value);
     let printed = printed_text(alloc, &value)?;
     if printed.as_slice() != text {
@@ -99,8 +99,8 @@ enum Quoting {
 
 /// Returns the bytes inside quotes in a text, without the backslashes before others, and a zero for
 /// each quote that ends some. Fails if memory runs out.
-fn unquoted(alloc: Global, text: &[u8]) -> Result<Vec<u8>, AllocError>
-    ensures { IfOk result (λ bytes. bytes.items ≡ unquoted_of Outside text.now) }
+fn bytes_in_quotes(alloc: Global, text: &[u8]) -> Result<Vec<u8>, AllocError>
+    ensures { IfOk result (λ bytes. bytes.items ≡ bytes_in_quotes_of Outside text.now) }
 {
     let mut bytes = Vec::new(alloc);
     let mut quoting = Quoting::Outside;

@@ -1,11 +1,11 @@
 use Rattle.std.proofs.Common.{ap, ◌∙◌, arith}
-use Rattle.bi_tree.specs.TreeNodes.{nodes_of}
+use Rattle.bi_tree.specs.TreeNodes.{nodes_of_models}
 use Rattle.bi_tree.proofs.NodeLists.{removed_at, kept_without}
 use Rattle.bi_tree.proofs.node.remove_child.Goals as goal
 
 pub returns-then-index-len : goal.returns-then-index-len
 returns-then-index-len c =
-    ap nodes_of c.remove.ensures.items
+    ap nodes_of_models c.remove.ensures.items
     ∙ removed_at c.args.children.now.items c.deref.result.now c.deref.ensures.value c.find_child-index.result
     c.args.name.now c.find_child-index.ensures.index (omega (arith, c.if-index-len.true, c.len.ensures))
 
