@@ -4,3 +4,4 @@ pub mod Edits
 pub mod Cuts
 pub mod Unquoted
 pub mod EditWords
+pub mod KnownEdits

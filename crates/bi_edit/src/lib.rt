@@ -2,6 +2,7 @@
 #![tactic(auto)]
 
 mod edit;
+pub mod known_edits;
 mod places;
 pub mod words;
 

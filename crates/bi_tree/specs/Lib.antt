@@ -2,3 +2,4 @@ pub mod Changes
 pub mod NodeCodes
 pub mod Properties
 pub mod TreeNodes
+pub mod KnownChanges

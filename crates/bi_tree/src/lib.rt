@@ -1,6 +1,7 @@
 //! Trees of devicetrees that can be change_first_named.
 #![tactic(auto)]
 
+pub mod known_changes;
 mod node;
 mod properties;
 
