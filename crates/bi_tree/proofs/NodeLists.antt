@@ -12,7 +12,7 @@ use Rattle.bi_tree.specs.TreeNodes.{TreeNodeModel, below, index_named, names_of_
 abbrev pub node_index : List ℕ → List TreeNodeModel → ℕ
 node_index name nodes = index_named name (names_of_models nodes)
 
--- The first node with the name is change_first_named.
+-- The first node with the name is changed.
 abbrev IsChanged : List ℕ → (Root (List Property) → Root (List Property)) → (new other : TreeNodeModel) → List TreeNodeModel → Type 0
 IsChanged name change new other nodes = node_index name nodes < length nodes →
     new.name ≡ (get_or nodes (node_index name nodes) other).name → below new ≡ change (below (get_or nodes (node_index name nodes) other))

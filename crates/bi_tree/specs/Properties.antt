@@ -4,7 +4,7 @@ use Rattle.bi_blob.specs.Tree.{Property, Root}
 use Rattle.bi_tree.specs.Changes.{with_change_at, with_node_at}
 use Rattle.bi_tree.specs.declared.properties.TreeProperty.{TreeProperty}
 
--- The properties of a node of a tree that can be change_first_named.
+-- The properties of a node of a tree that can be changed.
 
 -- A property, as the code has it.
 abbrev pub tree_property : TreeProperty → Property

@@ -7,7 +7,7 @@ use denote.Param.Weighed.{most}
 use Rattle.bi_blob.specs.Tree.{Nodes, none, node, Property, Root, node_count}
 use Rattle.bi_tree.specs.NodeCodes.{nodes_code}
 
--- What a node of a tree that can be change_first_named shows.
+-- What a node of a tree that can be changed shows.
 
 -- Its name, its properties, and the nodes below it.
 pub record TreeNodeModel : Type 0 where

@@ -1,4 +1,4 @@
-//! Trees of devicetrees that can be change_first_named.
+//! Trees of devicetrees that can be changed.
 #![tactic(auto)]
 
 pub mod known_changes;

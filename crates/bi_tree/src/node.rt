@@ -1,4 +1,4 @@
-//! Nodes of trees that can be change_first_named.
+//! Nodes of trees that can be changed.
 
 ghost use Rattle.std.specs.Prelude.{◌≡◌, ◌<◌, ◌≤◌, [], OnOk, IfOk, length, option_map};
 ghost use Rattle.std.specs.Cow.{cow_slice_items};

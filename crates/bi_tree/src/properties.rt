@@ -1,4 +1,4 @@
-//! The properties of nodes of trees that can be change_first_named.
+//! The properties of nodes of trees that can be changed.
 
 ghost use Rattle.std.specs.Prelude.{◌≡◌, ◌≤◌, length, map, OnOk};
 ghost use Rattle.std.specs.Cow.{cow_slice_items};

@@ -1,6 +1,6 @@
 use Rattle.std.proofs.Common.{◌≡◌, [], ap, ◌∙◌, arith, refl, sym}
 use Rattle.std.proofs.lemmas.Slice.Eq.{bytes_eq-Decides}
-use Rattle.bi_tree.specs.TreeNodes.{names_of_models, index_named, nodes_of_models}
+use Rattle.bi_tree.specs.TreeNodes.{nodes_of_models}
 use Rattle.bi_tree.specs.Changes.{with_new_node}
 use Rattle.bi_tree.proofs.NodeLists.{added_after, none_added, node_index}
 use Rattle.bi_tree.proofs.node.child_or_new.Goals as goal

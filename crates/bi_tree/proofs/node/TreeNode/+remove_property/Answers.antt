@@ -1,7 +1,7 @@
-use Rattle.std.proofs.Common.{◌≡◌, ◌-◌, [], ◌∷◌, length, take, drop, sym, ap, ◌∙◌, arith}
+use Rattle.std.proofs.Common.{◌-◌, ◌∷◌, length, take, drop, sym, ap, ◌∙◌, arith}
 use Rattle.bi_tree.specs.Changes.{with_node, with_change_at}
 use Rattle.bi_tree.specs.Properties.{tree_properties, without_own_property}
-use Rattle.bi_tree.specs.TreeNodes.{below, names_of_path, nodes_of_models}
+use Rattle.bi_tree.specs.TreeNodes.{below, names_of_path}
 use Rattle.bi_tree.proofs.ChangedTrees.{path_is}
 use Rattle.bi_tree.proofs.NodeLists.{changed_at, not_changed}
 use Rattle.bi_tree.proofs.node.TreeNode.+remove_property.Goals as goal
