@@ -1,3 +1,6 @@
 pub mod NodeLists
 pub mod PropertyLists
 pub mod ChangedTrees
+pub mod PropertyMaps
+pub mod MappedChanges
+pub mod ChangesWithoutOrder

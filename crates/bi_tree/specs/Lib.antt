@@ -3,3 +3,4 @@ pub mod NodeCodes
 pub mod Properties
 pub mod TreeNodes
 pub mod KnownChanges
+pub mod Laws

@@ -2,6 +2,7 @@
 #![tactic(auto)]
 
 pub mod known_changes;
+pub mod laws;
 mod node;
 mod properties;
 

@@ -1,0 +1,8 @@
+//! Laws of changes of trees. The functions do nothing: what each one ensures is the law.
+
+ghost use Rattle.bi_tree.specs.Laws.{ChangesWithoutOrder};
+
+/// A change of a tree is the same change of the tree without the order of the properties.
+pub fn changes_without_order()
+    ensures { ChangesWithoutOrder }
+{}
