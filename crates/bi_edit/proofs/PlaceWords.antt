@@ -101,7 +101,7 @@ module _ (word first : List ℕ) (after : Option (List ℕ)) (cut : IsCutAt 32 w
 
   module _ (rest second : List ℕ) (text : Option (List ℕ)) (there : after ≡ Some rest) (rest_is : IsCutAt 32 rest second text) where
     parts_of : (place : PropertyPlaceModel) (value : List ℕ) (is : IsSettingWord word place value) →
-    AreWordParts place is.after first second text
+        AreWordParts place is.after first second text
     parts_of place value is =
         let cuts = rest_cut place value is in
         let e : Some (shown_text place.name ++ from_byte 32 is.after) ≡ Some rest = cuts.1 ∙ there in
@@ -121,7 +121,7 @@ module _ (word first : List ℕ) (after : Option (List ℕ)) (cut : IsCutAt 32 w
 
     pub no_setting_place : (names : List (List ℕ)) → IsPathWord first names → (name : List ℕ) → IsPropertyWord second name →
         (IsPlace (record { path = names; name = name }) → ⊥) → (place : PropertyPlaceModel) (value : List ℕ) →
-    IsSettingWord word place value → ⊥
+        IsSettingWord word place value → ⊥
     no_setting_place names is_word name is_named none place value is =
         let parts = parts_of place value is in
         let same : place.path ≡ names = one_path place.path names is.is_place.is_path.are_names is_word.is_path.are_names

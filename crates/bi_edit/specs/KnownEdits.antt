@@ -143,8 +143,8 @@ pub record RefusalsAreKnown : Type 0 where
       → IsFirstRefused (board payload)
       (RemoveNode (image_path (codes "a")) ∷ RemoveNode (image_path (codes "a")) ∷ [])
       (RemoveNode (image_path (codes "a")))
-  pub no_field : (tree : ImageTree) → IsOfKind (OfFit tree) (SetField (field.Time 1)) ≡ ⊥
-  pub no_nodes : (image : LegacyImage) → IsOfKind (OfLegacy image) (RemoveNode images_path) ≡ ⊥
+  pub no_field : (tree : ImageTree) → IsOfKind (OfFit tree) (SetField (field.Time 1)) → ⊥
+  pub no_nodes : (image : LegacyImage) → IsOfKind (OfLegacy image) (RemoveNode images_path) → ⊥
   pub root_stays : IsRemovable [] → ⊥
   pub images_stay : IsRemovable images_path → ⊥
   pub no_payload : IsPlace (record { path = image_path (codes "a"); name = data_name }) → ⊥

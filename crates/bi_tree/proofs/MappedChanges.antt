@@ -1,4 +1,5 @@
-use Rattle.std.proofs.Common.{◌≡◌, ℕ, Bool, true, false, ⊤, List, [], ◌∷◌, Option, Some, None, bytes_eq, option_map, refl, sym, ap, ◌∙◌}
+use Rattle.std.specs.Prelude.{⊤}
+use Rattle.std.proofs.Common.{◌≡◌, ℕ, Bool, true, false, List, [], ◌∷◌, Option, Some, None, bytes_eq, option_map, refl, sym, ap, ◌∙◌}
 use Rattle.std.specs.Option.{option_and_then}
 use Rattle.bi_blob.specs.Tree.{Nodes, none, node, Root, EachOwn, as_nodes, with_each, with_each_node}
 use Rattle.bi_tree.specs.Changes.{child_named, node_by_path, named_node, with_node, with_new_node, without_node}
@@ -42,7 +43,7 @@ module _ {A B : Type 0} (each : A → B) where
 
   first_removed : (name other : List ℕ) (own : A) (children later : Nodes A) → IsRemoved name later → (b : Bool) →
       bytes_eq other name ≡ b → IsRemoved name (node other own children later)
-  first_removed name other own children later rest true same = rw same (rw same refl)
+  first_removed name other own children later rest true same = rw same refl
   first_removed name other own children later rest false differs =
       rw differs (ap (λ l. node other (each own) (with_each each children) l) rest)
 
@@ -92,8 +93,8 @@ module _ {A B : Type 0} (each : A → B) where
     child_changed name change other alike none all = refl
     child_changed name change other alike (node found own children later) all =
         first_changed name found change other own children later
-          (alike (record { own = own; children = children }) (all.0, (all.1.0, tt)))
-          (child_changed name change other alike later all.1.1) (bytes_eq found name) refl
+          (alike (record { own = own; children = children }) (all.0, all.1, tt))
+          (child_changed name change other alike later all.2) (bytes_eq found name) refl
 
     pub changed_at : (change : Root A → Root A) (other : Root B → Root B) → AreAlike change other → (path : List (List ℕ)) →
         AreAlike (with_change_at path change) (with_change_at path other)
@@ -101,12 +102,12 @@ module _ {A B : Type 0} (each : A → B) where
     changed_at change other alike (name ∷ later) root all =
         ap (λ nodes. record { own = each root.own; children = nodes })
         (child_changed name (with_change_at later change) (with_change_at later other) (changed_at change other alike later)
-          root.children all.1.0)
+          root.children all.1)
 
   -- Each node has something itself.
   pub each_is : (nodes : Nodes A) → EachOwn (λ _. ⊤) nodes
   each_is none = tt
-  each_is (node name own children later) = (tt, (each_is children, each_is later))
+  each_is (node name own children later) = (tt, each_is children, each_is later)
 
   pub node_removed : (path : List (List ℕ)) (root : Root A) →
       with_each_node each (without_node_at path root) ≡ without_node_at path (with_each_node each root)

@@ -85,9 +85,9 @@ abbrev IsRemovedIn : (name : List ℕ) → (wanted : List ℕ) → List Property
 IsRemovedIn name wanted properties =
     found wanted (without_property_in name properties) ≡ cond (is_same wanted name) None (found wanted properties)
 
-none_either : {A : Type 0} (b : Bool) → None {A} ≡ cond b None None
-none_either true = refl
-none_either false = refl
+cond_same : (b : Bool) (value : Option (List ℕ)) → value ≡ cond b value value
+cond_same true value = refl
+cond_same false value = refl
 
 removed_once : (name wanted : List ℕ) (value : List ℕ) (later : List Property) → IsNew name (map (λ property. property.0) later) →
     (b : Bool) → is_same wanted name ≡ b →
@@ -111,7 +111,7 @@ removed_in_first name wanted first later new rest false differs =
 
 removed_in : (name wanted : List ℕ) (properties : List Property) → AreDistinct (map (λ property. property.0) properties) →
     IsRemovedIn name wanted properties
-removed_in name wanted [] distinct = none_either (is_same wanted name)
+removed_in name wanted [] distinct = cond_same (is_same wanted name) None
 removed_in name wanted (first ∷ later) distinct =
     removed_in_first name wanted first later distinct.0 (removed_in name wanted later distinct.1) (bytes_eq first.0 name) refl
 
