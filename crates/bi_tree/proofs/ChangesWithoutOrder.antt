@@ -1,5 +1,5 @@
 use Rattle.std.specs.Prelude.{⊤}
-use Rattle.std.proofs.Common.{◌≡◌, ℕ, List, [], map, refl, ap, ◌∙◌}
+use Rattle.std.proofs.Common.{◌≡◌, ℕ, List, [], map, ap, ◌∙◌}
 use Rattle.std.specs.FinMap.{empty, from_entries, insert, remove}
 use Rattle.bi_blob.specs.Tree.{Root, Property, PropertyMap, AreDistinct, as_nodes, tree_without_order, with_each}
 use Rattle.bi_tree.specs.Changes.{with_change_at, with_node_at}
@@ -26,8 +26,8 @@ value_is : (root : Root (List Property)) (path : List (List ℕ)) (name value : 
     ≡ with_change_at path (with_mapped name value) (with_node_at empty path (tree_without_order root))
 value_is root path name value =
     changed_at map_of (λ _. ⊤) (with_own_property name value) (with_mapped name value)
-      (λ old _. ap (λ own. record { own = own; children = with_each map_of old.children }) (set_without_order name value old.own))
-      path (with_node_at [] path root) (each_is map_of (as_nodes (with_node_at [] path root)))
+    (λ old _. ap (λ own. record { own = own; children = with_each map_of old.children }) (set_without_order name value old.own))
+    path (with_node_at [] path root) (each_is map_of (as_nodes (with_node_at [] path root)))
     ∙ ap (λ tree. with_change_at path (with_mapped name value) tree) (nodes_added map_of [] path root)
 
 property_is : (root : Root (List Property)) (path : List (List ℕ)) (name : List ℕ) → HasDistinctProperties root →
@@ -35,9 +35,9 @@ property_is : (root : Root (List Property)) (path : List (List ℕ)) (name : Lis
     ≡ with_change_at path (without_mapped name) (tree_without_order root)
 property_is root path name distinct =
     changed_at map_of (λ own. AreDistinct (map (λ property. property.0) own)) (without_own_property name) (without_mapped name)
-      (λ old all. ap (λ own. record { own = own; children = with_each map_of old.children })
-        (removed_without_order name old.own all.0))
-      path root distinct
+    (λ old all. ap (λ own. record { own = own; children = with_each map_of old.children })
+    (removed_without_order name old.own all.0))
+    path root distinct
 
 pub changes_without_order : ChangesWithoutOrder
 changes_without_order = record {

@@ -1,5 +1,5 @@
 use Rattle.std.specs.Prelude.{⊤}
-use Rattle.std.proofs.Common.{◌≡◌, ℕ, Bool, true, false, List, [], ◌∷◌, Option, Some, None, bytes_eq, option_map, refl, sym, ap, ◌∙◌}
+use Rattle.std.proofs.Common.{◌≡◌, ℕ, Bool, true, false, List, [], ◌∷◌, Option, Some, None, bytes_eq, option_map, refl, ap, ◌∙◌}
 use Rattle.std.specs.Option.{option_and_then}
 use Rattle.bi_blob.specs.Tree.{Nodes, none, node, Root, EachOwn, as_nodes, with_each, with_each_node}
 use Rattle.bi_tree.specs.Changes.{child_named, node_by_path, named_node, with_node, with_new_node, without_node}
@@ -93,8 +93,8 @@ module _ {A B : Type 0} (each : A → B) where
     child_changed name change other alike none all = refl
     child_changed name change other alike (node found own children later) all =
         first_changed name found change other own children later
-          (alike (record { own = own; children = children }) (all.0, all.1, tt))
-          (child_changed name change other alike later all.2) (bytes_eq found name) refl
+        (alike (record { own = own; children = children }) (all.0, all.1, tt))
+        (child_changed name change other alike later all.2) (bytes_eq found name) refl
 
     pub changed_at : (change : Root A → Root A) (other : Root B → Root B) → AreAlike change other → (path : List (List ℕ)) →
         AreAlike (with_change_at path change) (with_change_at path other)
@@ -102,7 +102,7 @@ module _ {A B : Type 0} (each : A → B) where
     changed_at change other alike (name ∷ later) root all =
         ap (λ nodes. record { own = each root.own; children = nodes })
         (child_changed name (with_change_at later change) (with_change_at later other) (changed_at change other alike later)
-          root.children all.1)
+        root.children all.1)
 
   -- Each node has something itself.
   pub each_is : (nodes : Nodes A) → EachOwn (λ _. ⊤) nodes
@@ -117,7 +117,7 @@ module _ {A B : Type 0} (each : A → B) where
   node_removed (name ∷ next ∷ later) root =
       ap (λ nodes. record { own = each root.own; children = nodes })
       (child_changed (λ _. ⊤) name (without_node_at (next ∷ later)) (without_node_at (next ∷ later))
-        (λ below _. node_removed (next ∷ later) below) root.children (each_is root.children))
+      (λ below _. node_removed (next ∷ later) below) root.children (each_is root.children))
 
   pub nodes_added : (nothing : A) (path : List (List ℕ)) (root : Root A) →
       with_each_node each (with_node_at nothing path root) ≡ with_node_at (each nothing) path (with_each_node each root)
@@ -125,6 +125,6 @@ module _ {A B : Type 0} (each : A → B) where
   nodes_added nothing (name ∷ later) root =
       ap (λ nodes. record { own = each root.own; children = nodes })
       (child_changed (λ _. ⊤) name (with_node_at nothing later) (with_node_at (each nothing) later)
-        (λ below _. nodes_added nothing later below) (with_new_node nothing name root.children)
-        (each_is (with_new_node nothing name root.children))
+      (λ below _. nodes_added nothing later below) (with_new_node nothing name root.children)
+      (each_is (with_new_node nothing name root.children))
       ∙ ap (λ nodes. with_node name (with_node_at (each nothing) later) nodes) (child_added nothing name root.children))

@@ -102,9 +102,10 @@ keep_first : (first : TreeNodeModel) (later : List TreeNodeModel) (name : List �
 keep_first first later name change rest true same absent = let no = rw same at absent in absurd (omega (arith, no))
 keep_first first later name change rest false differs absent =
     let more = rw differs at absent in
-    let both = rest (omega (arith, more)) in
-    (rw differs (ap (λ l. node first.name first.own first.children l) both.0),
-     rw differs (ap (λ l. node first.name first.own first.children l) both.1))
+    let both = rest (omega (arith, more)) in (
+      rw differs (ap (λ l. node first.name first.own first.children l) both.0),
+      rw differs (ap (λ l. node first.name first.own first.children l) both.1),
+    )
 
 kept : (nodes : List TreeNodeModel) (name : List ℕ) (change : Root (List Property) → Root (List Property)) → IsKept name change nodes
 kept [] name change absent = (refl, refl)
@@ -146,9 +147,10 @@ module _ (nodes slice : List TreeNodeModel) (same : slice ≡ nodes) (index : �
   pub added_after : bytes_eq name name ≡ true → (new : TreeNodeModel) → new ≡ new_node name → index ≡ length nodes →
       (nodes_of_models (nodes ++ new ∷ []) ≡ with_new_node [] name (nodes_of_models nodes)) × (index ≡ node_index name (nodes ++ new ∷ []))
   added_after equal new is_new absent =
-      let both = added nodes name equal (sym at_place ∙ absent) in
-      (ap (λ n. nodes_of_models (nodes ++ n ∷ [])) is_new ∙ both.0,
-       absent ∙ sym both.1 ∙ ap (λ n. node_index name (nodes ++ n ∷ [])) (sym is_new))
+      let both = added nodes name equal (sym at_place ∙ absent) in (
+        ap (λ n. nodes_of_models (nodes ++ n ∷ [])) is_new ∙ both.0,
+        absent ∙ sym both.1 ∙ ap (λ n. node_index name (nodes ++ n ∷ [])) (sym is_new),
+      )
 
   pub none_added : index < length nodes → nodes_of_models nodes ≡ with_new_node [] name (nodes_of_models nodes)
   none_added within = there nodes name (subst (λ n. n < length nodes) at_place within)

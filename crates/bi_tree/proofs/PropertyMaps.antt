@@ -1,11 +1,11 @@
-use Rattle.std.proofs.Common.{◌≡◌, ◌≢◌, ℕ, Bool, true, false, cond, List, [], ◌∷◌, map, Option, Some, None, bytes_eq, refl, sym, ap, subst, ◌∙◌, true≢false}
+use Rattle.std.proofs.Common.{◌≡◌, ◌≢◌, ℕ, Bool, true, false, cond, List, [], ◌∷◌, map, Option, Some, None, bytes_eq, refl, sym, ap, subst, ◌∙◌}
 use Rattle.std.specs.FinMap.{find, from_entries, insert, remove, same_map, get-from_entries, get-insert, get-remove}
 use Rattle.std.specs.Ordering.{eq_by_cmp, nat_cmp}
 use Rattle.std.specs.Cmp.Lexicographic.{slice_cmp}
 use Rattle.std.proofs.lemmas.Cmp.{nat_list_cmp_total}
 use Rattle.std.proofs.lemmas.Map.Text.{is_eq-slice_cmp}
 use Rattle.bi_base.proofs.EqualBytes.{same_bytes, other_bytes}
-use Rattle.bi_blob.specs.Tree.{Property, PropertyMap, AreDistinct, IsNew}
+use Rattle.bi_blob.specs.Tree.{Property, AreDistinct, IsNew}
 use Rattle.bi_blob.proofs.Texts.PropertyOrder.{order_tells}
 use Rattle.bi_tree.specs.Properties.{with_property_in, without_property_in}
 
@@ -47,13 +47,13 @@ set_in_first : (name value wanted : List ℕ) (first : Property) (later : List P
     bytes_eq first.0 name ≡ b → IsSetIn name value wanted (first ∷ later)
 set_in_first name value wanted first later rest true same =
     rw same (subst (λ other. cond (is_same wanted name) (Some value) (found wanted later)
-        ≡ cond (is_same wanted name) (Some value) (cond (is_same wanted other) (Some first.1) (found wanted later)))
-      (sym (same_bytes first.0 name same))
-      (twice (is_same wanted name) (Some value) (Some first.1) (found wanted later)))
+    ≡ cond (is_same wanted name) (Some value) (cond (is_same wanted other) (Some first.1) (found wanted later)))
+    (sym (same_bytes first.0 name same))
+    (twice (is_same wanted name) (Some value) (Some first.1) (found wanted later)))
 set_in_first name value wanted first later rest false differs =
     rw differs (ap (λ o. cond (is_same wanted first.0) (Some first.1) o) rest
-      ∙ either_first (is_same wanted first.0) (is_same wanted name) (Some first.1) (Some value) (found wanted later)
-        (apart wanted first.0 name differs))
+    ∙ either_first (is_same wanted first.0) (is_same wanted name) (Some first.1) (Some value) (found wanted later)
+    (apart wanted first.0 name differs))
 
 set_in : (name value wanted : List ℕ) (properties : List Property) → IsSetIn name value wanted properties
 set_in name value wanted [] = refl
@@ -64,10 +64,10 @@ pub set_without_order : (name value : List ℕ) (properties : List Property) →
     from_entries {R = slice_cmp nat_cmp} (with_property_in name value properties) ≡ insert (from_entries properties) name value
 set_without_order name value properties =
     same_map nat_list_cmp_total order_tells _ _ (λ wanted.
-      get-from_entries nat_list_cmp_total (with_property_in name value properties) wanted
-      ∙ set_in name value wanted properties
-      ∙ sym (get-insert nat_list_cmp_total (from_entries properties) name value wanted
-        ∙ ap (λ o. cond (is_same wanted name) (Some value) o) (get-from_entries nat_list_cmp_total properties wanted)))
+    get-from_entries nat_list_cmp_total (with_property_in name value properties) wanted
+    ∙ set_in name value wanted properties
+    ∙ sym (get-insert nat_list_cmp_total (from_entries properties) name value wanted
+    ∙ ap (λ o. cond (is_same wanted name) (Some value) o) (get-from_entries nat_list_cmp_total properties wanted)))
 
 -- A name that is new is not found.
 new_first : (name other : List ℕ) → other ≢ name → (b : Bool) → is_same name other ≡ b → is_same name other ≡ false
@@ -101,13 +101,13 @@ removed_in_first : (name wanted : List ℕ) (first : Property) (later : List Pro
     bytes_eq first.0 name ≡ b → IsRemovedIn name wanted (first ∷ later)
 removed_in_first name wanted first later new rest true same =
     rw same (subst (λ other. found wanted later
-        ≡ cond (is_same wanted other) None (cond (is_same wanted first.0) (Some first.1) (found wanted later)))
-      (same_bytes first.0 name same)
-      (removed_once first.0 wanted first.1 later new (is_same wanted first.0) refl))
+    ≡ cond (is_same wanted other) None (cond (is_same wanted first.0) (Some first.1) (found wanted later)))
+    (same_bytes first.0 name same)
+    (removed_once first.0 wanted first.1 later new (is_same wanted first.0) refl))
 removed_in_first name wanted first later new rest false differs =
     rw differs (ap (λ o. cond (is_same wanted first.0) (Some first.1) o) rest
-      ∙ either_first (is_same wanted first.0) (is_same wanted name) (Some first.1) None (found wanted later)
-        (apart wanted first.0 name differs))
+    ∙ either_first (is_same wanted first.0) (is_same wanted name) (Some first.1) None (found wanted later)
+    (apart wanted first.0 name differs))
 
 removed_in : (name wanted : List ℕ) (properties : List Property) → AreDistinct (map (λ property. property.0) properties) →
     IsRemovedIn name wanted properties
@@ -119,7 +119,7 @@ pub removed_without_order : (name : List ℕ) (properties : List Property) → A
     from_entries {R = slice_cmp nat_cmp} (without_property_in name properties) ≡ remove (from_entries properties) name
 removed_without_order name properties distinct =
     same_map nat_list_cmp_total order_tells _ _ (λ wanted.
-      get-from_entries nat_list_cmp_total (without_property_in name properties) wanted
-      ∙ removed_in name wanted properties distinct
-      ∙ sym (get-remove nat_list_cmp_total (from_entries properties) name wanted
-        ∙ ap (λ o. cond (is_same wanted name) None o) (get-from_entries nat_list_cmp_total properties wanted)))
+    get-from_entries nat_list_cmp_total (without_property_in name properties) wanted
+    ∙ removed_in name wanted properties distinct
+    ∙ sym (get-remove nat_list_cmp_total (from_entries properties) name wanted
+    ∙ ap (λ o. cond (is_same wanted name) None o) (get-from_entries nat_list_cmp_total properties wanted)))

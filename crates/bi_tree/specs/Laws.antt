@@ -21,9 +21,9 @@ pub record ChangesWithoutOrder : Type 0 where
   pub value : (root : Root (List Property)) (path : List (List ℕ)) (name value : List ℕ)
       → tree_without_order (with_value_at path name value root)
       ≡ with_change_at path (λ old. record old { own = insert old.own name value })
-          (with_node_at empty path (tree_without_order root))
+      (with_node_at empty path (tree_without_order root))
   pub property : (root : Root (List Property)) (path : List (List ℕ)) (name : List ℕ)
       → HasDistinctProperties root
       → tree_without_order (with_change_at path (without_own_property name) root)
       ≡ with_change_at path (λ old. record old { own = remove old.own name })
-          (tree_without_order root)
+      (tree_without_order root)

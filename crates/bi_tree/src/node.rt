@@ -32,9 +32,9 @@ impl<'a> Model for TreeNode<'a> {
     ghost coded = { node_code };
 
     ghost view = { λ node. record {
-        name = node.name.now;
-        own = tree_properties node.properties.items;
-        children = nodes_of_models node.children.items;
+      name = node.name.now;
+      own = tree_properties node.properties.items;
+      children = nodes_of_models node.children.items;
     } };
 
     ghost size = { node_size };

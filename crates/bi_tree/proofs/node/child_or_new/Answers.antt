@@ -11,10 +11,11 @@ added : (c : goal.In_ok-push) →
     × (c.find_child-index.result ≡ node_index c.args.name.now c.push.new.self.items)
 added c =
     let both = added_after c.args.children.now.items c.deref.result.now c.deref.ensures.value c.find_child-index.result c.args.name.now
-        c.find_child-index.ensures.index ((bytes_eq-Decides c.args.name.now c.args.name.now).1 refl) c.new.result c.new.ensures
-        (omega (arith, c.if-index-len.true, c.len.ensures)) in
-    (ap nodes_of_models c.in_ok-push.ensures.items ∙ both.0,
-     both.1 ∙ ap (λ nodes. node_index c.args.name.now nodes) (sym c.in_ok-push.ensures.items))
+    c.find_child-index.ensures.index ((bytes_eq-Decides c.args.name.now c.args.name.now).1 refl) c.new.result c.new.ensures
+    (omega (arith, c.if-index-len.true, c.len.ensures)) in (
+      ap nodes_of_models c.in_ok-push.ensures.items ∙ both.0,
+      both.1 ∙ ap (λ nodes. node_index c.args.name.now nodes) (sym c.in_ok-push.ensures.items),
+    )
 
 pub returns-in_ok-push-clause-nodes : goal.returns-in_ok-push-clause-nodes
 returns-in_ok-push-clause-nodes c = (added c).0

@@ -13,10 +13,10 @@ returns-then-index-len-clause-removed t c =
     let change = with_change_at later (without_own_property c.args.name.now) in
     let items = c.self.inside.children.items in
     let changed = changed_at items c.deref.result.now c.deref.ensures.value c.find_child-index.result c.deref-2.result.now
-        c.find_child-index.ensures.index change c.remove_property.new.self c.index_mut.result.now
-        (omega (arith, c.if-index-len.true, c.len.ensures))
-        (c.remove_property.ensures.name ∙ ap (λ node. node.name) c.index_mut.ensures.value)
-        (c.remove_property.ensures.removed ∙ ap (λ node. change (below node)) c.index_mut.ensures.value) in
+    c.find_child-index.ensures.index change c.remove_property.new.self c.index_mut.result.now
+    (omega (arith, c.if-index-len.true, c.len.ensures))
+    (c.remove_property.ensures.name ∙ ap (λ node. node.name) c.index_mut.ensures.value)
+    (c.remove_property.ensures.removed ∙ ap (λ node. change (below node)) c.index_mut.ensures.value) in
     ap (λ nodes. record { own = tree_properties c.self.inside.properties.items; children = nodes }) changed
     ∙ ap (λ top. record { own = top.own; children = with_node c.deref-2.result.now change top.children }) c.self.view_is
     ∙ ap (λ name. with_change_at (name ∷ later) (without_own_property c.args.name.now) (below c.args.self.now)) c.deref-2.ensures.value
@@ -31,8 +31,8 @@ returns-else-index-len-clause-removed t c =
     let change = with_change_at later (without_own_property c.args.name.now) in
     let items = c.self.inside.children.items in
     let same = not_changed items c.deref.result.now c.deref.ensures.value c.find_child-index.result c.deref-2.result.now
-        c.find_child-index.ensures.index change
-        (omega (arith, c.if-index-len.false, c.len.ensures, c.find_child-index.ensures.within, c.deref.ensures.len)) in
+    c.find_child-index.ensures.index change
+    (omega (arith, c.if-index-len.false, c.len.ensures, c.find_child-index.ensures.within, c.deref.ensures.len)) in
     sym (ap below c.self.view_is)
     ∙ ap (λ nodes. record { own = tree_properties c.self.inside.properties.items; children = nodes }) same
     ∙ ap (λ top. record { own = top.own; children = with_node c.deref-2.result.now change top.children }) c.self.view_is

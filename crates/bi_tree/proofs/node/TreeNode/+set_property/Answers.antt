@@ -16,10 +16,10 @@ returns-clause-set t c =
     let items = c.child_or_new.new.children.items in
     let here = c.index_mut.result.now in
     let changed = changed_at items items refl c.in_ok-index.index first c.in_ok-index.ensures.index
-        (with_value_at later c.args.name.now value) c.set_property.new.self here c.in_ok-index.ensures.within
-        (c.in_ok-set_property.ensures.name ∙ ap (λ node. node.name) c.index_mut.ensures.value)
-        (c.in_ok-set_property.ensures.set
-        ∙ ap (λ node. with_value_at later c.args.name.now value (below node)) c.index_mut.ensures.value) in
+    (with_value_at later c.args.name.now value) c.set_property.new.self here c.in_ok-index.ensures.within
+    (c.in_ok-set_property.ensures.name ∙ ap (λ node. node.name) c.index_mut.ensures.value)
+    (c.in_ok-set_property.ensures.set
+    ∙ ap (λ node. with_value_at later c.args.name.now value (below node)) c.index_mut.ensures.value) in
     ap (λ nodes. record { own = tree_properties c.self.inside.properties.items; children = nodes })
     (changed ∙ ap (λ nodes. with_node first (with_value_at later c.args.name.now value) nodes) c.in_ok-index.ensures.nodes)
     ∙ sym
