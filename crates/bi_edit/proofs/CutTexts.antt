@@ -32,8 +32,8 @@ pub cut_is : (byte : ℕ) (text before : List ℕ) (after : Option (List ℕ)) �
     (first ≡ before) × (rest ≡ after)
 cut_is byte text before after cut first rest lacks same =
     let parts = cut_agrees (is_byte byte) first before (from_byte byte rest) (from_byte byte after)
-        (no_end byte first lacks) (no_end byte before cut.first) (ends-from_byte byte rest) (ends-from_byte byte after)
-        (same ∙ cut.is) in
+    (no_end byte first lacks) (no_end byte before cut.first) (ends-from_byte byte rest) (ends-from_byte byte after)
+    (same ∙ cut.is) in
     (parts.0, same_after byte rest after parts.1)
 
 -- Bytes none of which is blank have no space.

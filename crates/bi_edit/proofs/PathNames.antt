@@ -31,8 +31,8 @@ pub next_of_path : (names : List (List ℕ)) (shown : List ℕ) (later : Option 
 next_of_path [] shown later are lacks same = absurd cc
 next_of_path (name ∷ others) shown later are lacks same =
     let parts = cut_agrees is_slash (shown_text name) shown (flat_map slash_and_name others) (from_byte 47 later)
-        (shown_no_slash name are.0.is_name.no_slash) (no_end 47 shown lacks) (ends-slashed others) (ends-from_byte 47 later)
-        (later_same same) in
+    (shown_no_slash name are.0.is_name.no_slash) (no_end 47 shown lacks) (ends-slashed others) (ends-from_byte 47 later)
+    (later_same same) in
     record { name = name; others = others; are = refl; is = parts.0; rest = parts.1 }
 
 -- Names that are printed at the beginning are the first of all that are printed.
@@ -47,9 +47,9 @@ rest_of_names [] all rest are all_are ends same = record { others = all; are = r
 rest_of_names (name ∷ names) [] rest are all_are ends same = absurd cc
 rest_of_names (name ∷ names) (first ∷ all) rest are all_are ends same =
     let parts = cut_agrees is_slash (shown_text first) (shown_text name) (flat_map slash_and_name all) (flat_map slash_and_name names ++ rest)
-        (shown_no_slash first all_are.0.is_name.no_slash) (shown_no_slash name are.0.is_name.no_slash)
-        (ends-slashed all) (ends_more names rest ends)
-        (later_same same ∙ append_assoc (shown_text name) (flat_map slash_and_name names) rest) in
+    (shown_no_slash first all_are.0.is_name.no_slash) (shown_no_slash name are.0.is_name.no_slash)
+    (ends-slashed all) (ends_more names rest ends)
+    (later_same same ∙ append_assoc (shown_text name) (flat_map slash_and_name names) rest) in
     let more = rest_of_names names all rest are.1 all_are.1 ends parts.1 in
     let head : first ≡ name = same_shown first name parts.0 in
     record { others = more.others; are = ap (λ n. n ∷ all) head ∙ ap (λ l. name ∷ l) more.are; rest = more.rest }
@@ -162,9 +162,9 @@ module _ (text : List ℕ) (names : List (List ℕ)) (rest shown : List ℕ) (la
       few = omega (arith, is_path.few, fewer, length-append names (name ∷ []));
     },
     ap (λ l. l ++ from_byte 47 later) (names_with_one_more names name)
-    ∙ append_assoc (flat_map slash_and_name names) (slash_and_name name) (from_byte 47 later)
-    ∙ ap (λ l. flat_map slash_and_name names ++ (47 ∷ (l ++ from_byte 47 later))) is.is
-    ∙ ap (λ l. flat_map slash_and_name names ++ 47 ∷ l) (sym cut.is) ∙ begins,
+        ∙ append_assoc (flat_map slash_and_name names) (slash_and_name name) (from_byte 47 later)
+        ∙ ap (λ l. flat_map slash_and_name names ++ (47 ∷ (l ++ from_byte 47 later))) is.is
+        ∙ ap (λ l. flat_map slash_and_name names ++ 47 ∷ l) (sym cut.is) ∙ begins,
   )
 
   -- Less is left.

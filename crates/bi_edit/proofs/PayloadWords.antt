@@ -48,5 +48,5 @@ same_payload_parts word shown name is first image file is_word =
     let less = first (shown_text image) file is_word.is in
     let more = is_word.first shown name is in
     let parts = same_front (shown_text image) shown (codes "=@" ++ file) (codes "=@" ++ name) (omega (arith, less, more))
-        (sym is_word.is ∙ is) in
+    (sym is_word.is ∙ is) in
     (parts.0, later_same (later_same parts.1))

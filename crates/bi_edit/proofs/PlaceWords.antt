@@ -21,7 +21,7 @@ module _ (word first : List ℕ) (after : Option (List ℕ)) (cut : IsCutAt 32 w
 
   -- That of a property has one.
   property_cut : (place : PropertyPlaceModel) (rest : List ℕ) → path place.path ++ 32 ∷ rest ≡ word →
-    (path place.path ≡ first) × (Some rest ≡ after)
+      (path place.path ≡ first) × (Some rest ≡ after)
   property_cut place rest is = cut_is 32 word first after cut (path place.path) (Some rest) (path_no_space place.path) is
 
   pub no_path : ((names : List (List ℕ)) → IsPathWord first names → ⊥) → (edit : Edit) → IsRemovalWord word edit → ⊥
@@ -39,7 +39,7 @@ module _ (word first : List ℕ) (after : Option (List ℕ)) (cut : IsCutAt 32 w
       IsRemovalWord word edit → ⊥
   not_removable names alone is_word none (RemoveNode others) is =
       let same : others ≡ names = one_path others names is.0.is_path.are_names is_word.is_path.are_names
-          ((node_cut others is.1).0 ∙ sym is_word.is) in
+      ((node_cut others is.1).0 ∙ sym is_word.is) in
       none (subst IsRemovable same is.0)
   not_removable names alone is_word none (RemoveProperty place) is =
       let e : Some (shown_text place.name) ≡ None = (property_cut place (shown_text place.name) is.1).1 ∙ alone in absurd cc
@@ -71,7 +71,7 @@ module _ (word first : List ℕ) (after : Option (List ℕ)) (cut : IsCutAt 32 w
       let e : Some (shown_text place.name) ≡ Some text = parts.1 ∙ there in
       let texts : shown_text place.name ≡ text = cc in
       let same : place.path ≡ names = one_path place.path names is.0.is_path.are_names is_word.is_path.are_names
-          (parts.0 ∙ sym is_word.is) in
+      (parts.0 ∙ sym is_word.is) in
       let named : place.name ≡ name = same_shown place.name name (texts ∙ sym is_named.is) in
       none (subst IsPlace (λ i. record { path = same i; name = named i }) is.0)
   no_place text there names is_word name is_named none (SetProperty place value) is = is
@@ -125,7 +125,7 @@ module _ (word first : List ℕ) (after : Option (List ℕ)) (cut : IsCutAt 32 w
     no_setting_place names is_word name is_named none place value is =
         let parts = parts_of place value is in
         let same : place.path ≡ names = one_path place.path names is.is_place.is_path.are_names is_word.is_path.are_names
-            (parts.path_is ∙ sym is_word.is) in
+        (parts.path_is ∙ sym is_word.is) in
         let named : place.name ≡ name = same_shown place.name name (parts.name_is ∙ sym is_named.is) in
         none (subst IsPlace (λ i. record { path = same i; name = named i }) is.is_place)
 

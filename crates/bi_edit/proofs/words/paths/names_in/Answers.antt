@@ -36,10 +36,10 @@ loop-left-preserved c =
     let later = option_map (λ later. later.now) c.cut.result.1 in
     let shown = c.cut.result.0.now in
     let grown = path_grows c.args.text.now names c.in-Some.rest.now shown later c.loop-left.invariant.0
-        (begins_of names c.loop-left.left c.in-Some.rest c.args.text.now c.in-Some.is c.loop-left.invariant.1) c.cut.ensures
-        c.in-Some-2.name.items
-        (λ same. c.if-len-eq-MOST_NAMES.false (let count = count_of_names c.loop-left.names.items in omega (arith, count, same, c.len.ensures)))
-        (some_holds (λ name. IsChildWord shown name.items) c.in_ok-name.field-0 c.in-Some-2.name c.in-Some-2.is c.in_ok-name.ensures.some) in
+    (begins_of names c.loop-left.left c.in-Some.rest c.args.text.now c.in-Some.is c.loop-left.invariant.1) c.cut.ensures
+    c.in-Some-2.name.items
+    (λ same. c.if-len-eq-MOST_NAMES.false (let count = count_of_names c.loop-left.names.items in omega (arith, count, same, c.len.ensures)))
+    (some_holds (λ name. IsChildWord shown name.items) c.in_ok-name.field-0 c.in-Some-2.name c.in-Some-2.is c.in_ok-name.ensures.some) in
     subst (λ names. IsNodePath names × (flat_map slash_and_name names ++ from_byte 47 later ≡ 47 ∷ c.args.text.now))
     (sym (ap names_of_path c.in_ok-push.ensures.items ∙ names_of_more c.loop-left.names.items c.in-Some-2.name)) grown
 
