@@ -4,3 +4,4 @@ pub mod ChangedTrees
 pub mod PropertyMaps
 pub mod MappedChanges
 pub mod ChangesWithoutOrder
+pub mod DistinctNames

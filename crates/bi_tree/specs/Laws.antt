@@ -27,3 +27,13 @@ pub record ChangesWithoutOrder : Type 0 where
       → tree_without_order (with_change_at path (without_own_property name) root)
       ≡ with_change_at path (λ old. record old { own = remove old.own name })
       (tree_without_order root)
+
+-- If no node has two properties with one name, so it is after changes.
+pub record NamesStayDistinct : Type 0 where
+  pub removal : (root : Root (List Property)) (path : List (List ℕ))
+      → HasDistinctProperties root → HasDistinctProperties (without_node_at path root)
+  pub value : (root : Root (List Property)) (path : List (List ℕ)) (name value : List ℕ)
+      → HasDistinctProperties root → HasDistinctProperties (with_value_at path name value root)
+  pub property : (root : Root (List Property)) (path : List (List ℕ)) (name : List ℕ)
+      → HasDistinctProperties root
+      → HasDistinctProperties (with_change_at path (without_own_property name) root)
