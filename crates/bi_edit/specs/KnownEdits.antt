@@ -134,7 +134,7 @@ pub record LegacyEditsAreKnown : Type 0 where
       → LacksPart (two_part_image 1 one other) (SetPayload (codes "01") new)
 
 -- Which edits are refused.
-pub record RefusalsAreKnown : Type 0 where
+pub record EditRefusalsAreKnown : Type 0 where
   pub no_node : (payload : List ℕ)
       → FindsNothing (board payload) (RemoveNode (image_path (codes "c")))
   pub no_image : (payload : List ℕ) (new : Bor (List ℕ))

@@ -1,7 +1,7 @@
 //! A small tree and what it is after edits. Each function does nothing: its contract is the fact.
 
 ghost use Rattle.bi_edit.specs.KnownEdits.{EditsAreKnown, LegacyEditsAreKnown, OrderIsKnown};
-ghost use Rattle.bi_edit.specs.KnownEdits.{RefusalsAreKnown};
+ghost use Rattle.bi_edit.specs.KnownEdits.{EditRefusalsAreKnown};
 
 /// A small tree has known nodes and properties after each kind of edit.
 pub fn edits_are_known()
@@ -20,5 +20,5 @@ pub fn legacy_edits_are_known()
 
 /// Edits that find nothing, that are of the other kind of image, or that cannot be made are refused.
 pub fn refusals_are_known()
-    ensures refusals { RefusalsAreKnown }
+    ensures refusals { EditRefusalsAreKnown }
 {}

@@ -128,6 +128,46 @@ fn is_removable(path: &NodePath) -> bool
     }
 }
 
+/// The name of an image.
+#[derive(Drop)]
+pub struct ImageName {
+    name: Vec<u8>,
+}
+
+impl Model for ImageName {
+    ghost use Rattle.std.specs.Prelude.{ℕ, List};
+    ghost use Rattle.bi_edit.specs.Places.{IsChildNameOfBytes};
+
+    ghost Value = { List ℕ };
+
+    ghost view = { λ image. image.name.items };
+
+    ghost invariant = { λ image. IsChildNameOfBytes image.name.items };
+}
+
+impl ImageName {
+    /// Returns this name. Returns None exactly if it is not one that a child may have.
+    pub fn new(name: Vec<u8>) -> Option<ImageName>
+        ensures some { IfSome result (λ image.
+            (image ≡ name.items) × IsChildNameOfBytes image) }
+        ensures none { IfNone result (IsChildNameOfBytes name.items → ⊥) }
+    {
+        if is_child_name_of_bytes(&name) {
+            Some(ImageName { name })
+        } else {
+            None
+        }
+    }
+
+    /// Returns the bytes of the name.
+    pub fn as_bytes(&self) -> &[u8]
+        ensures name { result.now ≡ self.now }
+        ensures child { IsChildNameOfBytes self.now }
+    {
+        &self.name
+    }
+}
+
 /// A property that can be set and removed: it is none of the four of an image node that hold a
 /// payload or name its region.
 #[derive(Drop)]
@@ -186,45 +226,5 @@ fn is_image_path(path: &NodePath) -> bool
     match path.names() {
         [first, _] => first.as_slice() == b"images".as_slice(),
         _ => false,
-    }
-}
-
-/// The name of an image.
-#[derive(Drop)]
-pub struct ImageName {
-    name: Vec<u8>,
-}
-
-impl Model for ImageName {
-    ghost use Rattle.std.specs.Prelude.{ℕ, List};
-    ghost use Rattle.bi_edit.specs.Places.{IsChildNameOfBytes};
-
-    ghost Value = { List ℕ };
-
-    ghost view = { λ image. image.name.items };
-
-    ghost invariant = { λ image. IsChildNameOfBytes image.name.items };
-}
-
-impl ImageName {
-    /// Returns this name. Returns None exactly if it is not one that a child may have.
-    pub fn new(name: Vec<u8>) -> Option<ImageName>
-        ensures some { IfSome result (λ image.
-            (image ≡ name.items) × IsChildNameOfBytes image) }
-        ensures none { IfNone result (IsChildNameOfBytes name.items → ⊥) }
-    {
-        if is_child_name_of_bytes(&name) {
-            Some(ImageName { name })
-        } else {
-            None
-        }
-    }
-
-    /// Returns the bytes of the name.
-    pub fn as_bytes(&self) -> &[u8]
-        ensures name { result.now ≡ self.now }
-        ensures child { IsChildNameOfBytes self.now }
-    {
-        &self.name
     }
 }

@@ -54,11 +54,11 @@ module _ {Own : Type 0} (IsOwn : Own → Type 0) where
   kept_at change kept (name ∷ later) root all =
       (all.0, child_changed name (with_change_at later change) (kept_at change kept later) root.children all.1, tt)
 
-  pub kept_without : (path : List (List ℕ)) → IsKeptBy (without_node_at path)
-  kept_without [] root all = all
-  kept_without (name ∷ []) root all = (all.0, child_removed name root.children all.1, tt)
-  kept_without (name ∷ next ∷ later) root all =
-      (all.0, child_changed name (without_node_at (next ∷ later)) (kept_without (next ∷ later)) root.children all.1, tt)
+  pub kept_without_node : (path : List (List ℕ)) → IsKeptBy (without_node_at path)
+  kept_without_node [] root all = all
+  kept_without_node (name ∷ []) root all = (all.0, child_removed name root.children all.1, tt)
+  kept_without_node (name ∷ next ∷ later) root all =
+      (all.0, child_changed name (without_node_at (next ∷ later)) (kept_without_node (next ∷ later)) root.children all.1, tt)
 
   pub kept_with : (nothing : Own) → IsOwn nothing → (path : List (List ℕ)) → IsKeptBy (with_node_at nothing path)
   kept_with nothing is [] root all = all
@@ -126,9 +126,9 @@ distinct_without name (first ∷ later) distinct =
 abbrev IsDistinct : List Property → Type 0
 IsDistinct own = AreDistinct (names_in own)
 
-pub names_stay_distinct : NamesStayDistinct
-names_stay_distinct = record {
-  removal = λ root path distinct. kept_without IsDistinct path root distinct;
+pub property_names_stay_distinct : NamesStayDistinct
+property_names_stay_distinct = record {
+  removal = λ root path distinct. kept_without_node IsDistinct path root distinct;
   value = λ root path name value distinct.
       kept_at IsDistinct (with_own_property name value)
         (λ old all. (distinct_with name value old.own all.0, all.1, tt)) path (with_node_at [] path root)

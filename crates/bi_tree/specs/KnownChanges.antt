@@ -30,7 +30,7 @@ with_nine root = record root { own = 9 }
 
 -- Nodes are found by their paths. A node that is removed takes the nodes below it with it, a node
 -- that is added is the last child of its parent, and the root stays.
-pub record ChangesAreKnown : Type 0 where
+pub record NodeChangesAreKnown : Type 0 where
   pub root : node_by_path (small_tree 2) [] ≡ Some (small_tree 2)
   pub found : node_by_path (small_tree 2) path_a_b ≡ Some (record { own = 2; children = none })
   pub not_found : node_by_path (small_tree 2) path_b ≡ None
@@ -62,26 +62,26 @@ pub record ChangesAreKnown : Type 0 where
   pub no_addition : with_node_at 7 path_a_b (small_tree 2) ≡ small_tree 2
 
 -- A node with two properties, in this order.
-abbrev pub two_properties : (x : List ℕ) → Root (List Property)
-two_properties x = record {
+abbrev pub two_property_node : (x : List ℕ) → Root (List Property)
+two_property_node x = record {
   own = (codes "x", x) ∷ (codes "y", codes "2") ∷ [];
   children = none;
 }
 
 -- A property that is there keeps its place, and one that is added is the last.
 pub record ChangesOfPropertiesAreKnown : Type 0 where
-  pub value : with_own_property (codes "x") (codes "9") (two_properties (codes "1"))
-      ≡ two_properties (codes "9")
-  pub addition : with_own_property (codes "a") (codes "3") (two_properties (codes "1"))
+  pub value : with_own_property (codes "x") (codes "9") (two_property_node (codes "1"))
+      ≡ two_property_node (codes "9")
+  pub addition : with_own_property (codes "a") (codes "3") (two_property_node (codes "1"))
       ≡ record {
         own = (codes "x", codes "1") ∷ (codes "y", codes "2") ∷ (codes "a", codes "3") ∷ [];
         children = none;
       }
-  pub removal : without_own_property (codes "x") (two_properties (codes "1"))
+  pub removal : without_own_property (codes "x") (two_property_node (codes "1"))
       ≡ record { own = (codes "y", codes "2") ∷ []; children = none }
-  pub no_removal : without_own_property (codes "a") (two_properties (codes "1"))
-      ≡ two_properties (codes "1")
-  pub node : with_value_at (codes "n" ∷ []) (codes "a") (codes "3") (two_properties (codes "1"))
+  pub no_removal : without_own_property (codes "a") (two_property_node (codes "1"))
+      ≡ two_property_node (codes "1")
+  pub node : with_value_at (codes "n" ∷ []) (codes "a") (codes "3") (two_property_node (codes "1"))
       ≡ record {
         own = (codes "x", codes "1") ∷ (codes "y", codes "2") ∷ [];
         children = node (codes "n") ((codes "a", codes "3") ∷ []) none none;

@@ -1,12 +1,12 @@
 //! Small trees and what they are after changes. Each function does nothing: its contract is the
 //! fact.
 
-ghost use Rattle.bi_tree.specs.KnownChanges.{ChangesAreKnown, ChangesOfPropertiesAreKnown};
+ghost use Rattle.bi_tree.specs.KnownChanges.{NodeChangesAreKnown, ChangesOfPropertiesAreKnown};
 ghost use Rattle.bi_tree.specs.KnownChanges.{NodesAreMadeAgain};
 
 /// A small tree has known nodes after changes at paths.
 pub fn changes_are_known()
-    ensures changes { ChangesAreKnown }
+    ensures changes { NodeChangesAreKnown }
 {}
 
 /// A small node has known properties after changes of them.
