@@ -6,3 +6,4 @@ pub mod UnquotedTexts
 pub mod HexadecimalTexts
 pub mod PlaceWords
 pub mod PayloadWords
+pub mod KnownWordFacts

@@ -5,3 +5,4 @@ pub mod Cuts
 pub mod Unquoted
 pub mod EditWords
 pub mod KnownEdits
+pub mod KnownEditWords

@@ -1,5 +1,6 @@
 //! A small tree and what it is after edits. Each function does nothing: its contract is the fact.
 
+ghost use Rattle.bi_edit.specs.KnownEditWords.{EditWordsAreKnown, OtherEditWordsAreKnown};
 ghost use Rattle.bi_edit.specs.KnownEdits.{EditsAreKnown, LegacyEditsAreKnown, OrderIsKnown};
 ghost use Rattle.bi_edit.specs.KnownEdits.{EditRefusalsAreKnown};
 
@@ -21,4 +22,10 @@ pub fn legacy_edits_are_known()
 /// Edits that find nothing, that are of the other kind of image, or that cannot be made are refused.
 pub fn refusals_are_known()
     ensures refusals { EditRefusalsAreKnown }
+{}
+
+/// Words for edits are for known nodes, properties and values.
+pub fn edit_words_are_known()
+    ensures words { EditWordsAreKnown }
+    ensures others { OtherEditWordsAreKnown }
 {}
