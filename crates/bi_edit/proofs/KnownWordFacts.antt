@@ -1,10 +1,8 @@
-use Rattle.std.proofs.Common.{◌≡◌, ◌≢◌, ℕ, ◌++◌, inl, inr, List, [], ◌∷◌, codes, None, Some, refl, arith, rules}
+use Rattle.std.proofs.Common.{◌≡◌, ℕ, ◌++◌, inl, inr, List, [], ◌∷◌, codes, None, Some, refl, arith, rules}
 use Rattle.hex.specs.Hex.{decode_pairs}
-use Rattle.bi_base.specs.Cells.{AreBytes}
-use Rattle.bi_blob.specs.Tree.{IsChildName, IsPropertyName}
 use Rattle.bi_common.proofs.ReadableWords.Cuts.{later_same}
 use Rattle.bi_fit.specs.Names.{images_name}
-use Rattle.bi_edit.specs.EditWords.{IsHexadecimal, IsPathWord, IsPayloadWord, IsSettingWord, IsValueText}
+use Rattle.bi_edit.specs.EditWords.{IsPathWord, IsPayloadWord}
 use Rattle.bi_edit.specs.KnownEditWords.{EditWordsAreKnown, OtherEditWordsAreKnown, load_place}
 use Rattle.bi_edit.specs.Places.{IsChildNameOfBytes, IsNodePath, IsPlace, IsPropertyNameOfBytes, IsRemovable, image_path}
 

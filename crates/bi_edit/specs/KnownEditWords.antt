@@ -1,4 +1,4 @@
-use Rattle.std.specs.Prelude.{◌≡◌, ℕ, List, [], ◌∷◌, ◌++◌, codes}
+use Rattle.std.specs.Prelude.{ℕ, List, [], ◌∷◌, ◌++◌, codes}
 use Rattle.bi_edit.specs.declared.edit.Edit.TheVariants.{RemoveNode, RemoveProperty}
 use Rattle.bi_edit.specs.EditWords.{IsChildWord, IsPathWord, IsPayloadWord, IsPropertyWord}
 use Rattle.bi_edit.specs.EditWords.{IsRemovalWord, IsSettingWord, IsValueText}

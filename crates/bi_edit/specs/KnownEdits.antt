@@ -1,20 +1,18 @@
-use Rattle.std.specs.Prelude.{◌≡◌, ℕ, true, false, List, [], ◌∷◌, codes, Option, Some, None, Vec}
+use Rattle.std.specs.Prelude.{◌≡◌, ℕ, List, [], ◌∷◌, codes, Some, None, Vec}
 use Rattle.std.specs.Borrow.{Bor}
-use Rattle.std.specs.FinMap.{empty, insert, remove}
+use Rattle.std.specs.FinMap.{empty, insert}
 use Rattle.std.specs.declared.alloc.Global.{Global}
 use Rattle.bi_base.specs.Cells.{cell}
-use Rattle.bi_base.specs.Limits.{Limits}
 use Rattle.bi_blob.specs.Tree.{none, node, Root, PropertyMap}
 use Rattle.bi_fit.specs.ImageTree.{ImageTree}
 use Rattle.bi_fit.specs.Names.{data_name, images_name, timestamp_name}
 use Rattle.bi_legacy.specs.Meaning.{LegacyImage}
 use Rattle.bi_norm.specs.Meaning.{OfFit, OfLegacy}
-use Rattle.bi_edit.specs.declared.edit.Edit.{Edit}
 use Rattle.bi_edit.specs.declared.edit.Edit.TheVariants.{RemoveNode, RemoveProperty, SetProperty}
 use Rattle.bi_edit.specs.declared.edit.Edit.TheVariants.{SetField, SetPayload, SetTime, SetDigests}
 use Rattle.bi_edit.specs.declared.edit.FieldValue.TheVariants as field
-use Rattle.bi_edit.specs.Edits.{edited_root, edited_legacy, in_edit_order, root_after}
-use Rattle.bi_edit.specs.Edits.{FindsNothing, IsFirstRefused, IsOfKind, IsTooDeep, LacksPart}
+use Rattle.bi_edit.specs.Edits.{edited_root, edited_legacy, in_edit_order}
+use Rattle.bi_edit.specs.Edits.{FindsNothing, IsFirstRefused, IsOfKind, LacksPart}
 use Rattle.bi_edit.specs.Places.{PropertyPlaceModel, IsPlace, IsRemovable, image_path, images_path}
 use Rattle.bi_edit.specs.Plain.{plain_root}
 

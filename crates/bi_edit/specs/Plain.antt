@@ -1,4 +1,4 @@
-use Rattle.std.specs.Prelude.{ℕ, List, map, Option, Some, None, option_and_then}
+use Rattle.std.specs.Prelude.{ℕ, List, map, Option, None, option_and_then}
 use Rattle.std.specs.FinMap.{get, insert, remove}
 use Rattle.bi_blob.specs.Tree.{Root, PropertyMap}
 use Rattle.bi_tree.specs.Changes.{node_by_path}
