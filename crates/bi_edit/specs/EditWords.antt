@@ -72,7 +72,8 @@ IsValueAfter (Some text) value = (text ≢ []) × IsValueText text value
 
 -- The word for a new value of a property: the path of its node, a space, the name, and the value
 -- after one more space, unless it is empty.
-pub record IsSettingWord (word : List ℕ) (place : PropertyPlaceModel) (value : List ℕ) : Type 0 where
+pub record IsSettingWord (word : List ℕ) (place : PropertyPlaceModel) (value : List ℕ)
+    : Type 0 where
   pub is_place : IsPlace place
   pub after : Option (List ℕ)
   pub is : join_with_byte 32 (place_words place) ++ from_byte 32 after ≡ word

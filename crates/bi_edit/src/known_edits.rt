@@ -19,7 +19,8 @@ pub fn legacy_edits_are_known()
     ensures edits { LegacyEditsAreKnown }
 {}
 
-/// Edits that find nothing, that are of the other kind of image, or that cannot be made are refused.
+/// Edits that find nothing, that are of the other kind of image, or that cannot be made are
+/// refused.
 pub fn refusals_are_known()
     ensures refusals { EditRefusalsAreKnown }
 {}

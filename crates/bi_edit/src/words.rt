@@ -7,7 +7,8 @@ ghost use Rattle.bi_base.specs.declared.fault.Error.TheVariants.{OutOfMemory};
 ghost use Rattle.bi_edit.specs.declared.edit.Edit.{Edit};
 ghost use Rattle.bi_edit.specs.declared.edit.Edit.TheVariants.{RemoveNode};
 ghost use Rattle.bi_edit.specs.Places.{IsRemovable, PropertyPlaceModel};
-ghost use Rattle.bi_edit.specs.EditWords.{IsRemovalWord, IsSettingWord, IsPayloadWord, IsValueAfter};
+ghost use Rattle.bi_edit.specs.EditWords.{IsPayloadWord, IsRemovalWord, IsSettingWord};
+ghost use Rattle.bi_edit.specs.EditWords.{IsValueAfter};
 
 mod cut;
 mod names;

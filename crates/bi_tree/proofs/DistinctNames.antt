@@ -47,7 +47,7 @@ module _ {Own : Type 0} (IsOwn : Own → Type 0) where
   child_changed name change kept none all = tt
   child_changed name change kept (node other own children later) all =
       changed_first name other change own children later all (kept (record { own = own; children = children }) (all.0, all.1, tt))
-        (child_changed name change kept later all.2) (bytes_eq other name) refl
+      (child_changed name change kept later all.2) (bytes_eq other name) refl
 
   pub kept_at : (change : Root Own → Root Own) → IsKeptBy change → (path : List (List ℕ)) → IsKeptBy (with_change_at path change)
   kept_at change kept [] root all = kept root all
@@ -62,9 +62,12 @@ module _ {Own : Type 0} (IsOwn : Own → Type 0) where
 
   pub kept_with : (nothing : Own) → IsOwn nothing → (path : List (List ℕ)) → IsKeptBy (with_node_at nothing path)
   kept_with nothing is [] root all = all
-  kept_with nothing is (name ∷ later) root all =
-      (all.0, child_changed name (with_node_at nothing later) (kept_with nothing is later) (with_new_node nothing name root.children)
-        (child_added nothing is name root.children all.1), tt)
+  kept_with nothing is (name ∷ later) root all = (
+    all.0,
+    child_changed name (with_node_at nothing later) (kept_with nothing is later) (with_new_node nothing name root.children)
+        (child_added nothing is name root.children all.1),
+    tt,
+  )
 
 -- The names of properties.
 abbrev names_in : List Property → List (List ℕ)
@@ -131,9 +134,9 @@ property_names_stay_distinct = record {
   removal = λ root path distinct. kept_without_node IsDistinct path root distinct;
   value = λ root path name value distinct.
       kept_at IsDistinct (with_own_property name value)
-        (λ old all. (distinct_with name value old.own all.0, all.1, tt)) path (with_node_at [] path root)
-        (kept_with IsDistinct [] tt path root distinct);
+      (λ old all. (distinct_with name value old.own all.0, all.1, tt)) path (with_node_at [] path root)
+      (kept_with IsDistinct [] tt path root distinct);
   property = λ root path name distinct.
       kept_at IsDistinct (without_own_property name)
-        (λ old all. (distinct_without name old.own all.0, all.1, tt)) path root distinct;
+      (λ old all. (distinct_without name old.own all.0, all.1, tt)) path root distinct;
 }

@@ -18,7 +18,8 @@ tree_properties properties = map tree_property properties
 abbrev pub with_property_in : (name value : List ℕ) → List Property → List Property
 with_property_in name value [] = (name, value) ∷ []
 with_property_in name value (first ∷ later) =
-    if bytes_eq first.0 name then (name, value) ∷ later else first ∷ with_property_in name value later
+    if bytes_eq first.0 name then (name, value) ∷ later
+    else first ∷ with_property_in name value later
 
 -- Properties without the first one with this name.
 abbrev pub without_property_in : (name : List ℕ) → List Property → List Property

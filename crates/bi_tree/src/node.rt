@@ -6,7 +6,8 @@ ghost use Rattle.bi_blob.specs.Tree.{none};
 ghost use Rattle.bi_tree.specs.Changes.{child_named, node_by_path, with_change_at, with_new_node};
 ghost use Rattle.bi_tree.specs.Changes.{without_node, without_node_at};
 ghost use Rattle.bi_tree.specs.Properties.{with_value_at, without_own_property};
-ghost use Rattle.bi_tree.specs.TreeNodes.{below, index_named, names_of_path, names_of_models, nodes_of_models};
+ghost use Rattle.bi_tree.specs.TreeNodes.{below, index_named, names_of_path, names_of_models};
+ghost use Rattle.bi_tree.specs.TreeNodes.{nodes_of_models};
 
 use crate::properties::{TreeProperty, remove_value, set_value};
 use std::alloc::{AllocError, Global};
@@ -86,8 +87,8 @@ impl<'a> TreeNode<'a> {
         value: CowSlice<'a, u8, Global>,
     ) -> Result<(), AllocError>
         ensures set { OnOk result (below self.new
-            ≡ with_value_at (names_of_path path.entry.now) name.entry.now (cow_slice_items value.entry)
-            (below self.old)) }
+            ≡ with_value_at (names_of_path path.entry.now) name.entry.now
+            (cow_slice_items value.entry) (below self.old)) }
         ensures name { OnOk result (self.new.name ≡ self.old.name) }
     {
         let [first, later @ ..] = path else {
@@ -101,7 +102,8 @@ impl<'a> TreeNode<'a> {
     /// Removes the node at a path below this one, with all nodes below it. Without such a node, and
     /// for the path of this one, nothing changes.
     pub fn remove_node(&mut self, path: &[Vec<u8>])
-        ensures removed { below self.new ≡ without_node_at (names_of_path path.now) (below self.old) }
+        ensures removed { below self.new
+            ≡ without_node_at (names_of_path path.now) (below self.old) }
         ensures name { self.new.name ≡ self.old.name }
     {
         let [first, later @ ..] = path else {
@@ -121,7 +123,8 @@ impl<'a> TreeNode<'a> {
     /// nothing changes.
     pub fn remove_property(&mut self, path: &[Vec<u8>], name: &[u8])
         ensures removed { below self.new
-            ≡ with_change_at (names_of_path path.now) (without_own_property name.now) (below self.old) }
+            ≡ with_change_at (names_of_path path.now) (without_own_property name.now)
+            (below self.old) }
         ensures name { self.new.name ≡ self.old.name }
     {
         let [first, later @ ..] = path else {
@@ -165,7 +168,8 @@ fn child_or_new<'a>(
 
 /// Removes the first of these nodes with this name. If there is none, nothing changes.
 fn remove_child(children: &mut Vec<TreeNode<'_>>, name: &[u8])
-    ensures { nodes_of_models children.new.items ≡ without_node name.now (nodes_of_models children.old.items) }
+    ensures { nodes_of_models children.new.items
+        ≡ without_node name.now (nodes_of_models children.old.items) }
 {
     let index = find_child(children, name);
     if index < children.len() {

@@ -1,11 +1,12 @@
 //! Values as they are printed.
 
-ghost use Rattle.std.specs.Prelude.{◌≡◌, ◌≢◌, ◌++◌, ℕ, List, codes, Ok, IfOk, IfErr, IfSome, IfNone};
+ghost use Rattle.std.specs.Prelude.{◌≡◌, ◌≢◌, ◌++◌, ℕ, List, codes, Ok};
+ghost use Rattle.std.specs.Prelude.{IfOk, IfErr, IfSome, IfNone};
 ghost use Rattle.bi_base.specs.declared.fault.Error.TheVariants.{OutOfMemory};
 ghost use Rattle.bi_base.specs.Cells.{AreBytes};
 ghost use Rattle.bi_edit.specs.EditWords.{IsValueText, value_text};
-ghost use Rattle.bi_edit.specs.Unquoted.{bytes_or_none, next_quoting, bytes_in_quotes as bytes_in_quotes_of};
-ghost use Rattle.bi_edit.specs.Unquoted.{unquoted_byte};
+ghost use Rattle.bi_edit.specs.Unquoted.{bytes_in_quotes as bytes_in_quotes_of};
+ghost use Rattle.bi_edit.specs.Unquoted.{bytes_or_none, next_quoting, unquoted_byte};
 ghost use Rattle.bi_edit.specs.declared.words.values.Quoting.TheVariants.{Outside};
 ghost use Rattle.hex.specs.Hex.{decode_of};
 
