@@ -17,7 +17,7 @@ use Rattle.bi_norm.specs.declared.kind.Kind.TheVariants as kind
 use Rattle.bi_norm.specs.Kinds.{BeginsAs, IsKindFault, TooShort, OfNoKind, magic_of}
 use Rattle.bi_common.specs.Offsets.{input_from}
 use Rattle.bi_report.specs.Scanning.{ClaimsNothing, HasBlobClaim, HasLegacyClaim, IsClaim, IsOverClaims, IsWithinClaims, OfBlob, OfData}
-use Rattle.bi_report.specs.Scanning.{OfNothing, IsAfterClaim}
+use Rattle.bi_report.specs.Scanning.{CanBeScanned, IsAfterClaim, IsScanFault, OfNothing}
 use Rattle.bi_report.specs.ImageStarts.{HasNoStart, IsNextStart, ImageStartsModel}
 use Rattle.bi_report.specs.ScanLaws.{ScanHasNoFault}
 use Rattle.bi_report.specs.Scanning.{blob_claim_checks, input_offsets, legacy_claim_checks}
@@ -270,13 +270,17 @@ same_claims input (offset ∷ offsets) (claim ∷ claims) (other ∷ others) are
     ap₂ (λ (claim : ℕ) (claims : List ℕ). claim ∷ claims) (one_claim (input_from offset input) claim other are.0 are_too.0)
     (same_claims input offsets claims others are.1 are_too.1)
 
--- An input that can be scanned has no fault.
-pub scan_has_no_fault : ScanHasNoFault
-scan_has_no_fault limits input text fault is faulty = by faulty.cause where
+-- An input that can be scanned has no fault,
+pub fault_or_scan : (limits : Limits) (input : List ℕ) (fault : Fault) → CanBeScanned limits input → ¬ (IsScanFault limits input fault)
+fault_or_scan limits input fault can faulty = by faulty.cause where
   by : (limits.file < length input) ⊎ IsOverClaims limits input → ⊥
-  by (inl longer) = omega (arith, longer, is.can.short)
+  by (inl longer) = omega (arith, longer, can.short)
   by (inr over) =
-      let within = is.can.within in
+      let within = can.within in
       let same : sum within.claims ≡ sum over.claims =
       ap sum (same_claims input (input_offsets input) within.claims over.claims within.are_claims over.are_claims) in
       omega (arith, same, within.within, over.over)
+
+-- and neither has one with a scan.
+pub scan_has_no_fault : ScanHasNoFault
+scan_has_no_fault limits input text fault is = fault_or_scan limits input fault is.can
