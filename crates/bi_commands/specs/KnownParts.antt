@@ -114,6 +114,6 @@ pub record BuiltPartsAreKnown : Type 0 where
   pub fit_fault : (form : Form) (head : Head) (plan : PlanSpecModel) (limits : Limits)
       (fault : Fault)
       → (build_fit_promise form head plan kernel_and_tree mixed_parts limits).has_error
-          (codes "abcd")
+      (codes "abcd")
       (Refused fault)
       → fault ≡ record { cause = BadPart; offset = 3 }

@@ -166,11 +166,31 @@ code_can (entry ∷ later) are code = by (entry.code == code) (code_can later fi
 
 pub header_can : (image : LegacyImage) → AreBytes image.name → (later : List Line) → CanPrintLines later →
     CanPrintLines (header_lines image ++ later)
-header_can image bytes later can =
-    ((refl, (refl, tt)), ((refl, (bytes, tt)), ((refl, (tt, tt)),
-        ((refl, (tt, tt)), ((refl, (tt, tt)), ((refl, (code_can os_names refl image.os, tt)),
-            ((refl, (code_can arch_names refl image.arch, tt)), ((refl, (code_can type_names refl image.image_type, tt)),
-                ((refl, (code_can compression_names refl image.compression, tt)), can)))))))))
+header_can image bytes later can = (
+  (refl, (refl, tt)),
+  (
+    (refl, (bytes, tt)),
+    (
+      (refl, (tt, tt)),
+      (
+        (refl, (tt, tt)),
+        (
+          (refl, (tt, tt)),
+          (
+            (refl, (code_can os_names refl image.os, tt)),
+            (
+              (refl, (code_can arch_names refl image.arch, tt)),
+              (
+                (refl, (code_can type_names refl image.image_type, tt)),
+                ((refl, (code_can compression_names refl image.compression, tt)), can),
+              ),
+            ),
+          ),
+        ),
+      ),
+    ),
+  ),
+)
 
 pub reservations_can : (reservations : List Reservation) (later : List Line) → CanPrintLines later →
     CanPrintLines (map reservation_line reservations ++ later)
@@ -185,12 +205,31 @@ code_numbers (Some name) code small = tt
 
 pub header_numbers : (image : LegacyImage) → FitsFields image → (later : List Member) → MembersHaveNumbers (json_members later) →
     MembersHaveNumbers (json_members (header_members image ++ later))
-header_numbers image fits later have =
-    (tt, (tt, (omega (arith, fits.time), (omega (arith, fits.load),
-        (omega (arith, fits.entry), (code_numbers (name_of_code os_names image.os) image.os fits.os,
-            (code_numbers (name_of_code arch_names image.arch) image.arch fits.arch,
-                (code_numbers (name_of_code type_names image.image_type) image.image_type fits.image_type,
-                    (code_numbers (name_of_code compression_names image.compression) image.compression fits.compression, have)))))))))
+header_numbers image fits later have = (
+  tt,
+  (
+    tt,
+    (
+      omega (arith, fits.time),
+      (
+        omega (arith, fits.load),
+        (
+          omega (arith, fits.entry),
+          (
+            code_numbers (name_of_code os_names image.os) image.os fits.os,
+            (
+              code_numbers (name_of_code arch_names image.arch) image.arch fits.arch,
+              (
+                code_numbers (name_of_code type_names image.image_type) image.image_type fits.image_type,
+                (code_numbers (name_of_code compression_names image.compression) image.compression fits.compression, have),
+              ),
+            ),
+          ),
+        ),
+      ),
+    ),
+  ),
+)
 
 pub reservation_numbers : (reservations : List Reservation) → HaveNumbers (json_values (map reservation_object reservations))
 reservation_numbers [] = tt

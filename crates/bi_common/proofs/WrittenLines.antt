@@ -78,7 +78,7 @@ words_written (word ∷ words) is_later rest =
     ap (λ (later : List ℕ). text ++ later) (words_written words (not (is_nothing word) || is_later) rest)
     ∙ sym (append_assoc text _ _)
     ∙ ap (λ (later : List ℕ). later ++ (10 ∷ tokens_text line_writing false rest))
-        (sym (word_before word is_later (flat_map field_texts words)))
+    (sym (word_before word is_later (flat_map field_texts words)))
 
 -- Lines.
 line_written : (words : Line) (rest : List LineToken) →
@@ -101,4 +101,4 @@ pub lines_put : {P : Type 0} (puts : P → List ℕ → P → Type 0) (old new b
 lines_put puts old new begin end before lines first begins ends put =
     rw (sym begins, sym ends)
     (subst (λ (text : List ℕ). puts old text new)
-        (ap (λ b. tokens_text line_writing b (tokens_of_lines lines)) first ∙ text_of_tokens lines) put)
+    (ap (λ b. tokens_text line_writing b (tokens_of_lines lines)) first ∙ text_of_tokens lines) put)

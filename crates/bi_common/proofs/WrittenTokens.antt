@@ -62,7 +62,7 @@ pub value_put : {P : Type 0} (puts : P → List ℕ → P → Type 0) (old new b
 value_put puts old new begin end before value first begins ends put =
     rw (sym begins, sym ends)
     (subst (λ (text : List ℕ). puts old text new)
-        (ap (λ b. tokens_text json_writing b (json_tokens value)) first ∙ text_of_value value) put)
+    (ap (λ b. tokens_text json_writing b (json_tokens value)) first ∙ text_of_value value) put)
 
 -- The tokens of values, and of members, for the elements of a list.
 values_each : {X : Type 0} (f : X → Json) (xs : List X) → value_tokens (map f xs) ≡ flat_map (λ x. json_tokens (f x)) xs
@@ -102,4 +102,4 @@ member_tokens-append (x ∷ xs) ys =
     ap (λ (tokens : List JsonToken). one (MemberName x.0) ++ (json_tokens x.1 ++ tokens)) (member_tokens-append xs ys)
     ∙ sym (append_assoc (one (MemberName x.0)) (json_tokens x.1 ++ member_tokens xs) (member_tokens ys)
     ∙ ap (λ (tokens : List JsonToken). one (MemberName x.0) ++ tokens)
-        (append_assoc (json_tokens x.1) (member_tokens xs) (member_tokens ys)))
+    (append_assoc (json_tokens x.1) (member_tokens xs) (member_tokens ys)))

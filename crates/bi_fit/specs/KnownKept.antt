@@ -53,7 +53,7 @@ pub record KeptOfPayloadsIsKnown : Type 0 where
       (kept (Some 0x1000) 1)
   pub kept_in_text :
       IsKeptOf (moved_payload 0x2000 0x4000 true ∷ moved_payload 0x3000 0x1000 true ∷ [])
-          (kept None 2)
+      (kept None 2)
   pub no_payload : IsKeptOf [] (kept None 0)
   pub only : (placed : List PlacedPayload) (one other : Kept)
       → IsKeptOf placed one → IsKeptOf placed other

@@ -124,4 +124,4 @@ listings_are_json limits file text range (OfLegacyImage parsed is same) =
 listings_are_json limits file text range (OfImageTree is) =
     subst IsJsonLine (sym is.is)
     (json_lines_are_json (fit_listing_object (fit_entries file is.means.is_file.images is.tree))
-        (fit_numbers limits file is.tree range is.means))
+    (fit_numbers limits file is.tree range is.means))

@@ -333,9 +333,10 @@ changes_of_time options time flag = record {
 
 form_of_update_fails : (options : ArgMatches) → option_of options (codes "time") ≡ Some (codes "1") →
     hashes_flag options ≡ Some (codes "false") → HasNoForm options → IsTheOne (IsTaskFailure (codes "update") options) BadValue
-form_of_update_fails options time flag none =
-    (NotFormedChanged refl _ (changes_of_time options time flag) (refl, none),
-        λ failure is. only failure (update_failure options failure is))
+form_of_update_fails options time flag none = (
+  NotFormedChanged refl _ (changes_of_time options time flag) (refl, none),
+  λ failure is. only failure (update_failure options failure is),
+)
   where
     change : (failure : Failure) → IsChangesFailure options failure → failure ≡ BadValue
     change NoChange is = absurd (not_given_and_missing _ (codes "1") time is.0)

@@ -34,5 +34,5 @@ memory_run_leaves old new old_steps new_steps arguments run input status was is 
       leaves = subst (λ i. LeavesFiles arguments i names last is.all status) reads
           (subst (λ s. LeavesFiles arguments run.input.remaining names last is.all s) ends
           (subst (λ s. IfSome s (λ l. LeavesFiles arguments run.input.remaining names (after_steps no_names l) l run.status)) known
-              leaves));
+          leaves));
     }

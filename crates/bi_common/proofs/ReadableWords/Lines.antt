@@ -95,7 +95,7 @@ words_read zero (word ∷ words) can = word_before word (flat_map field_texts wo
 words_read (suc count) (word ∷ words) can =
     let is = one_text word can.0 in
     subst (λ texts. AreReadableWords (suc count) (texts ++ flat_map field_texts words)) (sym is.only)
-        (is.bare, words_read count words can.1)
+    (is.bare, words_read count words can.1)
 
 line_read : (words : Line) → CanReadLine words → IsLine (flat_map field_texts words)
 line_read [] can = absurd can

@@ -7,4 +7,4 @@ use Rattle.bi_common.proofs.common_lines.put_reservations.Given as goal
 abbrev pub invariant-loop-index : goal.invariant-loop-index
 invariant-loop-index g l =
     g.J.JsonPen.puts l.initial.json (flat_map (λ reservation. json_tokens (reservation_object reservation))
-        (take l.index l.blob.reservations)) l.json
+    (take l.index l.blob.reservations)) l.json

@@ -11,8 +11,8 @@ returns-in_err-append_legacy_report-in-Legacy-clause-failed g c =
     c.from_residual-in_err-append_legacy_report-in-Legacy.ensures.1 in
     rw (p.1, p.2)
     (SinkFailed _ c.in_err-append_legacy_report-in-Legacy.field-0.0
-        (legacy_reported c.args.format c.args.limits c.args.file.now c.in-Legacy._image
-            (search rules)).report
+    (legacy_reported c.args.format c.args.limits c.args.file.now c.in-Legacy._image
+    (search rules)).report
     c.in_err-append_legacy_report-in-Legacy.ensures refl)
 
 pub returns-in_ok-append_legacy_report-in-Legacy-clause-appended : goal.returns-in_ok-append_legacy_report-in-Legacy-clause-appended

@@ -24,7 +24,7 @@ returns-in-Ok-save_all g c =
 pub returns : goal.returns
 returns g c =
     all_not_saved _ _ c.args.request.now _ _ _ c.in-Ok.file.items c.deref.result.now c.image_at-image.result.now
-        c.without_slashes.result.now
+    c.without_slashes.result.now
     (payloads_model c.in-Ok-extract_all.all) _ _ c.in-Err-save_all.error c.in-Ok.ensures.read c.in-Ok.ensures.same_files
     c.deref.ensures.value c.image_at-image.ensures c.in-Ok-extract_all.ensures.payloads c.without_slashes.ensures
     (ap (map payload_file) c.deref-2.ensures.value) c.in-Err-save_all.ensures.failed

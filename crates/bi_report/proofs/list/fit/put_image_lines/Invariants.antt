@@ -9,4 +9,4 @@ use Rattle.bi_report.proofs.list.fit.put_image_lines.Given as goal
 abbrev pub invariant-loop-image : goal.invariant-loop-image
 invariant-loop-image g l =
     g.L.LinePen.puts l.initial.pen (tokens_of_lines (map image_line (map read_image_entry (map image_model (take l.image-index l.images)))))
-        l.pen
+    l.pen

@@ -17,6 +17,6 @@ loop-offset-preserved g c =
 pub returns-clause-lines : goal.returns-clause-lines
 returns-clause-lines g c =
     all_lines_are_put g.L.LinePen.puts g.met.L.LinePen.puts_nothing g.met.L.LinePen.puts_in_turn c.args.limits c.args.file.now
-        c.args.pen.now
+    c.args.pen.now
     c.loop-offset.pen c.loop-offset.offset-iterator c.args.end c.requires.within c.loop-offset.invariant c.in-None.ensures.steps
     (no_claim_no_image c.args.limits c.args.file.now c.args.end (length c.args.file.now) c.requires.nothing)
