@@ -1,5 +1,5 @@
 use Rattle.std.proofs.Common.{◌≡◌, ◌≢◌, ◌↔◌, ℕ, Bool, true, false, IsTrue, List, [], ◌∷◌, ◌++◌, codes, length, Some, refl, sym}
-use Rattle.std.proofs.Common.{ap, subst}
+use Rattle.std.proofs.Common.{ap, subst, ◌∙◌}
 use Rattle.std.proofs.Common.{◌≤◌, lit≤, true≢false, Option, arith}
 use Rattle.std.specs.Fmt.{digits}
 use Rattle.bi_base.specs.Cells.{cell, cell8, u32_at}
