@@ -1,7 +1,8 @@
-use Rattle.std.proofs.Common.{◌≡◌, ◌≤◌, ◌⊎◌, ◌∙◌, ◌++◌, ℕ, List, drop, length, inl, inr, ap, refl, sym, subst, arith}
+use Rattle.std.proofs.Common.{◌≡◌, ◌≤◌, ◌⊎◌, ◌∙◌, ◌++◌, ℕ, List, drop, length, inl, inr, ap, refl, lit≤, arith}
 use Rattle.bi_base.specs.declared.fault.Error.{Error}
 use Rattle.bi_base.specs.declared.fault.Error.TheVariants as error
 use Rattle.bi_base.specs.declared.fault.Fault.{Fault}
+use Rattle.bi_base.specs.Limits.{IsInRange}
 use Rattle.bi_c.specs.Answers.{Returned, Failed, Filled, HadNoRoom, FilledNothing, IsFailure}
 use Rattle.bi_c.specs.Answers.{answer_of, answer_of_failure, status_of_failure}
 use Rattle.bi_c.specs.KnownCalls.{AlwaysAnswers, AlwaysFills}
@@ -50,6 +51,10 @@ module _ {T : Type 0} (IsOutput : (output : List T) → (value : ℕ) → Type 0
     | inl this ↦ inl (stays, same ∙ ap answer_of_failure this, ends ∙ ap status_of_failure this)
     | inr none ↦ inr (stays, same ∙ ap answer_of_failure none, ends ∙ ap status_of_failure none)
   ]
+
+-- The largest limits are in their ranges.
+pub widest_is_in_range : IsInRange 0x7fffffff 64
+widest_is_in_range = (lit≤ tt, lit≤ tt, lit≤ tt, lit≤ tt)
 
 -- ---- the failures of a call on one file
 

@@ -49,8 +49,8 @@ use Rattle.bi_report.specs.CheckedFiles.{HoldsTooMuch, IsCheckError, IsCheckOutp
 use Rattle.bi_report.specs.Checking.{Concern, TrailingBytes, kept_concerns, trailing_concerns}
 use Rattle.bi_report.specs.FoundConcerns.{AreFound, FoundConcern, InImageTree, InLegacyImage, Rest, found_in_rest, kept_found}
 use Rattle.bi_report.proofs.LegacyConcernFacts.{legacy_concerns_are_known}
+use Rattle.bi_show.specs.KnownPages.{PagesAreKnown}
 use Rattle.bi_show.specs.ShownFiles.{IsPage, OfLegacyImage, OfImageTree}
-use Rattle.bi_show.proofs.PageFacts.{pages_are_known}
 use Rattle.bi_c.specs.Answers.{Answers, FilledNothing, IsFailure, Returned, Failed, Sets, WasSet, WasNotSet}
 use Rattle.bi_c.specs.Answers.{answer_of, answer_of_failure, status_of_failure}
 use Rattle.bi_c.specs.Arguments.{HasChanges, HasForm, HasLayout, allowed_of, changes_of}
@@ -71,12 +71,10 @@ use Rattle.bi_c.specs.declared.failure.Failure.TheVariants.{Refused, NotFound, O
 use Rattle.bi_c.specs.declared.legacy.LegacyFields.{LegacyFields}
 use Rattle.bi_c.specs.declared.region.Region.{Region}
 use Rattle.bi_c.proofs.AnswerFacts.{always_answers, always_fills, never_answers, never_fills, only_memory, only_refused, only_wrong}
+use Rattle.bi_c.proofs.AnswerFacts.{widest_is_in_range}
 use Rattle.bi_c.proofs.CallFacts.{offsets_of_payloads_are_known}
 
 -- Calls on small legacy images, and on files that are none, have known answers.
-
-widest_is_in_range : IsInRange 0x7fffffff 64
-widest_is_in_range = (lit≤ tt, lit≤ tt, lit≤ tt, lit≤ tt)
 
 -- ---- kinds, causes and fields
 
@@ -171,10 +169,6 @@ no_magic_read IsTooLarge fits error.WriteFailed is = absurd is
 
 -- ---- normalising and updating
 
-updated_length : length (legacy_text (record multi_image { time = 5 })) ≡ 87
-unfolding header cell legacy_text
-updated_length = refl
-
 not_normalised : (before : List ℕ) →
     AlwaysFills (IsNormalised 0x7fffffff 64 1 file_without_magic) (IsNormaliseFailure 0x7fffffff 64 1 file_without_magic) before before
     (record empty_answer { cause = 2; file = 1 }) 1
@@ -231,6 +225,7 @@ module _ (one_legacy : OneLegacyMeaning) where
   updated : (before : List ℕ) → 87 ≤ length before →
       AlwaysFills (IsUpdatedText 0x7fffffff 64 0 1 5 multi_file) (IsUpdateFailure 0x7fffffff 64 0 1 5 multi_file) before
       (legacy_text (record multi_image { time = 5 }) ++ drop 87 before) (record empty_answer { size = 87 }) 0
+  unfolding header cell legacy_text
   updated before room =
       always_fills (IsUpdatedText 0x7fffffff 64 0 1 5 multi_file) (IsUpdateFailure 0x7fffffff 64 0 1 5 multi_file) before
       (legacy_text (record multi_image { time = 5 })) 87 0
@@ -240,7 +235,7 @@ module _ (one_legacy : OneLegacyMeaning) where
       ))
       (only_memory (HasChanges 0x7fffffff 64 0 1) (IsUpdateError (only_time 5) widest Embedded multi_file)
       (record { limits = widest_is_in_range; is_form = lit< tt; are_changes = lit< tt })
-      ((updated_texts_are_known one_legacy).error Embedded)) updated_length room
+      ((updated_texts_are_known one_legacy).error Embedded)) refl room
 
   -- ---- checking
 
@@ -326,8 +321,8 @@ module _ (one_legacy : OneLegacyMeaning) where
       ))
       (check_errors 64 (record { limits = widest_is_in_range; are_kinds = lit< tt })) refl (omega arith)
 
-  pub text_calls_are_known : TextCallsAreKnown
-  text_calls_are_known = record {
+  pub text_calls_are_known : PagesAreKnown → TextCallsAreKnown
+  text_calls_are_known pages = record {
     normalised = normalised;
     not_normalised = not_normalised;
     no_such_form = no_such_form;
@@ -338,12 +333,12 @@ module _ (one_legacy : OneLegacyMeaning) where
     allowed = allowed_concern;
     page = record {
       arguments = record { limits = widest_is_in_range; is_layout = lit< tt };
-      is = (pages_are_known one_legacy).kernel;
+      is = pages.kernel;
       no_value = refl;
     };
     page_without_layout = record {
       arguments = record { limits = widest_is_in_range; is_layout = lit< tt };
-      is = (pages_are_known one_legacy).no_layout;
+      is = pages.no_layout;
       no_value = refl;
     };
     no_page = no_page;
@@ -397,7 +392,7 @@ module _ (one_legacy : OneLegacyMeaning) where
         always_answers (IsExtracted AreValid widest select file) (IsExtractCallFailure AreValid widest select file) size offset
         (λ given found is. (
           size_is given found (subst (λ c. IsChosenAt file c given found) same
-          (of_choice (λ c. IsChosenAt file c given found) is.is_found.is_chosen)),
+              (of_choice (λ c. IsChosenAt file c given found) is.is_found.is_chosen)),
           only found is.is_found.is_offset,
         )) failed
       where

@@ -56,13 +56,10 @@ use Rattle.bi_c.specs.declared.failure.Failure.{Failure}
 use Rattle.bi_c.specs.declared.failure.Failure.TheVariants.{Refused, NotFound, OutOfMemory, WrongArgument}
 use Rattle.bi_c.specs.declared.fit_building.BuildElement.{BuildElement}
 use Rattle.bi_c.specs.declared.region.Region.{Region}
-use Rattle.bi_c.proofs.AnswerFacts.{never_answers, never_fills}
+use Rattle.bi_c.proofs.AnswerFacts.{never_answers, never_fills, widest_is_in_range}
 use Rattle.bi_c.proofs.LegacyCallFacts.{extracted, extracts_nothing, not_extracted}
 
 -- Calls on a small flattened image tree have known answers.
-
-widest_is_in_range : IsInRange 0x7fffffff 64
-widest_is_in_range = (lit≤ tt, lit≤ tt, lit≤ tt, lit≤ tt)
 
 -- ---- what the file means
 
@@ -147,13 +144,13 @@ lists_nothing key name result reason valid is_result lacks only before =
     never_fills (AreImageIndices 0x7fffffff 64 key shown_file name) (IsListFailure 0x7fffffff 64 key shown_file name) before
     (NotFound reason 0)
     (λ indices value is.
-        lacks is.listed
-        (sym is_result ∙ sym (ap (λ tree. listed_of tree name (key_of key)) (shown_tree_is is.tree is.means)) ∙ is.is_listed))
+    lacks is.listed
+    (sym is_result ∙ sym (ap (λ tree. listed_of tree name (key_of key)) (shown_tree_is is.tree is.means)) ∙ is.is_listed))
     (tree_fails (HasKey 0x7fffffff 64 key) _ reason 0 valid
     (λ other other_index is.
-        only other other_index
-        (subst (IsListReason other other_index)
-        (ap (λ tree. listed_of tree name (key_of key)) (shown_tree_is is.tree is.means) ∙ is_result) is.is_reason)))
+    only other other_index
+    (subst (IsListReason other other_index)
+    (ap (λ tree. listed_of tree name (key_of key)) (shown_tree_is is.tree is.means) ∙ is_result) is.is_reason)))
 
 -- The node at a path of the file is that of its tree.
 node_is : (path : List ℕ) (found : Sibling FileNode) → HasNodeAtPath widest shown_file path found →
@@ -201,8 +198,9 @@ tree_reasons_are_known = record {
   no_configuration = lists_nothing 0 (codes "d") NoConfig 4 (record { limits = widest_is_in_range; is_key = lit< tt }) refl
       (λ listed wrong. absurd cc) (λ other other_index is. is);
   no_node = λ before.
-      never_fills (AreChildRegions 0x7fffffff 64 shown_file (codes "/images/b")) (IsNodeFailure 0x7fffffff 64 shown_file (codes "/images/b"))
-      before (NotFound 10 0) (λ regions value is. lacks_node is.found is.is_found)
+      never_fills (AreChildRegions 0x7fffffff 64 shown_file (codes "/images/b"))
+      (IsNodeFailure 0x7fffffff 64 shown_file (codes "/images/b")) before (NotFound 10 0)
+      (λ regions value is. lacks_node is.found is.is_found)
       (tree_fails (IsInRange 0x7fffffff 64) (IsNodeReason widest shown_file (codes "/images/b")) 10 0 widest_is_in_range
       (λ other other_index is. (is.0, is.1)));
   no_property =
@@ -221,7 +219,8 @@ tree_reasons_are_known = record {
 
 -- ---- building
 
-kernel_is : (spec : ImageSpec) → IsSpecOf pieces_of_tree kernel_element spec → spec_model (record { spec = spec; texts = None }) ≡ known_kernel
+kernel_is : (spec : ImageSpec) → IsSpecOf pieces_of_tree kernel_element spec →
+    spec_model (record { spec = spec; texts = None }) ≡ known_kernel
 kernel_is spec is = λ i. record {
   name = is.name i;
   image_type = code_name type_names (is.image_type i);

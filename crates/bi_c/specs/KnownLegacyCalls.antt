@@ -37,9 +37,9 @@ use Rattle.bi_c.specs.declared.region.Region.{Region}
 abbrev pub file_with_bad_data : List ℕ
 file_with_bad_data = with_byte_at kernel_file 64 0x30
 
--- Files of no kind have the cause BadMagic or Truncated. A cause has a sentence. A wrong checksum
--- is the cause BadDataCrc at 24, and a limit of 63 bytes is a wrong argument: the fields stay as
--- they were.
+-- Files of no kind have the cause BadMagic or Truncated. A cause has a sentence. A file with a
+-- wrong checksum has the cause BadDataCrc at 24, and a limit of 63 bytes is a wrong argument: the
+-- fields stay as they were.
 pub record HeaderCallsAreKnown : Type 0 where
   pub no_kind : (answer : Answer) (status : ℕ)
       → Answers (IsKindNumber (codes "abcd")) (IsKindFailure (codes "abcd")) answer status
@@ -150,8 +150,8 @@ fields_of_multi = record (kernel_fields 4) { name = region_at_offset 0 1 }
 abbrev pub parts_of_multi : List Region
 parts_of_multi = region_at_offset 1 5 ∷ region_at_offset 6 3 ∷ []
 
--- They are built to a file of 87 bytes. A limit of 86 bytes is too small, and a part that ends after
--- the input is a wrong argument.
+-- They are built to a file of 87 bytes. A limit of 86 bytes is too small, and a part that ends
+-- after the input is a wrong argument.
 pub record LegacyBuildingIsKnown : Type 0 where
   pub built : (before : List ℕ) → 87 ≤ length before
       → AlwaysFills (IsBuiltOfPieces 87 64 pieces_of_multi fields_of_multi parts_of_multi)

@@ -18,10 +18,10 @@ use Rattle.bi_c.specs.declared.answer.Answer.{Answer}
 use Rattle.bi_c.specs.declared.fit_building.BuildElement.{BuildElement}
 use Rattle.bi_c.specs.declared.region.Region.{Region}
 
--- What calls from C leave for a small flattened image tree: the buffer, the struct and the status. A
--- reader can judge the definitions by them. The limits are the largest ones. The file has an image
--- `a`, whose payload `abc` is at 596, and a configuration `c`, which is the default and lists `a` as
--- its kernel.
+-- What calls from C leave for a small flattened image tree: the buffer, the struct and the status.
+-- A reader can judge the definitions by them. The limits are the largest ones. The file has an
+-- image `a`, whose payload `abc` is at 596, and a configuration `c`, which is the default and lists
+-- `a` as its kernel.
 
 -- ---- looking up
 
@@ -46,8 +46,8 @@ pub record TreeSelectionsAreKnown : Type 0 where
       (record empty_answer { reason = 8 }) 5
   pub no_such_key : Extracts (HasKey 0x7fffffff 64 6) (Default Script 0) empty_answer 4
 
--- A list that the file does not have, by the number of its key and by the name of its configuration.
--- A path without a node, and a name without a property. The array stays as it was.
+-- The configuration has no list of devicetrees (key 1), and there is no configuration `d`. A path
+-- has no node, and a name has no property. The array stays as it was.
 pub record TreeReasonsAreKnown : Type 0 where
   pub no_key : (before : List ℕ)
       → AlwaysFills (AreImageIndices 0x7fffffff 64 1 shown_file (codes "c"))
@@ -103,9 +103,9 @@ ramdisk_element = record {
   compression = 0;
 }
 
--- With the description `k` and the time 1 they are built to a text of 824 bytes. A payload that ends
--- after the input, and a sum of addresses that is 4, are wrong arguments. A description with a zero
--- byte is the cause BadField at 0.
+-- With the description `k` and the time 1 they are built to a text of 824 bytes. A payload that
+-- ends after the input is a wrong argument, and so is 4 as the sum of addresses. A description with
+-- a zero byte has the cause BadField at 0.
 pub record TreeBuildingIsKnown : Type 0 where
   pub built : (text : List ℕ) (value : ℕ)
       → IsTreeOfPieces 0x7fffffff 64 0 1 pieces_of_tree (codes "k")

@@ -48,7 +48,8 @@ pub fn argument_bounds_are_known()
     ensures { ArgumentBoundsAreKnown }
 {}
 
-/// What the calls on the kind and the fields of a small file leave is known, and what a cause means.
+/// What the calls on the kind and the fields of a small file leave is known. So is what a cause
+/// means.
 pub fn header_calls_are_known()
     ensures { HeaderCallsAreKnown }
 {}
@@ -59,6 +60,7 @@ pub fn text_calls_are_known()
     ensures { TextCallsAreKnown }
 {
     bi_legacy::laws::one_meaning();
+    bi_show::known_texts::pages_are_known();
 }
 
 /// The element of the concern about a small legacy image is known, and what is selected of it.
