@@ -315,6 +315,7 @@ description_fails (NotFound reason index) is = absurd is
 pub tree_building_is_known : TreeBuildingIsKnown
 tree_building_is_known = record {
   built = tree_is_built;
+  load_alone = λ spec is. (is.load, is.entry);
   outside = wrong_pieces (record ramdisk_element { payload = region_at_offset 22 4 }) (λ is. omega (arith, is.payload));
   no_such_sum = wrong_pieces (record ramdisk_element { addresses = 4 }) (λ is. omega (arith, is.addresses));
   bad_description = λ before.

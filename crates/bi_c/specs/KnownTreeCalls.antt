@@ -1,10 +1,11 @@
-use Rattle.std.specs.Prelude.{ℕ, ◌≡◌, List, [], ◌∷◌, ◌++◌, codes}
+use Rattle.std.specs.Prelude.{ℕ, ◌≡◌, List, [], ◌∷◌, codes, None, Some}
 use Rattle.bi_base.specs.Limits.{IsInRange, widest}
 use Rattle.bi_commands.specs.declared.extract.Select.{Select}
 use Rattle.bi_commands.specs.declared.extract.Select.TheVariants.{Default}
 use Rattle.bi_commands.specs.KnownChoices.{entry_selection, image_selection}
 use Rattle.bi_fit.specs.declared.key.Key.TheVariants.{Kernel, Script}
 use Rattle.bi_fit.specs.KnownBuilds.{known_text}
+use Rattle.bi_norm.specs.declared.fit_building.ImageSpec.{ImageSpec}
 use Rattle.bi_norm.specs.KnownBuildFaults.{description_with_zero}
 use Rattle.bi_show.specs.KnownTrees.{shown_file}
 use Rattle.bi_c.specs.Arguments.{HasKey}
@@ -13,7 +14,7 @@ use Rattle.bi_c.specs.FitElements.{AreImageIndices, IsListFailure}
 use Rattle.bi_c.specs.KnownCalls.{AlwaysAnswers, AlwaysFills, empty_answer}
 use Rattle.bi_c.specs.KnownElements.{region_at_offset}
 use Rattle.bi_c.specs.NodeElements.{AreChildRegions, IsNodeFailure, IsPropertyFailure, IsValueAt}
-use Rattle.bi_c.specs.TreeBuilding.{IsTreeBuildFailure, IsTreeOfPieces}
+use Rattle.bi_c.specs.TreeBuilding.{IsSpecOf, IsTreeBuildFailure, IsTreeOfPieces}
 use Rattle.bi_c.specs.declared.answer.Answer.{Answer}
 use Rattle.bi_c.specs.declared.fit_building.BuildElement.{BuildElement}
 use Rattle.bi_c.specs.declared.region.Region.{Region}
@@ -103,14 +104,17 @@ ramdisk_element = record {
   compression = 0;
 }
 
--- With the description `k` and the time 1 they are built to a text of 824 bytes. A payload that
--- ends after the input is a wrong argument, and so is 4 as the sum of addresses. A description with
--- a zero byte has the cause BadField at 0.
+-- With the description `k` and the time 1 they are built to a text of 824 bytes. The sum 1 stands
+-- for the load address alone, and 4 is a wrong argument. So is a payload that ends after the input.
+-- A description with a zero byte has the cause BadField at 0.
 pub record TreeBuildingIsKnown : Type 0 where
   pub built : (text : List ℕ) (value : ℕ)
       → IsTreeOfPieces 0x7fffffff 64 0 1 pieces_of_tree (codes "k")
       (kernel_element ∷ ramdisk_element ∷ []) text value
       → (text ≡ known_text) × (value ≡ 0)
+  pub load_alone : (spec : ImageSpec)
+      → IsSpecOf pieces_of_tree (record kernel_element { addresses = 1 }) spec
+      → (spec.load ≡ Some 0x8000) × (spec.entry ≡ None)
   pub outside : (before : List ℕ)
       → AlwaysFills
       (IsTreeOfPieces 0x7fffffff 64 0 1 pieces_of_tree (codes "k")
