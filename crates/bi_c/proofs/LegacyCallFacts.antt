@@ -1,8 +1,8 @@
 use Rattle.std.proofs.Common.{◌≡◌, ◌∙◌, ◌↔◌, ◌≤◌, ◌⊎◌, ◌++◌, ◌-◌, ℕ, Bool, true, false, IsTrue, List, [], ◌∷◌, codes, drop, length}
-use Rattle.std.proofs.Common.{map, slice_get, Some, inl, inr, ap, refl, sym, subst, lit<, lit≤, arith, true≢false}
+use Rattle.std.proofs.Common.{map, inl, inr, ap, refl, sym, subst, lit<, lit≤, arith}
 use Rattle.std.specs.Fmt.{digits}
 use Rattle.bi_base.specs.Cells.{cell, u32_at}
-use Rattle.bi_base.specs.declared.fault.Cause.TheVariants.{BadDataCrc, BadMagic, NoImages, Truncated}
+use Rattle.bi_base.specs.declared.fault.Cause.TheVariants.{BadDataCrc, NoImages, Truncated}
 use Rattle.bi_base.specs.declared.fault.Error.{Error}
 use Rattle.bi_base.specs.declared.fault.Error.TheVariants as error
 use Rattle.bi_base.specs.declared.fault.Fault.{Fault}
@@ -35,7 +35,6 @@ use Rattle.bi_norm.specs.declared.kind.Kind.{Kind}
 use Rattle.bi_norm.specs.declared.kind.Kind.TheVariants.{Legacy, Fit}
 use Rattle.bi_norm.specs.Kinds.{BeginsAs, IsKindFault, TooShort, OfNoKind}
 use Rattle.bi_norm.specs.KnownComparisons.{file_without_magic, no_magic}
-use Rattle.bi_norm.specs.LegacyBuilding.{IsBuildLegacyError}
 use Rattle.bi_norm.specs.Meaning.{Meaning, Means, OfFit, OfLegacy}
 use Rattle.bi_norm.specs.NormalForm.{IsNormaliseError, IsTooLong}
 use Rattle.bi_norm.specs.Reading.{ForLegacyImage, ForTree, IsReadErrorOrTooLarge}
@@ -46,13 +45,13 @@ use Rattle.bi_norm.proofs.KindLaws.{one_file_fault, one_file_meaning, one_kind}
 use Rattle.bi_norm.proofs.NormalFormFacts.{normal_forms_are_known}
 use Rattle.bi_report.specs.declared.check.Allowed.{Allowed}
 use Rattle.bi_report.specs.CheckedFiles.{HoldsTooMuch, IsCheckError, IsCheckOutput, concerns_text}
-use Rattle.bi_report.specs.Checking.{Concern, TrailingBytes, kept_concerns, trailing_concerns}
+use Rattle.bi_report.specs.Checking.{Concern, TrailingBytes, kept_concerns}
 use Rattle.bi_report.specs.FoundConcerns.{AreFound, FoundConcern, InImageTree, InLegacyImage, Rest, found_in_rest, kept_found}
 use Rattle.bi_report.proofs.LegacyConcernFacts.{legacy_concerns_are_known}
 use Rattle.bi_show.specs.KnownPages.{PagesAreKnown}
 use Rattle.bi_show.specs.ShownFiles.{IsPage, OfLegacyImage, OfImageTree}
-use Rattle.bi_c.specs.Answers.{Answers, FilledNothing, IsFailure, Returned, Failed, Sets, WasSet, WasNotSet}
-use Rattle.bi_c.specs.Answers.{answer_of, answer_of_failure, status_of_failure}
+use Rattle.bi_c.specs.Answers.{Answers, IsFailure, Returned, Failed, Sets, WasSet, WasNotSet}
+use Rattle.bi_c.specs.Answers.{answer_of, answer_of_failure}
 use Rattle.bi_c.specs.Arguments.{HasChanges, HasForm, HasLayout, allowed_of, changes_of}
 use Rattle.bi_c.specs.Calls.{HasKinds, IsCheckText, IsFailureOfOne, IsKindFailure, IsKindNumber, IsNormaliseFailure, IsNormalised}
 use Rattle.bi_c.specs.Calls.{IsPageFailure, IsPageText, IsUpdateFailure, IsUpdatedText, flag}
@@ -69,7 +68,6 @@ use Rattle.bi_c.specs.declared.concerns.ConcernElement.{ConcernElement}
 use Rattle.bi_c.specs.declared.failure.Failure.{Failure}
 use Rattle.bi_c.specs.declared.failure.Failure.TheVariants.{Refused, NotFound, OutOfMemory, WrongArgument}
 use Rattle.bi_c.specs.declared.legacy.LegacyFields.{LegacyFields}
-use Rattle.bi_c.specs.declared.region.Region.{Region}
 use Rattle.bi_c.proofs.AnswerFacts.{always_answers, always_fills, never_answers, never_fills, only_memory, only_refused, only_wrong}
 use Rattle.bi_c.proofs.AnswerFacts.{widest_is_in_range}
 use Rattle.bi_c.proofs.CallFacts.{offsets_of_payloads_are_known}

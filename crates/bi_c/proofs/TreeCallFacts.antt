@@ -11,7 +11,6 @@ use Rattle.bi_blob.specs.Lookups.{Sibling, property_named, root_node, siblings}
 use Rattle.bi_blob.specs.Tree.{FileNode, FileProperty, HasNoZero, Root}
 use Rattle.bi_blob.proofs.Blobs.OneBlob.{one_blob}
 use Rattle.bi_commands.specs.declared.extract.Select.TheVariants.{Default}
-use Rattle.bi_commands.specs.declared.extract.Select.TheVariants.{Image as ImageSelection}
 use Rattle.bi_commands.specs.Extracting.{Chosen, NoSuchEntry, NoSuchImage}
 use Rattle.bi_commands.specs.KnownChoices.{entry_selection, image_selection}
 use Rattle.bi_fdt.specs.Content.{root_of}
@@ -43,9 +42,9 @@ use Rattle.bi_show.proofs.ShownTrees.{file_root, shown_meaning, shown_means}
 use Rattle.bi_c.specs.Answers.{answer_of_failure}
 use Rattle.bi_c.specs.Arguments.{HasKey, key_of}
 use Rattle.bi_c.specs.Calls.{IsTreeFailure}
-use Rattle.bi_c.specs.Extracting.{IsNamedOffset, IsOffset}
+use Rattle.bi_c.specs.Extracting.{IsNamedOffset}
 use Rattle.bi_c.specs.FitElements.{AreImageIndices, IsListFailure, IsListReason}
-use Rattle.bi_c.specs.KnownCalls.{AlwaysAnswers, AlwaysFills, empty_answer}
+use Rattle.bi_c.specs.KnownCalls.{AlwaysFills, empty_answer}
 use Rattle.bi_c.specs.KnownElements.{region_at_offset}
 use Rattle.bi_c.specs.KnownTreeCalls.{TreeBuildingIsKnown, TreeReasonsAreKnown, TreeSelectionsAreKnown}
 use Rattle.bi_c.specs.KnownTreeCalls.{kernel_element, pieces_of_tree, ramdisk_element}
@@ -55,7 +54,6 @@ use Rattle.bi_c.specs.TreeBuilding.{IsSpecInside, IsSpecOf, IsTreeBuildFailure, 
 use Rattle.bi_c.specs.declared.failure.Failure.{Failure}
 use Rattle.bi_c.specs.declared.failure.Failure.TheVariants.{Refused, NotFound, OutOfMemory, WrongArgument}
 use Rattle.bi_c.specs.declared.fit_building.BuildElement.{BuildElement}
-use Rattle.bi_c.specs.declared.region.Region.{Region}
 use Rattle.bi_c.proofs.AnswerFacts.{never_answers, never_fills, widest_is_in_range}
 use Rattle.bi_c.proofs.LegacyCallFacts.{extracted, extracts_nothing, not_extracted}
 
