@@ -1,4 +1,4 @@
-use Rattle.std.specs.Prelude.{◌≡◌, ◌↔◌, ℕ, List, [], ◌∷◌, map, Some, None, codes, string_bytes}
+use Rattle.std.specs.Prelude.{◌≡◌, ◌↔◌, ℕ, List, [], ◌∷◌, Some, None, codes, string_bytes}
 use Rattle.bi_base.specs.declared.fault.Error.{Error}
 use Rattle.bi_base.specs.declared.fault.Error.TheVariants.{Refused, OutOfMemory}
 use Rattle.bi_base.specs.Limits.{Limits, widest}
@@ -15,7 +15,6 @@ use Rattle.bi_legacy.specs.Text.{legacy_text}
 use Rattle.bi_norm.specs.KnownConvertedFiles.{multi_of_none, multi_of_two, no_part_fault}
 use Rattle.bi_norm.specs.KnownNormalForms.{signed_file}
 use Rattle.bi_commands.specs.BuildCommands.{convert_promise}
-use Rattle.bi_commands.specs.ExtractingAll.{PayloadFile}
 use Rattle.bi_commands.specs.KnownUpdates.{no_changes, only_time}
 use Rattle.bi_commands.specs.Payloads.{payload_file, payloads_model}
 use Rattle.bi_commands.specs.UpdatedFiles.{IsUpdateKept, update_promise}

@@ -1,4 +1,4 @@
-use Rattle.std.proofs.Common.{◌≡◌, ◌∙◌, ◌⊎◌, ◌++◌, ℕ, Bool, true, false, true≢false, List, [], ◌∷◌, Option, None, Some, Result, Ok, Err}
+use Rattle.std.proofs.Common.{◌≡◌, ◌∙◌, ◌⊎◌, ℕ, true, true≢false, List, [], ◌∷◌, Option, Some, Ok, Err}
 use Rattle.std.proofs.Common.{codes, length, map, inl, inr, ap, refl, sym, subst, arith}
 use Rattle.std.specs.Borrow.{Bor}
 use Rattle.std.specs.List.{AllZip}
@@ -9,7 +9,7 @@ use Rattle.bi_base.specs.declared.fault.Error.TheVariants.{Refused, OutOfMemory}
 use Rattle.bi_base.specs.declared.fault.Fault.{Fault}
 use Rattle.bi_base.specs.Limits.{Limits, widest}
 use Rattle.bi_base.specs.Writing.{Writes}
-use Rattle.bi_commands.specs.BuildCommands.{AreFilled, ArePartsOf, HavePayloads, ImageFields, IsFitOutput, IsWhole, image_fields}
+use Rattle.bi_commands.specs.BuildCommands.{AreFilled, ArePartsOf, ImageFields, IsFitOutput, IsWhole, image_fields}
 use Rattle.bi_commands.specs.KnownChoices.{lent}
 use Rattle.bi_commands.specs.KnownParts.{given_parts, mixed_parts}
 use Rattle.bi_commands.specs.Parts.{HasGivenBytes}
@@ -43,6 +43,7 @@ use Rattle.bootimg.specs.declared.command_line.build.BuildPlan.TheVariants.{Lega
 use Rattle.bootimg.specs.declared.command_line.build.FitPlan.{FitPlan}
 use Rattle.bootimg.specs.declared.command_line.build.LegacyPlan.{LegacyPlan}
 use Rattle.bootimg.specs.declared.command_line.part.PartSource.{PartSource}
+use Rattle.bootimg.specs.declared.command_line.part.PartSource.TheVariants as part
 use Rattle.bootimg.specs.declared.command_line.source.ImageSource.TheVariants.{Standard, File}
 use Rattle.bootimg.specs.declared.failure.Failure.TheVariants.{Call, CannotOpen}
 use Rattle.bootimg.specs.declared.jobs.SourceFailure.{SourceFailure}
@@ -125,7 +126,8 @@ fit_of_plan : (any : Bor (List ℕ)) (plan : FitPlan) (limits : Limits) (output 
     (build_promise (Fit plan) hello_and_abc limits).is_output tt [] output → output ≡ known_text
 fit_of_plan any plan limits output plain is =
     plain_text any limits output
-    (subst (λ (form : Form). IsFitOutput limits form (head_like any (codes "k")) plain_plan (kernel_and_ramdisk any) hello_and_abc [] output)
+    (subst (λ (form : Form). IsFitOutput limits form (head_like any (codes "k")) plain_plan (kernel_and_ramdisk any) hello_and_abc []
+    output)
     plain.form
     (subst (λ (head : Head). IsFitOutput limits plan.form head plain_plan (kernel_and_ramdisk any) hello_and_abc [] output) plain.head
     (subst (λ (spec : PlanSpecModel). IsFitOutput limits plan.form plan.head spec (kernel_and_ramdisk any) hello_and_abc [] output) spec_is
@@ -187,7 +189,9 @@ refused : (plan : LegacyPlan) (work : Work) (fault : Fault) → IsBuiltWork (Leg
     fault ≡ record { cause = BadPart; offset = 3 }
 refused plan work fault (WasBuilt done piped ends is) has bad = absurd (not_failed work.outcome is bad)
 refused plan work fault (WasNotBuilt error piped is) has bad =
-    let failures = same_failure work.outcome (source_failure Standard (Call error)) (source_failure Standard (Call (Refused fault))) is bad in
+    let failures = same_failure work.outcome (source_failure Standard (Call error)) (source_failure Standard (Call (Refused fault)))
+    is bad in
+    let calls : Call error ≡ Call (Refused fault) = ap (λ (f : SourceFailure). f.failure) failures in
     let errors : error ≡ Refused fault = cc in
     let failed = piped.failed.failed in
     refused_as plan failed.input fault (sym (input_of_file work.input.remaining (codes "abcd") failed.input has failed.is_input))
@@ -206,15 +210,22 @@ of_files plan work done old new sources (BuiltOfFiles parts are reads built same
 of_files plan work done old new sources (PartNotRead failed not_read is same) good = absurd (not_failed work.outcome good is.outcome)
 of_files plan work done old new sources (NoRoom are is same) good = absurd (not_failed work.outcome good is.outcome)
 
+-- Without files these parts are not read.
+not_there : (sources : List PartSource) (parts : List Part) (old new : Option (List FileStep)) → sources ≡ parts_a_and_b →
+    ¬ (ArePartsRead without_files widest sources parts old new)
+not_there sources parts old new same are =
+    none_of_files (part.File (lent (codes "b")) ∷ []) (lent (codes "a")) parts old new
+    (subst (λ (s : List PartSource). ArePartsRead without_files widest s parts old new) same are)
+
 no_files : (plan : LegacyPlan) (work : Work) (old new : Option (List FileStep)) → plan.parts.items ≡ parts_a_and_b →
     IsBuildWork without_files (Legacy plan) widest work old new →
     ((work.outcome ≡ Err (source_failure (File (lent (codes "a"))) CannotOpen))
     ⊎ (work.outcome ≡ Err (source_failure Standard (Call OutOfMemory))))
     × (work.new_output ≡ work.output)
 no_files plan work old new sources (BuiltWithInput parts are reads built) =
-    absurd (none_of_files _ _ parts old new (subst (λ (s : List PartSource). ArePartsRead without_files widest s parts old new) sources are))
+    absurd (not_there plan.parts.items parts old new sources are)
 no_files plan work old new sources (BuiltOfFiles parts are reads built same) =
-    absurd (none_of_files _ _ parts old new (subst (λ (s : List PartSource). ArePartsRead without_files widest s parts old new) sources are))
+    absurd (not_there plan.parts.items parts old new sources are)
 no_files plan work old new sources (PartNotRead failed not_read is same) =
     let first = parts_of_files_are_known.not_read failed old new
     (subst (λ (s : List PartSource). IsPartNotRead without_files widest s failed old new) sources not_read) in

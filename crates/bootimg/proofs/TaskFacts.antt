@@ -1,4 +1,4 @@
-use Rattle.std.proofs.Common.{◌≡◌, ◌∙◌, Bool, false, refl}
+use Rattle.std.proofs.Common.{◌∙◌, Bool, false, refl}
 use Rattle.bi_base.specs.Limits.{widest}
 use Rattle.bi_commands.proofs.ExtractFacts.{extracts_are_known, updated_texts_are_known}
 use Rattle.bi_commands.proofs.PromiseFacts.{kept_of_updates_is_known}

@@ -334,7 +334,8 @@ pub record LimitsAreKnown : Type 0 where
 -- The texts of arguments are in their order.
 pub record TextsAreKnown : Type 0 where
   pub none : texts_of [] ≡ []
-  pub two : texts_of (lent (codes "list") ∷ lent (codes "x y") ∷ []) ≡ codes "list" ∷ codes "x y" ∷ []
+  pub two : texts_of (lent (codes "list") ∷ lent (codes "x y") ∷ [])
+      ≡ codes "list" ∷ codes "x y" ∷ []
 
 -- ---- parts
 

@@ -1,12 +1,12 @@
 //! Building an image of the parts that the arguments name.
 
 ghost use Rattle.std.specs.Prelude.{◌≡◌, length, IfOk, IfErr};
-ghost use Rattle.std.specs.List.{AllZip};
+ghost use Rattle.std.specs.List.{AllZip, list_any};
 ghost use Rattle.bi_base.specs.Pipes.{IsTracedPipe};
 ghost use Rattle.bi_base.specs.declared.fault.Error.TheVariants.{OutOfMemory};
 ghost use Rattle.bi_fit.specs.NamedImages.{configuration_spec_models};
 ghost use Rattle.bootimg.specs.CommandLine.{HasLengths, sources_of};
-ghost use Rattle.bootimg.specs.CommandLine.{reads_input as reads_input_of};
+ghost use Rattle.bootimg.specs.CommandLine.{is_input as is_input_of, reads_input as reads_input_of};
 ghost use Rattle.bootimg.specs.ConfigurationWords.{configuration_models};
 ghost use Rattle.bootimg.specs.ReadParts.{IsLent, IsReadingFailure, IsPartFailure, WasRead};
 ghost use Rattle.bootimg.specs.ReadParts.{WereRead};
@@ -86,7 +86,14 @@ pub fn build_image<'a, S: TracedRead, T: TracedWrite, F: FileSystem>(
 fn reads_input(sources: &[PartSource<'_>]) -> bool
     ensures { result ≡ reads_input_of sources.now }
 {
-    sources.is_empty() || sources.iter().any(|source| source.is_input())
+    sources.is_empty() || some_is_input(sources)
+}
+
+/// Returns whether one of these parts is in standard input.
+fn some_is_input(sources: &[PartSource<'_>]) -> bool
+    ensures { result ≡ list_any is_input_of sources.now }
+{
+    sources.iter().any(|source| source.is_input())
 }
 
 /// Reads the files of parts, in the order of the parts. Fails as `read_part` does for the first

@@ -62,7 +62,8 @@ returns-in_err-name-in-None-Some-None-false-clause-failure c =
     outcome_weaker (IsBadValue (IsNameOf is_escaped argument))
     (IsSelectionFailure options) c.from_residual-in_err-name-in-None-Some-None-false.result c.in_err-name-in-None-Some-None-false.field-0.0
     c.from_residual-in_err-name-in-None-Some-None-false.ensures.1 c.in_err-name-in-None-Some-None-false.ensures.failure
-    (λ failure bad. subst (IsSelectionFailure options) (sym bad.0) (no_image_name options is_escaped argument given c.flag-escaped.ensures bad.1))
+    (λ failure bad.
+    subst (IsSelectionFailure options) (sym bad.0) (no_image_name options is_escaped argument given c.flag-escaped.ensures bad.1))
 
 pub returns-in_err-key-in-None-None-Some-false-clause-failure :
     goal.returns-in_err-key-in-None-None-Some-false-clause-failure
@@ -70,7 +71,8 @@ returns-in_err-key-in-None-None-Some-false-clause-failure c =
     let options = c.args.options.now in
     let arm = c.in-None-None-Some-false in
     let given = given_by options c.get_str-part.result c.get_str-image.result c.get_str-config.result None None
-    (Some arm.argument) false c.get_str-part.ensures c.get_str-image.ensures c.get_str-config.ensures arm.ensures arm.is-0 arm.is-1 arm.is-2 in
+    (Some arm.argument) false c.get_str-part.ensures c.get_str-image.ensures c.get_str-config.ensures
+    arm.ensures arm.is-0 arm.is-1 arm.is-2 in
     let bad = c.in_err-key-in-None-None-Some-false.ensures.bad in
     fails_with (IsSelectionFailure options) c.from_residual-in_err-key-in-None-None-Some-false.result
     c.in_err-key-in-None-None-Some-false.field-0.0 c.from_residual-in_err-key-in-None-None-Some-false.ensures.1
@@ -83,13 +85,15 @@ returns-in_err-name-in-None-None-Some-false-clause-failure c =
     let options = c.args.options.now in
     let arm = c.in-None-None-Some-false in
     let given = given_by options c.get_str-part.result c.get_str-image.result c.get_str-config.result None None
-    (Some arm.argument) false c.get_str-part.ensures c.get_str-image.ensures c.get_str-config.ensures arm.ensures arm.is-0 arm.is-1 arm.is-2 in
+    (Some arm.argument) false c.get_str-part.ensures c.get_str-image.ensures c.get_str-config.ensures
+    arm.ensures arm.is-0 arm.is-1 arm.is-2 in
     let argument = arm.argument.now in
     let is_escaped = c.flag-escaped.result in
     outcome_weaker (IsBadValue (IsNameOf is_escaped argument))
     (IsSelectionFailure options) c.from_residual-in_err-name-in-None-None-Some-false.result c.in_err-name-in-None-None-Some-false.field-0.0
     c.from_residual-in_err-name-in-None-None-Some-false.ensures.1 c.in_err-name-in-None-None-Some-false.ensures.failure
-    (λ failure bad. subst (IsSelectionFailure options) (sym bad.0) (no_config_name options is_escaped argument given c.flag-escaped.ensures bad.1))
+    (λ failure bad.
+    subst (IsSelectionFailure options) (sym bad.0) (no_config_name options is_escaped argument given c.flag-escaped.ensures bad.1))
 
 pub returns-in_err-key-in-None-None-None-true-clause-failure :
     goal.returns-in_err-key-in-None-None-None-true-clause-failure

@@ -12,7 +12,7 @@ returns-in-Some-2-clause-failure c =
       refl,
       record {
         external = false;
-        is_external = subst (IsExternal options) c.if-external-2.false c.flag.ensures;
+        is_external = subst (IsExternal options) c.if-external-2.false c.flag-external.ensures;
         no_form = λ form is. subst (λ argument. IsFormWith false argument form) given is;
       },
     )
@@ -33,7 +33,7 @@ returns-in-None-parse_align-clause-failure c =
       refl,
       record {
         external = true;
-        is_external = subst (IsExternal options) c.if-external-2.true c.flag.ensures;
+        is_external = subst (IsExternal options) c.if-external-2.true c.flag-external.ensures;
         no_form = λ form is. no_alignment argument no_align form (subst (λ argument. IsFormWith true argument form) given is);
       },
     )
