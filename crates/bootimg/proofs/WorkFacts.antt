@@ -155,13 +155,13 @@ task_failures_are_known = record {
 -- ---- explain
 
 -- An outcome is one thing.
-not_failed : {done : Done} {failed : SourceFailure} (outcome : Result Done SourceFailure) → outcome ≡ Ok done → ¬ (outcome ≡ Err failed)
+pub not_failed : {done : Done} {failed : SourceFailure} (outcome : Result Done SourceFailure) → outcome ≡ Ok done → ¬ (outcome ≡ Err failed)
 not_failed {done} {failed} outcome good bad = let wrong : Ok done ≡ Err failed = sym good ∙ bad in cc
 
-same_done : (outcome : Result Done SourceFailure) (one other : Done) → outcome ≡ Ok one → outcome ≡ Ok other → one ≡ other
+pub same_done : (outcome : Result Done SourceFailure) (one other : Done) → outcome ≡ Ok one → outcome ≡ Ok other → one ≡ other
 same_done outcome one other is also = let same : Ok one ≡ Ok other = sym is ∙ also in cc
 
-same_failure : (outcome : Result Done SourceFailure) (one other : SourceFailure) → outcome ≡ Err one → outcome ≡ Err other → one ≡ other
+pub same_failure : (outcome : Result Done SourceFailure) (one other : SourceFailure) → outcome ≡ Err one → outcome ≡ Err other → one ≡ other
 same_failure outcome one other is also = let same : Err one ≡ Err other = sym is ∙ also in cc
 
 explained : (work : Work) (done : Done) → IsExplainWork (Some BadDataCrc) work → work.outcome ≡ Ok done →
@@ -465,7 +465,7 @@ length_is (Bytes bytes) old new is = absurd is
 length_is (Length size) old new is = (ap Length is.0, is.1)
 
 -- Without files no part of a file is read.
-none_of_files : (before : List PartSource) (name : Bor (List ℕ)) (parts : List Part) (old new : Option (List FileStep)) →
+pub none_of_files : (before : List PartSource) (name : Bor (List ℕ)) (parts : List Part) (old new : Option (List FileStep)) →
     ¬ (ArePartsRead without_files widest (part.File name ∷ before) parts old new)
 none_of_files before name [] old new is = is
 none_of_files before name (Bytes bytes ∷ parts) old new is = is.1.was_opened.is_open.is_file
