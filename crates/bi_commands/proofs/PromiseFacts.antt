@@ -3,7 +3,6 @@ use Rattle.bi_base.specs.Cells.{cell}
 use Rattle.bi_base.specs.Limits.{Limits, widest}
 use Rattle.bi_fit.specs.declared.form.Form.{Form}
 use Rattle.bi_fit.specs.declared.kept.Kept.{Kept}
-use Rattle.bi_fit.specs.Kept.{SaysNothing}
 use Rattle.bi_fit.specs.KnownKept.{kept}
 use Rattle.bi_fit.proofs.UpdateChanges.{each_update_has_its_changes}
 use Rattle.bi_fit.proofs.UpdatedVerdicts.{updated_judgement}
@@ -81,11 +80,6 @@ kept_without_changes limits form said file text is =
       is_kept = says;
     }
 
--- Nothing more is said than what is known.
-only_kept : (said : Kept) → said.signatures ≡ 0 → SaysNothing said → said ≡ kept None 0
-only_kept said count says =
-    λ i. record { signatures = count i; lost_alignment = says.alignment i; lost_positions = says.positions i }
-
 module _ (one_legacy : OneLegacyMeaning) where
   legacy_kept : (form : Form) →
       IsUpdateKept (only_time 5) widest form (kept None 0) multi_file (legacy_text (record multi_image { time = 5 }))
@@ -104,8 +98,14 @@ module _ (one_legacy : OneLegacyMeaning) where
   only_of_legacy form other text is =
       let known = updated_texts_are_known one_legacy in
       let same = same_meaning one_legacy multi_file (OfLegacy multi_image) multi_means is.output.is.meaning is.output.is.means.means in
-      let says = subst (λ meaning. IsKeptOfImage form multi_file meaning (updated_meaning (only_time 5) meaning) other) same is.is_kept in
-      (only_kept other (known.count form other.signatures text is.output) says, known.text form text is.output.is)
+      let says = subst (λ meaning. IsKeptOfImage form multi_file meaning (updated_meaning (only_time 5) meaning) other) same is.is_kept in (
+        λ i. record {
+          signatures = known.count form other.signatures text is.output i;
+          lost_alignment = says.alignment i;
+          lost_positions = says.positions i;
+        },
+        known.text form text is.output.is,
+      )
 
   pub kept_of_updates_is_known : KeptOfUpdatesIsKnown
   kept_of_updates_is_known =
