@@ -34,7 +34,7 @@ use Rattle.bi_norm.specs.KnownBuiltTexts.{kernel_and_ramdisk}
 use Rattle.bi_norm.specs.declared.fit_building.ImageSpec.{ImageSpec}
 use Rattle.bootimg.specs.CommandLine.{reads_input}
 use Rattle.bootimg.specs.KnownInputs.{two_files, without_files}
-use Rattle.bootimg.specs.KnownTasks.{BuildPromisesAreKnown, BuildWorksAreKnown, IsPlainPlan, ended, hello_and_abc}
+use Rattle.bootimg.specs.KnownTasks.{BuildPromisesAreKnown, BuildWorksAreKnown, IsPlainPlan, without_notes, hello_and_abc}
 use Rattle.bootimg.specs.KnownWorks.{bytes_in_part, parts_a_and_b}
 use Rattle.bootimg.specs.Runs.{ArePartsRead, BuiltOfFiles, BuiltWithInput, IsBuildWork, IsBuiltWork, IsPartNotRead, NoRoom, PartNotRead}
 use Rattle.bootimg.specs.Runs.{WasBuilt, WasNotBuilt, Work, build_promise, no_input, plan_of_options, source_failure, with_input}
@@ -49,7 +49,7 @@ use Rattle.bootimg.specs.declared.failure.Failure.TheVariants.{Call, CannotOpen}
 use Rattle.bootimg.specs.declared.jobs.SourceFailure.{SourceFailure}
 use Rattle.bootimg.specs.declared.tasks.Done.{Done}
 use Rattle.bootimg.proofs.InputFacts.{input_of_file}
-use Rattle.bootimg.proofs.WorkFacts.{none_of_files, not_failed, parts_of_files_are_known, same_done, same_failure}
+use Rattle.bootimg.proofs.WorkFacts.{none_of_files, not_failed, parts_of_files_are_known, same_done, one_failure}
 
 -- What is built of small parts is known.
 
@@ -149,8 +149,8 @@ build_promises_are_known = record {
 
 -- ---- works
 
-ended_is : (done : Done) → EndedWith true done → done ≡ ended true
-ended_is done is = λ i. record {
+is_without_notes : (done : Done) → EndedWith true done → done ≡ without_notes true
+is_without_notes done is = λ i. record {
   good = is.is_answer i;
   kept = record {
     signatures = is.no_signatures i;
@@ -162,14 +162,14 @@ ended_is done is = λ i. record {
 built_of : (plan : LegacyPlan) (parts : List Part) (first : List ℕ) (known : List (List ℕ)) (limits : Limits) (work : Work) (done : Done) →
     map bytes_in_part parts ≡ map Some (first ∷ known) → IsBuiltWork (Legacy plan) parts limits work →
     work.input.remaining ≡ Some [] → work.outcome ≡ Ok done →
-    Writes work.output (legacy_text (image_of plan.fields (first ∷ known))) work.new_output × (done ≡ ended true)
+    Writes work.output (legacy_text (image_of plan.fields (first ∷ known))) work.new_output × (done ≡ without_notes true)
 built_of plan parts first known limits work done bytes (WasBuilt other piped ends is) has good =
     let moved = piped.done.moved in
     let input = input_of_file work.input.remaining [] moved.input has moved.read.is_input in
     let output = legacy_of plan parts first known limits moved.output bytes
     (subst (λ input. (build_promise (Legacy plan) parts limits).is_output tt input moved.output) (sym input) moved.is_output) in (
       subst (λ bytes. Writes work.output bytes work.new_output) output moved.written,
-      subst (λ (done : Done). done ≡ ended true) (same_done work.outcome other done is good) (ended_is other ends),
+      subst (λ (done : Done). done ≡ without_notes true) (same_done work.outcome other done is good) (is_without_notes other ends),
     )
 built_of plan parts first known limits work done bytes (WasNotBuilt error piped is) has good = absurd (not_failed work.outcome good is)
 
@@ -189,7 +189,7 @@ refused : (plan : LegacyPlan) (work : Work) (fault : Fault) → IsBuiltWork (Leg
     fault ≡ record { cause = BadPart; offset = 3 }
 refused plan work fault (WasBuilt done piped ends is) has bad = absurd (not_failed work.outcome is bad)
 refused plan work fault (WasNotBuilt error piped is) has bad =
-    let failures = same_failure work.outcome (source_failure Standard (Call error)) (source_failure Standard (Call (Refused fault)))
+    let failures = one_failure work.outcome (source_failure Standard (Call error)) (source_failure Standard (Call (Refused fault)))
     is bad in
     let calls : Call error ≡ Call (Refused fault) = ap (λ (f : SourceFailure). f.failure) failures in
     let errors : error ≡ Refused fault = cc in

@@ -10,18 +10,17 @@ use Rattle.bi_norm.proofs.NormalFormFacts.{kept_of_normal_forms_is_known}
 use Rattle.bi_report.specs.KnownOutputs.{bad_lines, file_with_hash}
 use Rattle.bi_report.proofs.OutputFacts.{check_outputs_are_known, json_listings_are_known, verify_outputs_are_known}
 use Rattle.bi_report.proofs.ScanFacts.{scans_are_known}
-use Rattle.bi_show.proofs.PageFacts.{pages_are_known}
-use Rattle.bootimg.specs.KnownTasks.{TaskEndsAreKnown, ended}
+use Rattle.bi_show.specs.KnownPages.{PagesAreKnown}
+use Rattle.bootimg.specs.KnownTasks.{TaskEndsAreKnown, without_notes}
 use Rattle.bootimg.specs.Tasks.{EndedWith}
 
 -- How tasks on small files end is known.
 
-ends : (good : Bool) → EndedWith good (ended good)
+ends : (good : Bool) → EndedWith good (without_notes good)
 ends good = record { is_answer = refl; no_signatures = refl; says_nothing = record { alignment = refl; positions = refl } }
 
-pub task_ends_are_known : OneLegacyMeaning → TaskEndsAreKnown
-task_ends_are_known one_legacy =
-    let pages = pages_are_known one_legacy in
+pub task_ends_are_known : OneLegacyMeaning → PagesAreKnown → TaskEndsAreKnown
+task_ends_are_known one_legacy pages =
     let verified = verify_outputs_are_known one_legacy in
     let checked = check_outputs_are_known one_legacy in
     let updated = updated_texts_are_known one_legacy in

@@ -52,44 +52,48 @@ use Rattle.bootimg.specs.declared.tasks.Done.{Done}
 -- ---- tasks
 
 -- A job ended with this answer, and there is nothing to note.
-abbrev pub ended : (good : Bool) → Done
-ended good = record { good = good; kept = kept None 0 }
+abbrev pub without_notes : (good : Bool) → Done
+without_notes good = record { good = good; kept = kept None 0 }
 
 -- What each task makes of a small file, and how it ends: with the answer that its output gives. A
 -- text that is normalised or updated may lose the alignment of its payloads.
 pub record TaskEndsAreKnown : Type 0 where
   pub normalise : TaskDone (task.Normalise External) widest
       (record { good = true; kept = kept (Some 4096) 0 }) (three_aligned 4096 4096) three_external
-  pub layout : TaskDone (task.Show (record { layout = true })) widest (ended true)
+  pub layout : TaskDone (task.Show (record { layout = true })) widest (without_notes true)
       kernel_file_with_rest kernel_page
-  pub no_layout : TaskDone (task.Show (record { layout = false })) widest (ended true)
+  pub no_layout : TaskDone (task.Show (record { layout = false })) widest (without_notes true)
       multi_file (multi_page [])
-  pub list : TaskDone (task.List Json) widest (ended true) kernel_file_with_rest kernel_object
-  pub describe : TaskDone (task.Describe Lines) widest (ended true) smallest_text
+  pub list : TaskDone (task.List Json) widest (without_notes true) kernel_file_with_rest
+      kernel_object
+  pub describe : TaskDone (task.Describe Lines) widest (without_notes true) smallest_text
       (lines
       (codes "kind fit" ∷ codes "boot-cpu 0" ∷ codes "node /" ∷ codes "node /images" ∷ []))
-  pub verify : TaskDone (task.Verify Lines) widest (ended true) (file_with_hash good_crc) good_lines
-  pub bad_hash : TaskDone (task.Verify Lines) widest (ended false) (file_with_hash short_crc)
+  pub verify : TaskDone (task.Verify Lines) widest (without_notes true) (file_with_hash good_crc)
+      good_lines
+  pub bad_hash : TaskDone (task.Verify Lines) widest (without_notes false)
+      (file_with_hash short_crc)
       bad_lines
   pub bad_answer : HasAnswer (task.Verify Lines) (file_with_hash short_crc) false
-  pub check : TaskDone (task.Check nothing_allowed Json) widest (ended true) smallest_text
+  pub check : TaskDone (task.Check nothing_allowed Json) widest (without_notes true) smallest_text
       (lines (codes "{\"concerns\":[]}" ∷ []))
-  pub concern : TaskDone (task.Check nothing_allowed Lines) widest (ended false) file_without_hash
+  pub concern : TaskDone (task.Check nothing_allowed Lines) widest (without_notes false)
+      file_without_hash
       (lines (codes "unhashed a" ∷ []))
   pub allowed : TaskDone (task.Check (record nothing_allowed { unhashed = true }) Lines) widest
-      (ended true) file_without_hash []
-  pub scan : TaskDone task.Scan (scan_limits 162) (ended true) two_images two_lines
-  pub nothing_found : TaskDone task.Scan (scan_limits 162) (ended false) (codes "hello") []
+      (without_notes true) file_without_hash []
+  pub scan : TaskDone task.Scan (scan_limits 162) (without_notes true) two_images two_lines
+  pub nothing_found : TaskDone task.Scan (scan_limits 162) (without_notes false) (codes "hello") []
   pub update : (form : Form)
       → Makes (task.Update (only_time 5) form) multi_file
       (legacy_text (record multi_image { time = 5 }))
   pub updated : (form : Form)
-      → TaskDone (task.Update (only_time 5) form) widest (ended true) multi_file
+      → TaskDone (task.Update (only_time 5) form) widest (without_notes true) multi_file
       (legacy_text (record multi_image { time = 5 }))
   pub lost_alignment : TaskDone (task.Update no_changes External) widest
       (record { good = true; kept = kept (Some 4096) 0 }) (three_aligned 4096 4096) three_external
   pub extract : Makes (task.Extract (selected.Part 1)) multi_file (codes "abc")
-  pub extracted : TaskDone (task.Extract (selected.Part 1)) widest (ended true) multi_file
+  pub extracted : TaskDone (task.Extract (selected.Part 1)) widest (without_notes true) multi_file
       (codes "abc")
 
 -- ---- building
@@ -138,7 +142,7 @@ pub record BuildWorksAreKnown : Type 0 where
       → work.outcome ≡ Ok done
       → Writes work.output (legacy_text (image_of plan.fields (codes "ab" ∷ codes "c" ∷ [])))
       work.new_output
-      × (done ≡ ended true)
+      × (done ≡ without_notes true)
   pub refused : (plan : LegacyPlan) (work : Work) (fault : Fault)
       → IsBuiltWork (Legacy plan) mixed_parts widest work
       → work.input.remaining ≡ Some (codes "abcd")

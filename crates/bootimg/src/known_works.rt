@@ -60,6 +60,7 @@ pub fn task_ends_are_known()
     ensures { TaskEndsAreKnown }
 {
     bi_legacy::laws::one_meaning();
+    bi_show::known_texts::pages_are_known();
 }
 
 /// Known images are built of small parts, or building has a known fault.
