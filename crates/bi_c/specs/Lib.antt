@@ -4,6 +4,7 @@ pub mod Calls
 pub mod ConcernElements
 pub mod Extracting
 pub mod FitElements
+pub mod Handles
 pub mod ImageElements
 pub mod KnownElements
 pub mod KnownCalls
