@@ -9,6 +9,7 @@ pub mod CallFacts
 pub mod ExtractedFiles
 pub mod FitElements
 pub mod FitFiles
+pub mod HandleFiles
 pub mod ImageElements
 pub mod ImageFiles
 pub mod LegacyCallFacts

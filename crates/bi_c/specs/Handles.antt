@@ -11,7 +11,7 @@ use Rattle.bi_c.specs.declared.images.ImageElement.{ImageElement}
 -- If the handle is open, its elements are those of the images of its file.
 abbrev pub IsHandle : (is_open limit depth : ℕ) → (file : List ℕ) → List ImageElement → Type 0
 IsHandle is_open limit depth file elements =
-    ¬ (is_open ≡ 0) → AreImageElements limit depth file elements 0
+    ¬ (is_open ≡ 0) → ∥ AreImageElements limit depth file elements 0 ∥₁
 
 -- The element is the one of image `index` of the file.
 pub record IsImageElementAt (limit depth : ℕ) (file : List ℕ) (index : ℕ) (element : ImageElement)
@@ -32,9 +32,9 @@ pub record LacksImageAt (limit depth : ℕ) (file : List ℕ) (index : ℕ) : Ty
 pub data FindsImageElement (is_open limit depth : ℕ) (file : List ℕ) (index : ℕ)
     (before after : ImageElement) (answer : Answer) (status : ℕ) : Type 0
   where
-    WasFound : IsImageElementAt limit depth file index after → answer ≡ answer_of 0 0
+    WasFound : ∥ IsImageElementAt limit depth file index after ∥₁ → answer ≡ answer_of 0 0
         → status ≡ done → FindsImageElement is_open limit depth file index before after answer status
-    IsNotThere : LacksImageAt limit depth file index → after ≡ before
+    IsNotThere : ∥ LacksImageAt limit depth file index ∥₁ → after ≡ before
         → answer ≡ answer_of_failure (NotFound 8 0) → status ≡ not_found
         → FindsImageElement is_open limit depth file index before after answer status
     IsClosed : is_open ≡ 0 → after ≡ before → answer ≡ answer_of_failure WrongArgument
