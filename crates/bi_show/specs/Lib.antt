@@ -9,6 +9,8 @@ pub mod FitPages
 pub mod Layouts
 pub mod ReadPages
 pub mod ShownFiles
+pub mod ShownObjects
+pub mod ReadObjects
 pub mod KnownPages
 pub mod KnownTrees
 pub mod KnownTreePages

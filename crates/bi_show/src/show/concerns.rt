@@ -10,7 +10,7 @@ ghost use Rattle.bi_report.specs.FoundConcerns.{concerns_in};
 use super::cells::string_of;
 use bi_base::VecSink;
 use bi_common::format::Format;
-use bi_report::check::{Allowed, Checker, Concerns, put_concerns};
+use bi_report::check::{Checker, Concerns, Policy, put_concerns};
 use std::alloc::{AllocError, Global};
 
 /// Returns the lines of these concerns, of which none is left out. Requires: the lines are ASCII.
@@ -21,7 +21,7 @@ pub(super) fn concern_lines(alloc: Global, concerns: Concerns) -> Result<String,
         (concerns_in (concerns_left concerns.entry))) }
 {
     let checker = Checker {
-        allowed: Allowed::default(),
+        policy: Policy::default(),
         format: Format::Lines,
     };
     let mut sink = VecSink::new(alloc);
