@@ -12,6 +12,8 @@ pub mod Offsets
 pub mod ReadParts
 pub mod Tasks
 pub mod Runs
+pub mod Labels
+pub mod ImageRuns
 pub mod Selections
 pub mod Explanations
 pub mod ErrorLines
