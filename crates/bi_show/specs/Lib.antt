@@ -12,5 +12,6 @@ pub mod ShownFiles
 pub mod ShownObjects
 pub mod ReadObjects
 pub mod KnownPages
+pub mod KnownObjects
 pub mod KnownTrees
 pub mod KnownTreePages

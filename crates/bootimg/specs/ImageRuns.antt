@@ -1,7 +1,8 @@
-use Rattle.std.specs.Prelude.{◌≡◌, ℕ, max, Bool, true, false, List, [], ◌∷◌}
-use Rattle.std.specs.Prelude.{Option, None, Some, Result, Ok, Err, IsTrue, IsFalse}
+use Rattle.std.specs.Prelude.{◌≡◌, ◌≤◌, ℕ, max, Bool, true, false, List, [], ◌∷◌, codes, count_by}
+use Rattle.std.specs.Prelude.{Option, None, Some, option_map, Result, Ok, Err, IsTrue, IsFalse}
+use Rattle.std.specs.Prelude.{length}
 use Rattle.std.specs.Borrow.{Bor}
-use Rattle.std.specs.List.{list_any}
+use Rattle.std.specs.List.{AllZip, list_any}
 use Rattle.bi_base.specs.declared.fault.Error.TheVariants.{OutOfMemory, WriteFailed}
 use Rattle.bi_base.specs.Limits.{Limits}
 use Rattle.bi_base.specs.Commands.{CommandPromise}
@@ -11,6 +12,7 @@ use Rattle.bi_common.specs.declared.format.Format.{Format}
 use Rattle.bi_common.specs.declared.format.Format.TheVariants as form
 use Rattle.bi_files.specs.declared.saving.SaveError.{SaveError}
 use Rattle.bi_files.specs.Files.{FileStep, KnownFiles, WasOpened, WasNotOpened, IsSaved, IsNotSaved}
+use Rattle.clap.specs.declared.parser.matches.ArgMatches.{ArgMatches}
 use Rattle.bootimg.specs.declared.command_line.Task.{Task}
 use Rattle.bootimg.specs.declared.command_line.Task.TheVariants as task
 use Rattle.bootimg.specs.declared.command_line.source.ImageSource.{ImageSource}
@@ -19,8 +21,11 @@ use Rattle.bootimg.specs.declared.failure.Failure.{Failure}
 use Rattle.bootimg.specs.declared.failure.Failure.TheVariants.{Call, CannotOpen}
 use Rattle.bootimg.specs.declared.jobs.SourceFailure.{SourceFailure}
 use Rattle.bootimg.specs.declared.tasks.Done.{Done}
+use Rattle.bootimg.specs.CommandLine.{Gives, IsImageSource, IsLimits, IsTask, given_offset}
+use Rattle.bootimg.specs.CommandLine.{limit_of, option_of, values_of}
 use Rattle.bootimg.specs.Failures.{failure_to_save}
 use Rattle.bootimg.specs.Labels.{named_promise, source_text}
+use Rattle.bootimg.specs.Numbers.{IsNumber}
 use Rattle.bootimg.specs.Offsets.{promise_at}
 use Rattle.bootimg.specs.Runs.{IsEnd, IsFailedWork, Reports, Run, Work, failure_in_memory}
 use Rattle.bootimg.specs.Runs.{source_failure, with_input}
@@ -30,13 +35,33 @@ use Rattle.bootimg.specs.Tasks.{status_of, task_promise}
 
 -- ---- one image of several
 
--- What is done with several images. There are two or more, and at most one is standard input.
+-- Whether an image is standard input.
+abbrev pub is_standard : ImageSource → Bool
+is_standard Standard = true
+is_standard (File name) = false
+
+-- What is done with each of several images, with one output.
 pub record ImagesRequest : Type 0 where
   pub task : Task
   pub offset : ℕ
   pub sources : List ImageSource
   pub limits : Limits
   pub output : Option (Bor (List ℕ))
+
+-- The command that the arguments give, with its options, is this for each image that they name.
+-- There are two images or more, and at most one is standard input.
+pub record IsImagesRequested (arguments : List (List ℕ)) (request : ImagesRequest) : Type 0 where
+  pub name : List ℕ
+  pub options : ArgMatches
+  pub given : Gives arguments name options
+  pub task : IsTask name options request.task
+  pub offset : IsNumber (given_offset options) request.offset
+  pub sources : AllZip (λ argument. IsImageSource (Some argument))
+      (values_of options (codes "file")) request.sources
+  pub several : 2 ≤ length request.sources
+  pub one_input : count_by is_standard request.sources ≤ 1
+  pub limits : IsLimits (limit_of options) request.limits
+  pub output : option_map (λ name. name.now) request.output ≡ option_of options (codes "output")
 
 -- The form of the text of a task.
 abbrev pub format_of : Task → Format
@@ -175,7 +200,8 @@ streams_after run = record {
 }
 
 -- The images of a request were done in turn, with an output that is held in memory and was empty
--- before. These bytes are known to be in it. A failed write to memory is reported as missing memory.
+-- before. If its bytes are known, they are these. A failed write to memory is reported as missing
+-- memory.
 pub record AreHeld (files : KnownFiles) (request : ImagesRequest)
     (outcomes : List (Result Done SourceFailure)) (run : Run) (held : Option (List ℕ))
     (errors : WriteTrace) (steps : Option (List FileStep)) : Type 0

@@ -18,6 +18,7 @@ pub mod Selections
 pub mod Explanations
 pub mod ErrorLines
 pub mod LeftFiles
+pub mod KnownLabels
 pub mod KnownWords
 pub mod KnownArguments
 pub mod KnownRequests

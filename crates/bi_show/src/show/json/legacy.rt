@@ -52,7 +52,8 @@ fn put_legacy_object<J: JsonPen>(file: &[u8], image: &Legacy, json: &mut J)
 
 /// Puts the members for the fields of a header. Each code has the name that the page shows.
 fn put_header_members<J: JsonPen>(fields: Fields, json: &mut J)
-    ensures { J.puts json.old (member_tokens (shown_legacy_members (image_of fields.entry []))) json.new }
+    ensures { J.puts json.old (member_tokens (shown_legacy_members (image_of fields.entry [])))
+        json.new }
 {
     let members = [
         ("kind", JsonValue::String(Field::Text(b"legacy"))),
