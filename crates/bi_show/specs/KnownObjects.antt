@@ -1,7 +1,7 @@
 use Rattle.std.specs.Prelude.{◌≡◌, ℕ, List, [], ◌∷◌, ◌++◌, Some, None, codes}
 use Rattle.bi_base.specs.Cells.{cell}
 use Rattle.bi_base.specs.Limits.{widest}
-use Rattle.bi_legacy.specs.KnownFiles.{kernel_file}
+use Rattle.bi_legacy.specs.KnownFiles.{kernel_file_with_rest}
 use Rattle.bi_common.specs.KnownWords.{lines}
 use Rattle.bi_show.specs.ShownObjects.{IsShownObject, number_in, text_in, texts_in}
 
@@ -20,10 +20,11 @@ pub record ObjectValuesAreKnown : Type 0 where
   pub long_number : number_in (cell 1 ++ cell 2) ≡ Some 4294967298
   pub no_number : number_in (codes "abc") ≡ None
 
--- The JSON of a kernel image.
+-- The JSON of a kernel image with seven bytes after its data.
 pub record ObjectsAreKnown : Type 0 where
-  pub kernel : IsShownObject widest kernel_file
+  pub kernel : IsShownObject widest kernel_file_with_rest
       (lines
       ((codes "{\"kind\":\"legacy\",\"name\":\"k\",\"time\":0,\"load\":32768,\"entry\":32768,"
       ++ (codes "\"os\":\"linux\",\"arch\":\"arm\",\"type\":\"kernel\",\"compression\":\"none\","
-      ++ codes "\"parts\":[{\"offset\":64,\"size\":9}],\"unused\":0,\"concerns\":[]}")) ∷ []))
+      ++ (codes "\"parts\":[{\"offset\":64,\"size\":9}],\"unused\":7,"
+      ++ codes "\"concerns\":[{\"concern\":\"trailing\",\"size\":7}]}"))) ∷ []))
