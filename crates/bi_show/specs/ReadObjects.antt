@@ -8,12 +8,11 @@ use Rattle.bi_fit.specs.HashNodes.{file_configurations, file_images}
 use Rattle.bi_fit.specs.Judgement.{default_of}
 use Rattle.bi_legacy.specs.Reading.{LegacyModel}
 use Rattle.bi_common.specs.Json.{Json, Member, json_array, json_object}
-use Rattle.bi_report.specs.Checking.{allowed_by_default, kept_concerns}
+use Rattle.bi_report.specs.Checking.{allowed_by_default, concerns_member, kept_concerns}
 use Rattle.bi_report.specs.FoundConcerns.{concerns_in, found_in_fit, found_in_legacy}
 use Rattle.bi_report.specs.ReadListing.{read_configuration, read_image_entry}
-use Rattle.bi_show.specs.ShownObjects.{shown_concerns_member, shown_configuration_object}
-use Rattle.bi_show.specs.ShownObjects.{shown_head_members, shown_image_object}
-use Rattle.bi_show.specs.ShownObjects.{shown_legacy_object}
+use Rattle.bi_show.specs.ShownObjects.{shown_configuration_object, shown_head_members}
+use Rattle.bi_show.specs.ShownObjects.{shown_image_object, shown_legacy_object}
 
 -- The JSON of a boot image that was read.
 
@@ -64,7 +63,7 @@ read_fit_object file content =
     (read_head_members content
     ++ read_images_member content
     ∷ read_configurations_member content
-    ∷ shown_concerns_member
+    ∷ concerns_member
     (kept_concerns allowed_by_default (concerns_in (found_in_fit file content))) ∷ [])
 
 -- A legacy image that was read from this file.

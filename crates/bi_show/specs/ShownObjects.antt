@@ -29,11 +29,11 @@ use Rattle.bi_common.specs.Json.{json_number, json_object, json_string, string_o
 use Rattle.bi_common.specs.Shown.{shown_text}
 use Rattle.bi_common.specs.ValueTexts.{are_quotable_texts}
 use Rattle.bi_report.specs.CheckedFiles.{IsCheckError}
-use Rattle.bi_report.specs.Checking.{AreConcerns, Concern, allowed_by_default, concern_object}
+use Rattle.bi_report.specs.Checking.{AreConcerns, Concern, allowed_by_default, concerns_member}
 use Rattle.bi_report.specs.Checking.{kept_concerns}
 use Rattle.bi_report.specs.Details.{name_json}
 use Rattle.bi_report.specs.FitListing.{ConfigurationEntry, PayloadEntry, configuration_entry}
-use Rattle.bi_report.specs.FitListing.{keys_member, payload_entry, payload_object}
+use Rattle.bi_report.specs.FitListing.{keys_member, payload_entry, payload_member}
 use Rattle.bi_report.specs.FoundConcerns.{is_skipped}
 use Rattle.bi_report.specs.Listing.{parts_member}
 use Rattle.bi_report.specs.Reports.{verdict_word}
@@ -130,7 +130,7 @@ abbrev pub shown_image_object : Sibling FileNode → (payload : Option (List ℕ
 shown_image_object entry payload listed =
     json_object
     (image_members entry
-    ++ (codes "payload", payload_object listed)
+    ++ payload_member listed
     ∷ hashes_member (found_hashes entry.name payload (siblings entry.children)) ∷ [])
 
 -- The objects of image nodes of a file, with these payloads.
@@ -195,10 +195,6 @@ shown_configuration_objects tree entries coverage = []
 
 -- ---- whole images
 
--- The member for concerns.
-abbrev pub shown_concerns_member : List Concern → Member
-shown_concerns_member concerns = (codes "concerns", json_array (map concern_object concerns))
-
 -- The members for what the root says, the size of the blob, the boot processor and the default
 -- configuration.
 abbrev pub shown_head_members : FileNode → (size cpu : ℕ) → (default : Option (List ℕ))
@@ -219,7 +215,7 @@ shown_fit_object file root tree concerns =
     ++ (codes "images", json_array (shown_image_objects file (images_below root) tree.payloads))
     ∷ (codes "configurations", json_array
     (shown_configuration_objects tree (configurations_below root) (coverage_in file root tree)))
-    ∷ shown_concerns_member concerns ∷ [])
+    ∷ concerns_member concerns ∷ [])
 
 -- The members for the fields of a header. Each code has the name that the page prints, if it has
 -- one.
@@ -242,7 +238,7 @@ shown_legacy_object parsed concerns =
     (shown_legacy_members parsed.image
     ++ parts_member parsed.image
     ∷ (codes "unused", json_number parsed.unused)
-    ∷ shown_concerns_member concerns ∷ [])
+    ∷ concerns_member concerns ∷ [])
 
 -- ---- files
 
