@@ -1,4 +1,4 @@
-use Rattle.std.specs.Prelude.{ℕ, List, [], ◌∷◌, ◌++◌, codes}
+use Rattle.std.specs.Prelude.{[], ◌∷◌, ◌++◌, codes}
 use Rattle.bi_common.specs.KnownWords.{lines}
 use Rattle.bootimg.specs.Labels.{HasNamedLines, HasNamedValue}
 

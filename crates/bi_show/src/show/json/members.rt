@@ -4,7 +4,7 @@ ghost use Rattle.std.specs.Prelude.{◌≡◌, ◌∷◌, [], map};
 ghost use Rattle.std.specs.Option.{option_map};
 ghost use Rattle.bi_fdt.specs.Views.{node_of};
 ghost use Rattle.bi_common.specs.Json.{json_string};
-ghost use Rattle.bi_common.specs.JsonTokens.{json_tokens, member_tokens, value_tokens};
+ghost use Rattle.bi_common.specs.JsonTokens.{member_tokens, value_tokens};
 ghost use Rattle.bi_common.specs.MadeFields.{value_json};
 ghost use Rattle.bi_fit.specs.Judgement.{listed_names};
 ghost use Rattle.bi_show.specs.ShownObjects.{name_property_member, number_json};
