@@ -19,7 +19,7 @@ use Rattle.bi_fit.specs.Names.{key_name, all_keys}
 use Rattle.bi_fit.specs.Payloads.{PayloadSource, source_of, payload_place}
 use Rattle.bi_hash.specs.declared.verdicts.Verdict.TheVariants.{Good}
 use Rattle.bi_legacy.specs.Reading.{LegacyModel, IsReadLegacy}
-use Rattle.bi_common.specs.Json.{Json, json_array, json_object}
+use Rattle.bi_common.specs.Json.{Json, Member, json_array, json_object}
 use Rattle.bi_common.specs.Lines.{Line}
 use Rattle.bi_common.specs.VerdictCounts.{is_verdict}
 use Rattle.bi_report.specs.declared.check.Allowed.{Allowed}
@@ -145,10 +145,13 @@ concern_line concern = details_line (concern_details concern)
 abbrev pub concern_object : Concern → Json
 concern_object concern = details_object (concern_details concern)
 
+-- The member for concerns.
+abbrev pub concerns_member : List Concern → Member
+concerns_member concerns = (codes "concerns", json_array (map concern_object concerns))
+
 -- Concerns in JSON.
 abbrev pub concerns_object : List Concern → Json
-concerns_object concerns =
-    json_object ((codes "concerns", json_array (map concern_object concerns)) ∷ [])
+concerns_object concerns = json_object (concerns_member concerns ∷ [])
 
 -- ---- the hash nodes of an image
 

@@ -27,7 +27,8 @@ pub use concerns::{Concerns, KeptConcerns};
 pub use fit_coverage::FitCoverage;
 use std::alloc::Global;
 use std::io::{Read, Write};
-pub use text::put_concerns;
+pub use text::{put_concerns, put_concerns_member};
+pub use crate::used_hashes::is_skipped;
 pub use trailing::content_end;
 
 /// The kind of a concern.

@@ -2,15 +2,16 @@
 
 ghost use Rattle.std.specs.Prelude.{◌≡◌, ◌↔◌, [], IfOk, IsTrue, map};
 ghost use Rattle.bi_base.specs.Sinks.{Wrote};
-ghost use Rattle.bi_common.specs.JsonTokens.{json_tokens, value_tokens};
+ghost use Rattle.bi_common.specs.JsonTokens.{json_tokens, member_tokens, value_tokens};
 ghost use Rattle.bi_common.specs.LineTokens.{tokens_of_lines};
 ghost use Rattle.bi_report.specs.CheckedFiles.{concerns_text, text_of_concerns};
 ghost use Rattle.bi_report.specs.Checking.{concern_line, concern_object, concerns_object};
-ghost use Rattle.bi_report.specs.Checking.{allowed_under, kept_concerns};
+ghost use Rattle.bi_report.specs.Checking.{allowed_by_default, allowed_under, concerns_member};
+ghost use Rattle.bi_report.specs.Checking.{kept_concerns};
 ghost use Rattle.bi_report.specs.CheckedImages.{concerns_left, has_any, kept_left};
 ghost use Rattle.bi_report.specs.FoundConcerns.{concerns_in};
 
-use super::Checker;
+use super::{Checker, Policy};
 use super::concerns::{Concerns, KeptConcerns};
 use crate::details::{put_details_line, put_details_object};
 use bi_base::{Error, Pen, Sink, SinkPen};
@@ -75,11 +76,30 @@ fn put_object<J: JsonPen>(concerns: KeptConcerns, json: &mut J) -> bool
     ensures any { result ≡ has_any (kept_left concerns.entry) }
 {
     json.put(JsonToken::BeginObject);
+    let any = put_member_of_concerns(concerns, json);
+    json.put(JsonToken::EndObject);
+    any
+}
+
+/// Puts the member for all of these concerns that `check` has without options.
+pub fn put_concerns_member<J: JsonPen>(concerns: Concerns, json: &mut J)
+    ensures { J.puts json.old (member_tokens (concerns_member
+        (kept_concerns allowed_by_default (concerns_in (concerns_left concerns.entry)))
+        ∷ [])) json.new }
+{
+    let _any = put_member_of_concerns(concerns.kept(Policy::default().allowed_kinds()), json);
+}
+
+/// Puts the member for these concerns, and returns whether there are any.
+fn put_member_of_concerns<J: JsonPen>(concerns: KeptConcerns, json: &mut J) -> bool
+    ensures member { J.puts json.old
+        (member_tokens (concerns_member (concerns_in (kept_left concerns.entry)) ∷ [])) json.new }
+    ensures any { result ≡ has_any (kept_left concerns.entry) }
+{
     json.put(JsonToken::Name("concerns"));
     json.put(JsonToken::BeginArray);
     let any = put_objects(concerns, json);
     json.put(JsonToken::EndArray);
-    json.put(JsonToken::EndObject);
     any
 }
 
