@@ -1,15 +1,23 @@
-use Rattle.std.proofs.Common.{◌≡◌, ◌∙◌, ℕ, Bool, true, false, List, [], ◌++◌, Some}
+use Rattle.std.proofs.Common.{◌≡◌, ◌∙◌, ℕ, Bool, true, false, List, [], ◌∷◌, ◌++◌, Some}
 use Rattle.std.proofs.Common.{codes, drop, length, inl, inr, ap, refl, sym, subst, arith}
 use Rattle.std.specs.Prelude.{slice_get}
 use Rattle.bi_base.specs.Cells.{cell, u32_at}
 use Rattle.bi_base.specs.declared.fault.Cause.TheVariants.{Truncated}
 use Rattle.bi_base.specs.declared.fault.Fault.{Fault}
 use Rattle.bi_base.specs.Limits.{widest}
+use Rattle.bi_base.specs.Strings.{text_before_nul}
 use Rattle.bi_blob.specs.KnownTexts.{smallest_text}
 use Rattle.bi_commands.specs.Extracting.{Chosen}
+use Rattle.bi_commands.specs.KnownChoices.{first_lists, second_default, second_kernel, second_tree}
 use Rattle.bi_commands.specs.declared.extract.Select.TheVariants.{Part}
 use Rattle.bi_describe.specs.declared.compare.CompareError.TheVariants as compare
-use Rattle.bi_fit.specs.Content.{FitModel, index_of, offset_of_place, place_or_absent}
+use Rattle.bi_fit.specs.Content.{FitModel, index_of, offset_of_place, place_or_absent, tree_of}
+use Rattle.bi_fit.specs.Judgement.{ListedImage, ListedImages, NoConfig, default_of, listed_of}
+use Rattle.bi_fit.specs.KnownJudgements.{configured_tree}
+use Rattle.bi_fit.specs.Names.{default_name, key_name}
+use Rattle.bi_fit.specs.declared.key.Key.{Key}
+use Rattle.bi_fit.specs.declared.key.Key.TheVariants.{Kernel, Fdt}
+use Rattle.bi_fit.proofs.JudgementFacts.{find-properties, lists_are_read}
 use Rattle.bi_legacy.specs.KnownFiles.{kernel_file_with_rest}
 use Rattle.bi_legacy.specs.KnownImages.{kernel_file, multi_file, multi_image}
 use Rattle.bi_legacy.specs.Laws.{OneLegacyMeaning}
@@ -23,7 +31,7 @@ use Rattle.bi_norm.proofs.ComparisonFacts.{compared_files_are_known, multi_means
 use Rattle.bi_c.specs.Answers.{Answers, FillsBuffer, Sets, Returned, Failed, Filled, HadNoRoom, FilledNothing, WasSet, WasNotSet}
 use Rattle.bi_c.specs.Answers.{answer_of, answer_of_failure, status_of_failure}
 use Rattle.bi_c.specs.Calls.{IsFailureOfTwo, flag, kind_number}
-use Rattle.bi_c.specs.Extracting.{IsNamedOffset, IsOffset}
+use Rattle.bi_c.specs.Extracting.{IsDefaultOffset, IsListedOffset, IsNamedOffset, IsOffset}
 use Rattle.bi_c.specs.KnownCalls.{CallNumbersAreKnown, ConcernElementsAreKnown, ConcernTextsAreKnown, OffsetsOfPayloadsAreKnown}
 use Rattle.bi_c.specs.KnownCalls.{CallAnswersAreKnown, ArgumentBoundsAreKnown, IsOnly, IsOutputXy, NoFailure, PiecesAreKnown, empty_answer}
 use Rattle.bi_c.specs.KnownCalls.{images_at_places}
@@ -64,13 +72,71 @@ concern_texts_are_known = record {
 same_number : (one other : ℕ) → Some one ≡ Some other → one ≡ other
 same_number one other same = cc
 
-named_offset : (content : FitModel) (offset : ℕ) → content.images ≡ images_at_places →
-    IsNamedOffset content (codes "b") offset → offset ≡ 72
-named_offset content offset are is =
-    let at = same_number 1 is.index (subst (λ images. index_of (codes "b") images ≡ Some is.index) are is.is_named) in
+-- The offset of a named image is that of its place.
+offset_by : (content : FitModel) (name : List ℕ) (index at offset : ℕ) → content.images ≡ images_at_places →
+    index_of name images_at_places ≡ Some index → offset_of_place (place_or_absent (slice_get images_at_places index)) ≡ Some at →
+    IsNamedOffset content name offset → offset ≡ at
+offset_by content name index at offset are named placed is =
+    let found : Some is.index ≡ Some index = sym (subst (λ images. index_of name images ≡ Some is.index) are is.is_named) ∙ named in
+    let same : is.index ≡ index = same_number is.index index found in
     let there = subst (λ images. offset_of_place (place_or_absent (slice_get images is.index)) ≡ Some offset) are is.is_offset in
-    sym (same_number 72 offset
-    (subst (λ index. offset_of_place (place_or_absent (slice_get images_at_places index)) ≡ Some offset) (sym at) there))
+    same_number offset at
+    (sym (subst (λ n. offset_of_place (place_or_absent (slice_get images_at_places n)) ≡ Some offset) same there) ∙ placed)
+
+-- The entry of a list that gives the offset.
+entry_by : (content : FitModel) (configuration : List ℕ) (key : Key) (index : ℕ) (listed : List ListedImage) (entry : ListedImage)
+    (offset : ℕ) → tree_of content ≡ second_tree → listed_of second_tree configuration key ≡ ListedImages listed →
+    slice_get listed index ≡ Some entry → IsListedOffset content configuration key index offset → IsNamedOffset content entry.name offset
+entry_by content configuration key index listed entry offset tree lists at is =
+    let whole : ListedImages is.listed ≡ ListedImages listed =
+    sym (subst (λ t. listed_of t configuration key ≡ ListedImages is.listed) tree is.is_listed) ∙ lists in
+    let same : is.listed ≡ listed = cc in
+    let one : Some is.entry ≡ Some entry = sym (subst (λ l. slice_get l index ≡ Some is.entry) same is.is_entry) ∙ at in
+    let this : is.entry ≡ entry = cc in
+    subst (λ (e : ListedImage). IsNamedOffset content e.name offset) this is.is_offset
+
+-- A listed image, whose payload is its name.
+abbrev named_image : List ℕ → ListedImage
+named_image name = record { name = name; payload = Some name }
+
+second_lists : listed_of second_tree (codes "conf-1") Fdt ≡ ListedImages (named_image (codes "b") ∷ named_image (codes "a") ∷ [])
+unfolding text_before_nul
+second_lists = rw (find-properties first_lists (key_name Fdt)) refl
+
+default_lists : listed_of second_tree (codes "conf-2") Kernel ≡ ListedImages (named_image (codes "b") ∷ [])
+unfolding text_before_nul
+default_lists = rw (find-properties second_kernel (key_name Kernel)) refl
+
+default_is : default_of second_tree ≡ Some (codes "conf-2")
+unfolding text_before_nul
+default_is = rw (find-properties second_default default_name) refl
+
+listed_offset : (content : FitModel) (offset : ℕ) → content.images ≡ images_at_places → tree_of content ≡ second_tree →
+    IsListedOffset content (codes "conf-1") Fdt 1 offset → offset ≡ 60
+listed_offset content offset are tree is =
+    offset_by content (codes "a") 0 60 offset are refl refl
+    (entry_by content (codes "conf-1") Fdt 1 _ (named_image (codes "a")) offset tree second_lists refl is)
+
+default_offset : (content : FitModel) (offset : ℕ) → content.images ≡ images_at_places → tree_of content ≡ second_tree →
+    IsDefaultOffset content Kernel 0 offset → offset ≡ 72
+default_offset content offset are tree is =
+    let whole : Some is.configuration ≡ Some (codes "conf-2") =
+    sym (subst (λ t. default_of t ≡ Some is.configuration) tree is.is_default) ∙ default_is in
+    let same : is.configuration ≡ codes "conf-2" = cc in
+    offset_by content (codes "b") 1 72 offset are refl refl
+    (entry_by content (codes "conf-2") Kernel 0 _ (named_image (codes "b")) offset tree default_lists refl
+    (subst (λ name. IsListedOffset content name Kernel 0 offset) same is.is_offset))
+
+no_default : (content : FitModel) (offset : ℕ) → tree_of content ≡ configured_tree → ¬ (IsDefaultOffset content Kernel 0 offset)
+no_default content offset tree is =
+    let whole : Some is.configuration ≡ Some (codes "conf-3") =
+    sym (subst (λ t. default_of t ≡ Some is.configuration) tree is.is_default) ∙ lists_are_read.default in
+    let same : is.configuration ≡ codes "conf-3" = cc in
+    let nothing : listed_of configured_tree is.configuration Kernel ≡ NoConfig =
+    subst (λ name. listed_of configured_tree name Kernel ≡ NoConfig) (sym same) lists_are_read.no_configuration in
+    let wrong : NoConfig ≡ ListedImages is.is_offset.listed =
+    sym nothing ∙ subst (λ t. listed_of t is.configuration Kernel ≡ ListedImages is.is_offset.listed) tree is.is_offset.is_listed in
+    cc
 
 not_named : (content : FitModel) (offset : ℕ) → content.images ≡ images_at_places → ¬ (IsNamedOffset content (codes "c") offset)
 not_named content offset are is =
@@ -87,9 +153,12 @@ part_offset offset is =
 
 pub offsets_of_payloads_are_known : OffsetsOfPayloadsAreKnown
 offsets_of_payloads_are_known = record {
-  named = named_offset;
+  named = λ content offset are. offset_by content (codes "b") 1 72 offset are refl refl;
   no_image = not_named;
   no_part = λ content offset is. is;
+  listed = listed_offset;
+  default = default_offset;
+  no_default = no_default;
   chosen = λ size offset is. is.is_size ∙ ap length (sym (same_bytes (codes "abc") is.bytes is.is_chosen));
   part = part_offset;
 }

@@ -2,7 +2,6 @@ use Rattle.std.proofs.Common.{◌≡◌, [], ◌∷◌, Some, codes, lit<, lit�
 use Rattle.std.specs.List.{AllZip}
 use Rattle.bi_base.specs.Cells.{cell, cell8, u32_at}
 use Rattle.bi_base.specs.Crc.{crc32, crc_after, low_bits}
-use Rattle.bi_base.specs.Limits.{IsInRange}
 use Rattle.bi_base.specs.Strings.{text_before_nul}
 use Rattle.bi_blob.specs.Layout.{text_of_events, text_of_blocks}
 use Rattle.bi_fit.specs.Judgement.{verdicts_of}
@@ -25,6 +24,7 @@ use Rattle.bi_commands.specs.KnownChoices.{second_default}
 use Rattle.bi_c.specs.KnownElements.{IndicesAreKnown, LegacyElementsAreKnown, PlaceNumbersAreKnown, TreeElementsAreKnown}
 use Rattle.bi_c.specs.KnownElements.{shown_hash_element}
 use Rattle.bi_c.specs.VerdictElements.{IsHashElement}
+use Rattle.bi_c.proofs.AnswerFacts.{widest_is_in_range}
 
 -- The arrays that calls from C fill for small files are known.
 
@@ -56,9 +56,6 @@ indices_are_known = record {
   no_reason = λ reason index is. is;
   reservation = refl;
 }
-
-widest_is_in_range : IsInRange 0x7fffffff 64
-widest_is_in_range = (lit≤ tt, lit≤ tt, lit≤ tt, lit≤ tt)
 
 pub legacy_elements_are_known : OneLegacyMeaning → LegacyElementsAreKnown
 unfolding header cell

@@ -1,3 +1,4 @@
+pub mod AnswerFacts
 pub mod ArrayFilling
 pub mod CallAnswers
 pub mod CheckedFiles
@@ -10,6 +11,7 @@ pub mod FitElements
 pub mod FitFiles
 pub mod ImageElements
 pub mod ImageFiles
+pub mod LegacyCallFacts
 pub mod LegacyElements
 pub mod ListedChoices
 pub mod ListedIndices
@@ -21,6 +23,7 @@ pub mod Places
 pub mod ShownPages
 pub mod SliceWriting
 pub mod TreeBuilding
+pub mod TreeCallFacts
 pub mod TreeRegions
 pub mod VerdictElements
 pub mod VerdictFiles

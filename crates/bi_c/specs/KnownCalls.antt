@@ -1,4 +1,5 @@
-use Rattle.std.specs.Prelude.{◌≡◌, ◌≤◌, ⊤, ℕ, true, false, List, [], ◌∷◌, Option, None, Some, codes}
+use Rattle.std.specs.Prelude.{◌≡◌, ◌≤◌, ◌⊎◌, ⊤, ℕ, true, false, List, [], ◌∷◌, Option, None, Some}
+use Rattle.std.specs.Prelude.{codes}
 use Rattle.bi_base.specs.declared.fault.Cause.TheVariants.{Truncated}
 use Rattle.bi_base.specs.declared.fault.Error.TheVariants as error
 use Rattle.bi_base.specs.declared.fault.Fault.{Fault}
@@ -8,10 +9,12 @@ use Rattle.bi_blob.specs.KnownTexts.{smallest_text}
 use Rattle.bi_blob.specs.Tree.{FileNode, FileProperty}
 use Rattle.bi_common.specs.declared.format.Format.TheVariants.{Json}
 use Rattle.bi_commands.specs.Extracting.{Chosen}
+use Rattle.bi_commands.specs.KnownChoices.{second_tree}
 use Rattle.bi_commands.specs.declared.extract.Select.TheVariants.{Part}
 use Rattle.bi_describe.specs.declared.compare.CompareError.TheVariants as compare
-use Rattle.bi_fit.specs.Content.{FitModel, ImageModel}
+use Rattle.bi_fit.specs.Content.{FitModel, ImageModel, tree_of}
 use Rattle.bi_fit.specs.Judgement.{CheckedHash}
+use Rattle.bi_fit.specs.KnownJudgements.{configured_tree}
 use Rattle.bi_blob.specs.Lookups.{Sibling}
 use Rattle.bi_fit.specs.declared.image.Place.{Place}
 use Rattle.bi_fit.specs.declared.image.Place.TheVariants.{Data, DataOffset}
@@ -30,7 +33,7 @@ use Rattle.bi_c.specs.Calls.{IsTextOnly, IsTextWithFlag}
 use Rattle.bi_c.specs.ConcernElements.{IsConcernElement, algorithm_in}
 use Rattle.bi_c.specs.ConcernElements.{concern_element, hash_name_in}
 use Rattle.bi_c.specs.ConcernElements.{name_in}
-use Rattle.bi_c.specs.Extracting.{IsChosenAt, IsNamedOffset}
+use Rattle.bi_c.specs.Extracting.{IsChosenAt, IsDefaultOffset, IsListedOffset, IsNamedOffset}
 use Rattle.bi_c.specs.Extracting.{IsOffset, IsPayloadOffset}
 use Rattle.bi_c.specs.KnownElements.{kernel_fields, region_at_offset}
 use Rattle.bi_c.specs.PieceBuilding.{bytes_of_piece, HasPieces, IsPieceBuildFailure, legacy_in}
@@ -120,13 +123,22 @@ abbrev pub images_at_places : List ImageModel
 images_at_places =
     placed_image (codes "a") (Data 60) ∷ placed_image (codes "b") (DataOffset 72) ∷ []
 
--- The offsets of what is selected. In the tree, `conf-2` is the default and lists `b`.
+-- The offsets of what is selected. In the tree, `conf-1` lists `b` and then `a` as its devicetrees.
+-- `conf-2` is the default and lists `b`. Another tree does not have the configuration that is its
+-- default.
 pub record OffsetsOfPayloadsAreKnown : Type 0 where
   pub named : (content : FitModel) (offset : ℕ) → content.images ≡ images_at_places
       → IsNamedOffset content (codes "b") offset → offset ≡ 72
   pub no_image : (content : FitModel) (offset : ℕ) → content.images ≡ images_at_places
       → ¬ (IsNamedOffset content (codes "c") offset)
   pub no_part : (content : FitModel) (offset : ℕ) → ¬ (IsPayloadOffset (Part 0) content offset)
+  pub listed : (content : FitModel) (offset : ℕ) → content.images ≡ images_at_places
+      → tree_of content ≡ second_tree
+      → IsListedOffset content (codes "conf-1") Fdt 1 offset → offset ≡ 60
+  pub default : (content : FitModel) (offset : ℕ) → content.images ≡ images_at_places
+      → tree_of content ≡ second_tree → IsDefaultOffset content Kernel 0 offset → offset ≡ 72
+  pub no_default : (content : FitModel) (offset : ℕ) → tree_of content ≡ configured_tree
+      → ¬ (IsDefaultOffset content Kernel 0 offset)
   pub chosen : (size offset : ℕ) → IsChosenAt (codes "xabc") (Chosen (codes "abc")) size offset
       → size ≡ 3
   pub part : (offset : ℕ) → IsOffset widest (Part 1) multi_file offset → offset ≡ 84
@@ -169,6 +181,23 @@ NoFailure failure = ⊥
 -- The failure is this one.
 abbrev pub IsOnly : Failure → Failure → Type 0
 IsOnly failure other = other ≡ failure
+
+-- The call leaves this in the caller's struct and returns this status, unless memory runs out.
+abbrev pub AlwaysAnswers : (IsOutput : (size value : ℕ) → Type 0) → (HasFailed : Failure → Type 0)
+    → Answer → (status : ℕ) → Type 0
+AlwaysAnswers IsOutput HasFailed answer status =
+    (left : Answer) (returned : ℕ) → Answers IsOutput HasFailed left returned
+    → ((left ≡ answer) × (returned ≡ status)) ⊎ ((left ≡ empty_answer) × (returned ≡ 2))
+
+-- The call on this buffer leaves this in it and in the caller's struct, and returns this status,
+-- unless memory runs out.
+abbrev pub AlwaysFills : {T : Type 0} → (IsOutput : (output : List T) → (value : ℕ) → Type 0)
+    → (HasFailed : Failure → Type 0) → (before after : List T) → Answer → (status : ℕ) → Type 0
+AlwaysFills {T} IsOutput HasFailed before after answer status =
+    (left : List T) (given : Answer) (returned : ℕ)
+    → FillsBuffer IsOutput HasFailed before left given returned
+    → ((left ≡ after) × (given ≡ answer) × (returned ≡ status))
+    ⊎ ((left ≡ before) × (given ≡ empty_answer) × (returned ≡ 2))
 
 -- The output `xy`, with the number 7.
 abbrev pub IsOutputXy : (output : List ℕ) → (value : ℕ) → Type 0

@@ -7,8 +7,10 @@ pub mod FitElements
 pub mod ImageElements
 pub mod KnownElements
 pub mod KnownCalls
+pub mod KnownLegacyCalls
 pub mod KnownNumbers
 pub mod KnownPaths
+pub mod KnownTreeCalls
 pub mod LegacyElements
 pub mod NodeElements
 pub mod PieceBuilding

@@ -81,7 +81,7 @@ error_reasons_are_known = record {
 
 module _ (one_legacy : OneLegacyMeaning) (file : List ℕ) (meaning : Meaning) (means : Means widest file meaning) where
   -- What a file means is this.
-  same_meaning : (other : Meaning) → Means widest file other → other ≡ meaning
+  pub same_meaning : (other : Meaning) → Means widest file other → other ≡ meaning
   same_meaning other other_means = one_file_meaning one_legacy widest widest file other meaning other_means means
 
   chosen : (select : Select) (bytes : List ℕ) → choice_of select meaning ≡ Chosen bytes → IsOnlyExtract select file bytes

@@ -13,3 +13,4 @@ pub mod BoundFacts
 pub mod ChoiceFacts
 pub mod PartFacts
 pub mod ExtractFacts
+pub mod PromiseFacts

@@ -160,11 +160,11 @@ legacy_fault : (fields : Fields) (limits : Limits) (fault : Fault) →
 legacy_fault fields limits fault (NotFilled short is) = long_fault fault is.is_cut_fault
 legacy_fault fields limits fault (NotBuilt short contents are is) = absurd (not_parts contents are)
 
-fit_fault : (form : Form) (head : Head) (plan : PlanSpecModel) (limits : Limits) (fault : Fault) →
-    IsFitOutputFault limits form head plan kernel_and_tree mixed_parts (codes "abcd") fault →
+fit_fault : (form : Form) (head : Head) (plan : PlanSpecModel) (given : List ImageSpec) (limits : Limits) (fault : Fault) →
+    IsFitOutputFault limits form head plan given mixed_parts (codes "abcd") fault →
     fault ≡ record { cause = BadPart; offset = 3 }
-fit_fault form head plan limits fault (NotCut short is) = long_fault fault is
-fit_fault form head plan limits fault (NotBuilt short contents filled images have is) = absurd (not_filled contents filled)
+fit_fault form head plan given limits fault (NotCut short is) = long_fault fault is
+fit_fault form head plan given limits fault (NotBuilt short contents filled images have is) = absurd (not_filled contents filled)
 
 built_images : (form : Form) (head : Head) (plan : PlanSpecModel) (limits : Limits) (output : List ℕ) →
     IsFitOutput limits form head plan kernel_and_tree given_parts [] output →

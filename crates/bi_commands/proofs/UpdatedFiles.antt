@@ -52,7 +52,7 @@ module _ (changes : Changes) (limits : Limits) (form : Form) (file : List ℕ) (
   abbrev updated_legacy_text : List ℕ
   updated_legacy_text = legacy_text (with_new_time time parsed.image)
 
-  legacy_is_updated : IsUpdated changes limits form file updated_legacy_text
+  unfoldable pub legacy_is_updated : IsUpdated changes limits form file updated_legacy_text
   legacy_is_updated = record {
     meaning = OfLegacy parsed.image;
     means = record { means = opened.means; only = only_legacy limits file parsed opened };

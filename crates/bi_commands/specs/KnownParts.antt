@@ -111,9 +111,8 @@ pub record BuiltPartsAreKnown : Type 0 where
       → (build_fit_promise form head plan kernel_and_tree given_parts limits).is_output tt [] output
       → (images : List ImageSpec) × AreKernelAndTree (codes "ab" ∷ codes "c" ∷ []) images
       × IsBuiltAs limits form head plan images output
-  pub fit_fault : (form : Form) (head : Head) (plan : PlanSpecModel) (limits : Limits)
-      (fault : Fault)
-      → (build_fit_promise form head plan kernel_and_tree mixed_parts limits).has_error
-      (codes "abcd")
+  pub fit_fault : (form : Form) (head : Head) (plan : PlanSpecModel) (images : List ImageSpec)
+      (limits : Limits) (fault : Fault)
+      → (build_fit_promise form head plan images mixed_parts limits).has_error (codes "abcd")
       (Refused fault)
       → fault ≡ record { cause = BadPart; offset = 3 }

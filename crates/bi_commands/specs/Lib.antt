@@ -12,3 +12,4 @@ pub mod KnownPayloadFiles
 pub mod KnownChoices
 pub mod KnownParts
 pub mod KnownExtracts
+pub mod KnownPromises

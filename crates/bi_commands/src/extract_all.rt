@@ -103,9 +103,9 @@ fn payloads_of_fit<'a>(alloc: Global, fit: &Fit<'a>, limits: Limits) -> Result<P
         ≡ payload_files (OfFit (tree_of fit.now))) }
     ensures failed { IfErr result (IsPayloadError limits (OfFit (tree_of fit.now))) }
 {
-    let _ = BoundedFit::new(fit, limits)?;
+    let bounded = BoundedFit::new(fit, limits)?;
     let mut payloads = Vec::new(alloc);
-    for image in fit.images() {
+    for image in bounded.fit().images() {
         add_payload(alloc, image, &mut payloads)?;
     }
     Ok(Payloads { payloads })

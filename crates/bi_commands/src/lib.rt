@@ -8,6 +8,7 @@ pub mod causes;
 pub mod convert;
 pub mod extract;
 pub mod extract_all;
+pub mod known_promises;
 pub mod known_refusals;
 pub mod known_texts;
 pub mod known_updates;

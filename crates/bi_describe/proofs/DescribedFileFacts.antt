@@ -13,7 +13,7 @@ use Rattle.bi_norm.specs.Comparing.{AreCompared, MeansOnly}
 use Rattle.bi_norm.specs.Meaning.{Meaning, OfLegacy, OfFit}
 use Rattle.bi_norm.proofs.KindLaws.{one_file_meaning}
 use Rattle.bi_common.specs.declared.format.Format.{Format}
-use Rattle.bi_common.specs.declared.format.Format.TheVariants.{Lines}
+use Rattle.bi_common.specs.declared.format.Format.TheVariants.{Lines, Json}
 use Rattle.bi_common.specs.KnownWords.{lines}
 use Rattle.bi_common.specs.Lines.{Line, text_of_lines}
 use Rattle.bi_describe.specs.declared.compare.signed_lines.Sign.TheVariants as sign
@@ -22,8 +22,8 @@ use Rattle.bi_describe.specs.Comparing.{AreDifferent, AreTheSame, IsComparison, 
 use Rattle.bi_common.specs.PayloadBounds.{payloads_length}
 use Rattle.bi_describe.specs.DescriptionJson.{description_json}
 use Rattle.bi_describe.specs.Descriptions.{description_lines}
-use Rattle.bi_describe.specs.Describing.{CanBeDescribed}
-use Rattle.bi_describe.specs.KnownDescribedFiles.{ComparedTextsAreKnown, DescribedFilesAreKnown}
+use Rattle.bi_describe.specs.Describing.{CanBeDescribed, IsDescription, description_text}
+use Rattle.bi_describe.specs.KnownDescribedFiles.{ComparedTextsAreKnown, DescribedFilesAreKnown, IsOnlyDescription}
 use Rattle.bi_describe.proofs.DifferenceFacts.{comparison_as, image_lines, tree_with}
 
 -- Whole descriptions and comparisons of small files.
@@ -155,22 +155,27 @@ module _ (one_legacy : OneLegacyMeaning) where
   unfolding digits
   json_is = rw no_entries refl
 
+  -- The file means nothing else, so it has no other description.
+  only_text : (format : Format) (text : List ℕ) → CanBeDescribed format widest (OfFit smallest_tree) →
+      description_text format (OfFit smallest_tree) ≡ text → IsOnlyDescription format smallest_text text
+  only_text format text within is =
+      let described : IsDescription format widest smallest_text text =
+      record { meaning = OfFit smallest_tree; means = only_smallest; within = within; is_text = sym is } in
+      record {
+        is_output = described;
+        is_text = described;
+        only = λ other output.
+            output.is_text ∙ ap (description_text format) (sym (output.means.only (OfFit smallest_tree) smallest_means)) ∙ is;
+      }
+
   pub described_files_are_known : DescribedFilesAreKnown
   unfolding digits
   described_files_are_known = record {
-    text = record {
-      meaning = OfFit smallest_tree;
-      means = only_smallest;
-      within = small;
-      is_text = sym (ap text_of_lines smallest_are ∙ refl);
-    };
-    json = record {
-      meaning = OfFit smallest_tree;
-      means = only_smallest;
-      within = record {
-        payloads = λ over. omega (arith, over);
-        short = subst (λ text. length text ≤ 0x7fffffff) (sym json_is) (lit≤ tt);
-      };
-      is_text = sym json_is;
-    };
+    text = only_text Lines _ small (ap text_of_lines smallest_are ∙ refl);
+    json = only_text Json _
+        (record {
+          payloads = λ over. omega (arith, over);
+          short = subst (λ text. length text ≤ 0x7fffffff) (sym json_is) (lit≤ tt);
+        })
+        json_is;
   }

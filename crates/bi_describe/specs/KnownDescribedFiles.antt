@@ -7,17 +7,24 @@ use Rattle.bi_common.specs.declared.format.Format.TheVariants.{Lines, Json}
 use Rattle.bi_common.specs.KnownWords.{lines}
 use Rattle.bi_describe.specs.Comparing.{IsComparison, comparison_text, kinds_differ}
 use Rattle.bi_describe.specs.Comparing.{other_order_line}
-use Rattle.bi_describe.specs.Describing.{IsDescription}
+use Rattle.bi_describe.specs.Describing.{describe_promise}
 
 -- Whole outputs of `describe` and `compare` on small files, as text and as JSON, with the value
 -- that the exit status follows. A reader can judge the definitions by them.
 
+-- Describing the file in this form gives this text, and no other.
+pub record IsOnlyDescription (format : Format) (file text : List ℕ) : Type 0 where
+  pub is_output : (describe_promise format widest).is_output tt file text
+  pub is_text : (describe_promise format widest).is_text file text
+  pub only : (other : List ℕ) → (describe_promise format widest).is_output tt file other
+      → other ≡ text
+
 -- The descriptions of the smallest flattened image tree.
 pub record DescribedFilesAreKnown : Type 0 where
-  pub text : IsDescription Lines widest smallest_text
+  pub text : IsOnlyDescription Lines smallest_text
       (lines
       (codes "kind fit" ∷ codes "boot-cpu 0" ∷ codes "node /" ∷ codes "node /images" ∷ []))
-  pub json : IsDescription Json widest smallest_text
+  pub json : IsOnlyDescription Json smallest_text
       (codes "{\"kind\":\"fit\",\"boot_cpu\":0,\"reservations\":[],\"root\":{\"properties\":[],"
       ++ lines
       (codes "\"children\":[{\"name\":\"images\",\"properties\":[],\"children\":[]}]}}" ∷ []))

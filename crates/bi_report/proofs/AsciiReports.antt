@@ -1,9 +1,9 @@
-use Rattle.std.proofs.Common.{◌≡◌, ℕ, ◌-◌, ◌==◌, not, Bool, true, false, cond, List, [], ◌∷◌, ◌++◌, bytes_eq, codes, drop, filter}
-use Rattle.std.proofs.Common.{flat_map, length, map}
+use Rattle.std.proofs.Common.{◌≡◌, ℕ, ◌-◌, Bool, true, false, cond, List, [], ◌∷◌, ◌++◌, drop, filter, rules}
+use Rattle.std.proofs.Common.{flat_map, map}
 use Rattle.std.proofs.Common.{Option, Some, None, refl, subst, sym}
 use Rattle.std.specs.Prelude.{IfSome, IsAscii, option_and_then}
 use Rattle.std.specs.FinMap.{get}
-use Rattle.std.specs.List.{AllByRecursion, list_all, list_any}
+use Rattle.std.specs.List.{AllByRecursion}
 use Rattle.std.specs.Option.{option_map}
 use Rattle.bi_base.specs.Cells.{AreBytes}
 use Rattle.bi_base.specs.Limits.{Limits}
@@ -13,10 +13,10 @@ use Rattle.bi_blob.specs.Lookups.{Sibling, siblings}
 use Rattle.bi_blob.specs.Tree.{Nodes, none, node, PropertyMap, AreNodes, names}
 use Rattle.bi_fit.specs.declared.key.Key.{Key}
 use Rattle.bi_fit.specs.File.{IsFitFile}
-use Rattle.bi_fit.specs.ImageTree.{ImageTree, ArePropertiesByName, HaveByteNames, IsImageTree, children_of, nodes_or_none}
+use Rattle.bi_fit.specs.ImageTree.{ImageTree, ArePropertiesByName, HaveByteNames, IsImageTree}
 use Rattle.bi_fit.specs.Judgement.{Image, CheckedHash, ListResult, NoConfig, NoKey, BadList, Missing, ListedImages, checked_hash}
 use Rattle.bi_fit.specs.Judgement.{configuration_nodes, default_of, hash_nodes, images_of, images_with, listed_of, verdicts_of}
-use Rattle.bi_fit.specs.Names.{algo_name, value_name, all_keys, images_name, is_hash_name}
+use Rattle.bi_fit.specs.Names.{algo_name, value_name, all_keys, is_hash_name}
 use Rattle.bi_fit.proofs.TextLaws.{file_means_image_tree}
 use Rattle.bi_fit.proofs.TreeShapes.{AreNodes-children_of, bytes-children_of}
 use Rattle.bi_hash.specs.declared.verdicts.Verdict.{Verdict}
@@ -25,7 +25,7 @@ use Rattle.bi_norm.specs.Meaning.{Meaning, OfLegacy, OfFit, Means}
 use Rattle.bi_common.specs.declared.format.Format.{Format}
 use Rattle.bi_common.specs.declared.format.Format.TheVariants.{Lines, Json}
 use Rattle.bi_common.specs.Json.{HasNumbers, HaveNumbers, json_values, string_or_null}
-use Rattle.bi_common.specs.Lines.{Text, Digits, digits_or_dash, name_or_dash}
+use Rattle.bi_common.specs.Lines.{Text, digits_or_dash, name_or_dash}
 use Rattle.bi_common.specs.Shown.{shown_text}
 use Rattle.bi_common.specs.VerdictCounts.{CountsModel}
 use Rattle.bi_common.proofs.PrintedTexts.{json_lines_are_ascii}
@@ -33,10 +33,10 @@ use Rattle.bi_common.specs.Lines.{CanPrint}
 use Rattle.bi_common.proofs.PrintedWords.{CanPrintLine, CanPrintLines, line_texts_are_ascii}
 use Rattle.bi_report.specs.declared.check.Allowed.{Allowed}
 use Rattle.bi_report.specs.CheckedFiles.{IsChecked, concerns_text}
-use Rattle.bi_report.specs.Checking.{Concern, BadHash, UnhashedImage, WeakHash, BadDefault, TrailingBytes}
+use Rattle.bi_report.specs.Checking.{Concern, BadHash, WeakHash, TrailingBytes}
 use Rattle.bi_report.specs.Checking.{AreConcerns, OfLegacyImage, OfImageTree, content_end, concern_line, concern_object, concerns_object}
-use Rattle.bi_report.specs.Checking.{configuration_concerns, default_concerns, hash_concerns, hashes_of_image, image_concerns, is_good}
-use Rattle.bi_report.specs.Checking.{is_strong, kept_concerns, list_concerns, names_one_of, payload_concerns, tree_concerns}
+use Rattle.bi_report.specs.Checking.{configuration_concerns, default_concerns, hash_concerns, hashes_of_image, image_concerns}
+use Rattle.bi_report.specs.Checking.{kept_concerns, list_concerns, payload_concerns, tree_concerns}
 use Rattle.bi_report.specs.Checking.{trailing_concerns}
 use Rattle.bi_report.specs.Details.{name_json}
 use Rattle.bi_report.specs.Reports.{counts_of, hash_line, legacy_report_lines, report_lines, report_object, summary_line, verdict_word}
@@ -106,22 +106,12 @@ images_bytes (node name own children later) (payload ∷ payloads) are bytes =
 
 -- The images of a tree.
 pub tree_images : (tree : ImageTree) → IsImageTree tree → AllByRecursion IsByteImage (images_of tree)
-tree_images tree is = by (children_of images_name tree.root.children) refl
-  where
-    by : (o : Option (Nodes PropertyMap)) → children_of images_name tree.root.children ≡ o →
-        AllByRecursion IsByteImage (images_with (siblings (nodes_or_none o)) tree.payloads)
-    by None found = tt
-    by (Some inner) found =
-        images_bytes inner tree.payloads (AreNodes-children_of ArePropertiesByName images_name tree.root.children inner found
-        is.is_tree.children)
-        (bytes-children_of images_name tree.root.children inner found is.name_bytes)
+tree_images tree is = search (rules, images_bytes, AreNodes-children_of, bytes-children_of)
 
 pub all_hashes : (images : List Image) → AllByRecursion IsByteImage images →
     AllByRecursion IsByteHash (flat_map (λ (image : Image). map (checked_hash image) (hash_nodes image)) images)
 all_hashes [] bytes = tt
-all_hashes (image ∷ later) bytes =
-    each-append IsByteHash (hashes_of_image image) (flat_map (λ (image : Image). map (checked_hash image) (hash_nodes image)) later)
-    bytes.0.1 (all_hashes later bytes.1)
+all_hashes (image ∷ later) bytes = search (rules, each-append, all_hashes later bytes.1)
 
 -- ---- details
 
@@ -132,11 +122,7 @@ name_can (Some name) bytes = bytes
 
 digits_can : (value : Option (List ℕ)) → IfSome value AreBytes → CanPrint (digits_or_dash value)
 digits_can None bytes = refl
-digits_can (Some value) bytes = by (bytes_eq value [])
-  where
-    by : (b : Bool) → CanPrint (cond b (Text (codes "-")) (Digits value))
-    by true = refl
-    by false = bytes
+digits_can (Some value) bytes = search rules
 
 verdict_can : (verdict : Verdict) → CanPrint (Text (verdict_word verdict))
 verdict_can Good = refl
@@ -194,17 +180,11 @@ no_numbers [] = tt
 no_numbers (hash ∷ later) = (string_has_no_number (option_map shown_text hash.algo), no_numbers later)
 
 bad_hash_can : (hash : CheckedHash) → IsByteHash hash → CanWrite (BadHash hash)
-bad_hash_can hash bytes = record {
-  line = (refl, (bytes.0, (bytes.1, (name_can hash.algo bytes.2, (verdict_can hash.verdict, tt)))));
-  numbers = (tt, (tt, (tt, (string_has_no_number (option_map shown_text hash.algo), (tt, tt)))));
-}
+bad_hash_can hash bytes = search (rules, name_can, verdict_can, string_has_no_number)
 
 weak_hash_can : (image : List ℕ) (good : List CheckedHash) → AreBytes image → AllByRecursion IsByteHash good →
     CanWrite (WeakHash image good)
-weak_hash_can image good named bytes = record {
-  line = (refl, (named, algorithms_can good bytes));
-  numbers = (tt, (tt, (no_numbers good, tt)));
-}
+weak_hash_can image good named bytes = search (rules, algorithms_can, no_numbers)
 
 pub trailing_can : (count : ℕ) → CanPrintLine (concern_line (TrailingBytes count))
 trailing_can count = (refl, (tt, tt))
@@ -216,29 +196,16 @@ if_not false concern can = (can, tt)
 
 hashes_can : (hashes : List CheckedHash) → AllByRecursion IsByteHash hashes → AllByRecursion CanWrite (flat_map hash_concerns hashes)
 hashes_can [] bytes = tt
-hashes_can (hash ∷ later) bytes =
-    each-append CanWrite (hash_concerns hash) (flat_map hash_concerns later)
-    (if_not (is_good hash) (BadHash hash) (bad_hash_can hash bytes.0)) (hashes_can later bytes.1)
+hashes_can (hash ∷ later) bytes = search (rules, each-append, if_not, bad_hash_can, hashes_can later bytes.1)
 
 payload_can : (name : List ℕ) (payload : Option (List ℕ)) (hashes : List CheckedHash) → AreBytes name → AllByRecursion IsByteHash hashes →
     AllByRecursion CanWrite (payload_concerns name payload hashes)
 payload_can name None hashes named bytes = tt
-payload_can name (Some payload) hashes named bytes = by (not (list_any is_good hashes)) (not (list_any is_strong hashes))
-  where
-    by : (a b : Bool) →
-        AllByRecursion CanWrite (cond a (UnhashedImage name ∷ []) (cond b (WeakHash name (filter is_good hashes) ∷ []) []))
-    by true b = (record { line = (refl, (named, tt)); numbers = (tt, (tt, tt)) }, tt)
-    by false true = (weak_hash_can name (filter is_good hashes) named (each-filter IsByteHash is_good hashes bytes), tt)
-    by false false = tt
+payload_can name (Some payload) hashes named bytes = search (rules, weak_hash_can, each-filter)
 
 images_can : (images : List Image) → AllByRecursion IsByteImage images → AllByRecursion CanWrite (flat_map image_concerns images)
 images_can [] bytes = tt
-images_can (image ∷ later) bytes =
-    let hashes = hashes_of_image image in
-    each-append CanWrite (image_concerns image) (flat_map image_concerns later)
-    (each-append CanWrite (flat_map hash_concerns hashes) (payload_concerns image.entry.name image.payload hashes)
-    (hashes_can hashes bytes.0.1) (payload_can image.entry.name image.payload hashes bytes.0.0 bytes.0.1))
-    (images_can later bytes.1)
+images_can (image ∷ later) bytes = search (rules, each-append, hashes_can, payload_can, images_can later bytes.1)
 
 -- Those about configurations.
 list_can : (configuration : List ℕ) (key : Key) (listed : ListResult) → AreBytes configuration → HasSmallIndex listed →
@@ -255,11 +222,7 @@ module _ (file : List ℕ) (tree : ImageTree) (is : IsFitFile file tree) where
   keys_can : (configuration : List ℕ) → AreBytes configuration → (keys : List Key) →
       AllByRecursion CanWrite (flat_map (λ (key : Key). list_concerns configuration key (listed_of tree configuration key)) keys)
   keys_can configuration bytes [] = tt
-  keys_can configuration bytes (key ∷ later) =
-      each-append CanWrite (list_concerns configuration key (listed_of tree configuration key))
-      (flat_map (λ (key : Key). list_concerns configuration key (listed_of tree configuration key)) later)
-      (list_can configuration key (listed_of tree configuration key) bytes (index_small file tree is configuration key))
-      (keys_can configuration bytes later)
+  keys_can configuration bytes (key ∷ later) = search (rules, each-append, list_can, index_small, keys_can configuration bytes later)
 
   configurations_can : (configurations : List (List ℕ)) → AllByRecursion AreBytes configurations →
       AllByRecursion CanWrite (flat_map (configuration_concerns tree) configurations)
@@ -271,9 +234,7 @@ module _ (file : List ℕ) (tree : ImageTree) (is : IsFitFile file tree) where
   default_can : (default : Option (List ℕ)) (configurations : List (List ℕ)) → IfSome default AreBytes →
       AllByRecursion CanWrite (default_concerns default configurations)
   default_can default [] bytes = tt
-  default_can default (first ∷ later) bytes =
-      if_not (names_one_of default (first ∷ later)) (BadDefault default)
-      (record { line = (refl, (name_can default bytes, tt)); numbers = (tt, (string_has_no_number (option_map shown_text default), tt)) })
+  default_can default (first ∷ later) bytes = search (rules, if_not, name_can, string_has_no_number)
 
   -- The concerns about a tree.
   pub tree_can : AllByRecursion CanWrite (tree_concerns tree)
@@ -290,17 +251,11 @@ module _ (file : List ℕ) (tree : ImageTree) (is : IsFitFile file tree) where
 
 -- The lines of the concerns about a file can be printed.
 trailing_lines : (bytes : List ℕ) → AllByRecursion (λ concern. CanPrintLine (concern_line concern)) (trailing_concerns bytes)
-trailing_lines bytes = by (list_all (λ byte. byte == 0) bytes)
-  where
-    by : (b : Bool) → AllByRecursion (λ concern. CanPrintLine (concern_line concern)) (cond b [] (TrailingBytes (length bytes) ∷ []))
-    by true = tt
-    by false = (trailing_can (length bytes), tt)
+trailing_lines bytes = search (rules, trailing_can)
 
 concern_lines_can : (limits : Limits) (file : List ℕ) (concerns : List Concern) → AreConcerns limits file concerns →
     AllByRecursion (λ concern. CanPrintLine (concern_line concern)) concerns
-concern_lines_can limits file concerns (OfLegacyImage parsed is are) =
-    subst (AllByRecursion (λ concern. CanPrintLine (concern_line concern))) (sym are)
-    (trailing_lines (drop (length file - parsed.unused) file))
+concern_lines_can limits file concerns (OfLegacyImage parsed is are) = search (rules, trailing_lines)
 concern_lines_can limits file concerns (OfImageTree tree means are) =
     let rest : List ℕ = drop (content_end file means.is_file.images tree.payloads) file in
     let CanPrintConcern : Concern → Type 0 = λ concern. CanPrintLine (concern_line concern) in

@@ -1,4 +1,4 @@
-use Rattle.std.proofs.Common.{◌≡◌, ◌↔◌, ℕ, max, Bool, IsTrue, List, [], ◌∷◌, ◌++◌, Option, Some}
+use Rattle.std.proofs.Common.{◌≡◌, ◌↔◌, ℕ, max, Bool, IsTrue, List, [], ◌∷◌, ◌++◌, Option, Some, rules}
 use Rattle.std.proofs.Common.{None, drop, flat_map, map}
 use Rattle.std.proofs.Common.{refl, sym, ap, ap₂, subst, ◌∙◌, append_assoc, inl, inr}
 use Rattle.std.specs.List.{AllZip}
@@ -70,12 +70,7 @@ nodes_found limits file content is =
 -- Where the content of a file ends, by what reading it returned.
 pub content_end_read : (limits : Limits) (file : List ℕ) (content : FitModel) (is : IsReadFit limits file content) →
     end_of_read_payloads content.blob.total_size content.images ≡ content_end file is.means.is_file.images (tree_of content).payloads
-content_end_read limits file content is =
-    let nodes : Nodes FileNode = file_images content.blob in
-    let read : AllZip (IsReadImage file) (siblings nodes) content.images =
-    subst (λ (f : List ℕ). AllZip (IsReadImage f) (siblings nodes) content.images) is.is_file is.held.images in
-    end_of_content file content.blob.total_size nodes content.images (is.held.total_size ∙ ap totalsize is.is_file) read
-    ∙ ap (λ (found : Nodes FileNode). content_end file found (tree_of content).payloads) (nodes_found limits file content is)
+content_end_read limits file content is = search (rules, end_of_content)
 
 -- The concerns about a flattened image tree that was read are those about the file.
 pub concerns_of_file : (limits : Limits) (file : List ℕ) (content : FitModel) (is : IsReadFit limits file content) →

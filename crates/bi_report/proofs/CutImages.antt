@@ -1,4 +1,4 @@
-use Rattle.std.proofs.Common.{◌≡◌, ℕ, ◌+◌, ◌-◌, ◌≤◌, Bool, true, false, List, [], ◌∷◌, ◌++◌, Option, Some, None, length, take, drop}
+use Rattle.std.proofs.Common.{◌≡◌, ℕ, ◌+◌, ◌-◌, ◌≤◌, List, [], ◌∷◌, ◌++◌, Option, Some, None, length, take, drop, rules}
 use Rattle.std.proofs.Common.{◌%◌, if◌then◌else◌, refl, sym, ap, ap₂, subst, ◌∙◌, append-nil, append_assoc, arith}
 use Rattle.std.specs.Prelude.{◌==◌, IfSome}
 use Rattle.std.specs.Int.{from_be_bytes, w32}
@@ -8,8 +8,8 @@ use Rattle.bi_base.specs.Cells.{slice, u32_at, up4}
 use Rattle.bi_base.specs.Limits.{Limits}
 use Rattle.bi_base.proofs.ByteLists.{AreBytes-take}
 use Rattle.bi_base.proofs.CellLaws.{length-slice}
-use Rattle.bi_blob.specs.Blob.{BeginsWithReservations, Header, IsBlob, Reservation, header_length, lacks_structure_size}
-use Rattle.bi_blob.specs.Blob.{off_dt_strings, off_dt_struct, off_mem_rsvmap, size_dt_strings, size_dt_struct, structure_end, strings_end}
+use Rattle.bi_blob.specs.Blob.{BeginsWithReservations, Header, IsBlob, Reservation, header_length}
+use Rattle.bi_blob.specs.Blob.{off_dt_strings, off_dt_struct, off_mem_rsvmap, size_dt_strings, structure_end, strings_end}
 use Rattle.bi_blob.specs.Blob.{totalsize}
 use Rattle.bi_blob.specs.Events.{EncodeEvents, file_events_of}
 use Rattle.bi_blob.specs.Tree.{FileNode, FileProperty, Root}
@@ -23,7 +23,6 @@ use Rattle.bi_legacy.specs.File.{IsLegacyFile, LegacyMeans, header}
 use Rattle.bi_legacy.specs.Meaning.{LegacyImage}
 use Rattle.bi_legacy.proofs.HeaderReads.{length-header, size_read}
 use Rattle.bi_norm.specs.Meaning.{Meaning, OfLegacy, OfFit, Means}
-use Rattle.bi_common.specs.Offsets.{input_from}
 use Rattle.bi_report.specs.Checking.{content_end}
 use Rattle.bi_report.specs.CleanFiles.{EndsBy, IsAfterContent}
 use Rattle.bi_report.specs.ScanLaws.{ScannedImagesAreWhole}
@@ -93,10 +92,7 @@ module _ (file : List ℕ) (end : ℕ) (head : Header file) (after : totalsize f
   cut_length = length-take-le end file within
 
   cut_after_header : 36 ≤ end
-  cut_after_header = by (lacks_structure_size file) head.total_holds_header where
-    by : (lacks : Bool) → (if lacks then 36 else 40) ≤ totalsize file → 36 ≤ end
-    by true holds = omega (arith, holds, after)
-    by false holds = omega (arith, holds, after)
+  cut_after_header = search rules
 
   -- The cells of its header are the same,
   cell_of_cut : (at : ℕ) → at + 4 ≤ 36 → u32_at (take end file) at ≡ u32_at file at
@@ -109,19 +105,7 @@ module _ (file : List ℕ) (end : ℕ) (head : Header file) (after : totalsize f
   total_of_cut = cell_of_cut 4 (omega arith)
 
   structure_of_cut : structure_end (take end file) ≡ structure_end file
-  structure_of_cut =
-      ap (λ n. if n == 16 then totalsize (take end file) else off_dt_struct (take end file) + size_dt_struct (take end file))
-      (cell_of_cut 20 (omega arith))
-      ∙ by (lacks_structure_size file) refl
-    where
-      by : (lacks : Bool) → lacks_structure_size file ≡ lacks →
-          (if lacks then totalsize (take end file) else off_dt_struct (take end file) + size_dt_struct (take end file))
-          ≡ (if lacks then totalsize file else off_dt_struct file + size_dt_struct file)
-      by true is = total_of_cut
-      by false is =
-          let whole : header_length file ≡ 40 = ap (λ lacks. if lacks then 36 else 40) is in
-          ap₂ (λ (a b : ℕ). a + b) (cell_of_cut 8 (omega arith))
-          (u32_of_cut file end 36 (omega (arith, whole, head.total_holds_header, after)))
+  structure_of_cut = search (rules, cell_of_cut, total_of_cut, u32_of_cut)
 
   strings_of_cut : strings_end (take end file) ≡ strings_end file
   strings_of_cut = ap₂ (λ (a b : ℕ). a + b) (cell_of_cut 12 (omega arith)) (cell_of_cut 32 (omega arith))
@@ -192,20 +176,7 @@ module _ (file : List ℕ) (end : ℕ) (head : Header file) (after : totalsize f
   region_of_cut : (base cut_base : ℕ) (begin size : FileProperty) (payload : List ℕ) → cut_base ≡ base →
       IsRegion file base begin size (Some payload) → base + cell_number begin + length payload ≤ end →
       IsRegion (take end file) cut_base begin size (Some payload)
-  region_of_cut base cut_base begin size payload same is before = record {
-    begin_cell = is.begin_cell;
-    size_cell = is.size_cell;
-    in_file = omega (arith, same, cut_length, before, long);
-    is_slice = ap Some (bytes
-        ∙ sym (slice_of_cut file end (base + cell_number begin) (cell_number size) (omega (arith, before, long)))
-        ∙ ap (λ (base : ℕ). slice (take end file) (base + cell_number begin) (cell_number size)) (sym same));
-  }
-    where
-      bytes : payload ≡ slice file (base + cell_number begin) (cell_number size)
-      bytes = same_in_some _ _ is.is_slice
-
-      long : length payload ≡ cell_number size
-      long = ap length bytes ∙ length-slice file (base + cell_number begin) (cell_number size) is.in_file
+  region_of_cut base cut_base begin size payload same is before = search (rules, cut_length, slice_of_cut, same_in_some, length-slice)
 
   payload_of_cut : (source : PayloadSource) (payload : Option (List ℕ)) → IsPayload file source payload →
       IfSome payload (λ bytes. (place : ℕ) × (payload_place file source ≡ Some place) × (place + length bytes ≤ end)) →
@@ -245,11 +216,7 @@ module _ (file : List ℕ) (end : ℕ) (head : Header file) (after : totalsize f
 ends_in_file : (file : List ℕ) (own : FileNode) (payload : Option (List ℕ)) → IsAtPlace file (payload_place file (source_of own)) payload →
     IfSome payload (EndsBy file (length file) own)
 ends_in_file file own None at = tt
-ends_in_file file own (Some payload) at = by (payload_place file (source_of own)) refl at where
-  by : (place : Option ℕ) → payload_place file (source_of own) ≡ place → IsAtPlace file place (Some payload) →
-      EndsBy file (length file) own payload
-  by None is at = absurd at
-  by (Some place) is at = record { place = place; is_place = is; is_at = at; is_before = at.in_file }
+ends_in_file file own (Some payload) at = search rules
 
 all_end_in_file : (file : List ℕ) (owns : List FileNode) (payloads : List (Option (List ℕ))) →
     AllZip (λ own payload. IsAtPlace file (payload_place file (source_of own)) payload) owns payloads →
@@ -300,12 +267,8 @@ cut_fit limits file tree means end is = (
 
 cut_image : (limits : Limits) (file : List ℕ) (meaning : Meaning) (extent : ℕ) → Means limits file meaning →
     HasExtent limits file meaning extent → (extent ≤ length file) × Means limits (take extent file) meaning
-cut_image limits file (OfLegacy image) extent means is =
-    subst (λ (extent : ℕ). (extent ≤ length file) × LegacyMeans limits (take extent file) image) (sym is)
-    (cut_legacy limits file image means)
+cut_image limits file (OfLegacy image) extent means is = search (rules, cut_legacy limits file image means)
 cut_image limits file (OfFit tree) extent means (means_too, is) = cut_fit limits file tree means_too extent is
 
 pub scanned_images_are_whole : ScannedImagesAreWhole
-scanned_images_are_whole limits input offset extent meaning is =
-    let found = cut_image limits (input_from offset input) meaning extent is.means is.has_extent in
-    record { in_input = omega (arith, found.0, length-drop offset input, inside limits input offset meaning is.means); means = found.1 }
+scanned_images_are_whole limits input offset extent meaning is = search (rules, cut_image, length-drop, inside)

@@ -1,18 +1,15 @@
-use Rattle.std.proofs.Common.{◌≡◌, ℕ, List, [], ◌∷◌, Option, Some, None, map, refl, sym, ap, ap₂, subst, ◌∙◌}
+use Rattle.std.proofs.Common.{◌≡◌, ℕ, List, [], ◌∷◌, Option, Some, None, map, refl, sym, ap, ap₂, rules}
 use Rattle.std.specs.List.{AllByRecursion, AllZip}
 use Rattle.std.specs.Prelude.{option_map}
 use Rattle.bi_base.specs.Limits.{Limits}
-use Rattle.bi_blob.specs.Blob.{totalsize}
 use Rattle.bi_blob.specs.Lookups.{Sibling, siblings}
 use Rattle.bi_blob.specs.Tree.{Nodes, none, node, FileNode, names}
-use Rattle.bi_fdt.specs.Content.{root_of}
 use Rattle.bi_fit.specs.declared.key.Key.{Key}
 use Rattle.bi_fit.specs.Content.{FitModel, ImageModel, IsHeld, IsReadImage, place_of, tree_of}
-use Rattle.bi_fit.specs.HashNodes.{IsConfiguration, file_configurations, file_listed}
-use Rattle.bi_fit.specs.ImageTree.{image_nodes, nodes_or_none}
-use Rattle.bi_fit.specs.Judgement.{ListResult, configuration_nodes, default_of, listed_of}
+use Rattle.bi_fit.specs.HashNodes.{IsConfiguration, file_listed}
+use Rattle.bi_fit.specs.Judgement.{ListResult, configuration_nodes, listed_of}
 use Rattle.bi_fit.specs.Names.{all_keys}
-use Rattle.bi_fit.specs.Payloads.{PayloadSource, NoSource, Data, DataOffset, DataPosition, source_of, IsPayload}
+use Rattle.bi_fit.specs.Payloads.{PayloadSource, NoSource, Data, DataOffset, DataPosition, IsPayload}
 use Rattle.bi_fit.specs.Reading.{IsReadFit}
 use Rattle.bi_fit.proofs.FileConfigurations.{each_is_found, names_are}
 use Rattle.bi_fit.proofs.FileLists.{listed_is}
@@ -20,7 +17,6 @@ use Rattle.bi_norm.specs.declared.image.BootImage.{BootImage}
 use Rattle.bi_norm.specs.declared.image.BootImage.TheVariants.{Legacy, Fit}
 use Rattle.bi_norm.specs.Reading.{IsReadBootImage}
 use Rattle.bi_common.specs.declared.format.Format.{Format}
-use Rattle.bi_report.specs.FitListing.{ConfigurationEntry, FitEntries, ImageEntry}
 use Rattle.bi_report.specs.FitListing.{configuration_entry, fit_entries, fit_listing, fit_listing_object}
 use Rattle.bi_report.specs.FitListing.{listed_image_entries, payload_entry}
 use Rattle.bi_report.specs.ListedFiles.{IsListing, OfImageTree, OfLegacyImage, text_in}
@@ -42,18 +38,14 @@ payload_of file (DataPosition position size) payload is = refl
 image_of : (file name : List ℕ) (source : PayloadSource) (image : ImageModel) → image.name ≡ name →
     IsPayload file source image.payload → image.place ≡ place_of file source →
     read_image_entry image ≡ record { name = name; payload = option_map (payload_entry file source) image.payload }
-image_of file name source image named is placed =
-    ap₂ (λ name payload. record { name = name; payload = payload }) named
-    (ap (λ place. read_payload place image.payload) placed ∙ payload_of file source image.payload is)
+image_of file name source image named is placed = search (rules, payload_of)
 
 images_of : (file : List ℕ) (nodes : Nodes FileNode) (images : List ImageModel) → AllZip (IsReadImage file) (siblings nodes) images →
     map read_image_entry images ≡ listed_image_entries file nodes (map (λ (image : ImageModel). image.payload) images)
 images_of file none [] is = refl
 images_of file none (image ∷ images) is = absurd is
 images_of file (node name own children later) [] is = refl
-images_of file (node name own children later) (image ∷ images) is =
-    ap₂ (λ (first : ImageEntry) (rest : List ImageEntry). first ∷ rest)
-    (image_of file name (source_of own) image is.0.name is.0.payload is.0.place) (images_of file later images is.1)
+images_of file (node name own children later) (image ∷ images) is = search (rules, image_of, images_of file later images is.1)
 
 -- ---- configurations
 
@@ -72,44 +64,17 @@ configurations_in : (content : FitModel) → IsHeld content → (entries : List 
     AllByRecursion (IsConfiguration content) entries →
     map (read_configuration content.images) entries ≡ map (configuration_entry (tree_of content)) (map (λ sibling. sibling.name) entries)
 configurations_in content held [] are = refl
-configurations_in content held (entry ∷ later) are =
-    ap₂ (λ (first : ConfigurationEntry) (rest : List ConfigurationEntry). first ∷ rest) (configuration_of content held entry are.0)
-    (configurations_in content held later are.1)
+configurations_in content held (entry ∷ later) are = search (rules, configuration_of, configurations_in content held later are.1)
 
 configurations_of : (content : FitModel) → IsHeld content →
     read_configurations content ≡ map (configuration_entry (tree_of content)) (names (configuration_nodes (tree_of content)))
-configurations_of content held =
-    configurations_in content held (siblings (file_configurations content.blob)) (each_is_found content held)
-    ∙ ap (map (configuration_entry (tree_of content))) (sym (names_are content))
+configurations_of content held = search (rules, configurations_in, each_is_found, names_are)
 
 -- ---- files
 
 entries_of_file : (limits : Limits) (file : List ℕ) (content : FitModel) (is : IsReadFit limits file content) →
     read_fit content ≡ fit_entries file is.means.is_file.images (tree_of content)
-entries_of_file limits file content is =
-    ap₂ (λ (size : ℕ) (others : List ImageEntry × List ConfigurationEntry). entries size others.0 others.1)
-    (is.held.total_size ∙ ap totalsize is.is_file)
-    (ap₂ (λ (images : List ImageEntry) (configurations : List ConfigurationEntry). (images, configurations))
-    (images_of file is.means.is_file.images content.images images) (configurations_of content is.held))
-  where
-    entries : ℕ → List ImageEntry → List ConfigurationEntry → FitEntries
-    entries size images configurations = record {
-      cpu = content.blob.cpu;
-      total_size = size;
-      reservations = content.blob.reservations;
-      images = images;
-      configurations = configurations;
-      default_name = default_of (tree_of content);
-    }
-
-    found : nodes_or_none (image_nodes (root_of content.blob)) ≡ is.means.is_file.images
-    found = ap (λ root. nodes_or_none (image_nodes root)) (sym is.same_root) ∙ ap nodes_or_none is.means.is_file.has_images
-
-    images : AllZip (IsReadImage file) (siblings is.means.is_file.images) content.images
-    images =
-        subst (λ (nodes : Nodes FileNode). AllZip (IsReadImage file) (siblings nodes) content.images) found
-        (subst (λ (f : List ℕ). AllZip (IsReadImage f)
-        (siblings (nodes_or_none (image_nodes (root_of content.blob)))) content.images) is.is_file is.held.images)
+entries_of_file limits file content is = search (rules, images_of, configurations_of)
 
 -- What was read of a file has the listing of the file.
 pub listing_of_read : (format : Format) (limits : Limits) (file : List ℕ) (image : BootImage) → IsReadBootImage limits file image →

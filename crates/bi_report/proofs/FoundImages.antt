@@ -1,11 +1,11 @@
-use Rattle.std.proofs.Common.{◌≡◌, List, [], ◌∷◌, ◌++◌, map, filter, refl, sym, ap, ap₂, ◌∙◌}
+use Rattle.std.proofs.Common.{◌≡◌, List, [], ◌∷◌, ◌++◌, map, filter, refl, sym, ap, ap₂, ◌∙◌, rules}
 use Rattle.std.specs.List.{flat_map}
 use Rattle.std.proofs.lemmas.List.Folds.{flat_map-map}
 use Rattle.bi_blob.specs.Lookups.{Sibling, siblings}
 use Rattle.bi_blob.specs.Tree.{FileNode}
 use Rattle.bi_fit.specs.Content.{FitModel, ImageModel, tree_of}
 use Rattle.bi_fit.specs.HashNodes.{file_hashes, file_images, file_verdicts}
-use Rattle.bi_fit.specs.Judgement.{Image, CheckedHash, checked_hash, images_of, images_with, verdicts_of}
+use Rattle.bi_fit.specs.Judgement.{Image, checked_hash, images_of, images_with, verdicts_of}
 use Rattle.bi_fit.specs.Names.{is_hash_name}
 use Rattle.bi_fit.proofs.FileNodes.{bare_image, image_siblings, siblings-by_name}
 use Rattle.bi_fit.proofs.FileVerdicts.{hashes_are, verdicts_are}
@@ -23,9 +23,7 @@ hashes_by_image : (entries : List (Sibling FileNode)) (images : List ImageModel)
     hashes_of_images (hashed_images entries images) ≡ file_verdicts entries images
 hashes_by_image [] images = refl
 hashes_by_image (entry ∷ entries) [] = refl
-hashes_by_image (entry ∷ entries) (image ∷ images) =
-    ap (λ (hashes : List CheckedHash). file_hashes entry.name image.payload (siblings entry.children) ++ hashes)
-    (hashes_by_image entries images)
+hashes_by_image (entry ∷ entries) (image ∷ images) = search (rules, hashes_by_image entries images)
 
 pub hashes_of_tree : (content : FitModel) → hashes_of_images (images_of_blob content) ≡ verdicts_of (tree_of content)
 hashes_of_tree content = hashes_by_image (siblings (file_images content.blob)) content.images ∙ sym (verdicts_are content)
@@ -62,6 +60,4 @@ concerns_by_image (entry ∷ entries) (image ∷ images) =
 
 pub concerns_of_images : (content : FitModel) →
     concerns_in (flat_map found_in_image (images_of_blob content)) ≡ flat_map image_concerns (images_of (tree_of content))
-concerns_of_images content =
-    concerns_by_image (siblings (file_images content.blob)) content.images
-    ∙ ap (λ entries. flat_map image_concerns (images_with entries (tree_of content).payloads)) (sym (image_siblings content))
+concerns_of_images content = search (rules, concerns_by_image, image_siblings)

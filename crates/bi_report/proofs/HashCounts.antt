@@ -1,5 +1,4 @@
-use Rattle.std.proofs.Common.{◌≡◌, ℕ, ◌+◌, ◌≤◌, ◌<◌, Bool, true, false, cond, List, [], ◌∷◌, length, map, flat_map, filter}
-use Rattle.std.proofs.Common.{bytes_eq}
+use Rattle.std.proofs.Common.{◌≡◌, ℕ, ◌+◌, ◌≤◌, ◌<◌, Bool, List, [], ◌∷◌, length, map, flat_map, filter, rules}
 use Rattle.std.proofs.Common.{refl, ap, ap₂, ◌∙◌, arith, length-append, Option}
 use Rattle.std.proofs.lemmas.List.{length-map}
 use Rattle.std.specs.FinMap.{from_entries}
@@ -18,11 +17,7 @@ use Rattle.bi_common.specs.VerdictCounts.{count_of, is_verdict}
 -- A filtered list is not longer than the list.
 no_longer : {X : Type 0} (test : X → Bool) (xs : List X) → length (filter test xs) ≤ length xs
 no_longer test [] = omega arith
-no_longer test (x ∷ xs) = by (test x) refl (no_longer test xs)
-  where
-    by : (b : Bool) → test x ≡ b → length (filter test xs) ≤ length xs → length (filter test (x ∷ xs)) ≤ length (x ∷ xs)
-    by true is rest = rw is (omega (arith, rest))
-    by false is rest = rw is (omega (arith, rest))
+no_longer test (x ∷ xs) = search (rules, no_longer test xs)
 
 -- These are the hash nodes of images.
 abbrev hashes_in : List Image → List CheckedHash
@@ -46,15 +41,7 @@ image_hashes_few (node name own children later) (payload ∷ payloads) =
 found_hashes_few : (nodes : Nodes PropertyMap) (payloads : List (Option (List ℕ))) →
     length (hashes_in (images_with (siblings (nodes_or_none (children_of images_name nodes))) payloads)) ≤ node_count nodes
 found_hashes_few none payloads = omega arith
-found_hashes_few (node name own children later) payloads =
-    by (bytes_eq name images_name) refl (image_hashes_few children payloads) (found_hashes_few later payloads)
-  where
-    by : (b : Bool) → bytes_eq name images_name ≡ b → length (hashes_in (images_with (siblings children) payloads)) ≤ node_count children →
-        length (hashes_in (images_with (siblings (nodes_or_none (children_of images_name later))) payloads)) ≤ node_count later →
-        length (hashes_in (images_with (siblings (nodes_or_none (children_of images_name (node name own children later)))) payloads))
-        ≤ node_count (node name own children later)
-    by true is first rest = rw is (omega (arith, first))
-    by false is first rest = rw is (omega (arith, rest))
+found_hashes_few (node name own children later) payloads = search (rules, image_hashes_few, found_hashes_few later payloads)
 
 -- A change of what nodes have themselves does not change the number of nodes.
 count-with_each : {A B : Type 0} (change : A → B) (nodes : Nodes A) → node_count (with_each change nodes) ≡ node_count nodes
@@ -68,13 +55,7 @@ count-without (node name own children later) = ap (λ (n : ℕ). node_count chil
 
 count-images_without : (nodes : Nodes PropertyMap) → node_count (with_children_of images_name without_payloads nodes) ≡ node_count nodes
 count-images_without none = refl
-count-images_without (node name own children later) = by (bytes_eq name images_name) (count-images_without later)
-  where
-    by : (b : Bool) → node_count (with_children_of images_name without_payloads later) ≡ node_count later →
-        node_count (cond b (node name own (without_payloads children) later)
-        (node name own children (with_children_of images_name without_payloads later))) ≡ node_count (node name own children later)
-    by true rest = ap (λ (n : ℕ). n + node_count later + 1) (count-without children)
-    by false rest = ap (λ (n : ℕ). node_count children + n + 1) rest
+count-images_without (node name own children later) = search (rules, count-without, count-images_without later)
 
 pub hashes_few : (file : List ℕ) (tree : ImageTree) → IsFitFile file tree → length (verdicts_of tree) < length file
 hashes_few file tree is =

@@ -1,4 +1,4 @@
-use Rattle.std.proofs.Common.{◌≡◌, ◌↔◌, ℕ, Bool, true, false, List, [], ◌∷◌, ◌++◌, map, refl, sym, ap, ap₂, subst, ◌∙◌, IsTrue, ◌&&◌}
+use Rattle.std.proofs.Common.{◌≡◌, ◌↔◌, ℕ, Bool, true, false, List, [], ◌∷◌, ◌++◌, map, refl, sym, ap, ap₂, subst, ◌∙◌, IsTrue, ◌&&◌, rules}
 use Rattle.std.proofs.Common.{Result, Ok, Err, IfOk, IfErr, OnOk}
 use Rattle.std.specs.List.{list_all}
 use Rattle.std.proofs.lemmas.Grind.{flat_map-append}
@@ -23,7 +23,7 @@ use Rattle.bi_common.specs.declared.format.Format.TheVariants.{Lines, Json}
 use Rattle.bi_common.specs.declared.verdict_counts.Counts.{Counts}
 use Rattle.bi_common.specs.HashedImages.{HashedImage, images_of_blob}
 use Rattle.bi_common.specs.JsonTokens.{value_tokens}
-use Rattle.bi_common.specs.LineTokens.{line_tokens, tokens_of_lines}
+use Rattle.bi_common.specs.LineTokens.{tokens_of_lines}
 use Rattle.bi_common.specs.VerdictCounts.{is_verdict, are_good, counts_model, hash_counts}
 use Rattle.bi_common.proofs.VerdictCounts.{good_counts}
 use Rattle.bi_common.proofs.WrittenTokens.{value_tokens-append}
@@ -51,17 +51,7 @@ both_pass false b passes = absurd cc
 -- The test of hash nodes for good verdicts.
 all_good : (hashes : List CheckedHash) → IsTrue (list_all (λ (hash : CheckedHash). is_verdict Good hash.verdict) hashes) ↔ AreGood hashes
 all_good [] = (λ _. tt, λ _. refl)
-all_good (hash ∷ later) = (forth (all_good later).0, back (all_good later).1) where
-  passes_all : List CheckedHash → Bool
-  passes_all hashes = list_all (λ (other : CheckedHash). is_verdict Good other.verdict) hashes
-
-  forth : (IsTrue (passes_all later) → AreGood later) → IsTrue (is_verdict Good hash.verdict && passes_all later) → AreGood (hash ∷ later)
-  forth rest passes =
-      let both = both_pass (is_verdict Good hash.verdict) (passes_all later) passes in
-      (good_passes hash.verdict both.0, rest both.1)
-
-  back : (AreGood later → IsTrue (passes_all later)) → AreGood (hash ∷ later) → IsTrue (is_verdict Good hash.verdict && passes_all later)
-  back rest good = rw (ap (is_verdict Good) good.0) (rest good.1)
+all_good (hash ∷ later) = search (rules, both_pass, good_passes, all_good later)
 
 -- The report on a legacy image that was read from a file.
 pub legacy_reported : (format : Format) (limits : Limits) (file : List ℕ) (parsed : LegacyModel) → IsReadLegacy limits file parsed →
@@ -114,13 +104,7 @@ pub fit_reported : {S : Type 0} (appends : S → List ℕ → S → Type 0) (for
     OnOk result (appends old (report_text format (OfFit (tree_of content))) new) →
     IfOk result (λ good. IsTrue good ↔ AreGood (verdicts_of (tree_of content))) →
     IfOk result (λ good. Appended appends (IsVerifyOutput format limits good file) old new)
-fit_reported appends format limits file content old new (Ok good) is written are =
-    record {
-      text = report_text format (OfFit (tree_of content));
-      is_text = tree_reported format limits file content good is are;
-      appended =
-          written;
-    }
+fit_reported appends format limits file content old new (Ok good) is written are = search (rules, tree_reported)
 fit_reported appends format limits file content old new (Err error) is written are = tt
 
 pub fit_not_reported : {S V : Type 0} (fails : S → List ℕ → S → Error → Type 0) (format : Format) (limits : Limits) (file : List ℕ)
@@ -135,16 +119,12 @@ fit_not_reported fails format limits file content old new (Err error) is failed 
 pub lines_first : (image : HashedImage) (later : List HashedImage) →
     tokens_of_lines (map hash_line (hashes_of_images (image ∷ later)))
     ≡ tokens_of_lines (map hash_line image.hashes) ++ tokens_of_lines (map hash_line (hashes_of_images later))
-lines_first image later =
-    ap tokens_of_lines (map-append hash_line image.hashes (hashes_of_images later))
-    ∙ flat_map-append line_tokens (map hash_line image.hashes) (map hash_line (hashes_of_images later))
+lines_first image later = search (rules, map-append, flat_map-append)
 
 pub objects_first : (image : HashedImage) (later : List HashedImage) →
     value_tokens (map hash_object (hashes_of_images (image ∷ later)))
     ≡ value_tokens (map hash_object image.hashes) ++ value_tokens (map hash_object (hashes_of_images later))
-objects_first image later =
-    ap value_tokens (map-append hash_object image.hashes (hashes_of_images later))
-    ∙ value_tokens-append (map hash_object image.hashes) (map hash_object (hashes_of_images later))
+objects_first image later = search (rules, map-append, value_tokens-append)
 
 -- The report by what was read: the images, and the numbers of their verdicts.
 pub lines_read : (content : FitModel) (images : List HashedImage) (counts : Counts) → images ≡ images_of_blob content →

@@ -1,5 +1,5 @@
-use Rattle.std.proofs.Common.{◌≡◌, ◌≢◌, ◌⊎◌, ℕ, ◌+◌, ◌-◌, ◌<◌, ◌≤◌, ◌^◌, min, List, Some, None, length, drop, inl, inr}
-use Rattle.std.proofs.Common.{refl, sym, ap, subst, ◌∙◌, arith}
+use Rattle.std.proofs.Common.{◌≡◌, ◌≢◌, ℕ, ◌+◌, ◌-◌, ◌<◌, ◌≤◌, ◌^◌, min, List, Some, None, length, drop, inl, inr, rules}
+use Rattle.std.proofs.Common.{refl, sym, ap, ◌∙◌, arith}
 use Rattle.std.specs.Int.{from_be_bytes, w32}
 use Rattle.std.specs.Prelude.{slice_index}
 use Rattle.std.proofs.lemmas.Bool.{cases_lt}
@@ -8,7 +8,6 @@ use Rattle.std.proofs.lemmas.Nat.{from_be_bytes-to_be_bytes_4}
 use Rattle.bi_base.specs.Cells.{AreBytes, cell, slice, u32_at}
 use Rattle.bi_base.proofs.CellLaws.{cell-u32_at, get_or-slice, length-cell, length-slice}
 use Rattle.bi_norm.specs.declared.kind.Kind.{Kind}
-use Rattle.bi_norm.specs.declared.kind.Kind.TheVariants as kind
 use Rattle.bi_norm.specs.Kinds.{BeginsAs, magic_of}
 use Rattle.bi_common.specs.Offsets.{input_from}
 use Rattle.bi_report.specs.ImageStarts.{AreNextMagics, HasMagic, ImageStartsModel, IsNextMagic}
@@ -82,21 +81,9 @@ end_is_next file magic from end last bytes within order all finds = record {
 -- An image of a kind begins at the next magic number, if this is not the end.
 begins_at_magic : (input : List ℕ) (found : Kind) (from end magic offset : ℕ) → IsNextMagic input (magic_of found) from end magic →
     offset ≡ magic → offset ≢ end → BeginsAs (input_from offset input) found
-begins_at_magic input found from end magic offset next is more = by next.is_found where
-  by : (magic ≡ end) ⊎ HasMagic input (magic_of found) magic → BeginsAs (input_from offset input) found
-  by (inl same) = absurd (more (is ∙ same))
-  by (inr has) = subst (λ (at : ℕ). BeginsAs (input_from at input) found) (sym is) (record { whole = has.0; magic = has.1 })
+begins_at_magic input found from end magic offset next is more = search rules
 
 -- So one begins at the first of the next magic numbers of both kinds.
 pub begins_at_first : (left : ImageStartsModel) (legacy blob offset : ℕ) → AreNextMagics left legacy blob → offset ≡ min legacy blob →
     offset ≢ left.end → (found : Kind) × BeginsAs (input_from offset left.input) found
-begins_at_first left legacy blob offset next is more = by (cases_lt blob legacy) where
-  by : (blob < legacy) ⊎ (legacy ≤ blob) → (found : Kind) × BeginsAs (input_from offset left.input) found
-  by (inl before) = (
-    kind.Fit,
-    begins_at_magic left.input kind.Fit left.from left.end blob offset next.next_blob (omega (arith, before, is)) more,
-  )
-  by (inr before) = (
-    kind.Legacy,
-    begins_at_magic left.input kind.Legacy left.from left.end legacy offset next.next_legacy (omega (arith, before, is)) more,
-  )
+begins_at_first left legacy blob offset next is more = search (rules, cases_lt blob legacy, begins_at_magic)

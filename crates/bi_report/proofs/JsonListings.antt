@@ -1,4 +1,4 @@
-use Rattle.std.proofs.Common.{ℕ, ◌^◌, ◌<◌, List, [], ◌∷◌, codes, length, map, flat_map, sym, subst, arith, unwrap_or}
+use Rattle.std.proofs.Common.{ℕ, ◌^◌, ◌<◌, List, [], ◌∷◌, codes, length, map, flat_map, sym, subst, arith, rules}
 use Rattle.std.proofs.Common.{Option, Some, None}
 use Rattle.std.specs.List.{AllByRecursion, AllZip}
 use Rattle.std.specs.Prelude.{option_map}
@@ -51,12 +51,7 @@ payload : (file : List ℕ) (payload_source : PayloadSource) (bytes : Option (Li
     IsAtPlace file (payload_place file payload_source) bytes →
     HasNumbers (payload_object (option_map (payload_entry file payload_source) bytes))
 payload file payload_source None small is = tt
-payload file payload_source (Some bytes) small is =
-    let below = at (payload_place file payload_source) is in (tt, (below.0, (below.1, tt)))
-  where
-    at : (place : Option ℕ) → IsAtPlace file place (Some bytes) → (unwrap_or place 0 < 2 ^ 64) × (length bytes < 2 ^ 64)
-    at None is = absurd is
-    at (Some place) is = (omega (arith, small, is.in_file), omega (arith, small, is.in_file))
+payload file payload_source (Some bytes) small is = search rules
 
 images : (file : List ℕ) (nodes : Nodes FileNode) (payloads : List (Option (List ℕ))) → length file < 2 ^ 32 →
     AllZip (λ own bytes. IsAtPlace file (payload_place file (source_of own)) bytes) (each_own nodes) payloads →

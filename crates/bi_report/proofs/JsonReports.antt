@@ -1,18 +1,14 @@
-use Rattle.std.proofs.Common.{ℕ, ◌-◌, ◌^◌, ◌<◌, ◌==◌, Bool, true, false, cond, List, [], ◌∷◌, length, map, drop, sym, subst, arith}
-use Rattle.std.specs.List.{AllByRecursion, list_all}
-use Rattle.std.specs.Option.{option_map}
+use Rattle.std.proofs.Common.{ℕ, ◌-◌, ◌^◌, ◌<◌, List, [], ◌∷◌, length, map, drop, sym, subst, arith, rules}
+use Rattle.std.specs.List.{AllByRecursion}
 use Rattle.std.proofs.lemmas.List.{length-drop}
 use Rattle.bi_base.specs.Limits.{Limits, IsInRange}
 use Rattle.bi_base.proofs.ListMembers.{each-append, each-filter, each-map, each-weaker}
 use Rattle.bi_fit.specs.Judgement.{CheckedHash, verdicts_of}
-use Rattle.bi_hash.specs.declared.verdicts.Verdict.TheVariants.{Good, Bad, UnknownAlgo, NoPayload, Malformed}
 use Rattle.bi_norm.specs.Meaning.{Meaning, OfLegacy, OfFit, Means}
 use Rattle.bi_common.specs.Json.{HasNumbers, HaveNumbers, json_values}
 use Rattle.bi_common.specs.JsonGrammar.{IsJsonLine}
-use Rattle.bi_common.specs.Shown.{shown_text}
-use Rattle.bi_common.specs.ValueTexts.{hexadecimal_digits}
 use Rattle.bi_common.proofs.JsonTexts.{have_numbers, json_lines_are_json}
-use Rattle.bi_report.specs.Checking.{Concern, TrailingBytes, AreConcerns, OfLegacyImage, OfImageTree, concern_object, concerns_object}
+use Rattle.bi_report.specs.Checking.{Concern, AreConcerns, OfLegacyImage, OfImageTree, concern_object, concerns_object}
 use Rattle.bi_report.specs.Checking.{content_end, kept_concerns, tree_concerns, trailing_concerns}
 use Rattle.bi_report.specs.JsonLaws.{ConcernsAreJson, ReportsAreJson}
 use Rattle.bi_report.specs.Reports.{counts_of, hash_object, report_object, summary_object}
@@ -25,31 +21,10 @@ use Rattle.bi_report.proofs.HashCounts.{counts_few, hashes_few}
 
 hash_numbers : (hashes : List CheckedHash) → HaveNumbers (json_values (map hash_object hashes))
 hash_numbers [] = tt
-hash_numbers (hash ∷ later) = (
-  (
-    tt,
-    (
-      tt,
-      (
-        string_has_no_number (option_map shown_text hash.algo),
-        (tt, (string_has_no_number (option_map hexadecimal_digits hash.value), tt)),
-      ),
-    ),
-  ),
-  hash_numbers later,
-)
+hash_numbers (hash ∷ later) = search (rules, string_has_no_number, hash_numbers later)
 
 summary_numbers : (hashes : List CheckedHash) → length hashes < 2 ^ 64 → HasNumbers (summary_object (counts_of hashes))
-summary_numbers hashes few = (
-  omega (arith, few, counts_few Good hashes),
-  (
-    omega (arith, few, counts_few Bad hashes),
-    (
-      omega (arith, few, counts_few UnknownAlgo hashes),
-      (omega (arith, few, counts_few NoPayload hashes), (omega (arith, few, counts_few Malformed hashes), tt)),
-    ),
-  ),
-)
+summary_numbers hashes few = search (rules, counts_few)
 
 report_numbers : (limits : Limits) (file : List ℕ) (meaning : Meaning) → IsInRange limits.file limits.depth → Means limits file meaning →
     HasNumbers (report_object meaning)
@@ -60,9 +35,7 @@ report_numbers limits file (OfFit tree) range means =
     (tt, (hash_numbers hashes, (summary_numbers hashes few, tt)))
 
 pub reports_are_json : ReportsAreJson
-reports_are_json limits file text range report =
-    subst IsJsonLine (sym report.is)
-    (json_lines_are_json (report_object report.meaning) (report_numbers limits file report.meaning range report.means))
+reports_are_json limits file text range report = search (rules, json_lines_are_json, report_numbers)
 
 -- ---- concerns
 
@@ -70,17 +43,11 @@ abbrev ConcernHasNumbers : Concern → Type 0
 ConcernHasNumbers concern = HasNumbers (concern_object concern)
 
 trailing_numbers : (file : List ℕ) (at : ℕ) → length file < 2 ^ 64 → AllByRecursion ConcernHasNumbers (trailing_concerns (drop at file))
-trailing_numbers file at small = by (list_all (λ byte. byte == 0) (drop at file))
-  where
-    by : (b : Bool) → AllByRecursion ConcernHasNumbers (cond b [] (TrailingBytes (length (drop at file)) ∷ []))
-    by true = tt
-    by false = ((tt, (omega (arith, small, length-drop at file), tt)), tt)
+trailing_numbers file at small = search (rules, length-drop)
 
 numbers : (limits : Limits) (file : List ℕ) (concerns : List Concern) → IsInRange limits.file limits.depth →
     AreConcerns limits file concerns → AllByRecursion ConcernHasNumbers concerns
-numbers limits file concerns range (OfLegacyImage parsed is are) =
-    subst (AllByRecursion ConcernHasNumbers) (sym are)
-    (trailing_numbers file (length file - parsed.unused) (omega (arith, is.means.short, range.1)))
+numbers limits file concerns range (OfLegacyImage parsed is are) = search (rules, trailing_numbers)
 numbers limits file concerns range (OfImageTree tree means are) =
     let end : ℕ = content_end file means.is_file.images tree.payloads in
     subst (AllByRecursion ConcernHasNumbers) (sym are)

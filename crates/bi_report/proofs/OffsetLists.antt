@@ -1,4 +1,4 @@
-use Rattle.std.proofs.Common.{◌≡◌, ℕ, zero, suc, ◌+◌, List, [], ◌∷◌, ◌++◌, ap, subst, sym, ◌∙◌, arith}
+use Rattle.std.proofs.Common.{◌≡◌, ℕ, zero, suc, ◌+◌, List, [], ◌∷◌, ◌++◌, ap, arith, rules}
 use Rattle.std.specs.List.{AllZip, range_with_len}
 use Rattle.std.proofs.lemmas.Slice.Zip.{all_zipped_more}
 
@@ -7,17 +7,9 @@ use Rattle.std.proofs.lemmas.Slice.Zip.{all_zipped_more}
 -- Numbers in a row, and the next one.
 range_with_len-more : (begin count : ℕ) → range_with_len begin (count + 1) ≡ range_with_len begin count ++ (begin + count) ∷ []
 range_with_len-more begin zero = ap (λ (n : ℕ). n ∷ []) (let same : begin ≡ begin + zero = omega arith in same)
-range_with_len-more begin (suc count) =
-    ap (range_with_len begin) (let same : suc count + 1 ≡ suc (count + 1) = omega arith in same)
-    ∙ ap (λ offsets. begin ∷ offsets)
-    (range_with_len-more (begin + 1) count
-    ∙ ap (λ last. range_with_len (begin + 1) count ++ last ∷ []) (let same : begin + 1 + count ≡ begin + suc count = omega arith in same))
+range_with_len-more begin (suc count) = search (rules, range_with_len-more (begin + 1) count)
 
 -- What holds at the next offset, too.
 pub next_offset : {A : Type 0} (R : ℕ → A → Type 0) (offset : ℕ) (items : List A) (item : A) →
     AllZip R (range_with_len 0 offset) items → R offset item → AllZip R (range_with_len 0 (offset + 1)) (items ++ item ∷ [])
-next_offset R offset items item all here =
-    subst (λ offsets. AllZip R offsets (items ++ item ∷ []))
-    (sym (range_with_len-more 0 offset
-    ∙ ap (λ last. range_with_len 0 offset ++ last ∷ []) (let same : 0 + offset ≡ offset = omega arith in same)))
-    (all_zipped_more R (range_with_len 0 offset) items offset item all here)
+next_offset R offset items item all here = search (rules, range_with_len-more, all_zipped_more)

@@ -1,5 +1,5 @@
 use Rattle.std.proofs.Common.{◌≡◌, ◌≢◌, ◌↔◌, ℕ, Bool, true, false, IsTrue, List, [], ◌∷◌, ◌++◌, codes, length, Some, refl, sym}
-use Rattle.std.proofs.Common.{ap, subst}
+use Rattle.std.proofs.Common.{ap, subst, ◌∙◌}
 use Rattle.std.proofs.Common.{◌≤◌, lit≤, true≢false, Option, arith}
 use Rattle.std.specs.Fmt.{digits}
 use Rattle.bi_base.specs.Cells.{cell, cell8, u32_at}
@@ -23,12 +23,13 @@ use Rattle.bi_hash.specs.Digests.{digest_of}
 use Rattle.bi_hash.specs.Verdicts.{verdict_of}
 use Rattle.bi_hash.specs.declared.verdicts.Verdict.{Verdict}
 use Rattle.bi_hash.specs.declared.verdicts.Verdict.TheVariants.{Good, Bad}
-use Rattle.bi_legacy.specs.File.{header}
+use Rattle.bi_legacy.specs.File.{LegacyMeans, header}
 use Rattle.bi_legacy.specs.KnownFiles.{kernel_file_with_rest}
-use Rattle.bi_legacy.specs.KnownImages.{kernel_image}
+use Rattle.bi_legacy.specs.KnownImages.{kernel_file, kernel_image}
 use Rattle.bi_legacy.specs.Laws.{OneLegacyMeaning}
+use Rattle.bi_legacy.specs.Meaning.{LegacyImage}
 use Rattle.bi_norm.specs.Meaning.{OfLegacy, OfFit}
-use Rattle.bi_norm.proofs.ComparisonFacts.{kernel_means, kernel_with_rest_means}
+use Rattle.bi_norm.proofs.ComparisonFacts.{kernel_means, kernel_with_rest_means, only_image}
 use Rattle.bi_norm.proofs.KindLaws.{one_file_meaning}
 use Rattle.bi_common.specs.declared.format.Format.{Format}
 use Rattle.bi_common.specs.declared.format.Format.TheVariants.{Lines, Json}
@@ -38,14 +39,16 @@ use Rattle.bi_common.specs.PayloadBounds.{payloads_length}
 use Rattle.bi_norm.specs.Comparing.{MeansOnly}
 use Rattle.bi_report.specs.declared.check.Allowed.{Allowed}
 use Rattle.bi_report.specs.CheckedFiles.{IsChecked, concerns_text}
-use Rattle.bi_report.specs.Checking.{AreConcerns, Concern, OfImageTree as OfTreeConcerns, UnhashedImage, nothing_allowed}
+use Rattle.bi_report.specs.Checking.{AreConcerns, Concern, OfImageTree as OfTreeConcerns, TrailingBytes, UnhashedImage, kept_concerns}
+use Rattle.bi_report.specs.Checking.{nothing_allowed}
+use Rattle.bi_report.specs.KnownConcerns.{HasOnlyConcerns}
 use Rattle.bi_report.specs.KnownOutputs.{three_object}
-use Rattle.bi_report.specs.KnownOutputs.{CheckOutputsAreKnown, JsonListingsAreKnown, VerifyOutputsAreKnown, file_with_hash}
+use Rattle.bi_report.specs.KnownOutputs.{CheckOutputsAreKnown, IsOnlyCheck, JsonListingsAreKnown, VerifyOutputsAreKnown, file_with_hash}
 use Rattle.bi_report.specs.KnownOutputs.{file_without_hash}
 use Rattle.bi_report.specs.ListedFiles.{IsFitListing, OfLegacyImage, OfImageTree}
 use Rattle.bi_report.specs.Reports.{AreGood, counts_of, hash_report_lines, hash_report_object, hashes_of}
 use Rattle.bi_report.specs.VerifiedFiles.{IsVerifyOutput}
-use Rattle.bi_report.proofs.LegacyConcernFacts.{is_read, known_model}
+use Rattle.bi_report.proofs.LegacyConcernFacts.{is_read, known_model, legacy_concerns_are_known}
 
 -- Whole outputs on small files.
 
@@ -125,11 +128,11 @@ bad_is_not_good : Bad ≢ Good
 bad_is_not_good e = absurd cc
 
 -- What holds for the same is the same.
-same_value : (one other : Bool) (P : Type 0) → (IsTrue one ↔ P) → (IsTrue other ↔ P) → one ≡ other
-same_value true true P is also = refl
-same_value false false P is also = refl
-same_value true false P is also = sym (also.1 (is.0 refl))
-same_value false true P is also = is.1 (also.0 refl)
+pub same_bool : (one other : Bool) (P : Type 0) → (IsTrue one ↔ P) → (IsTrue other ↔ P) → one ≡ other
+same_bool true true P is also = refl
+same_bool false false P is also = refl
+same_bool true false P is also = sym (also.1 (is.0 refl))
+same_bool false true P is also = is.1 (also.0 refl)
 
 -- The report on these hash nodes, in a form.
 abbrev report_on : Format → List CheckedHash → List ℕ
@@ -142,7 +145,7 @@ module _ (one_legacy : OneLegacyMeaning) where
   one_value format other_format limits other_limits value other file text other_text is also =
       let same : also.report.meaning ≡ is.report.meaning =
       one_file_meaning one_legacy other_limits limits file also.report.meaning is.report.meaning also.report.means is.report.means in
-      same_value value other (AreGood (hashes_of is.report.meaning)) is.all_good
+      same_bool value other (AreGood (hashes_of is.report.meaning)) is.all_good
       (subst (λ meaning. IsTrue other ↔ AreGood (hashes_of meaning)) same also.all_good)
 
   pub verify_outputs_are_known : VerifyOutputsAreKnown
@@ -269,9 +272,38 @@ module _ (one_legacy : OneLegacyMeaning) where
       } in
       OfTreeConcerns bare_meaning means refl
 
+  -- A legacy image has one output, since it has only these concerns.
+  only_check : (clean : Bool) (file text : List ℕ) (image : LegacyImage) (concerns : List Concern) → LegacyMeans widest file image →
+      HasOnlyConcerns file concerns → text ≡ concerns_text Lines nothing_allowed concerns →
+      (IsTrue clean ↔ (kept_concerns nothing_allowed concerns ≡ [])) → IsOnlyCheck clean file text
+  only_check clean file text image concerns means are is is_empty =
+      let checked : IsChecked Lines nothing_allowed widest file text = record {
+        meaning = OfLegacy image;
+        means = only_image one_legacy file image means;
+        within = λ over. over;
+        concerns = concerns;
+        are_concerns = are.are_concerns;
+        is_text = is;
+      } in
+      record {
+        is_output = record { checked = checked; is_empty = is_empty };
+        is_text = checked;
+        only = λ other_clean other output.
+            let same = are.only output.checked.concerns output.checked.are_concerns in (
+              same_bool other_clean clean (kept_concerns nothing_allowed concerns ≡ [])
+                  (subst (λ concerns. IsTrue other_clean ↔ (kept_concerns nothing_allowed concerns ≡ [])) same output.is_empty) is_empty,
+              output.checked.is_text ∙ ap (concerns_text Lines nothing_allowed) same ∙ sym is,
+            );
+      }
+
   pub check_outputs_are_known : CheckOutputsAreKnown
   unfolding digits text_before_nul
   check_outputs_are_known = record {
+    legacy = only_check true kernel_file [] kernel_image [] kernel_means (legacy_concerns_are_known one_legacy).nothing refl
+        (λ _. refl, λ _. refl);
+    trailing = only_check false kernel_file_with_rest _ kernel_image (TrailingBytes 7 ∷ []) kernel_with_rest_means
+        (legacy_concerns_are_known one_legacy).after_data refl
+        (λ no. absurd (true≢false (sym no)), λ none. absurd (omega (arith, ap length none)));
     nothing = record {
       checked = checked Lines nothing_allowed smallest_text [] (plain_tree [] []) [] smallest_means smallest_concerns (lit≤ tt) refl;
       is_empty = (λ _. refl, λ _. refl);

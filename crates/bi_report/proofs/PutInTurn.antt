@@ -1,4 +1,4 @@
-use Rattle.std.proofs.Common.{◌≡◌, ℕ, List, [], ◌∷◌, ◌++◌, append-nil, append_assoc, sym, ap, ◌∙◌, subst}
+use Rattle.std.proofs.Common.{◌≡◌, ℕ, List, [], ◌∷◌, ◌++◌, append-nil, append_assoc, sym, subst, rules}
 use Rattle.bi_common.specs.Json.{Json, json_array}
 use Rattle.bi_common.specs.JsonTokens.{JsonToken, BeginArray, EndArray, MemberName, json_tokens, member_tokens, one, value_tokens}
 use Rattle.bi_common.specs.LineTokens.{LineToken, line_tokens, tokens_of_lines}
@@ -19,17 +19,11 @@ put_begins puts nothing begin left all same = record { done = []; are_put = noth
 
 pub put_goes_on : {S X : Type 0} (puts : S → List X → S → Type 0) → PutsInTurn puts → (begin now next : S) (one later left all : List X) →
     IsPutBefore puts begin now left all → left ≡ one ++ later → puts now one next → IsPutBefore puts begin next later all
-put_goes_on puts in_turn begin now next one later left all before is put = record {
-  done = before.done ++ one;
-  are_put = in_turn begin now next before.done one before.are_put put;
-  parts = append_assoc before.done one later ∙ ap (λ (rest : List _). before.done ++ rest) (sym is) ∙ before.parts;
-}
+put_goes_on puts in_turn begin now next one later left all before is put = search (rules, append_assoc before.done one later)
 
 pub put_ends : {S X : Type 0} (puts : S → List X → S → Type 0) (begin now : S) (left all : List X) → IsPutBefore puts begin now left all →
     left ≡ [] → puts begin all now
-put_ends puts begin now left all before none =
-    subst (λ tokens. puts begin tokens now)
-    (sym (append-nil before.done) ∙ ap (λ (rest : List _). before.done ++ rest) (sym none) ∙ before.parts) before.are_put
+put_ends puts begin now left all before none = search (rules, append-nil)
 
 -- Lines or members were put, by their tokens.
 pub record ArePut {S T X : Type 0} (puts : S → List T → S → Type 0) (tokens : List X → List T) (old : S) (xs : List X) (new : S) : Type 0
@@ -59,7 +53,4 @@ one_value_put puts a b value put = subst (λ tokens. puts a tokens b) (sym (appe
 pub list_member_put : {S : Type 0} (puts : S → List JsonToken → S → Type 0) → PutsInTurn puts → (a b c d e : S) (name : List ℕ)
     (values : List Json) → puts a (one (MemberName name)) b → puts b (one BeginArray) c → puts c (value_tokens values) d →
     puts d (one EndArray) e → puts a (member_tokens ((name, json_array values) ∷ [])) e
-list_member_put puts in_turn a b c d e name values first begins put ends =
-    in_turn a b e _ _ first
-    (subst (λ tokens. puts b tokens e) (sym (append-nil (json_tokens (json_array values))))
-    (in_turn b c e _ _ begins (in_turn c d e _ _ put ends)))
+list_member_put puts in_turn a b c d e name values first begins put ends = search (rules, append-nil)

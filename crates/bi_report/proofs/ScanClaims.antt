@@ -1,26 +1,22 @@
-use Rattle.std.proofs.Common.{◌≡◌, ◌⊎◌, ℕ, zero, suc, ◌+◌, ◌-◌, ◌<◌, ◌≤◌, List, [], ◌∷◌, ◌++◌, length, inl, inr}
+use Rattle.std.proofs.Common.{◌≡◌, ℕ, zero, suc, ◌+◌, ◌-◌, ◌<◌, ◌≤◌, List, [], ◌∷◌, ◌++◌, length, inl, inr, rules}
 use Rattle.std.proofs.Common.{refl, sym, ap, ap₂, subst, subst₂, ◌∙◌, arith}
 use Rattle.std.specs.List.{AllZip, range_with_len, sum}
 use Rattle.std.proofs.lemmas.List.Sums.{sum_by_push}
 use Rattle.std.proofs.lemmas.Bool.{cases_eq}
 use Rattle.bi_base.specs.Cells.{u32_at}
 use Rattle.bi_base.specs.Checks.{HasNoFault}
-use Rattle.bi_base.specs.Crc.{crc32}
-use Rattle.bi_base.specs.Limits.{Limits, widest}
+use Rattle.bi_base.specs.Limits.{Limits}
 use Rattle.bi_base.specs.declared.fault.Fault.{Fault}
 use Rattle.bi_blob.specs.Blob.{totalsize}
-use Rattle.bi_blob.specs.BlobFaults.{HeaderPasses}
 use Rattle.bi_blob.proofs.Blobs.TestedChecks.{IsDecided, header_decided, le_decided}
-use Rattle.bi_legacy.specs.Faults as legacy
 use Rattle.bi_norm.specs.declared.kind.Kind.{Kind}
 use Rattle.bi_norm.specs.declared.kind.Kind.TheVariants as kind
-use Rattle.bi_norm.specs.Kinds.{BeginsAs, IsKindFault, TooShort, OfNoKind, magic_of}
+use Rattle.bi_norm.specs.Kinds.{BeginsAs, IsKindFault, TooShort, OfNoKind}
 use Rattle.bi_common.specs.Offsets.{input_from}
 use Rattle.bi_report.specs.Scanning.{ClaimsNothing, HasBlobClaim, HasLegacyClaim, IsClaim, IsOverClaims, IsWithinClaims, OfBlob, OfData}
-use Rattle.bi_report.specs.Scanning.{OfNothing, IsAfterClaim}
+use Rattle.bi_report.specs.Scanning.{CanBeScanned, IsAfterClaim, IsScanFault, OfNothing}
 use Rattle.bi_report.specs.ImageStarts.{HasNoStart, IsNextStart, ImageStartsModel}
 use Rattle.bi_report.specs.ScanLaws.{ScanHasNoFault}
-use Rattle.bi_report.specs.Scanning.{blob_claim_checks, input_offsets, legacy_claim_checks}
 use Rattle.bi_report.proofs.OffsetLists.{next_offset}
 
 -- Each image has a claim, so those of the first offsets are some of those of all offsets.
@@ -43,30 +39,13 @@ all_decided Passes decided [] = inl tt
 all_decided Passes decided (check ∷ later) = both_decided (decided check) (all_decided Passes decided later)
 
 begins_decided : (image : List ℕ) (found : Kind) → IsDecided (BeginsAs image found)
-begins_decided image found = by (both_decided (le_decided 4 (length image)) (cases_eq (u32_at image 0) (magic_of found))) where
-  by : IsDecided ((4 ≤ length image) × (u32_at image 0 ≡ magic_of found)) → IsDecided (BeginsAs image found)
-  by (inl begins) = inl (record { whole = begins.0; magic = begins.1 })
-  by (inr fails) = inr (λ begins. fails (begins.whole, begins.magic))
+begins_decided image found = search (rules, both_decided, le_decided, cases_eq)
 
 legacy_decided : (image : List ℕ) → IsDecided (HasLegacyClaim image)
-legacy_decided image =
-    by (both_decided (begins_decided image kind.Legacy)
-    (both_decided (le_decided 64 (length image))
-    (both_decided (cases_eq (u32_at image 4) (crc32 (legacy.header_without_checksum image)))
-    (both_decided (le_decided (64 + u32_at image 12) (length image)) (inl tt))))) where
-      by : IsDecided (BeginsAs image kind.Legacy × HasNoFault (legacy.Passes widest image) legacy_claim_checks) →
-          IsDecided (HasLegacyClaim image)
-      by (inl claim) = inl (record { begins = claim.0; passes = claim.1 })
-      by (inr fails) = inr (λ claim. fails (claim.begins, claim.passes))
+legacy_decided image = search (rules, both_decided, begins_decided, le_decided, cases_eq)
 
 blob_decided : (image : List ℕ) → IsDecided (HasBlobClaim image)
-blob_decided image =
-    by (both_decided (begins_decided image kind.Fit)
-    (all_decided (HeaderPasses widest image) (header_decided widest image) blob_claim_checks)) where
-      by : IsDecided (BeginsAs image kind.Fit × HasNoFault (HeaderPasses widest image) blob_claim_checks) →
-          IsDecided (HasBlobClaim image)
-      by (inl claim) = inl (record { begins = claim.0; passes = claim.1 })
-      by (inr fails) = inr (λ claim. fails (claim.begins, claim.passes))
+blob_decided image = search (rules, both_decided, begins_decided, all_decided, header_decided)
 
 -- Each image has a claim.
 claim_of_image : (image : List ℕ) → (claim : ℕ) × IsClaim image claim
@@ -115,10 +94,7 @@ claims_to input count total end order first nothing =
 -- Images in a row claim nothing if the first ones and the later ones do not.
 nothing_in_row : (input : List ℕ) (from middle end : ℕ) → ClaimsNothing input from middle → ClaimsNothing input middle end →
     ClaimsNothing input from end
-nothing_in_row input from middle end first later offset after before = by (le_decided middle offset) where
-  by : IsDecided (middle ≤ offset) → IsClaim (input_from offset input) 0
-  by (inl late) = later offset late before
-  by (inr early) = first offset after (omega (arith, early))
+nothing_in_row input from middle end first later offset after before = search (rules, le_decided)
 
 -- No image claims anything where none begins.
 no_start_claims_nothing : (input : List ℕ) (from end : ℕ) → HasNoStart input from end → ClaimsNothing input from end
@@ -137,17 +113,7 @@ pub record HasCounted (input : List ℕ) (left : ImageStartsModel) (total end : 
 
 pub before_claims : (input : List ℕ) (left : ImageStartsModel) → left ≡ record { input = input; from = 0; end = length input } →
     HasCounted input left 0 0
-before_claims input left is =
-    subst (λ (left : ImageStartsModel). HasCounted input left 0 0) (sym is)
-    (record {
-      counted = ([], tt, refl);
-      nothing = λ offset after before. absurd (omega (arith, before));
-      last = λ offset is_end. absurd (omega (arith, is_end));
-      is_input = refl;
-      is_end = refl;
-      are_left = omega arith;
-      passed = omega arith;
-    })
+before_claims input left is = search rules
 
 -- The next image adds its claim.
 pub counted_next : (input image : List ℕ) (left after : ImageStartsModel) (total end offset claim new_end : ℕ) →
@@ -233,12 +199,7 @@ more_claims input count total (suc more) first =
 -- If the first images claim more than the limit, all images do.
 pub over_claims : (limits : Limits) (input : List ℕ) (count total : ℕ) → count ≤ length input → HasFirstClaims input count total →
     limits.file < total → IsOverClaims limits input
-over_claims limits input count total within first over =
-    let all = more_claims input count total (length input - count) first in
-    let whole : HasFirstClaims input (length input) all.0 =
-    subst (λ (count : ℕ). HasFirstClaims input count all.0)
-    (let same : count + (length input - count) ≡ length input = omega (arith, within) in same) all.1 in
-    record { claims = whole.0; are_claims = whole.1; over = omega (arith, over, all.2, whole.2) }
+over_claims limits input count total within first over = search (rules, more_claims input count total (length input - count) first)
 
 -- ---- one claim
 
@@ -270,13 +231,10 @@ same_claims input (offset ∷ offsets) (claim ∷ claims) (other ∷ others) are
     ap₂ (λ (claim : ℕ) (claims : List ℕ). claim ∷ claims) (one_claim (input_from offset input) claim other are.0 are_too.0)
     (same_claims input offsets claims others are.1 are_too.1)
 
--- An input that can be scanned has no fault.
+-- An input that can be scanned has no fault,
+pub fault_or_scan : (limits : Limits) (input : List ℕ) (fault : Fault) → CanBeScanned limits input → ¬ (IsScanFault limits input fault)
+fault_or_scan limits input fault can faulty = search (rules, same_claims)
+
+-- and neither has one with a scan.
 pub scan_has_no_fault : ScanHasNoFault
-scan_has_no_fault limits input text fault is faulty = by faulty.cause where
-  by : (limits.file < length input) ⊎ IsOverClaims limits input → ⊥
-  by (inl longer) = omega (arith, longer, is.can.short)
-  by (inr over) =
-      let within = is.can.within in
-      let same : sum within.claims ≡ sum over.claims =
-      ap sum (same_claims input (input_offsets input) within.claims over.claims within.are_claims over.are_claims) in
-      omega (arith, same, within.within, over.over)
+scan_has_no_fault limits input text fault is = fault_or_scan limits input fault is.can

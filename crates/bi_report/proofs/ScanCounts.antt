@@ -1,4 +1,4 @@
-use Rattle.std.proofs.Common.{◌≡◌, ℕ, ◌+◌, ◌-◌, ◌*◌, ◌≤◌, Bool, true, false, List, [], ◌∷◌, ◌++◌, length, map, Some}
+use Rattle.std.proofs.Common.{◌≡◌, ℕ, ◌+◌, ◌-◌, ◌*◌, ◌≤◌, Bool, true, false, List, [], ◌∷◌, ◌++◌, length, Some, rules}
 use Rattle.std.proofs.Common.{drop, refl, ap, arith, if◌then◌else◌, length-append}
 use Rattle.std.specs.List.{AllZip, sum}
 use Rattle.std.proofs.lemmas.List.{length-take}
@@ -24,7 +24,6 @@ use Rattle.bi_common.specs.Lines.{Line}
 use Rattle.bi_common.specs.Offsets.{input_from}
 use Rattle.bi_report.specs.ScanLaws.{LinesAreFew}
 use Rattle.bi_report.specs.Scanning.{ClaimsNothing, IsClaim, IsLineAt, OfBlob, OfData, WithImage, WithoutImage, all_lines}
-use Rattle.bi_report.specs.Scanning.{input_offsets}
 use Rattle.bi_report.proofs.ScanClaims.{one_claim}
 use Rattle.bi_report.proofs.ScannedLines.{HasNoImage}
 
@@ -49,14 +48,7 @@ least_widths-append (event ∷ events) later = omega (arith, least_widths-append
 -- Each node has two tokens.
 nodes_are_wide : (nodes : Nodes FileNode) → 12 * node_count nodes ≤ least_widths (file_events nodes)
 nodes_are_wide none = omega arith
-nodes_are_wide (node name own children later) =
-    omega (
-      arith,
-      nodes_are_wide children,
-      nodes_are_wide later,
-      least_widths-append (map FileNodeProperty own.properties) (file_events children ++ (FileNodeEnd ∷ file_events later)),
-      least_widths-append (file_events children) (FileNodeEnd ∷ file_events later),
-    )
+nodes_are_wide (node name own children later) = search (rules, least_widths-append, nodes_are_wide children, nodes_are_wide later)
 
 begin_is_wide : (name : List ℕ) → 8 ≤ width (BeginNode name)
 begin_is_wide name = omega (arith, length-append (cell 1) (name ++ 0 ∷ []), length-append name (0 ∷ []), length-cell 1)
@@ -134,18 +126,12 @@ accepted_claim limits image (OfFit tree) means =
 
 -- So an image that claims nothing is not accepted.
 pub no_claim_no_image : (limits : Limits) (input : List ℕ) (from end : ℕ) → ClaimsNothing input from end → HasNoImage limits input from end
-no_claim_no_image limits input from end nothing offset after before meaning means =
-    let accepted = accepted_claim limits (input_from offset input) meaning means in
-    let one : 0 ≡ accepted.0 = one_claim (input_from offset input) 0 accepted.0 (nothing offset after before) accepted.1 in
-    omega (arith, one, accepted.2)
+no_claim_no_image limits input from end nothing offset after before meaning means = search (rules, accepted_claim, one_claim)
 
 -- The image of a line claims 64 bytes or more.
 line_claims : (limits : Limits) (input : List ℕ) (offset : ℕ) (lines : List Line) (claim : ℕ) → IsLineAt limits input offset lines →
     IsClaim (input_from offset input) claim → 64 * length lines ≤ claim
-line_claims limits input offset lines claim (WithImage extent meaning is same) claims =
-    let accepted = accepted_claim limits (input_from offset input) meaning is.means in
-    let one : claim ≡ accepted.0 = one_claim (input_from offset input) claim accepted.0 claims accepted.1 in
-    rw same (omega (arith, one, accepted.2))
+line_claims limits input offset lines claim (WithImage extent meaning is same) claims = search (rules, accepted_claim, one_claim)
 line_claims limits input offset lines claim (WithoutImage nothing same) claims = rw same (omega arith)
 
 lines_claim : (limits : Limits) (input offsets : List ℕ) (lines : List (List Line)) (claims : List ℕ) →
@@ -166,10 +152,4 @@ lines_claim limits input (offset ∷ offsets) (first ∷ lines) (claim ∷ claim
     )
 
 pub lines_are_few : LinesAreFew
-lines_are_few limits input text is =
-    let within = is.can.within in
-    omega (
-      arith,
-      within.within,
-      lines_claim limits input (input_offsets input) is.has.lines within.claims is.has.are_lines within.are_claims,
-    )
+lines_are_few limits input text is = search (rules, lines_claim)

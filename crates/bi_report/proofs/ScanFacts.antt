@@ -1,8 +1,12 @@
-use Rattle.std.proofs.Common.{◌≡◌, ℕ, ◌+◌, ◌<◌, ◌≤◌, ◌^◌, Bool, true, false, not, ◌&&◌, ◌||◌, ◌==◌, nat_le, List, [], ◌∷◌, ◌++◌}
+use Rattle.std.proofs.Common.{◌≡◌, ◌≢◌, ◌↔◌, ℕ, ◌+◌, ◌<◌, ◌≤◌, ◌^◌, Bool, true, false, not, ◌&&◌, ◌||◌, ◌==◌, nat_le, List, [], ◌∷◌}
+use Rattle.std.proofs.Common.{◌++◌, IsTrue}
 use Rattle.std.proofs.Common.{length, map, take, codes, replicate, refl, sym, ap, subst, ◌∙◌, inl, inr, true≢false, lit≤, lit<, arith}
 use Rattle.std.specs.Fmt.{digits}
 use Rattle.std.specs.List.{AllZip, list_all, range_with_len, sum}
 use Rattle.std.proofs.lemmas.Bool.{and_parts, eq-eqb, eqb-false, le-leb}
+use Rattle.bi_base.specs.declared.fault.Error.{Error}
+use Rattle.bi_base.specs.declared.fault.Error.TheVariants.{OutOfMemory, ReadFailed, Refused, WriteFailed}
+use Rattle.bi_base.specs.declared.fault.Fault.{Fault}
 use Rattle.bi_base.specs.Cells.{AreBytes, cell, cell8, u32_at}
 use Rattle.bi_base.specs.Checks.{HasNoFault}
 use Rattle.bi_base.specs.Crc.{crc32, crc_after, low_bits}
@@ -32,15 +36,18 @@ use Rattle.bi_legacy.proofs.HeaderReads.{length-file, size_read}
 use Rattle.bi_norm.specs.declared.kind.Kind.{Kind}
 use Rattle.bi_norm.specs.declared.kind.Kind.TheVariants as kind
 use Rattle.bi_norm.specs.Kinds.{BeginsAs}
+use Rattle.bi_norm.specs.Laws.{OneFileMeaning}
 use Rattle.bi_norm.specs.Meaning.{OfLegacy, OfFit, MeansNothing}
 use Rattle.bi_common.specs.Lines.{Line, text_of_lines}
 use Rattle.bi_common.specs.Offsets.{input_from}
-use Rattle.bi_report.specs.KnownScans.{ClaimsAreKnown, ScansAreKnown, great_header, kernel_of_tree, nested_images, nested_lines}
-use Rattle.bi_report.specs.KnownScans.{scan_limits, three_magics, two_images, two_lines}
+use Rattle.bi_report.specs.KnownScans.{ClaimsAreKnown, FailsScanning, IsOnlyScan, ScanErrorsAreKnown, ScansAreKnown, great_header}
+use Rattle.bi_report.specs.KnownScans.{kernel_of_tree, nested_images, nested_lines, scan_limits, three_magics, two_images, two_lines}
 use Rattle.bi_report.specs.Scanning.{HasBlobClaim, HasLegacyClaim, IsClaim, IsLineAt, OfBlob, OfData, OfNothing, WithImage, WithoutImage}
-use Rattle.bi_report.specs.Scanning.{HasExtent, IsScanFault, IsScanOutput, IsScanText, all_lines, blob_claim_checks, input_offsets}
-use Rattle.bi_report.specs.Scanning.{scan_line}
-use Rattle.bi_report.proofs.ScanClaims.{scan_has_no_fault}
+use Rattle.bi_report.specs.Scanning.{CanBeScanned, HasExtent, IsScanError, IsScanFault, IsScanText, all_lines, blob_claim_checks}
+use Rattle.bi_report.specs.Scanning.{input_offsets, scan_line}
+use Rattle.bi_report.proofs.OutputFacts.{same_bool}
+use Rattle.bi_report.proofs.ScanClaims.{fault_or_scan, scan_has_no_fault}
+use Rattle.bi_report.proofs.ScanLaws.{one_scan}
 use Rattle.bi_report.proofs.ScannedLines.{means_kind}
 
 -- Small images have known claims, and small files known scans.
@@ -267,6 +274,10 @@ two_are_known = (
       ),
 )
 
+two_scan : IsScanText (scan_limits 162) two_images two_lines
+unfolding u32_at cell digits
+two_scan = known_scan (scan_limits 162) two_images two_lines two_items (lit≤ tt) two_are_known (lit≤ tt) refl
+
 -- The bytes of the file with one image inside another.
 abbrev nested_bytes : List ℕ
 nested_bytes =
@@ -462,31 +473,73 @@ magics_scan =
     ))
     (lit≤ tt) refl
 
--- Whether there is a line.
-found_some : {limits : Limits} {input : List ℕ} {byte : ℕ} {later : List ℕ} → IsScanText limits input (byte ∷ later) →
-    IsScanOutput limits true input (byte ∷ later)
-found_some is = record { is_scan = is; is_found = (λ _ e. absurd cc, λ _. refl) }
+-- So they are the only outputs: there is a line, or there is none.
+module _ (one_meaning : OneFileMeaning) where
+  only_scan : (most : ℕ) (found : Bool) (input text : List ℕ) → IsScanText (scan_limits most) input text → (IsTrue found ↔ (text ≢ [])) →
+      IsOnlyScan most found input text
+  only_scan most found input text is is_found = record {
+    is_output = record { is_scan = is; is_found = is_found };
+    is_text = is;
+    only = λ other_found other output.
+        let same = one_scan one_meaning (scan_limits most) input other text output.is_scan is in (
+          same_bool other_found found (text ≢ []) (subst (λ text. IsTrue other_found ↔ (text ≢ [])) same output.is_found) is_found,
+          same,
+        );
+  }
 
-found_none : {limits : Limits} {input : List ℕ} → IsScanText limits input [] → IsScanOutput limits false input []
-found_none is = record { is_scan = is; is_found = (λ no. absurd (true≢false (sym no)), λ some. absurd (some refl)) }
+  found_some : (most byte : ℕ) (input later : List ℕ) → IsScanText (scan_limits most) input (byte ∷ later) →
+      IsOnlyScan most true input (byte ∷ later)
+  found_some most byte input later is = only_scan most true input (byte ∷ later) is (λ _ e. absurd cc, λ _. refl)
 
-pub scans_are_known : ScansAreKnown
-unfolding u32_at cell digits
-scans_are_known = record {
-  two = found_some (known_scan (scan_limits 162) two_images two_lines two_items (lit≤ tt) two_are_known (lit≤ tt) refl);
-  nested = found_some nested_scan;
-  external = found_some external_scan;
-  great = found_none great_scan;
-  magic = found_none (known_scan (scan_limits 162) (cell blob_magic) [] (nothing_at (range_with_len 0 4)) (lit≤ tt) (
-    (WithoutImage (blob_alone (scan_limits 162)) refl, claims_are_known.blob_alone),
-    nothing_is_known (scan_limits 162) (cell blob_magic) (range_with_len 1 3) refl,
-  )
-      (lit≤ tt) refl);
-  magics = found_none magics_scan;
-  none = found_none (known_scan (scan_limits 162) (codes "hello") [] (nothing_at (range_with_len 0 5)) (lit≤ tt)
-      (nothing_is_known (scan_limits 162) (codes "hello") (range_with_len 0 5) refl) (lit≤ tt) refl);
-  empty = found_none (known_scan (scan_limits 64) [] [] [] (lit≤ tt) tt (lit≤ tt) refl);
-  longer = record { is_too_large = refl; cause = inl (lit< tt) };
-  claims = nested_fault;
-  not_over = λ fault. scan_has_no_fault (scan_limits 240) nested_images nested_lines (too_large 240) nested_scan fault;
+  found_none : (most : ℕ) (input : List ℕ) → IsScanText (scan_limits most) input [] → IsOnlyScan most false input []
+  found_none most input is = only_scan most false input [] is (λ no. absurd (true≢false (sym no)), λ some. absurd (some refl))
+
+  pub scans_are_known : ScansAreKnown
+  unfolding u32_at cell digits
+  scans_are_known = record {
+    two = found_some 162 _ two_images _ two_scan;
+    nested = found_some 240 _ nested_images _ nested_scan;
+    external = found_some 253 _ three_external _ external_scan;
+    great = found_none 162 great_header great_scan;
+    magic = found_none 162 (cell blob_magic)
+        (known_scan (scan_limits 162) (cell blob_magic) [] (nothing_at (range_with_len 0 4)) (lit≤ tt) (
+          (WithoutImage (blob_alone (scan_limits 162)) refl, claims_are_known.blob_alone),
+          nothing_is_known (scan_limits 162) (cell blob_magic) (range_with_len 1 3) refl,
+        )
+        (lit≤ tt) refl);
+    magics = found_none 64 three_magics magics_scan;
+    none = found_none 162 (codes "hello") (known_scan (scan_limits 162) (codes "hello") [] (nothing_at (range_with_len 0 5)) (lit≤ tt)
+        (nothing_is_known (scan_limits 162) (codes "hello") (range_with_len 0 5) refl) (lit≤ tt) refl);
+    empty = found_none 64 [] (known_scan (scan_limits 64) [] [] [] (lit≤ tt) tt (lit≤ tt) refl);
+  }
+
+-- ---- errors
+
+-- What is the one error of a scan.
+one_error : (most : ℕ) (input : List ℕ) (one : Error) → IsScanError (scan_limits most) input one →
+    ((fault : Fault) → IsScanFault (scan_limits most) input fault → Refused fault ≡ one) →
+    (CanBeScanned (scan_limits most) input → OutOfMemory ≡ one) → FailsScanning most input one
+one_error most input one is refused memory error = (each error, λ same. subst (IsScanError (scan_limits most) input) (sym same) is)
+  where
+    each : (error : Error) → IsScanError (scan_limits most) input error → error ≡ one
+    each (Refused fault) is = refused fault is
+    each OutOfMemory is = memory is
+    each ReadFailed is = absurd is
+    each WriteFailed is = absurd is
+
+-- A file with a fault has no other error.
+one_fault : (most : ℕ) (input : List ℕ) → IsScanFault (scan_limits most) input (too_large most) →
+    FailsScanning most input (Refused (too_large most))
+one_fault most input is =
+    one_error most input (Refused (too_large most)) is (λ fault other. ap Refused other.is_too_large)
+    (λ can. absurd (fault_or_scan (scan_limits most) input (too_large most) can is))
+
+pub scan_errors_are_known : ScanErrorsAreKnown
+unfolding cell
+scan_errors_are_known = record {
+  longer = one_fault 161 two_images (record { is_too_large = refl; cause = inl (lit< tt) });
+  claims = one_fault 239 nested_images nested_fault;
+  within = one_error 240 nested_images OutOfMemory nested_scan.can
+      (λ fault is. absurd (scan_has_no_fault (scan_limits 240) nested_images nested_lines fault nested_scan is)) (λ can. refl);
+  is_same = λ limits error. refl;
 }

@@ -1,4 +1,4 @@
-use Rattle.std.proofs.Common.{◌≡◌, ◌≢◌, ℕ, zero, suc, ◌+◌, ◌<◌, List, [], ◌∷◌, length, get_or, refl, sym, ap, ap₂, subst}
+use Rattle.std.proofs.Common.{◌≡◌, ◌≢◌, ℕ, zero, suc, ◌+◌, ◌<◌, List, [], ◌∷◌, length, get_or, refl, sym, ap, ap₂, subst, rules}
 use Rattle.std.proofs.Common.{◌∙◌, arith}
 use Rattle.std.specs.List.{AllZip, range_with_len}
 use Rattle.std.proofs.lemmas.List.{length-drop}
@@ -11,11 +11,11 @@ use Rattle.bi_fit.specs.ImageTree.{image_nodes}
 use Rattle.bi_fit.proofs.Meanings.{same_in_some}
 use Rattle.bi_norm.specs.Laws.{OneFileMeaning}
 use Rattle.bi_norm.specs.Meaning.{Meaning, OfLegacy, OfFit, Means}
-use Rattle.bi_common.specs.Lines.{Line, text_of_lines}
+use Rattle.bi_common.specs.Lines.{Line}
 use Rattle.bi_common.specs.Offsets.{input_from}
 use Rattle.bi_report.specs.Checking.{content_end}
 use Rattle.bi_report.specs.ScanLaws.{EachImageHasItsLine, OneScan}
-use Rattle.bi_report.specs.Scanning.{HasExtent, IsImageAt, IsLineAt, WithImage, WithoutImage, all_lines, input_offsets, scan_line}
+use Rattle.bi_report.specs.Scanning.{HasExtent, IsImageAt, IsLineAt, WithImage, WithoutImage, input_offsets, scan_line}
 use Rattle.bi_report.proofs.ScannedLines.{means_kind}
 
 -- The lines of a scan are those of the images at offsets, one for each, and there is only one list of them.
@@ -46,9 +46,7 @@ at_offset R begin (suc count) (suc index) (item ∷ items) all within =
 line_of_image : OneFileMeaning → (limits : Limits) (input : List ℕ) (offset : ℕ) (lines : List Line) (meaning : Meaning) →
     IsLineAt limits input offset lines → Means limits (input_from offset input) meaning →
     (extent : ℕ) × IsImageAt limits input offset extent meaning × (lines ≡ scan_line offset extent meaning ∷ [])
-line_of_image one_meaning limits input offset lines meaning (WithImage extent found is same) means =
-    let one : found ≡ meaning = one_meaning limits limits (input_from offset input) found meaning is.means means in
-    (extent, subst (IsImageAt limits input offset extent) one is, same ∙ ap (λ meaning. scan_line offset extent meaning ∷ []) one)
+line_of_image one_meaning limits input offset lines meaning (WithImage extent found is same) means = search rules
 line_of_image one_meaning limits input offset lines meaning (WithoutImage nothing same) means = absurd (nothing meaning means)
 
 -- A line is that of an image.
@@ -102,12 +100,7 @@ one_extent limits image (OfFit tree) one other (means, is) (other_means, other_i
 -- So there is one line for an offset,
 one_line : OneFileMeaning → (limits : Limits) (input : List ℕ) (offset : ℕ) (one other : List Line) →
     IsLineAt limits input offset one → IsLineAt limits input offset other → one ≡ other
-one_line one_meaning limits input offset one other is (WithImage extent meaning other_is same) =
-    let found = line_of_image one_meaning limits input offset one meaning is other_is.means in
-    found.2
-    ∙ ap (λ (extent : ℕ). scan_line offset extent meaning ∷ [])
-    (one_extent limits (input_from offset input) meaning found.0 extent found.1.has_extent other_is.has_extent)
-    ∙ sym same
+one_line one_meaning limits input offset one other is (WithImage extent meaning other_is same) = search (rules, line_of_image, one_extent)
 one_line one_meaning limits input offset one other (WithImage extent meaning is same) (WithoutImage nothing other_same) =
     absurd (nothing meaning is.means)
 one_line one_meaning limits input offset one other (WithoutImage nothing same) (WithoutImage other_nothing other_same) =
@@ -127,8 +120,4 @@ same_lines one_meaning limits input (offset ∷ offsets) (line ∷ lines) (other
     (same_lines one_meaning limits input offsets lines others are.1 are_too.1)
 
 pub one_scan : OneFileMeaning → OneScan
-one_scan one_meaning limits input one other is other_is =
-    is.has.is_text
-    ∙ ap (λ lines. text_of_lines (all_lines lines))
-    (same_lines one_meaning limits input (input_offsets input) is.has.lines other_is.has.lines is.has.are_lines other_is.has.are_lines)
-    ∙ sym other_is.has.is_text
+one_scan one_meaning limits input one other is other_is = search (rules, same_lines)

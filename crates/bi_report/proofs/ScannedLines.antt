@@ -1,5 +1,5 @@
 use Rattle.std.proofs.Common.{◌≡◌, ℕ, zero, suc, ◌+◌, ◌-◌, ◌<◌, ◌≤◌, Bool, true, false, Option, Some, Result, Ok, Err, IfErr, IfOk, is_err}
-use Rattle.std.proofs.Common.{List, [], ◌∷◌, ◌++◌, length, refl, sym, ap, subst, subst₂, ◌∙◌, append-nil, arith}
+use Rattle.std.proofs.Common.{List, [], ◌∷◌, ◌++◌, length, refl, sym, ap, subst, subst₂, ◌∙◌, append-nil, arith, rules}
 use Rattle.std.specs.Prelude.{IsAscii}
 use Rattle.std.specs.List.{AllZip}
 use Rattle.std.proofs.lemmas.Grind.{flat_map-append}
@@ -39,13 +39,7 @@ use Rattle.bi_report.proofs.PutInTurn.{put_then}
 -- What means something begins as an image of some kind.
 pub means_kind : (limits : Limits) (image : List ℕ) (meaning : Meaning) → Means limits image meaning → (found : Kind) × BeginsAs image found
 means_kind limits image (OfLegacy legacy_image) means = (kind.Legacy, means_legacy limits image legacy_image means)
-means_kind limits image (OfFit tree) means = (
-  kind.Fit,
-  record {
-    whole = (Header-HasNoHeaderFault limits image means.within.short means.is_file.blob.header).1.0;
-    magic = begins_with_magic image tree means.is_file;
-  },
-)
+means_kind limits image (OfFit tree) means = search (rules, Header-HasNoHeaderFault, begins_with_magic)
 
 -- So an image of no kind means nothing.
 no_kind_means_nothing : (limits : Limits) (image : List ℕ) (fault : Fault) → IsKindFault image fault → MeansNothing limits image
@@ -139,9 +133,7 @@ pub record HasLinesBefore {S : Type 0} (puts : S → List LineToken → S → Ty
 pub before_lines : {S : Type 0} (puts : S → List LineToken → S → Type 0) → PutsNothing puts → (limits : Limits) (input : List ℕ) (pen : S)
     (left : ImageStartsModel) (end : ℕ) → left ≡ record { input = input; from = 0; end = end } →
     HasLinesBefore puts limits input left end pen pen
-before_lines puts nothing limits input pen left end is =
-    subst (λ (left : ImageStartsModel). HasLinesBefore puts limits input left end pen pen) (sym is)
-    (record { lines = ([], tt, nothing pen); is_input = refl; is_end = refl; are_left = omega arith })
+before_lines puts nothing limits input pen left end is = search rules
 
 pub lines_at_start : {S : Type 0} (puts : S → List LineToken → S → Type 0) → PutsNothing puts → PutsInTurn puts → (limits : Limits)
     (input : List ℕ) (old pen new : S) (left after : ImageStartsModel) (end offset : ℕ) →
@@ -211,6 +203,4 @@ lines_can limits input (offset ∷ offsets) (first ∷ later) are =
 
 -- So the text of a scan is ASCII.
 pub scan_is_ascii : (limits : Limits) (input text : List ℕ) → IsScanText limits input text → IsAscii text
-scan_is_ascii limits input text is =
-    subst IsAscii (sym is.has.is_text)
-    (line_texts_are_ascii (all_lines is.has.lines) (lines_can limits input (input_offsets input) is.has.lines is.has.are_lines))
+scan_is_ascii limits input text is = search (rules, line_texts_are_ascii, lines_can)

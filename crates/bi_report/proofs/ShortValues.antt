@@ -1,9 +1,9 @@
-use Rattle.std.proofs.Common.{◌≡◌, ℕ, ◌+◌, ◌^◌, ◌≤◌, ◌<◌, ◌==◌, not, Bool, true, false, cond, List, [], ◌∷◌, ◌++◌, length, map, refl, sym}
+use Rattle.std.proofs.Common.{◌≡◌, ℕ, ◌+◌, ◌^◌, ◌≤◌, ◌<◌, List, [], ◌∷◌, ◌++◌, length, map, refl, sym, rules}
 use Rattle.std.proofs.Common.{◌∙◌}
-use Rattle.std.proofs.Common.{subst, arith, bytes_eq, nat_eq, Option, Some, None}
+use Rattle.std.proofs.Common.{subst, arith, nat_eq, Option, Some, None}
 use Rattle.std.specs.Prelude.{⊤}
 use Rattle.std.specs.FinMap.{from_entries, get, get-from_entries}
-use Rattle.std.specs.List.{AllByRecursion, ends_with}
+use Rattle.std.specs.List.{AllByRecursion}
 use Rattle.std.proofs.lemmas.Cmp.{nat_list_cmp_total}
 use Rattle.bi_base.proofs.ListMembers.{each-back, each-front, each-map, each-map_back}
 use Rattle.bi_blob.specs.Events.{EncodeEvents, FileEvent, FileNodeStart, FileNodeProperty, FileNodeEnd, file_events}
@@ -15,10 +15,10 @@ use Rattle.bi_blob.proofs.Texts.PropertyOrder.{found-each}
 use Rattle.bi_fit.specs.declared.key.Key.{Key}
 use Rattle.bi_fit.specs.File.{IsFitFile}
 use Rattle.bi_fit.specs.ImageTree.{ImageTree, children_of, nodes_or_none, with_children_of, without_payload, without_payloads}
-use Rattle.bi_fit.specs.Judgement.{Image, ListResult, NoConfig, NoKey, BadList, Missing, ListedImages, configuration_nodes, image_named}
+use Rattle.bi_fit.specs.Judgement.{Image, ListResult, NoConfig, NoKey, BadList, Missing, ListedImages, configuration_nodes}
 use Rattle.bi_fit.specs.Judgement.{images_of, list_images, listed_at, listed_from, listed_in, listed_names, listed_of, listed_under}
 use Rattle.bi_fit.specs.Judgement.{with_byte}
-use Rattle.bi_fit.specs.Names.{configurations_name, images_name, is_payload_name, key_name}
+use Rattle.bi_fit.specs.Names.{configurations_name, images_name, key_name}
 use Rattle.bi_fit.proofs.Meanings.{same_in_some}
 use Rattle.bi_fit.proofs.PayloadProperties.{get-without}
 
@@ -78,11 +78,7 @@ all_by_name none are = tt
 all_by_name (node name own children later) are = (by_name own are.0, all_by_name children are.1, all_by_name later are.2)
 
 without : (own : PropertyMap) → AreShortByName own → AreShortByName (without_payload own)
-without own are name value there = by (is_payload_name name) (sym (get-without own name) ∙ there)
-  where
-    by : (b : Bool) → cond (not b) (get own name) None ≡ Some value → length value < 2 ^ 32
-    by true found = absurd cc
-    by false found = are name value found
+without own are name value there = search (rules, get-without)
 
 all_without : (nodes : Nodes PropertyMap) → EachOwn AreShortByName nodes → EachOwn AreShortByName (without_payloads nodes)
 all_without none are = tt
@@ -91,13 +87,7 @@ all_without (node name own children later) are = (without own are.0, are.1, all_
 images_without : (nodes : Nodes PropertyMap) → EachOwn AreShortByName nodes →
     EachOwn AreShortByName (with_children_of images_name without_payloads nodes)
 images_without none are = tt
-images_without (node name own children later) are = by (bytes_eq name images_name) (images_without later are.2)
-  where
-    by : (b : Bool) → EachOwn AreShortByName (with_children_of images_name without_payloads later) →
-        EachOwn AreShortByName (cond b (node name own (without_payloads children) later)
-        (node name own children (with_children_of images_name without_payloads later)))
-    by true rest = (are.0, all_without children are.1, are.2)
-    by false rest = (are.0, are.1, rest)
+images_without (node name own children later) are = search (rules, all_without, images_without later are.2)
 
 tree_short : (file : List ℕ) (tree : ImageTree) → IsFitFile file tree → EachOwn AreShortByName tree.root.children
 tree_short file tree is =
@@ -112,28 +102,12 @@ tree_short file tree is =
 in_children : (wanted : List ℕ) (nodes inner : Nodes PropertyMap) → EachOwn AreShortByName nodes → children_of wanted nodes ≡ Some inner →
     EachOwn AreShortByName inner
 in_children wanted none inner are has = absurd cc
-in_children wanted (node name own children later) inner are has =
-    where_first (bytes_eq name wanted) refl has (in_children wanted later inner are.2)
-  where
-    where_first : (b : Bool) → bytes_eq name wanted ≡ b → children_of wanted (node name own children later) ≡ Some inner →
-        (children_of wanted later ≡ Some inner → EachOwn AreShortByName inner) → EachOwn AreShortByName inner
-    where_first true is has rest =
-        let found : children ≡ inner = same_in_some children inner (rw is at has) in subst (EachOwn AreShortByName) found are.1
-    where_first false is has rest = rest (rw is at has)
+in_children wanted (node name own children later) inner are has = search (rules, same_in_some, in_children wanted later inner are.2)
 
 named_own : (wanted : List ℕ) (nodes : Nodes PropertyMap) (found : Sibling PropertyMap) → EachOwn AreShortByName nodes →
     node_named nodes wanted ≡ Some found → AreShortByName found.own
 named_own wanted none found are is = absurd cc
-named_own wanted (node name own children later) found are is =
-    where_first (bytes_eq name wanted) refl is (named_own wanted later found are.2)
-  where
-    where_first : (b : Bool) → bytes_eq name wanted ≡ b → node_named (node name own children later) wanted ≡ Some found →
-        (node_named later wanted ≡ Some found → AreShortByName found.own) → AreShortByName found.own
-    where_first true at_name is rest =
-        let first : Sibling PropertyMap = record { name = name; own = own; children = children; later = later } in
-        let same : first ≡ found = same_in_some first found (rw at_name at is) in
-        subst (λ (sibling : Sibling PropertyMap). AreShortByName sibling.own) same are.0
-    where_first false at_name is rest = rest (rw at_name at is)
+named_own wanted (node name own children later) found are is = search (rules, same_in_some, named_own wanted later found are.2)
 
 configurations_short : (file : List ℕ) (tree : ImageTree) → IsFitFile file tree → EachOwn AreShortByName (configuration_nodes tree)
 configurations_short file tree is = by (children_of configurations_name tree.root.children) refl
@@ -156,12 +130,7 @@ length-with_byte byte (name ∷ later) = refl
 
 fewer_names : (value : List ℕ) → length (listed_names value) ≤ length value
 fewer_names [] = omega arith
-fewer_names (byte ∷ later) = by (byte == 0) (fewer_names later)
-  where
-    by : (b : Bool) → length (listed_names later) ≤ length later →
-        length (cond b ([] ∷ listed_names later) (with_byte byte (listed_names later))) ≤ length (byte ∷ later)
-    by true rest = omega (arith, rest)
-    by false rest = omega (arith, rest, length-with_byte byte (listed_names later))
+fewer_names (byte ∷ later) = search (rules, length-with_byte, fewer_names later)
 
 found_small : (index : ℕ) (name : List ℕ) (found : Option Image) (later : ListResult) → index < 2 ^ 64 → HasSmallIndex later →
     HasSmallIndex (listed_from index name found later)
@@ -175,23 +144,13 @@ found_small index name (Some image) (ListedImages images) small rest = tt
 list_small : (images : List Image) (index : ℕ) (names : List (List ℕ)) → index + length names < 2 ^ 64 →
     HasSmallIndex (list_images images index names)
 list_small images index [] small = tt
-list_small images index (name ∷ later) small =
-    found_small index name (image_named name images) (list_images images (index + 1) later) (omega (arith, small))
-    (list_small images (index + 1) later (omega (arith, small)))
+list_small images index (name ∷ later) small = search (rules, found_small, list_small images (index + 1) later (omega (arith, small)))
 
 value_small : (images : List Image) (value : List ℕ) → length value < 2 ^ 32 → HasSmallIndex (listed_in images value)
-value_small images value short = by (ends_with nat_eq value (0 ∷ []))
-  where
-    by : (b : Bool) → HasSmallIndex (cond b (list_images images 0 (listed_names value)) BadList)
-    by true = list_small images 0 (listed_names value) (omega (arith, short, fewer_names value))
-    by false = tt
+value_small images value short = search (rules, nat_eq, list_small, fewer_names)
 
 key_small : (images : List Image) (own : PropertyMap) (name : List ℕ) → AreShortByName own → HasSmallIndex (listed_at images (get own name))
-key_small images own name are = by (get own name) refl
-  where
-    by : (o : Option (List ℕ)) → get own name ≡ o → HasSmallIndex (listed_at images o)
-    by None there = tt
-    by (Some value) there = value_small images value (are name value there)
+key_small images own name are = search (rules, value_small)
 
 pub index_small : (file : List ℕ) (tree : ImageTree) → IsFitFile file tree → (name : List ℕ) (key : Key) →
     HasSmallIndex (listed_of tree name key)

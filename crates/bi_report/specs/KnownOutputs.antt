@@ -12,7 +12,7 @@ use Rattle.bi_common.specs.declared.format.Format.{Format}
 use Rattle.bi_common.specs.declared.format.Format.TheVariants.{Lines, Json}
 use Rattle.bi_common.specs.Json.{json_text}
 use Rattle.bi_common.specs.KnownWords.{lines}
-use Rattle.bi_report.specs.CheckedFiles.{IsCheckOutput, concerns_text}
+use Rattle.bi_report.specs.CheckedFiles.{IsCheckOutput, check_promise, concerns_text}
 use Rattle.bi_report.specs.Checking.{BadHash, TrailingBytes, WeakHash, nothing_allowed}
 use Rattle.bi_report.specs.Checking.{tree_concerns}
 use Rattle.bi_report.specs.FitListing.{configuration_entry, configuration_object}
@@ -105,9 +105,20 @@ each_concern =
     ++ (codes "{\"concern\":\"weak-hash\",\"image\":\"a\",\"algorithms\":[\"sha1\",\"md5\"]},"
     ++ lines (codes "{\"concern\":\"trailing\",\"size\":7}]}" ∷ [])))))))))))
 
+-- Checking the file as lines, with nothing allowed, gives this value and this text, and nothing
+-- else.
+pub record IsOnlyCheck (clean : Bool) (file text : List ℕ) : Type 0 where
+  pub is_output : (check_promise Lines nothing_allowed widest).is_output clean file text
+  pub is_text : (check_promise Lines nothing_allowed widest).is_text file text
+  pub only : (other_clean : Bool) (other : List ℕ)
+      → (check_promise Lines nothing_allowed widest).is_output other_clean file other
+      → (other_clean ≡ clean) × (other ≡ text)
+
 -- What `check` writes, and whether it leaves no concern. Concerns that are allowed are left out,
 -- and do not count.
 pub record CheckOutputsAreKnown : Type 0 where
+  pub legacy : IsOnlyCheck true kernel_file []
+  pub trailing : IsOnlyCheck false kernel_file_with_rest (lines (codes "trailing 7" ∷ []))
   pub nothing : IsCheckOutput Lines nothing_allowed widest true smallest_text []
   pub nothing_json : IsCheckOutput Json nothing_allowed widest true smallest_text
       (lines (codes "{\"concerns\":[]}" ∷ []))

@@ -1,5 +1,7 @@
-use Rattle.std.specs.Prelude.{ℕ, ◌≡◌, true, false, List, [], ◌∷◌, ◌++◌, length, replicate, take}
-use Rattle.std.specs.Prelude.{codes}
+use Rattle.std.specs.Prelude.{ℕ, ◌≡◌, ◌↔◌, Bool, true, false, List, [], ◌∷◌, ◌++◌, length, take}
+use Rattle.std.specs.Prelude.{codes, replicate}
+use Rattle.bi_base.specs.declared.fault.Error.{Error}
+use Rattle.bi_base.specs.declared.fault.Error.TheVariants.{OutOfMemory, Refused}
 use Rattle.bi_base.specs.Cells.{cell}
 use Rattle.bi_base.specs.Crc.{crc32}
 use Rattle.bi_base.specs.Limits.{Limits}
@@ -13,7 +15,7 @@ use Rattle.bi_legacy.specs.KnownImages.{kernel_image, kernel_file}
 use Rattle.bi_legacy.specs.Meaning.{LegacyImage}
 use Rattle.bi_legacy.specs.Text.{legacy_text}
 use Rattle.bi_common.specs.Offsets.{input_from}
-use Rattle.bi_report.specs.Scanning.{IsClaim, IsScanFault, IsScanOutput}
+use Rattle.bi_report.specs.Scanning.{IsClaim, scan_promise}
 
 -- Small files with the images that are inside them, by which a reader can judge the definitions.
 
@@ -72,21 +74,38 @@ pub record ClaimsAreKnown : Type 0 where
   pub other : IsClaim (codes "hello") 0
   pub empty : IsClaim [] 0
 
+-- Scanning the input within this limit gives this value and this text, and nothing else.
+pub record IsOnlyScan (most : ℕ) (found : Bool) (input text : List ℕ) : Type 0 where
+  pub is_output : (scan_promise (scan_limits most)).is_output found input text
+  pub is_text : (scan_promise (scan_limits most)).is_text input text
+  pub only : (other_found : Bool) (other : List ℕ)
+      → (scan_promise (scan_limits most)).is_output other_found input other
+      → (other_found ≡ found) × (other ≡ text)
+
 -- The texts of scans, and whether an image is found: two images one after the other, one inside the
--- other, external payloads, and no image at all. The claims of the first are 161 together, and of
--- the second 240: a lower limit refuses the file.
+-- other, external payloads, and no image at all.
 pub record ScansAreKnown : Type 0 where
-  pub two : IsScanOutput (scan_limits 162) true two_images two_lines
-  pub nested : IsScanOutput (scan_limits 240) true nested_images nested_lines
-  pub external : IsScanOutput (scan_limits 253) true three_external (codes "0 fit 253 3" ++ 10 ∷ [])
-  pub great : IsScanOutput (scan_limits 162) false great_header []
-  pub magic : IsScanOutput (scan_limits 162) false (cell blob_magic) []
-  pub magics : IsScanOutput (scan_limits 64) false three_magics []
-  pub none : IsScanOutput (scan_limits 162) false (codes "hello") []
-  pub empty : IsScanOutput (scan_limits 64) false [] []
-  pub longer : IsScanFault (scan_limits 161) two_images (too_large 161)
-  pub claims : IsScanFault (scan_limits 239) nested_images (too_large 239)
-  pub not_over : ¬ (IsScanFault (scan_limits 240) nested_images (too_large 240))
+  pub two : IsOnlyScan 162 true two_images two_lines
+  pub nested : IsOnlyScan 240 true nested_images nested_lines
+  pub external : IsOnlyScan 253 true three_external (codes "0 fit 253 3" ++ 10 ∷ [])
+  pub great : IsOnlyScan 162 false great_header []
+  pub magic : IsOnlyScan 162 false (cell blob_magic) []
+  pub magics : IsOnlyScan 64 false three_magics []
+  pub none : IsOnlyScan 162 false (codes "hello") []
+  pub empty : IsOnlyScan 64 false [] []
+
+-- Scanning the input within this limit fails with this error, and with no other.
+abbrev pub FailsScanning : ℕ → List ℕ → Error → Type 0
+FailsScanning most input one =
+    (error : Error) → (scan_promise (scan_limits most)).has_error input error ↔ (error ≡ one)
+
+-- The claims of the two images are 161 together, and of those one inside the other 240: a lower
+-- limit refuses the file, and so does one lower than its length. An error is not changed.
+pub record ScanErrorsAreKnown : Type 0 where
+  pub longer : FailsScanning 161 two_images (Refused (too_large 161))
+  pub claims : FailsScanning 239 nested_images (Refused (too_large 239))
+  pub within : FailsScanning 240 nested_images OutOfMemory
+  pub is_same : (limits : Limits) (error : Error) → (scan_promise limits).wraps error ≡ error
 
 -- The image at an offset of the first file: the flattened image tree, or nothing after its end.
 pub record OffsetsAreKnown : Type 0 where

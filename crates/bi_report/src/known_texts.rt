@@ -2,7 +2,7 @@
 //! nothing: what it ensures is a fact about the definitions. Some of them call the function of a
 //! law, from which their facts follow.
 
-ghost use Rattle.bi_report.specs.KnownChecks.{BuiltCheckIsKnown};
+ghost use Rattle.bi_report.specs.KnownChecks.{BuiltCheckIsKnown, CheckErrorsAreKnown};
 ghost use Rattle.bi_report.specs.KnownChecks.{PayloadBoundIsKnown, ProtectionIsKnown};
 ghost use Rattle.bi_report.specs.KnownConcerns.{ConcernsAreKnown, StrongAlgorithmsAreKnown};
 ghost use Rattle.bi_report.specs.KnownConcerns.{TrailingBytesAreKnown, LegacyConcernsAreKnown};
@@ -10,6 +10,7 @@ ghost use Rattle.bi_report.specs.KnownConcerns.{AllowedKindsAreKnown};
 ghost use Rattle.bi_report.specs.KnownOutputs.{VerifyOutputsAreKnown, CheckOutputsAreKnown};
 ghost use Rattle.bi_report.specs.KnownOutputs.{JsonListingsAreKnown};
 ghost use Rattle.bi_report.specs.KnownScans.{ClaimsAreKnown, OffsetsAreKnown, ScansAreKnown};
+ghost use Rattle.bi_report.specs.KnownScans.{ScanErrorsAreKnown};
 ghost use Rattle.bi_report.specs.KnownTexts.{ReportsAreKnown, LegacyListingsAreKnown};
 ghost use Rattle.bi_report.specs.KnownTexts.{FitListingIsKnown, EachSourceIsListed};
 ghost use Rattle.bi_report.specs.KnownTexts.{ConfigurationLinesAreKnown};
@@ -84,10 +85,17 @@ pub fn protection_is_known()
     ensures { ProtectionIsKnown }
 {}
 
-/// Checking a file whose images share a region has the error `TooLarge` only under a limit that is
-/// lower than the length of its payloads together.
+/// A file whose images share a region holds too much only under a limit that is lower than the
+/// length of its payloads together.
 pub fn payload_bound_is_known()
     ensures { PayloadBoundIsKnown }
+{}
+
+/// Checking small files fails with known errors, and with no others: with one for a file that is
+/// refused, by running out of memory for one that is accepted, and with either if the payloads are
+/// longer together than the limit.
+pub fn check_errors_are_known()
+    ensures { CheckErrorsAreKnown }
 {}
 
 /// Small images have known claims: those that are whole, and those whose header fails a check.
@@ -95,9 +103,18 @@ pub fn claims_are_known()
     ensures { ClaimsAreKnown }
 {}
 
-/// The scans of small files are known texts, and the files are refused within lower limits.
+/// The scans of small files are known texts, and no others.
 pub fn scans_are_known()
     ensures { ScansAreKnown }
+{
+    bi_norm::laws::one_meaning();
+}
+
+/// Scanning small files fails with known errors, and with no others: within limits that are lower
+/// than the length of the file or than the claims of its images together, and else only by running
+/// out of memory.
+pub fn scan_errors_are_known()
+    ensures { ScanErrorsAreKnown }
 {}
 
 /// The images at offsets of a small file are known: the one that begins there, or an empty one

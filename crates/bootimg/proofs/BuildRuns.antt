@@ -19,8 +19,8 @@ use Rattle.bootimg.specs.ReadParts.{IsLent, IsReadingFailure, IsPartFailure, Was
 use Rattle.bootimg.specs.Runs.{build_promise, source_failure, Work, IsBuildWork, NoRoom, PartNotRead, IsBuiltWork, WasBuilt, WasNotBuilt}
 use Rattle.bootimg.specs.Runs.{ArePartsRead, IsFileRead, IsPart, IsPartNotRead, AreFirstRead}
 use Rattle.bootimg.specs.Tasks.{EndedWith}
-use Rattle.bootimg.specs.declared.builds.ReadPart.{ReadPart}
-use Rattle.bootimg.specs.declared.builds.ReadPart.TheVariants as read
+use Rattle.bootimg.specs.declared.builds.OwnedPart.{OwnedPart}
+use Rattle.bootimg.specs.declared.builds.OwnedPart.TheVariants as owned
 use Rattle.bootimg.specs.declared.command_line.build.BuildPlan.{BuildPlan}
 use Rattle.bootimg.specs.declared.command_line.part.PartSource.{PartSource}
 use Rattle.bootimg.specs.declared.command_line.part.PartSource.TheVariants as part
@@ -56,18 +56,18 @@ one_value_each IsRead (s ∷ sources) (v ∷ values) old new were =
 -- ---- parts
 
 -- A part that was read, and is lent.
-part_lent : (files : KnownFiles) (limits : Limits) (source : PartSource) (was_read : ReadPart) (part : Part)
+part_lent : (files : KnownFiles) (limits : Limits) (source : PartSource) (was_read : OwnedPart) (part : Part)
     (old new : Option (List FileStep)) → WasRead files limits source was_read old new → IsLent was_read part
     → IsPart files limits source part old new
-part_lent files limits (part.Input size) (read.Input other) (Length given) old new was is = (is ∙ was.0, was.1)
-part_lent files limits (part.Input size) (read.Input other) (Bytes bytes) old new was is = absurd is
-part_lent files limits (part.Input size) (read.File bytes) given old new was is = absurd was
-part_lent files limits (part.File name) (read.Input other) given old new was is = absurd was
-part_lent files limits (part.File name) (read.File bytes) (Length given) old new was is = absurd is
-part_lent files limits (part.File name) (read.File bytes) (Bytes given) old new was is =
+part_lent files limits (part.Input size) (owned.Length other) (Length given) old new was is = (is ∙ was.0, was.1)
+part_lent files limits (part.Input size) (owned.Length other) (Bytes bytes) old new was is = absurd is
+part_lent files limits (part.Input size) (owned.Bytes bytes) given old new was is = absurd was
+part_lent files limits (part.File name) (owned.Length other) given old new was is = absurd was
+part_lent files limits (part.File name) (owned.Bytes bytes) (Length given) old new was is = absurd is
+part_lent files limits (part.File name) (owned.Bytes bytes) (Bytes given) old new was is =
     subst (λ b. IsFileRead files limits name.now b old new) (sym is) was
 
-pub parts_lent : (files : KnownFiles) (limits : Limits) (sources : List PartSource) (were_read : List ReadPart) (parts : List Part)
+pub parts_lent : (files : KnownFiles) (limits : Limits) (sources : List PartSource) (were_read : List OwnedPart) (parts : List Part)
     (old new : Option (List FileStep)) → WereRead files limits sources were_read old new → AllZip IsLent were_read parts
     → ArePartsRead files limits sources parts old new
 parts_lent files limits [] [] [] old new were are = were
@@ -79,18 +79,18 @@ parts_lent files limits (s ∷ sources) (r ∷ were_read) (p ∷ parts) old new 
     (were.0, part_lent files limits s r p old were.0 were.1 are.0, parts_lent files limits sources were_read parts were.0 new were.2 are.1)
 
 -- The part that a part that was read is lent as.
-abbrev lent_part : ReadPart → Part
-lent_part (read.Input size) = Length size
-lent_part (read.File bytes) = Bytes (lent bytes.items)
+abbrev lent_part : OwnedPart → Part
+lent_part (owned.Length size) = Length size
+lent_part (owned.Bytes bytes) = Bytes (lent bytes.items)
 
-each_lent : (were_read : List ReadPart) → AllZip IsLent were_read (map lent_part were_read)
+each_lent : (were_read : List OwnedPart) → AllZip IsLent were_read (map lent_part were_read)
 each_lent [] = tt
-each_lent (read.Input size ∷ were_read) = (refl, each_lent were_read)
-each_lent (read.File bytes ∷ were_read) = (refl, each_lent were_read)
+each_lent (owned.Length size ∷ were_read) = (refl, each_lent were_read)
+each_lent (owned.Bytes bytes ∷ were_read) = (refl, each_lent were_read)
 
 -- The parts so far were read, and one more. Reading the parts so far did not change what is known of the files.
 pub read_next : (files later : KnownFiles) (limits : Limits) (sources : List PartSource) (i : ℕ) (d : PartSource)
-    (were_read next : List ReadPart) (was_read : ReadPart) (old middle new : Option (List FileStep)) → i < length sources
+    (were_read next : List OwnedPart) (was_read : OwnedPart) (old middle new : Option (List FileStep)) → i < length sources
     → WereRead files limits (take i sources) were_read old middle → later ≡ files → next ≡ were_read ++ was_read ∷ []
     → WasRead later limits (get_or sources i d) was_read middle new → WereRead files limits (take (i + 1) sources) next old new
 read_next files later limits sources i d were_read next was_read old middle new within were same is one =
@@ -99,7 +99,7 @@ read_next files later limits sources i d were_read next was_read old middle new 
     (subst (λ f. WasRead f limits (get_or sources i d) was_read middle new) same one))
 
 -- The parts so far were lent, and one more.
-pub lent_next : (were_read : List ReadPart) (i : ℕ) (d : ReadPart) (parts next : List Part) (part : Part) → i < length were_read
+pub lent_next : (were_read : List OwnedPart) (i : ℕ) (d : OwnedPart) (parts next : List Part) (part : Part) → i < length were_read
     → AllZip IsLent (take i were_read) parts → next ≡ parts ++ part ∷ [] → IsLent (get_or were_read i d) part
     → AllZip IsLent (take (i + 1) were_read) next
 lent_next were_read i d parts next part within are is one =
@@ -107,7 +107,7 @@ lent_next were_read i d parts next part within are is one =
 
 -- The first part whose file was not read.
 first_not_read : (files : KnownFiles) (limits : Limits) (sources before later : List PartSource) (source : PartSource)
-    (were_read : List ReadPart) (failed : SourceFailure) (old middle new : Option (List FileStep)) → sources ≡ before ++ source ∷ later
+    (were_read : List OwnedPart) (failed : SourceFailure) (old middle new : Option (List FileStep)) → sources ≡ before ++ source ∷ later
     → WereRead files limits before were_read old middle → IsPartFailure files limits source failed middle new
     → IsPartNotRead files limits sources failed old new
 first_not_read files limits sources before later (part.Input size) were_read failed old middle new is were not_read = absurd not_read
@@ -124,7 +124,7 @@ first_not_read files limits sources before later (part.File name) were_read fail
 }
 
 pub not_read : (files later : KnownFiles) (limits : Limits) (sources : List PartSource) (i : ℕ) (d : PartSource)
-    (were_read : List ReadPart) (failed : SourceFailure) (old middle new : Option (List FileStep)) → i < length sources
+    (were_read : List OwnedPart) (failed : SourceFailure) (old middle new : Option (List FileStep)) → i < length sources
     → WereRead files limits (take i sources) were_read old middle → later ≡ files
     → IsPartFailure later limits (get_or sources i d) failed middle new → IsPartNotRead files limits sources failed old new
 not_read files later limits sources i d were_read failed old middle new within were same is =
@@ -133,7 +133,7 @@ not_read files later limits sources i d were_read failed old middle new within w
     (subst (λ f. IsPartFailure f limits (get_or sources i d) failed middle new) same is)
 
 -- The first parts were read.
-pub first_read : (files : KnownFiles) (limits : Limits) (sources first later : List PartSource) (were_read : List ReadPart)
+pub first_read : (files : KnownFiles) (limits : Limits) (sources first later : List PartSource) (were_read : List OwnedPart)
     (old new : Option (List FileStep)) → sources ≡ first ++ later → WereRead files limits first were_read old new
     → AreFirstRead files limits sources old new
 first_read files limits sources first later were_read old new is were = record {
@@ -145,7 +145,7 @@ first_read files limits sources first later were_read old new is were = record {
 }
 
 -- All parts were read.
-pub all_parts_read : (files : KnownFiles) (limits : Limits) (sources named : List PartSource) (were_read : List ReadPart)
+pub all_parts_read : (files : KnownFiles) (limits : Limits) (sources named : List PartSource) (were_read : List OwnedPart)
     (old new : Option (List FileStep)) → named ≡ sources → WereRead files limits named were_read old new
     → AreFirstRead files limits sources old new
 all_parts_read files limits sources named were_read old new names were =
@@ -153,7 +153,7 @@ all_parts_read files limits sources named were_read old new names were =
 
 -- The parts so far were read, and one more, for which there was no room.
 pub next_read_too : (files later : KnownFiles) (limits : Limits) (sources : List PartSource) (i : ℕ) (d : PartSource)
-    (were_read : List ReadPart) (was_read : ReadPart) (old middle new : Option (List FileStep)) → i < length sources
+    (were_read : List OwnedPart) (was_read : OwnedPart) (old middle new : Option (List FileStep)) → i < length sources
     → WereRead files limits (take i sources) were_read old middle → later ≡ files
     → WasRead later limits (get_or sources i d) was_read middle new → AreFirstRead files limits sources old new
 next_read_too files later limits sources i d were_read was_read old middle new within were same one =
@@ -162,7 +162,7 @@ next_read_too files later limits sources i d were_read was_read old middle new w
     (read_next files later limits sources i d were_read (were_read ++ was_read ∷ []) was_read old middle new within were same refl one)
 
 -- The parts that are built are those of the sources, and there are as many.
-pub are_parts : (files : KnownFiles) (limits : Limits) (sources named : List PartSource) (were_read lent_read : List ReadPart)
+pub are_parts : (files : KnownFiles) (limits : Limits) (sources named : List PartSource) (were_read lent_read : List OwnedPart)
     (parts given : List Part) (old new : Option (List FileStep)) → named ≡ sources → lent_read ≡ were_read → given ≡ parts
     → WereRead files limits named were_read old new → AllZip IsLent lent_read parts → ArePartsRead files limits sources given old new
 are_parts files limits sources named were_read lent_read parts given old new names reads gives were are =

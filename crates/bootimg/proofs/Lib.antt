@@ -29,3 +29,5 @@ pub mod InputFacts
 pub mod OrderFacts
 pub mod WorkFacts
 pub mod AllRuns
+pub mod TaskFacts
+pub mod BuildWorkFacts

@@ -155,14 +155,14 @@ task_failures_are_known = record {
 -- ---- explain
 
 -- An outcome is one thing.
-not_failed : {done : Done} {failed : SourceFailure} (outcome : Result Done SourceFailure) → outcome ≡ Ok done → ¬ (outcome ≡ Err failed)
+pub not_failed : {done : Done} {failed : SourceFailure} (outcome : Result Done SourceFailure) → outcome ≡ Ok done → ¬ (outcome ≡ Err failed)
 not_failed {done} {failed} outcome good bad = let wrong : Ok done ≡ Err failed = sym good ∙ bad in cc
 
-same_done : (outcome : Result Done SourceFailure) (one other : Done) → outcome ≡ Ok one → outcome ≡ Ok other → one ≡ other
+pub same_done : (outcome : Result Done SourceFailure) (one other : Done) → outcome ≡ Ok one → outcome ≡ Ok other → one ≡ other
 same_done outcome one other is also = let same : Ok one ≡ Ok other = sym is ∙ also in cc
 
-same_failure : (outcome : Result Done SourceFailure) (one other : SourceFailure) → outcome ≡ Err one → outcome ≡ Err other → one ≡ other
-same_failure outcome one other is also = let same : Err one ≡ Err other = sym is ∙ also in cc
+pub one_failure : (outcome : Result Done SourceFailure) (one other : SourceFailure) → outcome ≡ Err one → outcome ≡ Err other → one ≡ other
+one_failure outcome one other is also = let same : Err one ≡ Err other = sym is ∙ also in cc
 
 explained : (work : Work) (done : Done) → IsExplainWork (Some BadDataCrc) work → work.outcome ≡ Ok done →
     Writes work.output explanation work.new_output × EndedWith true done
@@ -176,9 +176,9 @@ not_explained : (work : Work) (failed : SourceFailure) → IsExplainWork (Some B
     ⊎ ((failed ≡ source_failure Standard (Call OutOfMemory)) × (work.new_output ≡ work.output))
 not_explained work failed (WroteExplanation wrote other ended is same) bad = absurd (not_failed work.outcome is bad)
 not_explained work failed (ExplanationNotWritten error stopped is same) bad =
-    inl (same_failure work.outcome failed _ bad is ∙ ap (λ e. source_failure Standard (Call e)) stopped.is)
+    inl (one_failure work.outcome failed _ bad is ∙ ap (λ e. source_failure Standard (Call e)) stopped.is)
 not_explained work failed (NoMemoryForExplanation was same) bad =
-    inr (same_failure work.outcome failed _ bad was.outcome, was.nothing_written)
+    inr (one_failure work.outcome failed _ bad was.outcome, was.nothing_written)
 
 reads_nothing : (work : Work) → IsExplainWork (Some BadDataCrc) work → work.new_input ≡ work.input
 reads_nothing work (WroteExplanation wrote other ended is same) = same
@@ -415,7 +415,7 @@ to_file run done after is ends =
 not_held : (before after : Inputs) (failed : SourceFailure) → IsHeldFailure without_files in_job widest before after failed →
     failed ≡ source_failure file_in CannotOpen
 not_held before after failed is =
-    let cause = same_failure _ is.cause (source_failure file_in CannotOpen) refl (in_memory_fails is.work.work) in
+    let cause = one_failure _ is.cause (source_failure file_in CannotOpen) refl (in_memory_fails is.work.work) in
     λ i. record {
       source = (is.source ∙ ap (λ (f : SourceFailure). f.source) cause) i;
       failure = (is.failure ∙ ap (λ (f : SourceFailure). failure_in_memory f.failure) cause) i;
@@ -465,7 +465,7 @@ length_is (Bytes bytes) old new is = absurd is
 length_is (Length size) old new is = (ap Length is.0, is.1)
 
 -- Without files no part of a file is read.
-none_of_files : (before : List PartSource) (name : Bor (List ℕ)) (parts : List Part) (old new : Option (List FileStep)) →
+pub none_of_files : (before : List PartSource) (name : Bor (List ℕ)) (parts : List Part) (old new : Option (List FileStep)) →
     ¬ (ArePartsRead without_files widest (part.File name ∷ before) parts old new)
 none_of_files before name [] old new is = is
 none_of_files before name (Bytes bytes ∷ parts) old new is = is.1.was_opened.is_open.is_file

@@ -110,6 +110,12 @@ texts_of arguments = map (λ argument. argument.now) arguments
 abbrev pub values_of : ArgMatches → List ℕ → List (List ℕ)
 values_of options id = option_map_or raw_values (matched_of (found_of options) id) []
 
+-- The flag with this text is given or not: it is given if the text is `true`.
+pub record IsFlag (text : Option (List ℕ)) (is_given : Bool) : Type 0 where
+  pub given : text ≡ Some (codes "true") → is_given ≡ true
+  pub not_given : text ≡ Some (codes "false") → is_given ≡ false
+  pub unknown : text ≡ None → is_given ≡ false
+
 -- No value is one of these.
 abbrev pub NoneIs : {T : Type 0} → (T → Type 0) → Type 0
 NoneIs {T} Is = (value : T) → Is value → ⊥
@@ -166,10 +172,8 @@ IsFormWith true (Some argument) (Aligned align) = IsAlignOf argument align
 IsFormWith external argument form = ⊥
 
 -- The payloads are after the tree with `--external`, and else inside it.
-pub record IsExternal (options : ArgMatches) (external : Bool) : Type 0 where
-  pub given : external_flag options ≡ Some (codes "true") → external ≡ true
-  pub not_given : external_flag options ≡ Some (codes "false") → external ≡ false
-  pub unknown : external_flag options ≡ None → external ≡ false
+abbrev pub IsExternal : ArgMatches → Bool → Type 0
+IsExternal options external = IsFlag (external_flag options) external
 
 -- The options give this form.
 pub record IsForm (options : ArgMatches) (form : Form) : Type 0 where
@@ -204,10 +208,8 @@ abbrev pub layout_flag : ArgMatches → Option (List ℕ)
 layout_flag options = one_text (found_of options) (codes "layout")
 
 -- The layout of the file is shown with `--layout`, and else not.
-pub record ShowsLayout (options : ArgMatches) (layout : Bool) : Type 0 where
-  pub given : layout_flag options ≡ Some (codes "true") → layout ≡ true
-  pub not_given : layout_flag options ≡ Some (codes "false") → layout ≡ false
-  pub unknown : layout_flag options ≡ None → layout ≡ false
+abbrev pub ShowsLayout : ArgMatches → Bool → Type 0
+ShowsLayout options layout = IsFlag (layout_flag options) layout
 
 -- ---- images
 
@@ -225,10 +227,8 @@ abbrev pub quiet_flag : ArgMatches → Option (List ℕ)
 quiet_flag options = one_text (found_of options) (codes "quiet")
 
 -- The differences are left out with `--quiet`, and else written.
-pub record IsQuiet (options : ArgMatches) (quiet : Bool) : Type 0 where
-  pub given : quiet_flag options ≡ Some (codes "true") → quiet ≡ true
-  pub not_given : quiet_flag options ≡ Some (codes "false") → quiet ≡ false
-  pub unknown : quiet_flag options ≡ None → quiet ≡ false
+abbrev pub IsQuiet : ArgMatches → Bool → Type 0
+IsQuiet options quiet = IsFlag (quiet_flag options) quiet
 
 -- One of two images is a file.
 abbrev pub NamesAFile : (one other : ImageSource) → Type 0
@@ -272,10 +272,8 @@ abbrev pub hashes_flag : ArgMatches → Option (List ℕ)
 hashes_flag options = one_text (found_of options) (codes "hashes")
 
 -- The digests change with `--hashes`, and else stay.
-pub record ChangesHashes (options : ArgMatches) (hashes : Bool) : Type 0 where
-  pub given : hashes_flag options ≡ Some (codes "true") → hashes ≡ true
-  pub not_given : hashes_flag options ≡ Some (codes "false") → hashes ≡ false
-  pub unknown : hashes_flag options ≡ None → hashes ≡ false
+abbrev pub ChangesHashes : ArgMatches → Bool → Type 0
+ChangesHashes options hashes = IsFlag (hashes_flag options) hashes
 
 -- The new time is the value of `--time`, if that is given.
 abbrev pub IsNewTime : Option (List ℕ) → Option ℕ → Type 0
@@ -317,10 +315,8 @@ abbrev pub default_flag : ArgMatches → Option (List ℕ)
 default_flag options = one_text (found_of options) (codes "default")
 
 -- The default configuration is selected with `--default`, and else not.
-pub record SelectsDefault (options : ArgMatches) (default : Bool) : Type 0 where
-  pub given : default_flag options ≡ Some (codes "true") → default ≡ true
-  pub not_given : default_flag options ≡ Some (codes "false") → default ≡ false
-  pub unknown : default_flag options ≡ None → default ≡ false
+abbrev pub SelectsDefault : ArgMatches → Bool → Type 0
+SelectsDefault options default = IsFlag (default_flag options) default
 
 -- `--part`, `--image` and `--config` have these values, and `--default` is given or not.
 pub record AreGiven (options : ArgMatches) (part image config : Option (List ℕ)) (default : Bool)
@@ -351,10 +347,8 @@ abbrev pub escaped_flag : ArgMatches → Option (List ℕ)
 escaped_flag options = one_text (found_of options) (codes "escaped")
 
 -- Names are escaped with `--escaped`, and else not.
-pub record AreEscaped (options : ArgMatches) (escaped : Bool) : Type 0 where
-  pub given : escaped_flag options ≡ Some (codes "true") → escaped ≡ true
-  pub not_given : escaped_flag options ≡ Some (codes "false") → escaped ≡ false
-  pub unknown : escaped_flag options ≡ None → escaped ≡ false
+abbrev pub AreEscaped : ArgMatches → Bool → Type 0
+AreEscaped options escaped = IsFlag (escaped_flag options) escaped
 
 -- The argument is this name, or how the name is printed if it is escaped.
 abbrev pub IsNameOf : (escaped : Bool) → List ℕ → List ℕ → Type 0
@@ -403,10 +397,8 @@ abbrev pub all_flag : ArgMatches → Option (List ℕ)
 all_flag options = one_text (found_of options) (codes "all")
 
 -- All payloads are selected with `--all`, and else not.
-pub record SelectsAll (options : ArgMatches) (all : Bool) : Type 0 where
-  pub given : all_flag options ≡ Some (codes "true") → all ≡ true
-  pub not_given : all_flag options ≡ Some (codes "false") → all ≡ false
-  pub unknown : all_flag options ≡ None → all ≡ false
+abbrev pub SelectsAll : ArgMatches → Bool → Type 0
+SelectsAll options all = IsFlag (all_flag options) all
 
 -- Nothing is selected beside `--all`.
 pub record IsNoneGiven (options : ArgMatches) : Type 0 where

@@ -12,7 +12,7 @@ use Rattle.clap.specs.declared.error.kind.ErrorKind.TheVariants.{MissingSubcomma
 use Rattle.clap.specs.declared.error.kind.ErrorKind.TheVariants.{UnknownArgument}
 use Rattle.clap.specs.declared.parser.matches.ArgMatches.{ArgMatches}
 use Rattle.bootimg.specs.CodeWords.{IsCode}
-use Rattle.bootimg.specs.CommandLine.{Gives, IsLimits, NoneIs, reads_input, values_of}
+use Rattle.bootimg.specs.CommandLine.{Gives, IsLimits, NoneIs, reads_input, texts_of, values_of}
 use Rattle.bootimg.specs.Numbers.{IsNumber}
 use Rattle.bootimg.specs.Program.{program_app}
 use Rattle.bootimg.specs.declared.codes.CodeField.{CodeField}
@@ -328,6 +328,14 @@ pub record LimitsAreKnown : Type 0 where
   pub below_least : NoneIs (IsLimits (codes "63"))
   pub past_greatest : NoneIs (IsLimits (codes "2147483648"))
   pub no_number : NoneIs (IsLimits (codes "1k"))
+
+-- ---- texts
+
+-- The texts of arguments are in their order.
+pub record TextsAreKnown : Type 0 where
+  pub none : texts_of [] ≡ []
+  pub two : texts_of (lent (codes "list") ∷ lent (codes "x y") ∷ [])
+      ≡ codes "list" ∷ codes "x y" ∷ []
 
 -- ---- parts
 

@@ -24,3 +24,4 @@ pub mod KnownRuns
 pub mod KnownInputs
 pub mod KnownOrders
 pub mod KnownWorks
+pub mod KnownTasks

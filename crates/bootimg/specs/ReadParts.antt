@@ -3,8 +3,8 @@ use Rattle.bi_base.specs.Limits.{Limits}
 use Rattle.bi_base.specs.declared.fault.Error.TheVariants.{OutOfMemory}
 use Rattle.bi_commands.specs.declared.parts.Part.{Part}
 use Rattle.bi_commands.specs.declared.parts.Part.TheVariants.{Bytes, Length}
-use Rattle.bootimg.specs.declared.builds.ReadPart.{ReadPart}
-use Rattle.bootimg.specs.declared.builds.ReadPart.TheVariants as read
+use Rattle.bootimg.specs.declared.builds.OwnedPart.{OwnedPart}
+use Rattle.bootimg.specs.declared.builds.OwnedPart.TheVariants as owned
 use Rattle.bootimg.specs.declared.command_line.part.PartSource.{PartSource}
 use Rattle.bootimg.specs.declared.command_line.part.PartSource.TheVariants as part
 use Rattle.bootimg.specs.declared.command_line.source.ImageSource.TheVariants.{Standard, File}
@@ -17,15 +17,15 @@ use Rattle.bootimg.specs.Runs.{IsPartNotRead}
 -- The parts of an image to be built, once their files are read (profile of this project).
 
 -- What was read for a part: its length, or the bytes of its whole file.
-abbrev pub WasRead : KnownFiles → Limits → PartSource → ReadPart
+abbrev pub WasRead : KnownFiles → Limits → PartSource → OwnedPart
     → (old new : Option (List FileStep)) → Type 0
-WasRead files limits (part.Input size) (read.Input other) old new = (other ≡ size) × (new ≡ old)
-WasRead files limits (part.File name) (read.File bytes) old new =
+WasRead files limits (part.Input size) (owned.Length other) old new = (other ≡ size) × (new ≡ old)
+WasRead files limits (part.File name) (owned.Bytes bytes) old new =
     IsFileRead files limits name.now bytes.items old new
 WasRead files limits source other old new = ⊥
 
 -- What was read for the parts, in their order.
-abbrev pub WereRead : KnownFiles → Limits → List PartSource → List ReadPart
+abbrev pub WereRead : KnownFiles → Limits → List PartSource → List OwnedPart
     → (old new : Option (List FileStep)) → Type 0
 WereRead files limits = WereReadInTurn (WasRead files limits)
 
@@ -45,7 +45,7 @@ IsReadingFailure files limits sources failed old new =
     × (failed ≡ source_failure Standard (Call OutOfMemory)))
 
 -- The part has the same length, or the same bytes.
-abbrev pub IsLent : ReadPart → Part → Type 0
-IsLent (read.Input size) (Length other) = other ≡ size
-IsLent (read.File bytes) (Bytes lent) = lent.now ≡ bytes.items
+abbrev pub IsLent : OwnedPart → Part → Type 0
+IsLent (owned.Length size) (Length other) = other ≡ size
+IsLent (owned.Bytes bytes) (Bytes lent) = lent.now ≡ bytes.items
 IsLent other lent = ⊥

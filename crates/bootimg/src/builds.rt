@@ -28,13 +28,25 @@ use bi_files::FileSystem;
 use bi_norm::{ConfigurationSpec, PlanSpec};
 use std::alloc::{AllocError, Global};
 
-/// A part of an image to be built, whose file was read if it has one.
+/// A `Part` that owns its bytes.
 #[derive(Drop)]
-pub enum ReadPart {
-    /// The next bytes of standard input: this many.
-    Input(u32),
-    /// The bytes of the file.
-    File(Vec<u8>),
+pub enum OwnedPart {
+    /// Bytes that were read from a file.
+    Bytes(Vec<u8>),
+    /// The next bytes of standard input: as many as this number.
+    Length(u32),
+}
+
+impl OwnedPart {
+    /// Returns this part, which borrows the bytes.
+    fn lend(&self) -> Part<'_>
+        ensures { IsLent self.now result }
+    {
+        match self {
+            OwnedPart::Length(length) => Part::Length(*length),
+            OwnedPart::Bytes(bytes) => Part::Bytes(bytes),
+        }
+    }
 }
 
 /// Builds an image, and returns how that ended. First the files of the parts are read, in the order
@@ -74,24 +86,14 @@ pub fn build_image<'a, S: TracedRead, T: TracedWrite, F: FileSystem>(
 fn reads_input(sources: &[PartSource<'_>]) -> bool
     ensures { result ≡ reads_input_of sources.now }
 {
-    sources.is_empty() || has_input(sources)
+    sources.is_empty() || some_is_input(sources)
 }
 
 /// Returns whether one of these parts is in standard input.
-fn has_input(sources: &[PartSource<'_>]) -> bool
+fn some_is_input(sources: &[PartSource<'_>]) -> bool
     ensures { result ≡ list_any is_input_of sources.now }
 {
-    sources.iter().any(|source| is_input(source))
-}
-
-/// Returns whether a part is in standard input.
-fn is_input(source: &PartSource<'_>) -> bool
-    ensures { result ≡ is_input_of source.now }
-{
-    match source {
-        PartSource::Input(_) => true,
-        PartSource::File(_) => false,
-    }
+    sources.iter().any(|source| source.is_input())
 }
 
 /// Reads the files of parts, in the order of the parts. Fails as `read_part` does for the first
@@ -101,7 +103,7 @@ fn read_parts<'a, F: FileSystem>(
     sources: &[PartSource<'a>],
     limits: Limits,
     files: &mut F,
-) -> Result<Vec<ReadPart>, SourceFailure<'a>>
+) -> Result<Vec<OwnedPart>, SourceFailure<'a>>
     ensures read { IfOk result (λ read. WereRead (F.known files.old) limits sources.now read.items
         (F.steps files.old) (F.steps files.new)) }
     ensures failed { IfErr result (λ failed. IsReadingFailure (F.known files.old) limits
@@ -122,7 +124,7 @@ fn read_part<'a, F: FileSystem>(
     source: PartSource<'a>,
     limits: Limits,
     files: &mut F,
-) -> Result<ReadPart, SourceFailure<'a>>
+) -> Result<OwnedPart, SourceFailure<'a>>
     ensures read { IfOk result (λ read. WasRead (F.known files.old) limits source.entry read
         (F.steps files.old) (F.steps files.new)) }
     ensures failed { IfErr result (λ failed. IsPartFailure (F.known files.old) limits
@@ -130,9 +132,9 @@ fn read_part<'a, F: FileSystem>(
     ensures same_files { F.known files.new ≡ F.known files.old }
 {
     match source {
-        PartSource::Input(length) => Ok(ReadPart::Input(length)),
+        PartSource::Input(length) => Ok(OwnedPart::Length(length)),
         PartSource::File(name) => match read_file(alloc, name, limits, files) {
-            Ok(bytes) => Ok(ReadPart::File(bytes)),
+            Ok(bytes) => Ok(OwnedPart::Bytes(bytes)),
             Err(failure) => Err(SourceFailure {
                 source: ImageSource::File(name),
                 failure,
@@ -141,29 +143,19 @@ fn read_part<'a, F: FileSystem>(
     }
 }
 
-/// Returns these parts, which borrow the bytes of the files. Fails with OutOfMemory.
+/// Returns these parts, which borrow the bytes. Fails with OutOfMemory.
 fn lend_parts<'r, 'a>(
     alloc: Global,
-    read: &'r [ReadPart],
+    read: &'r [OwnedPart],
 ) -> Result<Vec<Part<'r>>, SourceFailure<'a>>
     ensures parts { IfOk result (λ parts. AllZip IsLent read.entry.now parts.items) }
     ensures failed { IfErr result (λ failed. failed ≡ source_failure Standard (Call OutOfMemory)) }
 {
     let mut parts = Vec::with_capacity(alloc, read.len())?;
     for part in read {
-        parts.push(lend_part(part))?;
+        parts.push(part.lend())?;
     }
     Ok(parts)
-}
-
-/// Returns this part, which borrows the bytes of the file.
-fn lend_part(read: &ReadPart) -> Part<'_>
-    ensures { IsLent read.entry.now result }
-{
-    match read {
-        ReadPart::Input(length) => Part::Length(*length),
-        ReadPart::File(bytes) => Part::Bytes(bytes),
-    }
 }
 
 /// Builds the image of these parts, and returns how that ended. Requires: if the image is a

@@ -40,7 +40,7 @@ pub use configurations::ConfigurationWord;
 use explain::explained_cause;
 pub use extract::{AllRequest, Selected};
 use extract::{all_request, selection};
-use options::{form, format, limits, number};
+use options::{flag, form, format, limits, number};
 pub use part::PartSource;
 use show::presenter;
 pub use source::{ComparePlan, ImageSource};
@@ -200,7 +200,7 @@ fn extracts_all(name: &str, options: &ArgMatches<'_>) -> bool
     ensures not_all { IsFalse result → name.now ≡ codes "extract"
         → SelectsAll options.now false }
 {
-    name == "extract" && options.get_flag("all")
+    name == "extract" && flag(options, "all")
 }
 
 /// Returns what the command of this name does with the options. Fails as `parse_arguments` does.

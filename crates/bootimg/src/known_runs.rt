@@ -3,7 +3,7 @@
 
 ghost use Rattle.bootimg.specs.KnownArguments.{DefaultsAreKnown, OptionsAreKnown};
 ghost use Rattle.bootimg.specs.KnownArguments.{MistakesAreKnown, NumbersAreKnown, CodesAreKnown};
-ghost use Rattle.bootimg.specs.KnownArguments.{LimitsAreKnown, InputsAreKnown};
+ghost use Rattle.bootimg.specs.KnownArguments.{LimitsAreKnown, InputsAreKnown, TextsAreKnown};
 ghost use Rattle.bootimg.specs.KnownRequests.{FlagsAreKnown, CommandNamesAreKnown};
 ghost use Rattle.bootimg.specs.KnownRequests.{SourcesAreKnown, ImageOffsetsAreKnown};
 ghost use Rattle.bootimg.specs.KnownRequests.{PartWordsAreKnown};
@@ -44,6 +44,11 @@ pub fn codes_are_known()
 /// Small words are known limits, or none.
 pub fn limits_are_known()
     ensures { LimitsAreKnown }
+{}
+
+/// Arguments have known texts.
+pub fn texts_are_known()
+    ensures { TextsAreKnown }
 {}
 
 /// Standard input is read for parts with a length and without parts, and not for files alone.

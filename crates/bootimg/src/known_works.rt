@@ -1,11 +1,13 @@
 //! What tasks and jobs do with small files. Each function does nothing: what it ensures is a fact
-//! about the definitions.
+//! about the definitions. One of them calls the function of a law, from which its facts follow.
 
 ghost use Rattle.bootimg.specs.KnownWorks.{TaskOutputsAreKnown, TaskFailuresAreKnown};
 ghost use Rattle.bootimg.specs.KnownWorks.{ExplainWorkIsKnown, ExplainRunsAreKnown};
 ghost use Rattle.bootimg.specs.KnownWorks.{ImageWorksAreKnown, OutputsInFilesAreKnown};
 ghost use Rattle.bootimg.specs.KnownWorks.{PartsOfFilesAreKnown, FitPlansAreKnown};
 ghost use Rattle.bootimg.specs.KnownWorks.{AllWorksAreKnown};
+ghost use Rattle.bootimg.specs.KnownTasks.{TaskEndsAreKnown, BuildPromisesAreKnown};
+ghost use Rattle.bootimg.specs.KnownTasks.{BuildWorksAreKnown};
 
 /// The output and the answer of `normalise` and of `convert` for a kernel image are known, at an
 /// offset too, and so is the answer of `scan`.
@@ -51,4 +53,22 @@ pub fn fit_plans_are_known()
 /// `extract --all` without its file fails in a known way.
 pub fn all_works_are_known()
     ensures { AllWorksAreKnown }
+{}
+
+/// What each task makes of a small file is known, and how it ends.
+pub fn task_ends_are_known()
+    ensures { TaskEndsAreKnown }
+{
+    bi_legacy::laws::one_meaning();
+    bi_show::known_texts::pages_are_known();
+}
+
+/// Known images are built of small parts, or building has a known fault.
+pub fn build_promises_are_known()
+    ensures { BuildPromisesAreKnown }
+{}
+
+/// What a job that builds writes is known, and how it fails.
+pub fn build_works_are_known()
+    ensures { BuildWorksAreKnown }
 {}

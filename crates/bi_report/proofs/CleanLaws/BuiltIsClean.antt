@@ -1,6 +1,6 @@
-use Rattle.std.proofs.Common.{◌≡◌, ◌≢◌, ◌⊎◌, inl, inr, ℕ, ◌+◌, Bool, true, ◌||◌, List}
-use Rattle.std.proofs.Common.{[], ◌∷◌, Some, flat_map, map, Contains, IsFalse, IsSome}
-use Rattle.std.proofs.Common.{IsTrue, bytes_eq, refl, sym, ap, subst, ◌∙◌, true≢false}
+use Rattle.std.proofs.Common.{◌≡◌, ◌≢◌, ◌⊎◌, inl, inr, ℕ, ◌+◌, Bool, true, ◌||◌, List, rules}
+use Rattle.std.proofs.Common.{[], ◌∷◌, Some, flat_map, map, IsFalse, IsSome}
+use Rattle.std.proofs.Common.{IsTrue, bytes_eq, refl, sym, ap, subst, ◌∙◌}
 use Rattle.std.specs.List.{AllByRecursion, list_any}
 use Rattle.std.proofs.lemmas.Slice.Eq.{bytes_eq-Decides}
 use Rattle.bi_base.proofs.ListMembers.{each-map, each-map_back, each-weaker}
@@ -48,9 +48,7 @@ all_good number (algo ∷ later) image = (refl, all_good (number + 1) later imag
 
 images_good : (algorithms : List Algo) (images : List ImageSpecModel) → AreGood (flat_map (good_hashes 1 algorithms) images)
 images_good algorithms [] = tt
-images_good algorithms (image ∷ later) =
-    both_good (good_hashes 1 algorithms image) (flat_map (good_hashes 1 algorithms) later) (all_good 1 algorithms image)
-    (images_good algorithms later)
+images_good algorithms (image ∷ later) = search (rules, both_good, all_good, images_good algorithms later)
 
 -- If there are algorithms, each image has a hash node, which is Good.
 some_good : (number : ℕ) (algorithms : List Algo) (image : ImageSpecModel) → algorithms ≢ [] →
@@ -60,14 +58,7 @@ some_good number (algo ∷ later) image some = refl
 
 -- A list of algorithms with a strong one is found by the test for one.
 strong_found : (algorithms : List Algo) → list_any is_strong_one algorithms ≡ true → HasStrongAlgorithm algorithms
-strong_found algorithms is =
-    let one = any_is_found is_strong_one algorithms is in
-    let name = any_is_found (bytes_eq (algorithm_name one.0)) strong_algorithms one.2 in
-    record {
-      algo = one.0;
-      is_there = one.1;
-      is_strong = subst (Contains strong_algorithms) (sym ((bytes_eq-Decides (algorithm_name one.0) name.0).0 name.2)) name.1;
-    }
+strong_found algorithms is = search (rules, any_is_found, bytes_eq-Decides)
 
 -- The hash nodes of an image are Good, and strong if one is Good.
 abbrev HasGoodOne : List CheckedHash → Type 0
@@ -78,9 +69,7 @@ HasStrongIfGood hashes = HasGoodOne hashes → list_any is_strong hashes ≡ tru
 
 strong_if_good : (algorithms : List Algo) (image : ImageSpecModel) → (algorithms ≢ [] → HasStrongAlgorithm algorithms) →
     HasStrongIfGood (good_hashes 1 algorithms image)
-strong_if_good algorithms image strong good =
-    let some : algorithms ≢ [] = λ none. true≢false (sym good ∙ ap (λ a. list_any is_good (good_hashes 1 a image)) none) in
-    strong_as_algorithms 1 algorithms image ∙ strong_passes algorithms (strong some)
+strong_if_good algorithms image strong good = search (rules, good, strong_as_algorithms, strong_passes)
 
 -- What holds of the hash nodes of each image with these algorithms, if there are images.
 each_image : (P : List CheckedHash → Type 0) (algorithms : List Algo) (images : List ImageSpecModel) →
@@ -140,15 +129,7 @@ module _ (head : HeadModel) (plan : PlanModel) (images : List ImageSpecModel) (h
       plan.configurations has.listed)
 
   default_is_there : IsDefaultOf plan → NamesConfiguration (built_tree head plan images)
-  default_is_there is =
-      let found = any_is_found (λ other. bytes_eq other plan.default) (configuration_names plan.configurations) is in
-      let same = (bytes_eq-Decides found.0 plan.default).0 found.2 in
-      record {
-        name = plan.default;
-        is_default = has.default;
-        is_there = subst (λ names. Contains names plan.default) (sym has.are_all)
-            (subst (Contains (configuration_names plan.configurations)) same found.1);
-      }
+  default_is_there is = search (rules, any_is_found, bytes_eq-Decides)
 
 module _ (allowed : Allowed) (head : HeadModel) (plan : PlanModel) (images : List ImageSpecModel) where
   abbrev tree : ImageTree
@@ -201,10 +182,7 @@ module _ (allowed : Allowed) (head : HeadModel) (plan : PlanModel) (first : Imag
       (have_payloads (siblings (nodes_or_none (image_nodes (built_tree head plan (first ∷ later)).root))) (first ∷ later)) each
 
   some_algorithm : IsFalse allowed.unhashed → plan.algorithms ≢ []
-  some_algorithm refused none =
-      let one = first_is HasGoodHash (clean.unhashed refused) in
-      true≢false
-      (sym (test_of_good one.0 one.1) ∙ ap (list_any is_good) one.2 ∙ ap (λ a. list_any is_good (good_hashes 1 a first)) none)
+  some_algorithm refused none = search (rules, first_is, test_of_good)
 
   strong_algorithm : IsFalse allowed.weak_hash → plan.algorithms ≢ [] → HasStrongAlgorithm plan.algorithms
   strong_algorithm refused some =
@@ -222,7 +200,4 @@ clean_is_protected allowed head plan [] clean = inl refl
 clean_is_protected allowed head plan (first ∷ later) clean = inr (images_are_protected allowed head plan first later clean)
 
 pub built_is_clean : BuiltIsClean
-built_is_clean allowed head plan images can is_plan = (
-  clean_is_protected allowed head plan images,
-  built_tree_is_clean allowed head plan images (built_has_configurations head plan images can is_plan) is_plan.default,
-)
+built_is_clean allowed head plan images can is_plan = search (rules, clean_is_protected, built_tree_is_clean, built_has_configurations)

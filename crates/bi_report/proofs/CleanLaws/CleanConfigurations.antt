@@ -1,5 +1,5 @@
-use Rattle.std.proofs.Common.{◌≡◌, ◌≢◌, ℕ, Bool, true, false, List, [], ◌∷◌, Option, Some, None, Contains, IsFalse, bytes_eq, refl, sym, ap}
-use Rattle.std.proofs.Common.{subst, ◌∙◌, true≢false}
+use Rattle.std.proofs.Common.{◌≡◌, ◌≢◌, ℕ, true, false, List, [], ◌∷◌, Option, Some, None, Contains, IsFalse, bytes_eq, refl, sym, ap}
+use Rattle.std.proofs.Common.{◌∙◌, true≢false, rules}
 use Rattle.std.specs.List.{AllByRecursion}
 use Rattle.std.proofs.lemmas.Slice.Eq.{bytes_eq-Decides}
 use Rattle.bi_fit.specs.declared.key.Key.{Key}
@@ -42,14 +42,8 @@ list_has_none : (allowed : Allowed) (configuration : List ℕ) (key : Key) (list
     (IsFalse allowed.missing → (index : ℕ) → listed ≢ Missing index) → HaveNoLine allowed (list_concerns configuration key listed)
 list_has_none allowed configuration key NoConfig good there = refl
 list_has_none allowed configuration key NoKey good there = refl
-list_has_none allowed configuration key BadList good there = by allowed.bad_list refl where
-  by : (b : Bool) → allowed.bad_list ≡ b → HaveNoLine allowed (list_concerns configuration key BadList)
-  by true fine = allowed_has_none allowed (BadKey configuration key) fine
-  by false refused = absurd (good refused refl)
-list_has_none allowed configuration key (Missing index) good there = by allowed.missing refl where
-  by : (b : Bool) → allowed.missing ≡ b → HaveNoLine allowed (list_concerns configuration key (Missing index))
-  by true fine = allowed_has_none allowed (MissingImage configuration key index) fine
-  by false refused = absurd (there refused index refl)
+list_has_none allowed configuration key BadList good there = search (rules, allowed_has_none)
+list_has_none allowed configuration key (Missing index) good there = search (rules, allowed_has_none)
 list_has_none allowed configuration key (ListedImages images) good there = refl
 
 -- What holds of each key in the list of all holds of every key.
@@ -124,13 +118,7 @@ pub record NamesOne (default : Option (List ℕ)) (configurations : List (List �
 names_one : (default : Option (List ℕ)) (configurations : List (List ℕ)) → names_one_of default configurations ≡ true →
     NamesOne default configurations
 names_one None configurations is = absurd cc
-names_one (Some name) configurations is =
-    let one = any_is_found (bytes_eq name) configurations is in
-    record {
-      name = name;
-      is_default = refl;
-      is_there = subst (Contains configurations) (sym ((bytes_eq-Decides name one.0).0 one.2)) one.1;
-    }
+names_one (Some name) configurations is = search (rules, any_is_found, bytes_eq-Decides)
 
 test_of_one : (default : Option (List ℕ)) (configurations : List (List ℕ)) → NamesOne default configurations →
     names_one_of default configurations ≡ true
@@ -149,6 +137,4 @@ pub default_has_none : (allowed : Allowed) (default : Option (List ℕ)) (config
     (IsFalse allowed.bad_default → configurations ≢ [] → NamesOne default configurations) →
     HaveNoLine allowed (default_concerns default configurations)
 default_has_none allowed default [] named = refl
-default_has_none allowed default (first ∷ later) named =
-    passed_has_none allowed (names_one_of default (first ∷ later)) (BadDefault default)
-    (λ refused. test_of_one default (first ∷ later) (named refused (λ e. absurd cc)))
+default_has_none allowed default (first ∷ later) named = search (rules, passed_has_none, test_of_one)

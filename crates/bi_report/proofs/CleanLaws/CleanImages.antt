@@ -1,5 +1,5 @@
 use Rattle.std.proofs.Common.{◌≡◌, ℕ, Bool, true, false, ◌&&◌, List, [], ◌∷◌, ◌++◌, Option, Some, None, flat_map, Contains, IsFalse, IsSome}
-use Rattle.std.proofs.Common.{is_some, filter, bytes_eq, refl, sym, ap, ap₂, subst, ◌∙◌, true≢false}
+use Rattle.std.proofs.Common.{is_some, filter, bytes_eq, refl, sym, ap, ap₂, subst, ◌∙◌, true≢false, rules}
 use Rattle.std.specs.List.{AllByRecursion, list_any}
 use Rattle.std.proofs.lemmas.Bool.{and_parts}
 use Rattle.std.proofs.lemmas.Slice.Eq.{bytes_eq-Decides}
@@ -32,16 +32,11 @@ hashes_are_good allowed (hash ∷ later) each refused = (
 good_have_none : (allowed : Allowed) (hashes : List CheckedHash) → (IsFalse allowed.bad_hash → AreGood hashes) →
     AllByRecursion (λ hash. HaveNoLine allowed (hash_concerns hash)) hashes
 good_have_none allowed [] good = tt
-good_have_none allowed (hash ∷ later) good = (
-  passed_has_none allowed (is_good hash) (BadHash hash) (λ refused. ap (is_verdict Good) (good refused).0),
-  good_have_none allowed later (λ refused. (good refused).1),
-)
+good_have_none allowed (hash ∷ later) good = search (rules, passed_has_none, good_have_none allowed later (λ refused. (good refused).1))
 
 -- A Good verdict, and the test for one.
 pub good_of_test : (image : Image) → list_any is_good (hashes_of_image image) ≡ true → HasGoodHash image
-good_of_test image is =
-    let one = any_is_found is_good (hashes_of_image image) is in
-    record { hash = one.0; is_there = one.1; is_good = good_passes one.0.verdict one.2 }
+good_of_test image is = search (rules, any_is_found, good_passes)
 
 pub test_of_good : (image : Image) → HasGoodHash image → list_any is_good (hashes_of_image image) ≡ true
 test_of_good image has = passes_any is_good (hashes_of_image image) has.hash has.is_there (ap (is_verdict Good) has.is_good)
@@ -61,18 +56,7 @@ test_of_name algorithm name is there =
 
 -- A Good verdict of a strong algorithm, and the test for one.
 pub strong_of_test : (image : Image) → list_any is_strong (hashes_of_image image) ≡ true → HasStrongHash image
-strong_of_test image is =
-    let one = any_is_found is_strong (hashes_of_image image) is in
-    let both = and_parts (is_good one.0) (is_strong_algorithm one.0.algo) one.2 in
-    let name = strong_name one.0.algo both.1 in
-    record {
-      hash = one.0;
-      is_there = one.1;
-      is_good = good_passes one.0.verdict both.0;
-      algorithm = name.0;
-      has_algorithm = name.1;
-      is_strong = name.2;
-    }
+strong_of_test image is = search (rules, any_is_found, and_parts, strong_name, good_passes)
 
 pub test_of_strong : (image : Image) → HasStrongHash image → list_any is_strong (hashes_of_image image) ≡ true
 test_of_strong image has =

@@ -1,5 +1,5 @@
 use Rattle.std.proofs.Common.{◌≡◌, Bool, true, false, not, ◌||◌, List, [], ◌∷◌, ◌++◌, flat_map, Contains, IsFalse, ◌⊎◌, inl, inr, refl}
-use Rattle.std.proofs.Common.{sym}
+use Rattle.std.proofs.Common.{sym, rules}
 use Rattle.std.proofs.Common.{ap, ap₂, ◌∙◌, true≢false}
 use Rattle.std.specs.Prelude.{if◌then◌else◌}
 use Rattle.std.specs.List.{AllByRecursion, list_any}
@@ -55,10 +55,7 @@ all_have_none allowed f (x ∷ xs) each = both_have_none allowed (f x) (flat_map
 
 -- One concern without a line is allowed.
 pub one_is_allowed : (allowed : Allowed) (concern : Concern) → HaveNoLine allowed (concern ∷ []) → allows allowed (kind_of concern) ≡ true
-one_is_allowed allowed concern none = by (allows allowed (kind_of concern)) refl where
-  by : (b : Bool) → allows allowed (kind_of concern) ≡ b → allows allowed (kind_of concern) ≡ true
-  by true is = is
-  by false is = let no : concern ∷ [] ≡ [] = rw is at none in absurd cc
+one_is_allowed allowed concern none = search rules
 
 -- So one that comes from a test has none if and only if the test is passed where it is not allowed.
 pub test_is_passed : (allowed : Allowed) (test : Bool) (concern : Concern) → HaveNoLine allowed (if test then [] else concern ∷ []) →
@@ -69,10 +66,7 @@ test_is_passed allowed false concern none refused = absurd (true≢false (sym (o
 pub passed_has_none : (allowed : Allowed) (test : Bool) (concern : Concern) → (IsFalse (allows allowed (kind_of concern)) → test ≡ true) →
     HaveNoLine allowed (if test then [] else concern ∷ [])
 passed_has_none allowed true concern passed = refl
-passed_has_none allowed false concern passed = by (allows allowed (kind_of concern)) refl where
-  by : (b : Bool) → allows allowed (kind_of concern) ≡ b → HaveNoLine allowed (concern ∷ [])
-  by true is = allowed_has_none allowed concern is
-  by false is = absurd (true≢false (sym (passed is)))
+passed_has_none allowed false concern passed = search (rules, allowed_has_none)
 
 -- An element that passes a test.
 pub any_is_found : {X : Type 0} (test : X → Bool) (xs : List X) → list_any test xs ≡ true → (x : X) × Contains xs x × (test x ≡ true)

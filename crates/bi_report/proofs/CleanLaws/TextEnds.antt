@@ -1,4 +1,4 @@
-use Rattle.std.proofs.Common.{◌≡◌, ℕ, ◌+◌, ◌<◌, ◌≤◌, ◌↔◌, max, List, [], ◌∷◌, length, Option, Some, None, refl, sym, ap, subst}
+use Rattle.std.proofs.Common.{◌≡◌, ℕ, ◌+◌, ◌<◌, ◌≤◌, ◌↔◌, max, List, [], ◌∷◌, length, Option, Some, None, refl, ap, subst, rules}
 use Rattle.std.proofs.Common.{arith, drop_of_length-le, length-append}
 use Rattle.std.specs.List.{AllZip}
 use Rattle.std.specs.Prelude.{unwrap_or}
@@ -15,7 +15,7 @@ use Rattle.bi_fit.specs.declared.form.Form.TheVariants.{Embedded, External, Alig
 use Rattle.bi_fit.specs.File.{IsFitFile, FitMeans}
 use Rattle.bi_fit.specs.ImageTree.{ImageTree, IsImageTree, each_own}
 use Rattle.bi_fit.specs.Payloads.{source_of}
-use Rattle.bi_fit.specs.Text.{alignment_of, blob_alignment, blob_of, fit_text, payload_places, payloads_end}
+use Rattle.bi_fit.specs.Text.{alignment_of, blob_of, fit_text, payload_places, payloads_end}
 use Rattle.bi_fit.proofs.FileTrees.{is_image_tree}
 use Rattle.bi_fit.proofs.FormAlignments.{form-positive}
 use Rattle.bi_fit.proofs.Meanings.{one_fit_meaning}
@@ -26,7 +26,7 @@ use Rattle.bi_fit.proofs.Texts.{blob_of_text}
 use Rattle.bi_norm.proofs.FilesWithoutMeaning.{means_legacy, means_tree}
 use Rattle.bi_report.specs.declared.check.Allowed.{Allowed}
 use Rattle.bi_report.specs.Checking.{content_end, payload_end}
-use Rattle.bi_report.specs.CleanFiles.{AreZeros, CleanImageTree, CleanLegacyImage, HasZerosAfter, IsClean, IsCleanTree}
+use Rattle.bi_report.specs.CleanFiles.{CleanImageTree, CleanLegacyImage, HasZerosAfter, IsClean, IsCleanTree}
 use Rattle.bi_report.proofs.CleanLaws.ContentEnds.{zeros_after}
 use Rattle.bi_report.proofs.CleanLaws.TextWidths.{embedded_payloads_fit, payloads_length-cons}
 
@@ -39,9 +39,7 @@ blob_before_end : (file : List ℕ) (nodes : Nodes FileNode) (payloads : List (O
 blob_before_end file none [] = omega arith
 blob_before_end file none (payload ∷ payloads) = omega arith
 blob_before_end file (node name own children later) [] = omega arith
-blob_before_end file (node name own children later) (payload ∷ payloads) =
-    let rest : totalsize file ≤ content_end file later payloads = blob_before_end file later payloads in
-    omega (arith, rest)
+blob_before_end file (node name own children later) (payload ∷ payloads) = search (rules, blob_before_end file later payloads)
 
 -- If its payloads are where the layout has them, it ends at or after the end of each.
 payloads_before_end : (align : ℕ) (file : List ℕ) (base end : ℕ) (nodes : Nodes FileNode) (payloads : List (Option (List ℕ))) →
@@ -67,9 +65,7 @@ payloads_before_end align file base end (node name own children later) (Some pay
 payloads_end-long : (align end : ℕ) (payloads : List (Option (List ℕ))) → 0 < align →
     end + payloads_length payloads ≤ payloads_end align end payloads
 payloads_end-long align end [] positive = omega arith
-payloads_end-long align end (None ∷ later) positive =
-    let rest : end + payloads_length later ≤ payloads_end align end later = payloads_end-long align end later positive in
-    omega (arith, rest, payloads_length-cons None later)
+payloads_end-long align end (None ∷ later) positive = search (rules, payloads_length-cons, payloads_end-long align end later positive)
 payloads_end-long align end (Some payload ∷ later) positive =
     let next : ℕ = up_to align end + length payload in
     let rest : next + payloads_length later ≤ payloads_end align next later = payloads_end-long align next later positive in
@@ -78,12 +74,7 @@ payloads_end-long align end (Some payload ∷ later) positive =
 -- The payloads of a text together are no longer than the text.
 pub payloads_fit : (form : Form) (tree : ImageTree) → IsImageTree tree → payloads_length tree.payloads ≤ length (fit_text form tree)
 payloads_fit Embedded tree is = omega (arith, embedded_payloads_fit tree is, length-append (blob_of Embedded tree) [])
-payloads_fit form tree is =
-    omega (
-      arith,
-      length-fit_text form tree,
-      payloads_end-long (blob_alignment (alignment_of form)) 0 tree.payloads (form-positive form),
-    )
+payloads_fit form tree is = search (rules, length-fit_text, payloads_end-long, form-positive)
 
 module _ (form : Form) (tree : ImageTree) (short : length (fit_text form tree) ≤ longest_text)
     (is : IsFitFile (fit_text form tree) tree) where
@@ -121,9 +112,7 @@ module _ (allowed : Allowed) (bounds : Limits) (form : Form) (tree : ImageTree) 
   text = fit_text form tree
 
   nothing_after : HasZerosAfter text means.is_file.images tree.payloads
-  nothing_after =
-      zeros_after text means.is_file.images tree.payloads
-      (subst AreZeros (sym (drop_of_length-le text (text_end form tree short means.is_file))) tt)
+  nothing_after = search (rules, zeros_after, drop_of_length-le, text_end)
 
   -- So it is clean if and only if its tree is.
   pub text_is_clean : IsClean allowed bounds text ↔ IsCleanTree allowed tree

@@ -1,21 +1,19 @@
-use Rattle.std.proofs.Common.{◌≡◌, ℕ, ◌+◌, ◌≤◌, Bool, true, false, cond, List, [], ◌∷◌, ◌++◌, length, map, sum_by, bytes_eq, is_eq, nat_cmp}
-use Rattle.std.proofs.Common.{Option, Some, None, refl, sym, ap, ◌∙◌, arith}
+use Rattle.std.proofs.Common.{◌≡◌, ℕ, ◌+◌, ◌≤◌, Bool, true, false, cond, List, [], ◌∷◌, length, map, sum_by, bytes_eq, is_eq, nat_cmp}
+use Rattle.std.proofs.Common.{Option, Some, None, refl, sym, ap, ◌∙◌, arith, rules}
 use Rattle.std.specs.Cmp.Lexicographic.{slice_cmp}
 use Rattle.std.specs.FinMap.{entries, find, insert, get-entries}
 use Rattle.std.specs.List.{AllZip}
-use Rattle.std.specs.Option.{option_map}
 use Rattle.std.proofs.lemmas.List.Sums.{sum_by-append, sum_by-cons, sum-map}
 use Rattle.bi_base.proofs.AlignmentLaws.{up_to-le}
 use Rattle.bi_base.specs.Cells.{up4, up_to}
-use Rattle.bi_blob.specs.Blob.{reservation_block}
-use Rattle.bi_blob.specs.Events.{NodeStart, NodeProperty, NodeEnd, events, events_of}
-use Rattle.bi_blob.specs.Layout.{event_width, strings_block, structure_block}
+use Rattle.bi_blob.specs.Events.{NodeProperty, events, events_of}
+use Rattle.bi_blob.specs.Layout.{event_width}
 use Rattle.bi_blob.specs.Tree.{Nodes, none, node, Root, Property, PropertyMap, with_each}
 use Rattle.bi_blob.proofs.Texts.EventLengths.{has_event_widths, length-structure_block}
 use Rattle.bi_blob.proofs.Texts.Structure.{blocks-le}
 use Rattle.bi_common.specs.PayloadBounds.{payload_length, payloads_length}
 use Rattle.bi_fit.specs.declared.form.Form.TheVariants.{Embedded}
-use Rattle.bi_fit.specs.ImageTree.{ImageTree, IsApart, IsImageTree, children_of, each_own, with_image_nodes}
+use Rattle.bi_fit.specs.ImageTree.{ImageTree, IsApart, IsImageTree, children_of, each_own}
 use Rattle.bi_fit.specs.Names.{data_name, images_name}
 use Rattle.bi_fit.specs.Text.{blob_of, end_after, normal_tree, with_payload, with_payloads}
 use Rattle.bi_fit.proofs.Meanings.{same_in_some}
@@ -71,14 +69,7 @@ found_width name value (property ∷ later) found =
 -- A node is as wide as its properties, its children and the nodes after it.
 node_width : (name : List ℕ) (properties : List Property) (children later : Nodes (List Property)) →
     properties_width properties + (nodes_width children + nodes_width later) ≤ nodes_width (node name properties children later)
-node_width name properties children later =
-    omega (
-      arith,
-      sum_by-cons event_width (NodeStart name) (map NodeProperty properties ++ (events children ++ (NodeEnd ∷ events later))),
-      sum_by-append event_width (map NodeProperty properties) (events children ++ (NodeEnd ∷ events later)),
-      sum_by-append event_width (events children) (NodeEnd ∷ events later),
-      sum_by-cons event_width NodeEnd (events later),
-    )
+node_width name properties children later = search (rules, sum_by-cons, sum_by-append)
 
 -- The children of a node that is found by its name are no wider than all nodes.
 children_width : (wanted : List ℕ) (nodes inner : Nodes (List Property)) → children_of wanted nodes ≡ Some inner →
@@ -124,21 +115,11 @@ payloads_width end (payload ∷ payloads) (node name own children later) apart =
 -- The image nodes of a text.
 normal_images : (tree : ImageTree) (is : IsImageTree tree) →
     children_of images_name (normal_tree Embedded tree).children ≡ Some (with_each entries (with_payloads None 0 tree.payloads is.images))
-normal_images tree is =
-    children_of-with_each entries images_name (with_image_nodes (with_payloads None 0 tree.payloads) tree.root).children
-    ∙ ap (option_map (with_each entries))
-    (children_of-with_children_of images_name (with_payloads None 0 tree.payloads) tree.root.children is.images is.has_images)
+normal_images tree is = search (rules, children_of-with_each, children_of-with_children_of)
 
 -- The events of a tree are no longer than the blob of its text.
 blob_width : (tree : ImageTree) → sum_by event_width (events_of (normal_tree Embedded tree)) ≤ length (blob_of Embedded tree)
-blob_width tree =
-    let root : Root (List Property) = normal_tree Embedded tree in
-    let structure : length (structure_block (events_of root)) ≡ sum_by event_width (events_of root) + 4
-    = length-structure_block (events_of root) in
-    let blocks : 40 + length (reservation_block tree.reservations) + length (structure_block (events_of root))
-    + length (strings_block (events_of root)) ≤ length (blob_of Embedded tree)
-    = blocks-le 4 tree.cpu tree.reservations root (omega arith) in
-    omega (arith, structure, blocks)
+blob_width tree = search (rules, sum_by, length-structure_block, blocks-le)
 
 pub embedded_payloads_fit : (tree : ImageTree) → IsImageTree tree → payloads_length tree.payloads ≤ length (blob_of Embedded tree)
 embedded_payloads_fit tree is =

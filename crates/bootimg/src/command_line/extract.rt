@@ -10,7 +10,7 @@ ghost use Rattle.bootimg.specs.CommandLine.{IsAllFailure, IsAllRequest, IsNoneGi
 ghost use Rattle.bootimg.specs.CommandLine.{IsSelectionFailure};
 ghost use Rattle.bootimg.specs.Selections.{select_of};
 
-use crate::command_line::options::{limits, number, value};
+use crate::command_line::options::{flag, limits, number, value};
 use crate::command_line::source::source;
 use crate::command_line::table::KERNEL_KEY;
 use crate::command_line::{ImageSource, NoRequest};
@@ -75,8 +75,8 @@ pub fn selection(alloc: Global, options: &ArgMatches<'_>) -> Result<Selected, No
     let part = options.get_str("part");
     let image = options.get_str("image");
     let config = options.get_str("config");
-    let default = options.get_flag("default");
-    let escaped = options.get_flag("escaped");
+    let default = flag(options, "default");
+    let escaped = flag(options, "escaped");
     let entry = entry(options);
     match (part, image, config, default) {
         (Some(argument), None, None, false) => {
@@ -111,7 +111,7 @@ pub fn all_request<'a>(options: &ArgMatches<'a>) -> Result<AllRequest<'a>, Failu
     let part = options.get_str("part");
     let image = options.get_str("image");
     let config = options.get_str("config");
-    let default = options.get_flag("default");
+    let default = flag(options, "default");
     match (part, image, config, default) {
         (None, None, None, false) => all_values(options),
         _ => Err(Failure::NoSelection),

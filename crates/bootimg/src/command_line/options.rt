@@ -3,8 +3,9 @@
 ghost use Rattle.std.specs.Prelude.{◌≡◌, IfOk, IfErr, IfSome, IfNone, codes};
 ghost use Rattle.bootimg.specs.CommandLine.{limit_of, value_of};
 ghost use Rattle.bootimg.specs.CommandLine.{IsAlignOf, IsBadValue, IsForm, IsFormFailure};
-ghost use Rattle.bootimg.specs.CommandLine.{IsFormat, IsLimits, NoneIs};
+ghost use Rattle.bootimg.specs.CommandLine.{IsFlag, IsFormat, IsLimits, NoneIs};
 ghost use Rattle.bootimg.specs.Numbers.{IsNumber};
+ghost use Rattle.clap.specs.Matches.{found_of, one_text};
 
 use crate::command_line::table::{GREATEST_LIMIT, ZERO};
 use crate::failure::Failure;
@@ -40,7 +41,7 @@ pub fn form(options: &ArgMatches<'_>) -> Result<Form, Failure>
     ensures form { IfOk result (IsForm options.now) }
     ensures failure { IfErr result (IsFormFailure options.now) }
 {
-    let external = options.get_flag("external");
+    let external = flag(options, "external");
     match options.get_str("align") {
         None if external => Ok(Form::External),
         None => Ok(Form::Embedded),
@@ -65,7 +66,7 @@ fn parse_align(argument: &str) -> Option<Align>
 pub fn format(options: &ArgMatches<'_>) -> Format
     ensures { IsFormat options.now result }
 {
-    if options.get_flag("json") {
+    if flag(options, "json") {
         Format::Json
     } else {
         Format::Lines
@@ -87,4 +88,11 @@ pub fn value<'a>(options: &ArgMatches<'a>, id: &str, default: &'a str) -> &'a st
     ensures { result.now ≡ value_of options.now id.now default.entry.now }
 {
     options.get_str(id).unwrap_or(default)
+}
+
+/// Returns whether a flag is given.
+pub fn flag(options: &ArgMatches<'_>, id: &str) -> bool
+    ensures { IsFlag (one_text (found_of options.now) id.now) result }
+{
+    options.get_flag(id)
 }

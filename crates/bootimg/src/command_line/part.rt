@@ -1,7 +1,8 @@
 //! The parts of an image to be built, as the arguments name them.
 
-ghost use Rattle.std.specs.Prelude.{IfSome, IfNone};
+ghost use Rattle.std.specs.Prelude.{◌≡◌, IfSome, IfNone};
 ghost use Rattle.bootimg.specs.CommandLine.{IsPartSource, NoneIs};
+ghost use Rattle.bootimg.specs.CommandLine.{is_input as is_input_of};
 
 use crate::numbers::parse_number;
 
@@ -12,6 +13,18 @@ pub enum PartSource<'a> {
     Input(u32),
     /// The whole file of this name.
     File(&'a str),
+}
+
+impl<'a> PartSource<'a> {
+    /// Returns whether the part is in standard input.
+    pub fn is_input(&self) -> bool
+        ensures { result ≡ is_input_of self.now }
+    {
+        match self {
+            PartSource::Input(_) => true,
+            PartSource::File(_) => false,
+        }
+    }
 }
 
 /// Parses a length, or `@FILE`. Returns None exactly for any other text.

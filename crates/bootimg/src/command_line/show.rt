@@ -2,6 +2,7 @@
 
 ghost use Rattle.bootimg.specs.CommandLine.{ShowsLayout};
 
+use crate::command_line::options::flag;
 use bi_commands::show::Presenter;
 use clap::ArgMatches;
 
@@ -10,6 +11,6 @@ pub fn presenter(options: &ArgMatches<'_>) -> Presenter
     ensures { ShowsLayout options.now result.layout }
 {
     Presenter {
-        layout: options.get_flag("layout"),
+        layout: flag(options, "layout"),
     }
 }

@@ -4,7 +4,7 @@ ghost use Rattle.std.specs.Prelude.{IfOk, IfErr};
 ghost use Rattle.bootimg.specs.CommandLine.{option_of, IsBadValue, IsComparePlan};
 ghost use Rattle.bootimg.specs.CommandLine.{IsImageSource};
 
-use crate::command_line::options::format;
+use crate::command_line::options::{flag, format};
 use crate::failure::Failure;
 use bi_commands::format::Format;
 use clap::ArgMatches;
@@ -50,7 +50,7 @@ pub fn compare_plan<'a>(options: &ArgMatches<'a>) -> Result<ComparePlan<'a>, Fai
 {
     let one = source(options, "one");
     let other = source(options, "other");
-    let quiet = options.get_flag("quiet");
+    let quiet = flag(options, "quiet");
     let format = format(options);
     match (one, other) {
         (ImageSource::Standard, ImageSource::Standard) => Err(Failure::BadValue),

@@ -3,6 +3,7 @@
 ghost use Rattle.std.specs.Prelude.{IfOk, IfErr};
 ghost use Rattle.bootimg.specs.CommandLine.{IsChanges, IsChangesFailure};
 
+use crate::command_line::options::flag;
 use crate::failure::Failure;
 use crate::numbers::parse_number;
 use bi_commands::update::Changes;
@@ -14,7 +15,7 @@ pub fn changes(options: &ArgMatches<'_>) -> Result<Changes, Failure>
     ensures changes { IfOk result (IsChanges options.now) }
     ensures failure { IfErr result (IsChangesFailure options.now) }
 {
-    let hashes = options.get_flag("hashes");
+    let hashes = flag(options, "hashes");
     match options.get_str("time") {
         None if hashes => Ok(Changes { time: None, hashes }),
         None => Err(Failure::NoChange),

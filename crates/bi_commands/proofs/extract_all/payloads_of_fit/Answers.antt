@@ -2,7 +2,7 @@ use Rattle.std.proofs.Common.{◌++◌, ◌+◌, List, drop, get_or, map, sym, a
 use Rattle.std.proofs.lemmas.List.{drop_all, drop_more}
 use Rattle.bi_fit.proofs.PayloadEnds.{no_image}
 use Rattle.bi_fit.specs.declared.image.Image.{Image}
-use Rattle.bi_fit.specs.Content.{image_model}
+use Rattle.bi_fit.specs.Content.{FitModel, image_model}
 use Rattle.bi_commands.specs.declared.extract_all.Payload.{Payload}
 use Rattle.bi_commands.specs.ExtractingAll.{PayloadFile}
 use Rattle.bi_commands.specs.Payloads.{payload_file}
@@ -14,6 +14,7 @@ loop-image-init c =
     ap (λ (payloads : List Payload). map payload_file payloads ++ files_of_models (map image_model c.images-image-items.result.now))
     c.new-payloads.ensures.items
     ∙ ap files_of_models c.images-image-items.ensures
+    ∙ ap (λ (fit : FitModel). files_of_models fit.images) (c.fit.ensures ∙ c.in_ok-bounded.ensures.same)
 
 pub loop-image-preserved : goal.loop-image-preserved
 loop-image-preserved c =

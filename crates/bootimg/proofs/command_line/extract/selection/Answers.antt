@@ -1,5 +1,5 @@
 use Rattle.std.proofs.Common.{true, false, Some, None, refl, subst, sym}
-use Rattle.bootimg.specs.CommandLine.{AreEscaped, IsBadValue, IsNameOf, IsSelectionFailure, SelectsDefault}
+use Rattle.bootimg.specs.CommandLine.{IsBadValue, IsNameOf, IsSelectionFailure}
 use Rattle.bootimg.specs.declared.failure.Failure.TheVariants.{BadValue}
 use Rattle.bootimg.proofs.CommandLines.{fails_with, given_by, no_config_name, no_selected_entry, no_image_name, no_part, ok_or_failed}
 use Rattle.bootimg.proofs.CommandLines.{outcome_weaker}
@@ -10,49 +10,29 @@ pub returns-in_err-entry-in-Some-None-None-false-clause-failure :
 returns-in_err-entry-in-Some-None-None-false-clause-failure c =
     let options = c.args.options.now in
     let arm = c.in-Some-None-None-false in
-    let flag : SelectsDefault options false = record {
-      given = arm.ensures.value;
-      not_given = arm.ensures.other;
-      unknown = arm.ensures.none;
-    } in
-    let escaped : AreEscaped options c.get_flag-escaped.result = record {
-      given = c.get_flag-escaped.ensures.value;
-      not_given = c.get_flag-escaped.ensures.other;
-      unknown = c.get_flag-escaped.ensures.none;
-    } in
     let given = given_by options c.get_str-part.result c.get_str-image.result c.get_str-config.result
     (Some arm.argument) None None false c.get_str-part.ensures c.get_str-image.ensures c.get_str-config.ensures
-    flag arm.is-0 arm.is-1 arm.is-2 in
+    arm.ensures arm.is-0 arm.is-1 arm.is-2 in
     let bad = c.in_err-entry-in-Some-None-None-false.ensures.bad in
     fails_with (IsSelectionFailure options) c.from_residual.result
     c.in_err-entry-in-Some-None-None-false.field-0.0 c.from_residual.ensures.1
     (subst (IsSelectionFailure options) (sym bad.0)
-    (no_selected_entry options c.get_flag-escaped.result (Some arm.argument.now) None None false given escaped refl bad.1))
+    (no_selected_entry options c.flag-escaped.result (Some arm.argument.now) None None false given c.flag-escaped.ensures refl bad.1))
 
 pub returns-in_err-index-in-Some-None-None-false-clause-failure :
     goal.returns-in_err-index-in-Some-None-None-false-clause-failure
 returns-in_err-index-in-Some-None-None-false-clause-failure c =
     let options = c.args.options.now in
     let arm = c.in-Some-None-None-false in
-    let flag : SelectsDefault options false = record {
-      given = arm.ensures.value;
-      not_given = arm.ensures.other;
-      unknown = arm.ensures.none;
-    } in
-    let escaped : AreEscaped options c.get_flag-escaped.result = record {
-      given = c.get_flag-escaped.ensures.value;
-      not_given = c.get_flag-escaped.ensures.other;
-      unknown = c.get_flag-escaped.ensures.none;
-    } in
     let given = given_by options c.get_str-part.result c.get_str-image.result c.get_str-config.result
     (Some arm.argument) None None false c.get_str-part.ensures c.get_str-image.ensures c.get_str-config.ensures
-    flag arm.is-0 arm.is-1 arm.is-2 in
+    arm.ensures arm.is-0 arm.is-1 arm.is-2 in
     let failed = ok_or_failed c.parse_number.result BadValue c.in_err-index-in-Some-None-None-false.field-0.0 c.ok_or.result
     c.ok_or.ensures.value c.in_err-index-in-Some-None-None-false.was in
     fails_with (IsSelectionFailure options) c.from_residual-in_err-index-in-Some-None-None-false.result
     c.in_err-index-in-Some-None-None-false.field-0.0 c.from_residual-in_err-index-in-Some-None-None-false.ensures.1
     (subst (IsSelectionFailure options) (sym failed.1)
-    (no_part options c.get_flag-escaped.result arm.argument.now given escaped
+    (no_part options c.flag-escaped.result arm.argument.now given c.flag-escaped.ensures
     (λ number is. absurd (let e = c.parse_number.ensures.exactly number is in let none = failed.0 in cc))))
 
 pub returns-in_err-entry-in-None-Some-None-false-clause-failure :
@@ -60,116 +40,70 @@ pub returns-in_err-entry-in-None-Some-None-false-clause-failure :
 returns-in_err-entry-in-None-Some-None-false-clause-failure c =
     let options = c.args.options.now in
     let arm = c.in-None-Some-None-false in
-    let flag : SelectsDefault options false = record {
-      given = arm.ensures.value;
-      not_given = arm.ensures.other;
-      unknown = arm.ensures.none;
-    } in
-    let escaped : AreEscaped options c.get_flag-escaped.result = record {
-      given = c.get_flag-escaped.ensures.value;
-      not_given = c.get_flag-escaped.ensures.other;
-      unknown = c.get_flag-escaped.ensures.none;
-    } in
     let given = given_by options c.get_str-part.result c.get_str-image.result c.get_str-config.result None
     (Some arm.argument) None false c.get_str-part.ensures c.get_str-image.ensures c.get_str-config.ensures
-    flag arm.is-0 arm.is-1 arm.is-2 in
+    arm.ensures arm.is-0 arm.is-1 arm.is-2 in
     let bad = c.in_err-entry-in-None-Some-None-false.ensures.bad in
     fails_with (IsSelectionFailure options) c.from_residual-in_err-entry-in-None-Some-None-false.result
     c.in_err-entry-in-None-Some-None-false.field-0.0 c.from_residual-in_err-entry-in-None-Some-None-false.ensures.1
     (subst (IsSelectionFailure options) (sym bad.0)
-    (no_selected_entry options c.get_flag-escaped.result None (Some arm.argument.now) None false given escaped refl bad.1))
+    (no_selected_entry options c.flag-escaped.result None (Some arm.argument.now) None false given c.flag-escaped.ensures refl bad.1))
 
 pub returns-in_err-name-in-None-Some-None-false-clause-failure :
     goal.returns-in_err-name-in-None-Some-None-false-clause-failure
 returns-in_err-name-in-None-Some-None-false-clause-failure c =
     let options = c.args.options.now in
     let arm = c.in-None-Some-None-false in
-    let flag : SelectsDefault options false = record {
-      given = arm.ensures.value;
-      not_given = arm.ensures.other;
-      unknown = arm.ensures.none;
-    } in
-    let escaped : AreEscaped options c.get_flag-escaped.result = record {
-      given = c.get_flag-escaped.ensures.value;
-      not_given = c.get_flag-escaped.ensures.other;
-      unknown = c.get_flag-escaped.ensures.none;
-    } in
     let given = given_by options c.get_str-part.result c.get_str-image.result c.get_str-config.result None
     (Some arm.argument) None false c.get_str-part.ensures c.get_str-image.ensures c.get_str-config.ensures
-    flag arm.is-0 arm.is-1 arm.is-2 in
+    arm.ensures arm.is-0 arm.is-1 arm.is-2 in
     let argument = arm.argument.now in
-    let is_escaped = c.get_flag-escaped.result in
+    let is_escaped = c.flag-escaped.result in
     outcome_weaker (IsBadValue (IsNameOf is_escaped argument))
     (IsSelectionFailure options) c.from_residual-in_err-name-in-None-Some-None-false.result c.in_err-name-in-None-Some-None-false.field-0.0
     c.from_residual-in_err-name-in-None-Some-None-false.ensures.1 c.in_err-name-in-None-Some-None-false.ensures.failure
-    (λ failure bad. subst (IsSelectionFailure options) (sym bad.0) (no_image_name options is_escaped argument given escaped bad.1))
+    (λ failure bad.
+    subst (IsSelectionFailure options) (sym bad.0) (no_image_name options is_escaped argument given c.flag-escaped.ensures bad.1))
 
 pub returns-in_err-key-in-None-None-Some-false-clause-failure :
     goal.returns-in_err-key-in-None-None-Some-false-clause-failure
 returns-in_err-key-in-None-None-Some-false-clause-failure c =
     let options = c.args.options.now in
     let arm = c.in-None-None-Some-false in
-    let flag : SelectsDefault options false = record {
-      given = arm.ensures.value;
-      not_given = arm.ensures.other;
-      unknown = arm.ensures.none;
-    } in
-    let escaped : AreEscaped options c.get_flag-escaped.result = record {
-      given = c.get_flag-escaped.ensures.value;
-      not_given = c.get_flag-escaped.ensures.other;
-      unknown = c.get_flag-escaped.ensures.none;
-    } in
     let given = given_by options c.get_str-part.result c.get_str-image.result c.get_str-config.result None None
-    (Some arm.argument) false c.get_str-part.ensures c.get_str-image.ensures c.get_str-config.ensures flag arm.is-0 arm.is-1 arm.is-2 in
+    (Some arm.argument) false c.get_str-part.ensures c.get_str-image.ensures c.get_str-config.ensures
+    arm.ensures arm.is-0 arm.is-1 arm.is-2 in
     let bad = c.in_err-key-in-None-None-Some-false.ensures.bad in
     fails_with (IsSelectionFailure options) c.from_residual-in_err-key-in-None-None-Some-false.result
     c.in_err-key-in-None-None-Some-false.field-0.0 c.from_residual-in_err-key-in-None-None-Some-false.ensures.1
     (subst (IsSelectionFailure options) (sym bad.0)
-    (no_selected_entry options c.get_flag-escaped.result None None (Some arm.argument.now) false given escaped refl bad.1))
+    (no_selected_entry options c.flag-escaped.result None None (Some arm.argument.now) false given c.flag-escaped.ensures refl bad.1))
 
 pub returns-in_err-name-in-None-None-Some-false-clause-failure :
     goal.returns-in_err-name-in-None-None-Some-false-clause-failure
 returns-in_err-name-in-None-None-Some-false-clause-failure c =
     let options = c.args.options.now in
     let arm = c.in-None-None-Some-false in
-    let flag : SelectsDefault options false = record {
-      given = arm.ensures.value;
-      not_given = arm.ensures.other;
-      unknown = arm.ensures.none;
-    } in
-    let escaped : AreEscaped options c.get_flag-escaped.result = record {
-      given = c.get_flag-escaped.ensures.value;
-      not_given = c.get_flag-escaped.ensures.other;
-      unknown = c.get_flag-escaped.ensures.none;
-    } in
     let given = given_by options c.get_str-part.result c.get_str-image.result c.get_str-config.result None None
-    (Some arm.argument) false c.get_str-part.ensures c.get_str-image.ensures c.get_str-config.ensures flag arm.is-0 arm.is-1 arm.is-2 in
+    (Some arm.argument) false c.get_str-part.ensures c.get_str-image.ensures c.get_str-config.ensures
+    arm.ensures arm.is-0 arm.is-1 arm.is-2 in
     let argument = arm.argument.now in
-    let is_escaped = c.get_flag-escaped.result in
+    let is_escaped = c.flag-escaped.result in
     outcome_weaker (IsBadValue (IsNameOf is_escaped argument))
     (IsSelectionFailure options) c.from_residual-in_err-name-in-None-None-Some-false.result c.in_err-name-in-None-None-Some-false.field-0.0
     c.from_residual-in_err-name-in-None-None-Some-false.ensures.1 c.in_err-name-in-None-None-Some-false.ensures.failure
-    (λ failure bad. subst (IsSelectionFailure options) (sym bad.0) (no_config_name options is_escaped argument given escaped bad.1))
+    (λ failure bad.
+    subst (IsSelectionFailure options) (sym bad.0) (no_config_name options is_escaped argument given c.flag-escaped.ensures bad.1))
 
 pub returns-in_err-key-in-None-None-None-true-clause-failure :
     goal.returns-in_err-key-in-None-None-None-true-clause-failure
 returns-in_err-key-in-None-None-None-true-clause-failure c =
     let options = c.args.options.now in
     let arm = c.in-None-None-None-true in
-    let flag : SelectsDefault options true = record {
-      given = arm.ensures.value;
-      not_given = arm.ensures.other;
-      unknown = arm.ensures.none;
-    } in
-    let escaped : AreEscaped options c.get_flag-escaped.result = record {
-      given = c.get_flag-escaped.ensures.value;
-      not_given = c.get_flag-escaped.ensures.other;
-      unknown = c.get_flag-escaped.ensures.none;
-    } in
     let given = given_by options c.get_str-part.result c.get_str-image.result c.get_str-config.result None None None true
-    c.get_str-part.ensures c.get_str-image.ensures c.get_str-config.ensures flag arm.is-0 arm.is-1 arm.is-2 in
+    c.get_str-part.ensures c.get_str-image.ensures c.get_str-config.ensures arm.ensures arm.is-0 arm.is-1 arm.is-2 in
     let bad = c.in_err-key-in-None-None-None-true.ensures.bad in
     fails_with (IsSelectionFailure options) c.from_residual-in_err-key-in-None-None-None-true.result
     c.in_err-key-in-None-None-None-true.field-0.0 c.from_residual-in_err-key-in-None-None-None-true.ensures.1
     (subst (IsSelectionFailure options) (sym bad.0)
-    (no_selected_entry options c.get_flag-escaped.result None None None true given escaped refl bad.1))
+    (no_selected_entry options c.flag-escaped.result None None None true given c.flag-escaped.ensures refl bad.1))

@@ -8,16 +8,11 @@ use Rattle.bootimg.proofs.command_line.options.form.Goals as goal
 pub returns-in-Some-2-clause-failure : goal.returns-in-Some-2-clause-failure
 returns-in-Some-2-clause-failure c =
     let options = c.args.options.now in
-    let flag : IsExternal options c.get_flag-external.result = record {
-      given = c.get_flag-external.ensures.value;
-      not_given = c.get_flag-external.ensures.other;
-      unknown = c.get_flag-external.ensures.none;
-    } in
     let given = text_given options (codes "align") c.get_str.result c.in-Some-2.field-0 c.get_str.ensures c.in-Some-2.is in (
       refl,
       record {
         external = false;
-        is_external = subst (IsExternal options) c.if-external-2.false flag;
+        is_external = subst (IsExternal options) c.if-external-2.false c.flag-external.ensures;
         no_form = λ form is. subst (λ argument. IsFormWith false argument form) given is;
       },
     )
@@ -31,11 +26,6 @@ no_alignment argument no_align (Aligned align) is = no_align align is
 pub returns-in-None-parse_align-clause-failure : goal.returns-in-None-parse_align-clause-failure
 returns-in-None-parse_align-clause-failure c =
     let options = c.args.options.now in
-    let flag : IsExternal options c.get_flag-external.result = record {
-      given = c.get_flag-external.ensures.value;
-      not_given = c.get_flag-external.ensures.other;
-      unknown = c.get_flag-external.ensures.none;
-    } in
     let argument = c.in-Some.argument.now in
     let given = text_given options (codes "align") c.get_str.result c.in-Some.argument c.get_str.ensures c.in-Some.is in
     let no_align : NoneIs (IsAlignOf argument) = subst
@@ -43,7 +33,7 @@ returns-in-None-parse_align-clause-failure c =
       refl,
       record {
         external = true;
-        is_external = subst (IsExternal options) c.if-external-2.true flag;
+        is_external = subst (IsExternal options) c.if-external-2.true c.flag-external.ensures;
         no_form = λ form is. no_alignment argument no_align form (subst (λ argument. IsFormWith true argument form) given is);
       },
     )

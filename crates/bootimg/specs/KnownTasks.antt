@@ -1,0 +1,163 @@
+use Rattle.std.specs.Prelude.{◌≡◌, ◌⊎◌, ℕ, Bool, true, false, List, [], ◌∷◌, codes}
+use Rattle.std.specs.Prelude.{Option, None, Some, Ok, Err}
+use Rattle.std.specs.Borrow.{Bor}
+use Rattle.bi_base.specs.declared.fault.Cause.TheVariants.{BadPart}
+use Rattle.bi_base.specs.declared.fault.Error.TheVariants.{Refused, OutOfMemory}
+use Rattle.bi_base.specs.declared.fault.Fault.{Fault}
+use Rattle.bi_base.specs.Limits.{Limits, widest}
+use Rattle.bi_base.specs.Writing.{Writes}
+use Rattle.bi_blob.specs.KnownTexts.{smallest_text}
+use Rattle.bi_commands.specs.KnownChoices.{lent}
+use Rattle.bi_commands.specs.KnownParts.{given_parts, mixed_parts}
+use Rattle.bi_commands.specs.KnownUpdates.{no_changes, only_time}
+use Rattle.bi_commands.specs.declared.parts.Part.{Part}
+use Rattle.bi_commands.specs.declared.parts.Part.TheVariants.{Bytes}
+use Rattle.bi_common.specs.KnownWords.{lines}
+use Rattle.bi_common.specs.declared.format.Format.TheVariants.{Lines, Json}
+use Rattle.bi_files.specs.Files.{FileStep}
+use Rattle.bi_fit.specs.declared.form.Form.{Form}
+use Rattle.bi_fit.specs.declared.form.Form.TheVariants.{Embedded, External}
+use Rattle.bi_fit.specs.KnownBuilds.{known_text}
+use Rattle.bi_fit.specs.KnownFiles.{three_aligned, three_external}
+use Rattle.bi_fit.specs.KnownJudgements.{good_crc, short_crc}
+use Rattle.bi_fit.specs.KnownKept.{kept}
+use Rattle.bi_hash.specs.declared.algo.Algo.TheVariants.{Sha256}
+use Rattle.bi_legacy.specs.KnownFiles.{kernel_file_with_rest}
+use Rattle.bi_legacy.specs.KnownImages.{multi_file, multi_image}
+use Rattle.bi_legacy.specs.Meaning.{image_of}
+use Rattle.bi_legacy.specs.Text.{legacy_text}
+use Rattle.bi_norm.specs.KnownBuildFaults.{head_like}
+use Rattle.bi_norm.specs.KnownBuiltTexts.{kernel_and_ramdisk}
+use Rattle.bi_report.specs.Checking.{nothing_allowed}
+use Rattle.bi_report.specs.KnownOutputs.{bad_lines, file_with_hash, file_without_hash}
+use Rattle.bi_report.specs.KnownOutputs.{good_lines, kernel_object}
+use Rattle.bi_report.specs.KnownScans.{scan_limits, two_images, two_lines}
+use Rattle.bi_show.specs.KnownPages.{kernel_page, multi_page}
+use Rattle.bootimg.specs.KnownInputs.{two_files, without_files}
+use Rattle.bootimg.specs.KnownWorks.{HasAnswer, Makes, parts_a_and_b}
+use Rattle.bootimg.specs.Runs.{IsBuildWork, IsBuiltWork, Work, build_promise, source_failure}
+use Rattle.bootimg.specs.Tasks.{TaskDone}
+use Rattle.bootimg.specs.declared.command_line.Task.TheVariants as task
+use Rattle.bootimg.specs.declared.command_line.build.BuildPlan.TheVariants.{Legacy, Fit}
+use Rattle.bootimg.specs.declared.command_line.build.FitPlan.{FitPlan}
+use Rattle.bootimg.specs.declared.command_line.build.LegacyPlan.{LegacyPlan}
+use Rattle.bootimg.specs.declared.command_line.extract.Selected.TheVariants as selected
+use Rattle.bootimg.specs.declared.command_line.source.ImageSource.TheVariants.{Standard, File}
+use Rattle.bootimg.specs.declared.failure.Failure.TheVariants.{Call, CannotOpen}
+use Rattle.bootimg.specs.declared.tasks.Done.{Done}
+
+-- How tasks on small files end, and what is built of small parts, by which a reader can judge the
+-- definitions.
+
+-- ---- tasks
+
+-- A job ended with this answer, and there is nothing to note.
+abbrev pub without_notes : (good : Bool) → Done
+without_notes good = record { good = good; kept = kept None 0 }
+
+-- What each task makes of a small file, and how it ends: with the answer that its output gives. A
+-- text that is normalised or updated may lose the alignment of its payloads.
+pub record TaskEndsAreKnown : Type 0 where
+  pub normalise : TaskDone (task.Normalise External) widest
+      (record { good = true; kept = kept (Some 4096) 0 }) (three_aligned 4096 4096) three_external
+  pub layout : TaskDone (task.Show (record { layout = true })) widest (without_notes true)
+      kernel_file_with_rest kernel_page
+  pub no_layout : TaskDone (task.Show (record { layout = false })) widest (without_notes true)
+      multi_file (multi_page [])
+  pub list : TaskDone (task.List Json) widest (without_notes true) kernel_file_with_rest
+      kernel_object
+  pub describe : TaskDone (task.Describe Lines) widest (without_notes true) smallest_text
+      (lines
+      (codes "kind fit" ∷ codes "boot-cpu 0" ∷ codes "node /" ∷ codes "node /images" ∷ []))
+  pub verify : TaskDone (task.Verify Lines) widest (without_notes true) (file_with_hash good_crc)
+      good_lines
+  pub bad_hash : TaskDone (task.Verify Lines) widest (without_notes false)
+      (file_with_hash short_crc)
+      bad_lines
+  pub bad_answer : HasAnswer (task.Verify Lines) (file_with_hash short_crc) false
+  pub check : TaskDone (task.Check nothing_allowed Json) widest (without_notes true) smallest_text
+      (lines (codes "{\"concerns\":[]}" ∷ []))
+  pub concern : TaskDone (task.Check nothing_allowed Lines) widest (without_notes false)
+      file_without_hash
+      (lines (codes "unhashed a" ∷ []))
+  pub allowed : TaskDone (task.Check (record nothing_allowed { unhashed = true }) Lines) widest
+      (without_notes true) file_without_hash []
+  pub scan : TaskDone task.Scan (scan_limits 162) (without_notes true) two_images two_lines
+  pub nothing_found : TaskDone task.Scan (scan_limits 162) (without_notes false) (codes "hello") []
+  pub update : (form : Form)
+      → Makes (task.Update (only_time 5) form) multi_file
+      (legacy_text (record multi_image { time = 5 }))
+  pub updated : (form : Form)
+      → TaskDone (task.Update (only_time 5) form) widest (without_notes true) multi_file
+      (legacy_text (record multi_image { time = 5 }))
+  pub lost_alignment : TaskDone (task.Update no_changes External) widest
+      (record { good = true; kept = kept (Some 4096) 0 }) (three_aligned 4096 4096) three_external
+  pub extract : Makes (task.Extract (selected.Part 1)) multi_file (codes "abc")
+  pub extracted : TaskDone (task.Extract (selected.Part 1)) widest (without_notes true) multi_file
+      (codes "abc")
+
+-- ---- building
+
+-- The bytes `hello` and then `abc`, which are given.
+abbrev pub hello_and_abc : List Part
+hello_and_abc = Bytes (lent (codes "hello")) ∷ Bytes (lent (codes "abc")) ∷ []
+
+-- The plan has the description `k`, time 1, a kernel and a ramdisk, the SHA-256 of each, and
+-- payloads inside the blob, and no configuration, default or texts are given.
+pub record IsPlainPlan (any : Bor (List ℕ)) (plan : FitPlan) : Type 0 where
+  pub head : plan.head ≡ head_like any (codes "k")
+  pub images : plan.images.items ≡ kernel_and_ramdisk any
+  pub configurations : plan.configurations.items ≡ []
+  pub default : plan.default ≡ None
+  pub algorithms : plan.algorithms.items ≡ Sha256 ∷ []
+  pub texts : plan.texts.items ≡ []
+  pub form : plan.form ≡ Embedded
+
+-- An image is built of the parts, and of the fields or the images of its plan. Without parts the
+-- whole input is the only one. An input that is longer than its parts is refused where they end.
+pub record BuildPromisesAreKnown : Type 0 where
+  pub legacy : (plan : LegacyPlan) (limits : Limits) (output : List ℕ)
+      → (build_promise (Legacy plan) given_parts limits).is_output tt [] output
+      → output ≡ legacy_text (image_of plan.fields (codes "ab" ∷ codes "c" ∷ []))
+  pub whole_input : (plan : LegacyPlan) (limits : Limits) (output : List ℕ)
+      → (build_promise (Legacy plan) [] limits).is_output tt (codes "abc") output
+      → output ≡ legacy_text (image_of plan.fields (codes "abc" ∷ []))
+  pub legacy_fault : (plan : LegacyPlan) (limits : Limits) (fault : Fault)
+      → (build_promise (Legacy plan) mixed_parts limits).has_error (codes "abcd") (Refused fault)
+      → fault ≡ record { cause = BadPart; offset = 3 }
+  pub fit : (any : Bor (List ℕ)) (plan : FitPlan) (limits : Limits) (output : List ℕ)
+      → IsPlainPlan any plan
+      → (build_promise (Fit plan) hello_and_abc limits).is_output tt [] output
+      → output ≡ known_text
+  pub fit_fault : (plan : FitPlan) (limits : Limits) (fault : Fault)
+      → (build_promise (Fit plan) mixed_parts limits).has_error (codes "abcd") (Refused fault)
+      → fault ≡ record { cause = BadPart; offset = 3 }
+
+-- A job that builds writes the image and has a good answer, or fails with the fault of the input.
+-- The files `a` and `b` are the parts, and standard input is not read beside them. If they are not
+-- there nothing is written.
+pub record BuildWorksAreKnown : Type 0 where
+  pub built : (plan : LegacyPlan) (limits : Limits) (work : Work) (done : Done)
+      → IsBuiltWork (Legacy plan) given_parts limits work → work.input.remaining ≡ Some []
+      → work.outcome ≡ Ok done
+      → Writes work.output (legacy_text (image_of plan.fields (codes "ab" ∷ codes "c" ∷ [])))
+      work.new_output
+      × (done ≡ without_notes true)
+  pub refused : (plan : LegacyPlan) (work : Work) (fault : Fault)
+      → IsBuiltWork (Legacy plan) mixed_parts widest work
+      → work.input.remaining ≡ Some (codes "abcd")
+      → work.outcome ≡ Err (source_failure Standard (Call (Refused fault)))
+      → fault ≡ record { cause = BadPart; offset = 3 }
+  pub of_files : (plan : LegacyPlan) (work : Work) (done : Done) (old new : Option (List FileStep))
+      → plan.parts.items ≡ parts_a_and_b
+      → IsBuildWork (two_files (codes "x") (codes "yz")) (Legacy plan) widest work old new
+      → work.outcome ≡ Ok done
+      → Writes work.output (legacy_text (image_of plan.fields (codes "x" ∷ codes "yz" ∷ [])))
+      work.new_output
+      × (work.new_input ≡ work.input)
+  pub no_files : (plan : LegacyPlan) (work : Work) (old new : Option (List FileStep))
+      → plan.parts.items ≡ parts_a_and_b
+      → IsBuildWork without_files (Legacy plan) widest work old new
+      → ((work.outcome ≡ Err (source_failure (File (lent (codes "a"))) CannotOpen))
+      ⊎ (work.outcome ≡ Err (source_failure Standard (Call OutOfMemory))))
+      × (work.new_output ≡ work.output)
