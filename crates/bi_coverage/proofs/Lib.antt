@@ -1,0 +1,15 @@
+pub mod NamesOnce
+pub mod NodePaths
+pub mod Ends
+pub mod Meanings
+pub mod NeededLengths
+pub mod ChildNumbers
+pub mod Tokens
+pub mod GrownIndices
+pub mod FoundNodes
+pub mod Concerns
+pub mod ReferenceLists
+pub mod Configurations
+pub mod PathCuts
+pub mod SignedConfigurations
+pub mod KnownCoverage

@@ -1,0 +1,142 @@
+use Rattle.std.specs.Prelude.{◌≡◌, ℕ, List, [], ◌∷◌, ◌++◌, length, map, flat_map, codes, Option}
+use Rattle.std.specs.Prelude.{None, Some}
+use Rattle.bi_base.specs.Cells.{cell}
+use Rattle.bi_blob.specs.Tree.{Nodes, none, node, Root, Property}
+use Rattle.bi_blob.specs.Events.{file_events_of}
+use Rattle.bi_blob.specs.Layout.{text_of_tree, tree_with_places}
+use Rattle.bi_fdt.specs.TableItems.{items_of}
+use Rattle.bi_fit.specs.declared.image.Place.TheVariants as place
+use Rattle.bi_fit.specs.Content.{FitModel, tree_of}
+use Rattle.bi_fit.specs.Names.{images_name, configurations_name, value_name, data_size_name}
+use Rattle.bi_coverage.specs.Coverage.{ConfigurationCoverage, SignatureConcern, NoNodes, NoImages}
+use Rattle.bi_coverage.specs.Coverage.{Uncovered, Foreign, Strings, coverage_of}
+use Rattle.bi_coverage.specs.Coverage.{hashed_strings_name}
+use Rattle.bi_coverage.specs.Signatures.{hashed_nodes_name, all_needed_length}
+
+-- A small file whose configuration is signed, with what its signature covers, by which a reader can
+-- judge the definitions.
+
+-- A value that lists these names.
+abbrev pub list_value : List (List ℕ) → List ℕ
+list_value names = flat_map (λ name. name ++ 0 ∷ []) names
+
+-- An image node with a hash node.
+abbrev pub hashed_image : (name : List ℕ) → (later : Nodes (List Property)) → Nodes (List Property)
+hashed_image name later = node name [] (node (codes "hash-1") [] none none) later
+
+-- The properties of the configuration: it names three images. Its other properties name none.
+abbrev pub configuration_properties : List Property
+configuration_properties =
+    (codes "kernel", list_value (codes "kernel-1" ∷ []))
+    ∷ (codes "fdt", list_value (codes "fdt-1" ∷ codes "none" ∷ codes "fdt-1" ∷ []))
+    ∷ (codes "ramdisk", list_value (codes "ramdisk-1" ∷ []))
+    ∷ (codes "description", list_value (codes "other-1" ∷ []))
+    ∷ (data_size_name, cell 1)
+    ∷ []
+
+-- A tree with four images, and a configuration with this signature node.
+abbrev pub signed_tree : (signature : List Property) → Root (List Property)
+signed_tree signature = record {
+  own = [];
+  children = node images_name []
+      (hashed_image (codes "kernel-1")
+      (node (codes "fdt-1") [] (node (codes "cipher") [] none (node (codes "hash-1") [] none none))
+      (hashed_image (codes "ramdisk-1") (hashed_image (codes "other-1") none))))
+      (node configurations_name []
+      (node (codes "conf-1") configuration_properties
+      (node (codes "signature-1") signature none none) none)
+      none);
+}
+
+-- What a file with this tree holds.
+abbrev pub content_of : Root (List Property) → FitModel
+content_of root = record {
+  blob = record {
+    file = text_of_tree 4 0 [] root;
+    cpu = 0;
+    total_size = length (text_of_tree 4 0 [] root);
+    reservations = [];
+    table = items_of 0 (file_events_of (tree_with_places [] root));
+  };
+  images = map (λ name. record { name = name; payload = None; place = place.Absent })
+      (codes "kernel-1" ∷ codes "fdt-1" ∷ codes "ramdisk-1" ∷ codes "other-1" ∷ []);
+}
+
+-- A signature with a value, which records these paths and reaches this end of the strings.
+abbrev pub signature_of : (recorded : List (List ℕ)) → (end : ℕ) → List Property
+signature_of recorded end =
+    (value_name, cell 1)
+    ∷ (hashed_nodes_name, list_value recorded)
+    ∷ (hashed_strings_name, cell 0 ++ cell end)
+    ∷ []
+
+-- All that the configuration needs, but what is below its third image.
+abbrev pub most_paths : List (List ℕ)
+most_paths =
+    codes "/"
+    ∷ codes "/configurations/conf-1"
+    ∷ codes "/images/fdt-1"
+    ∷ codes "/images/fdt-1/hash-1"
+    ∷ codes "/images/fdt-1/cipher"
+    ∷ codes "/images/kernel-1"
+    ∷ codes "/images/kernel-1/hash-1"
+    ∷ codes "/images/ramdisk-1"
+    ∷ []
+
+-- The last path that it needs.
+abbrev pub last_path : List ℕ
+last_path = codes "/images/ramdisk-1/hash-1"
+
+-- The concerns about the signature.
+abbrev pub known_coverage : List SignatureConcern → List ConfigurationCoverage
+known_coverage concerns =
+    record {
+      name = codes "conf-1";
+      signatures = record { name = codes "signature-1"; concerns = concerns } ∷ [];
+    } ∷ []
+
+-- The concerns about signatures. The names of the properties of recorded nodes end at 31 in the
+-- strings block: `kernel`, `fdt`, `ramdisk` and `description`. The name `data-size` after them does
+-- not count. The names of the signature node itself end later.
+pub record CoverageIsKnown : Type 0 where
+  pub covered : coverage_of (content_of (signed_tree (signature_of (last_path ∷ most_paths) 31)))
+      ≡ known_coverage []
+  pub uncovered : coverage_of (content_of (signed_tree (signature_of most_paths 31)))
+      ≡ known_coverage (Uncovered (codes "/images/ramdisk-1") ∷ [])
+  pub foreign :
+      coverage_of
+      (content_of
+      (signed_tree
+      (signature_of
+      (codes "/images/x" ∷ last_path ∷ codes "/images/other-1" ∷ codes "/images/x" ∷ most_paths)
+      31)))
+      ≡ known_coverage (Foreign (codes "/images/x") ∷ Foreign (codes "/images/other-1") ∷ [])
+  pub all_uncovered : coverage_of (content_of (signed_tree (signature_of (last_path ∷ []) 0)))
+      ≡ known_coverage
+      (Uncovered (codes "/")
+      ∷ Uncovered (codes "/configurations/conf-1")
+      ∷ Uncovered (codes "/images/fdt-1")
+      ∷ Uncovered (codes "/images/kernel-1")
+      ∷ Uncovered (codes "/images/ramdisk-1")
+      ∷ [])
+  pub short_strings :
+      coverage_of (content_of (signed_tree (signature_of (last_path ∷ most_paths) 30)))
+      ≡ known_coverage (Strings ∷ [])
+  pub own_strings :
+      coverage_of
+      (content_of
+      (signed_tree
+      (signature_of (codes "/configurations/conf-1/signature-1" ∷ last_path ∷ most_paths) 31)))
+      ≡ known_coverage (Foreign (codes "/configurations/conf-1/signature-1") ∷ Strings ∷ [])
+  pub no_list :
+      coverage_of
+      (content_of
+      (signed_tree ((value_name, cell 1) ∷ (hashed_nodes_name, codes "/") ∷ [])))
+      ≡ known_coverage (NoNodes ∷ [])
+  pub unsigned :
+      coverage_of
+      (content_of
+      (signed_tree ((value_name, []) ∷ (hashed_nodes_name, list_value most_paths) ∷ [])))
+      ≡ record { name = codes "conf-1"; signatures = [] } ∷ []
+  pub needed :
+      all_needed_length (tree_of (content_of (signed_tree (signature_of most_paths 31)))) ≡ 156

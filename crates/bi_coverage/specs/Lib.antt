@@ -1,0 +1,12 @@
+pub mod Paths
+pub mod Signatures
+pub mod Numbers
+pub mod Coverage
+pub mod Values
+pub mod ChildNumbers
+pub mod PathParts
+pub mod NodeIndices
+pub mod ReferenceOrders
+pub mod IndexedFits
+pub mod NeededPaths
+pub mod KnownCoverage

@@ -1,0 +1,182 @@
+use Rattle.std.specs.Prelude.{◌≡◌, ℕ, ◌+◌, ◌≤◌, ⊤, ◌⊎◌, Bool, true, false, List, [], ◌∷◌, ◌++◌}
+use Rattle.std.specs.Prelude.{filter, length, None, bytes_eq, if◌then◌else◌}
+use Rattle.std.specs.Fmt.{decimal}
+use Rattle.std.specs.FinMap.{empty, get}
+use Rattle.bi_base.specs.Cells.{cell}
+use Rattle.bi_base.specs.Limits.{Limits}
+use Rattle.bi_blob.specs.Tree.{Nodes, none, node, Root, PropertyMap}
+use Rattle.bi_tree.specs.Changes.{node_by_path, with_change_at, with_node_at, without_node_at}
+use Rattle.bi_fit.specs.ImageTree.{ImageTree, with_image_nodes}
+use Rattle.bi_fit.specs.Names.{data_name, timestamp_name}
+use Rattle.bi_fit.specs.Updating.{with_digests_of}
+use Rattle.bi_legacy.specs.Meaning.{LegacyImage}
+use Rattle.bi_norm.specs.Meaning.{Meaning, OfLegacy, OfFit}
+use Rattle.bi_edit.specs.declared.edit.Edit.{Edit}
+use Rattle.bi_edit.specs.declared.edit.Edit.TheVariants.{RemoveNode, RemoveProperty, SetProperty}
+use Rattle.bi_edit.specs.declared.edit.Edit.TheVariants.{SetField, SetPayload, SetTime, SetDigests}
+use Rattle.bi_edit.specs.declared.edit.FieldValue.{FieldValue}
+use Rattle.bi_edit.specs.declared.edit.FieldValue.TheVariants as field
+use Rattle.bi_edit.specs.Places.{image_path}
+use Rattle.bi_edit.specs.Plain.{plain_root, with_plain_root, value_at_place}
+use Rattle.bi_edit.specs.Plain.{with_own_value, without_own_value}
+
+-- What edits make of the meaning of a boot image (profile of this project).
+
+-- ---- the order of edits
+
+-- The kinds of edits, in the order in which they are made.
+abbrev pub is_removal : Edit → Bool
+is_removal (RemoveNode path) = true
+is_removal (RemoveProperty place) = true
+is_removal other = false
+
+abbrev pub is_setting : Edit → Bool
+is_setting (SetProperty place value) = true
+is_setting (SetField value) = true
+is_setting other = false
+
+abbrev pub is_payload : Edit → Bool
+is_payload (SetPayload image payload) = true
+is_payload other = false
+
+abbrev pub is_time : Edit → Bool
+is_time (SetTime time) = true
+is_time other = false
+
+abbrev pub is_digests : Edit → Bool
+is_digests SetDigests = true
+is_digests other = false
+
+-- Edits in the order in which they are made: removals first, then new values, payloads, the time,
+-- and the digests. Edits of one kind keep their order.
+abbrev pub in_edit_order : List Edit → List Edit
+in_edit_order edits =
+    filter is_removal edits
+    ++ (filter is_setting edits
+    ++ (filter is_payload edits ++ (filter is_time edits ++ filter is_digests edits)))
+
+-- ---- flattened image trees
+
+-- Image nodes whose payloads are values of `data`, each with the digests of its payload in its hash
+-- nodes.
+abbrev pub with_payload_digests : Nodes PropertyMap → Nodes PropertyMap
+with_payload_digests none = none
+with_payload_digests (node name own children later) =
+    node name own (with_digests_of (get own data_name) children) (with_payload_digests later)
+
+-- A plain tree after an edit. A field of a legacy image is no part of it.
+abbrev pub edited_root : Root PropertyMap → Edit → Root PropertyMap
+edited_root root (RemoveNode path) = without_node_at path root
+edited_root root (RemoveProperty place) =
+    with_change_at place.path (without_own_value place.name) root
+edited_root root (SetProperty place value) =
+    with_change_at place.path (with_own_value place.name value.items)
+    (with_node_at empty place.path root)
+edited_root root (SetField value) = root
+edited_root root (SetPayload image payload) =
+    with_change_at (image_path image) (with_own_value data_name payload.now) root
+edited_root root (SetTime time) = with_own_value timestamp_name (cell time) root
+edited_root root SetDigests = with_image_nodes with_payload_digests root
+
+-- A plain tree after edits, one after the other.
+abbrev pub root_after : Root PropertyMap → List Edit → Root PropertyMap
+root_after root [] = root
+root_after root (edit ∷ later) = root_after (edited_root root edit) later
+
+-- A flattened image tree after edits, in the order in which they are made.
+abbrev pub edited_tree : List Edit → ImageTree → ImageTree
+edited_tree edits tree = with_plain_root (root_after (plain_root tree) (in_edit_order edits)) tree
+
+-- ---- legacy images
+
+-- A legacy image with this value of a field of its header.
+abbrev pub with_field : FieldValue → LegacyImage → LegacyImage
+with_field (field.Name name) image = record image { name = name.items }
+with_field (field.Time time) image = record image { time = time }
+with_field (field.Load load) image = record image { load = load }
+with_field (field.Entry entry) image = record image { entry = entry }
+with_field (field.Os code) image = record image { os = code }
+with_field (field.Arch code) image = record image { arch = code }
+with_field (field.Compression code) image = record image { compression = code }
+
+-- Parts of which the first has this index, with other bytes in the one whose index in decimal
+-- digits is this name.
+abbrev pub with_part : (index : ℕ) → (name bytes : List ℕ) → List (List ℕ) → List (List ℕ)
+with_part index name bytes [] = []
+with_part index name bytes (part ∷ later) =
+    if bytes_eq name (decimal index) then bytes ∷ later
+    else part ∷ with_part (index + 1) name bytes later
+
+-- A legacy image after an edit. It has no nodes, so it has no properties and no digests in hash
+-- nodes.
+abbrev pub edited_legacy : LegacyImage → Edit → LegacyImage
+edited_legacy image (SetField value) = with_field value image
+edited_legacy image (SetPayload part bytes) =
+    record image { parts = with_part 0 part bytes.now image.parts }
+edited_legacy image (SetTime time) = record image { time = time }
+edited_legacy image other = image
+
+-- A legacy image after edits, one after the other.
+abbrev pub legacy_after : LegacyImage → List Edit → LegacyImage
+legacy_after image [] = image
+legacy_after image (edit ∷ later) = legacy_after (edited_legacy image edit) later
+
+-- ---- boot images
+
+-- What a boot image means after edits.
+abbrev pub meaning_after : List Edit → Meaning → Meaning
+meaning_after edits (OfLegacy image) = OfLegacy (legacy_after image (in_edit_order edits))
+meaning_after edits (OfFit tree) = OfFit (edited_tree edits tree)
+
+-- ---- which edits can be made
+
+-- A name is the number of a part, in decimal digits.
+pub record IsPartNumber (name : List ℕ) : Type 0 where
+  pub number : ℕ
+  pub is : name ≡ decimal number
+
+-- Whether one of these parts, of which the first has this index, has this number.
+abbrev pub has_part : (index : ℕ) → (name : List ℕ) → List (List ℕ) → Bool
+has_part index name [] = false
+has_part index name (part ∷ later) =
+    if bytes_eq name (decimal index) then true else has_part (index + 1) name later
+
+-- An edit is of a boot image of the kind that means this.
+abbrev pub IsOfKind : Meaning → Edit → Type 0
+IsOfKind (OfFit tree) (SetField value) = ⊥
+IsOfKind (OfFit tree) edit = ⊤
+IsOfKind (OfLegacy image) (RemoveNode path) = ⊥
+IsOfKind (OfLegacy image) (RemoveProperty place) = ⊥
+IsOfKind (OfLegacy image) (SetProperty place value) = ⊥
+IsOfKind (OfLegacy image) (SetPayload part bytes) = IsPartNumber part
+IsOfKind (OfLegacy image) edit = ⊤
+
+-- An edit adds nodes at a depth over a limit, or would if they were not there.
+abbrev pub IsTooDeep : Limits → Edit → Type 0
+IsTooDeep limits (SetProperty place value) = limits.depth ≤ length place.path
+IsTooDeep limits edit = ⊥
+
+-- An edit has nothing to remove, or no image to change.
+abbrev pub FindsNothing : Root PropertyMap → Edit → Type 0
+FindsNothing root (RemoveNode path) = node_by_path root path ≡ None
+FindsNothing root (RemoveProperty place) = value_at_place root place ≡ None
+FindsNothing root (SetPayload image payload) = node_by_path root (image_path image) ≡ None
+FindsNothing root edit = ⊥
+
+-- The first of these edits that finds nothing, if one does. Each looks at what those before it
+-- made.
+abbrev pub IsFirstRefused : Root PropertyMap → List Edit → Edit → Type 0
+IsFirstRefused root [] refused = ⊥
+IsFirstRefused root (edit ∷ later) refused =
+    (FindsNothing root edit × (refused ≡ edit))
+    ⊎ (¬ (FindsNothing root edit) × IsFirstRefused (edited_root root edit) later refused)
+
+-- None of these edits finds nothing.
+abbrev pub AllFind : Root PropertyMap → List Edit → Type 0
+AllFind root [] = ⊤
+AllFind root (edit ∷ later) = ¬ (FindsNothing root edit) × AllFind (edited_root root edit) later
+
+-- The first of these edits of a legacy image whose part is not there.
+abbrev pub LacksPart : LegacyImage → Edit → Type 0
+LacksPart image (SetPayload part bytes) = has_part 0 part image.parts ≡ false
+LacksPart image edit = ⊥

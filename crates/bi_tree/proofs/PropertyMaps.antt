@@ -1,0 +1,125 @@
+use Rattle.std.proofs.Common.{◌≡◌, ◌≢◌, ℕ, Bool, true, false, cond, List, [], ◌∷◌, map, Option, Some, None, bytes_eq, refl, sym, ap, subst, ◌∙◌}
+use Rattle.std.specs.FinMap.{find, from_entries, insert, remove, same_map, get-from_entries, get-insert, get-remove}
+use Rattle.std.specs.Ordering.{eq_by_cmp, nat_cmp}
+use Rattle.std.specs.Cmp.Lexicographic.{slice_cmp}
+use Rattle.std.proofs.lemmas.Cmp.{nat_list_cmp_total}
+use Rattle.std.proofs.lemmas.Map.Text.{is_eq-slice_cmp}
+use Rattle.bi_base.proofs.EqualBytes.{same_bytes, other_bytes}
+use Rattle.bi_blob.specs.Tree.{Property, AreDistinct, IsNew}
+use Rattle.bi_blob.proofs.Texts.PropertyOrder.{order_tells}
+use Rattle.bi_tree.specs.Properties.{with_property_in, without_property_in}
+
+-- What setting and removing a property makes of the properties without their order.
+
+-- The value of a property.
+abbrev found : List ℕ → List Property → Option (List ℕ)
+found name properties = find (slice_cmp nat_cmp) name properties
+
+-- Whether two names are the same.
+abbrev is_same : List ℕ → List ℕ → Bool
+is_same name other = eq_by_cmp (slice_cmp nat_cmp) name other
+
+names_same : (name other : List ℕ) → is_same name other ≡ true → name ≡ other
+names_same name other same = same_bytes name other (sym (is_eq-slice_cmp name other) ∙ same)
+
+-- A test that is made twice.
+twice : {A : Type 0} (b : Bool) (x y z : A) → cond b x z ≡ cond b x (cond b y z)
+twice true x y z = refl
+twice false x y z = refl
+
+-- Two tests of which one at most holds.
+either_first : {A : Type 0} (a b : Bool) (x y z : A) → (a ≡ true → b ≡ true → ⊥) → cond a x (cond b y z) ≡ cond b y (cond a x z)
+either_first true true x y z apart = absurd (apart refl refl)
+either_first true false x y z apart = refl
+either_first false b x y z apart = refl
+
+-- A name is not two others that differ.
+apart : (name first second : List ℕ) → bytes_eq first second ≡ false → is_same name first ≡ true → is_same name second ≡ true → ⊥
+apart name first second differs one other =
+    other_bytes first second differs (sym (names_same name first one) ∙ names_same name second other)
+
+-- A value that was set is found.
+abbrev IsSetIn : (name value : List ℕ) → (wanted : List ℕ) → List Property → Type 0
+IsSetIn name value wanted properties =
+    found wanted (with_property_in name value properties) ≡ cond (is_same wanted name) (Some value) (found wanted properties)
+
+set_in_first : (name value wanted : List ℕ) (first : Property) (later : List Property) → IsSetIn name value wanted later → (b : Bool) →
+    bytes_eq first.0 name ≡ b → IsSetIn name value wanted (first ∷ later)
+set_in_first name value wanted first later rest true same =
+    rw same (subst (λ other. cond (is_same wanted name) (Some value) (found wanted later)
+    ≡ cond (is_same wanted name) (Some value) (cond (is_same wanted other) (Some first.1) (found wanted later)))
+    (sym (same_bytes first.0 name same))
+    (twice (is_same wanted name) (Some value) (Some first.1) (found wanted later)))
+set_in_first name value wanted first later rest false differs =
+    rw differs (ap (λ o. cond (is_same wanted first.0) (Some first.1) o) rest
+    ∙ either_first (is_same wanted first.0) (is_same wanted name) (Some first.1) (Some value) (found wanted later)
+    (apart wanted first.0 name differs))
+
+set_in : (name value wanted : List ℕ) (properties : List Property) → IsSetIn name value wanted properties
+set_in name value wanted [] = refl
+set_in name value wanted (first ∷ later) =
+    set_in_first name value wanted first later (set_in name value wanted later) (bytes_eq first.0 name) refl
+
+pub set_without_order : (name value : List ℕ) (properties : List Property) →
+    from_entries {R = slice_cmp nat_cmp} (with_property_in name value properties) ≡ insert (from_entries properties) name value
+set_without_order name value properties =
+    same_map nat_list_cmp_total order_tells _ _ (λ wanted.
+    get-from_entries nat_list_cmp_total (with_property_in name value properties) wanted
+    ∙ set_in name value wanted properties
+    ∙ sym (get-insert nat_list_cmp_total (from_entries properties) name value wanted
+    ∙ ap (λ o. cond (is_same wanted name) (Some value) o) (get-from_entries nat_list_cmp_total properties wanted)))
+
+-- A name that is new is not found.
+new_first : (name other : List ℕ) → other ≢ name → (b : Bool) → is_same name other ≡ b → is_same name other ≡ false
+new_first name other differs true same = absurd (differs (sym (names_same name other same)))
+new_first name other differs false same = same
+
+new_not_found : (name : List ℕ) (properties : List Property) → IsNew name (map (λ property. property.0) properties) →
+    found name properties ≡ None
+new_not_found name [] new = refl
+new_not_found name (first ∷ later) new =
+    rw (new_first name first.0 new.0 (is_same name first.0) refl) (new_not_found name later new.1)
+
+-- A value that was removed is not found.
+abbrev IsRemovedIn : (name : List ℕ) → (wanted : List ℕ) → List Property → Type 0
+IsRemovedIn name wanted properties =
+    found wanted (without_property_in name properties) ≡ cond (is_same wanted name) None (found wanted properties)
+
+cond_same : (b : Bool) (value : Option (List ℕ)) → value ≡ cond b value value
+cond_same true value = refl
+cond_same false value = refl
+
+removed_once : (name wanted : List ℕ) (value : List ℕ) (later : List Property) → IsNew name (map (λ property. property.0) later) →
+    (b : Bool) → is_same wanted name ≡ b →
+    found wanted later ≡ cond b None (cond b (Some value) (found wanted later))
+removed_once name wanted value later new true same =
+    subst (λ other. found other later ≡ None) (sym (names_same wanted name same)) (new_not_found name later new)
+removed_once name wanted value later new false differs = refl
+
+removed_in_first : (name wanted : List ℕ) (first : Property) (later : List Property) →
+    IsNew first.0 (map (λ property. property.0) later) → IsRemovedIn name wanted later → (b : Bool) →
+    bytes_eq first.0 name ≡ b → IsRemovedIn name wanted (first ∷ later)
+removed_in_first name wanted first later new rest true same =
+    rw same (subst (λ other. found wanted later
+    ≡ cond (is_same wanted other) None (cond (is_same wanted first.0) (Some first.1) (found wanted later)))
+    (same_bytes first.0 name same)
+    (removed_once first.0 wanted first.1 later new (is_same wanted first.0) refl))
+removed_in_first name wanted first later new rest false differs =
+    rw differs (ap (λ o. cond (is_same wanted first.0) (Some first.1) o) rest
+    ∙ either_first (is_same wanted first.0) (is_same wanted name) (Some first.1) None (found wanted later)
+    (apart wanted first.0 name differs))
+
+removed_in : (name wanted : List ℕ) (properties : List Property) → AreDistinct (map (λ property. property.0) properties) →
+    IsRemovedIn name wanted properties
+removed_in name wanted [] distinct = cond_same (is_same wanted name) None
+removed_in name wanted (first ∷ later) distinct =
+    removed_in_first name wanted first later distinct.0 (removed_in name wanted later distinct.1) (bytes_eq first.0 name) refl
+
+pub removed_without_order : (name : List ℕ) (properties : List Property) → AreDistinct (map (λ property. property.0) properties) →
+    from_entries {R = slice_cmp nat_cmp} (without_property_in name properties) ≡ remove (from_entries properties) name
+removed_without_order name properties distinct =
+    same_map nat_list_cmp_total order_tells _ _ (λ wanted.
+    get-from_entries nat_list_cmp_total (without_property_in name properties) wanted
+    ∙ removed_in name wanted properties distinct
+    ∙ sym (get-remove nat_list_cmp_total (from_entries properties) name wanted
+    ∙ ap (λ o. cond (is_same wanted name) None o) (get-from_entries nat_list_cmp_total properties wanted)))

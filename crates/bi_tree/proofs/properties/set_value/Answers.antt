@@ -1,0 +1,17 @@
+use Rattle.std.proofs.Common.{ap, ◌∙◌, arith}
+use Rattle.bi_tree.specs.Properties.{tree_properties}
+use Rattle.bi_tree.proofs.PropertyLists.{set_at, property_added_after}
+use Rattle.bi_tree.proofs.properties.set_value.Goals as goal
+
+pub returns-then-index-len : goal.returns-then-index-len
+returns-then-index-len c =
+    set_at c.args.properties.now.items c.deref.result.now c.deref.ensures.value c.find_property-index.result
+    (record { name = c.args.name; value = c.args.value }) c.find_property-index.ensures.index
+    (omega (arith, c.if-index-len.true, c.len.ensures))
+
+pub returns-in_ok-push : goal.returns-in_ok-push
+returns-in_ok-push c =
+    ap tree_properties c.in_ok-push.ensures.items
+    ∙ property_added_after c.args.properties.now.items c.deref.result.now c.deref.ensures.value c.find_property-index.result
+    (record { name = c.args.name; value = c.args.value }) c.find_property-index.ensures.index
+    (omega (arith, c.if-index-len.false, c.len.ensures, c.find_property-index.ensures.within, c.deref.ensures.len))

@@ -1,0 +1,65 @@
+//! The properties of nodes of trees that can be changed.
+
+ghost use Rattle.std.specs.Prelude.{◌≡◌, ◌≤◌, length, map, OnOk};
+ghost use Rattle.std.specs.Cow.{cow_slice_items};
+ghost use Rattle.bi_tree.specs.Properties.{tree_properties, with_property_in, without_property_in};
+ghost use Rattle.bi_tree.specs.TreeNodes.{index_named};
+
+use std::alloc::{AllocError, Global};
+use std::borrow::CowSlice;
+
+/// A property.
+#[derive(Drop)]
+pub struct TreeProperty<'a> {
+    /// The name.
+    pub name: &'a [u8],
+    /// The value.
+    pub value: CowSlice<'a, u8, Global>,
+}
+
+/// Sets the value of the first of these properties with this name. If there is none, it is added as
+/// the last. Fails if memory runs out, and then changes nothing.
+pub(crate) fn set_value<'a>(
+    properties: &mut Vec<TreeProperty<'a>>,
+    name: &'a [u8],
+    value: CowSlice<'a, u8, Global>,
+) -> Result<(), AllocError>
+    ensures { OnOk result (tree_properties properties.new.items
+        ≡ with_property_in name.entry.now (cow_slice_items value.entry)
+        (tree_properties properties.old.items)) }
+{
+    let index = find_property(properties, name);
+    let property = TreeProperty { name, value };
+    if index < properties.len() {
+        properties[index] = property;
+    } else {
+        properties.push(property)?;
+    }
+    Ok(())
+}
+
+/// Removes the first of these properties with this name. If there is none, nothing changes.
+pub(crate) fn remove_value(properties: &mut Vec<TreeProperty<'_>>, name: &[u8])
+    ensures { tree_properties properties.new.items
+        ≡ without_property_in name.now (tree_properties properties.old.items) }
+{
+    let index = find_property(properties, name);
+    if index < properties.len() {
+        let _ = properties.remove(index);
+    }
+}
+
+/// Returns the index of the first of these properties with this name, or their number if there is
+/// none.
+fn find_property(properties: &[TreeProperty<'_>], name: &[u8]) -> usize
+    ensures index { result
+        ≡ index_named name.now (map (λ property. property.name.now) properties.now) }
+    ensures within { result ≤ length properties.now }
+{
+    for (index, property) in properties.iter().enumerate() {
+        if property.name == name {
+            return index;
+        }
+    }
+    properties.len()
+}
