@@ -140,16 +140,16 @@ def lines_of_merges(text):
 
 
 def main(root):
-    pages = ["README.md", "CHANGELOG.md", "CONTRIBUTING.md", "SECURITY.md", "examples/README.md", "tests/prover/README.md"] + sorted(os.path.relpath(path, root) for path in glob.glob(os.path.join(root, "docs/*.md")))
+    pages = ["README.md", "CHANGELOG.md", "CONTRIBUTING.md", "SECURITY.md", "examples/README.md", "tests/prover/README.md"] + sorted(os.path.relpath(path, root) for path in glob.glob(os.path.join(root, "docs/**/*.md"), recursive=True))
     wrong = []
     for page in pages:
         text = read(os.path.join(root, page))
         for reason in [*wrong_links(root, page, text), *wrong_paths(root, text), *lines_of_merges(text)]:
             wrong.append(f"{page}: {reason}")
-    for page, pattern, others in ("docs/TESTING.md", "tests/*/*.sh", ()), ("docs/PERFORMANCE.md", "bench/*.sh", ("bench/names.py",)):
+    for page, pattern, others in ("docs/dev/TESTING.md", "tests/*/*.sh", ()), ("docs/PERFORMANCE.md", "bench/*.sh", ("bench/names.py",)):
         scripts = {os.path.relpath(path, root) for path in glob.glob(os.path.join(root, pattern))}.union(others)
         wrong += [f"{page}: {reason}" for reason in wrong_scripts(root, page, scripts)]
-    wrong += [f"docs/PROOFS.md: {reason}" for reason in wrong_code(root, read(os.path.join(root, "docs/PROOFS.md")))]
+    wrong += [f"docs/dev/PROOFS.md: {reason}" for reason in wrong_code(root, read(os.path.join(root, "docs/dev/PROOFS.md")))]
     wrong += [f"docs/FORMATS.md: {reason}" for reason in wrong_checks(root, read(os.path.join(root, "docs/FORMATS.md")))]
     page, tables = (read(os.path.join(root, path)) for path in ("docs/CONFORMANCE.md", "tests/conformance/tools.md"))
     wrong += [f"docs/CONFORMANCE.md: {reason}" for reason in wrong_outcomes(page, tables)]

@@ -43,7 +43,7 @@ PATTERNS = [
 def documents(root):
     """The paths of the documents."""
     pages = ["README.md", "CHANGELOG.md", "CONTRIBUTING.md", "SECURITY.md", "examples/README.md"]
-    return pages + sorted(os.path.relpath(path, root) for path in glob.glob(os.path.join(root, "docs/*.md")))
+    return pages + sorted(os.path.relpath(path, root) for path in glob.glob(os.path.join(root, "docs/**/*.md"), recursive=True))
 
 
 def others(root):
