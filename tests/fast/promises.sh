@@ -16,7 +16,8 @@ if [ "${1-}" = --definitions ]; then
     exec python3 "$root/tests/fast/promises.py" "$root" --definitions
 fi
 work_in_new_directory
-copy_here crates.txt 'crates/*/src' 'crates/*/specs' README.md docs/PROMISES.md docs/dev/PROMISE_TABLES.md
+copy_here crates.txt 'crates/*/src' 'crates/*/specs' README.md docs/PROMISES.md docs/dev/PROMISE_TABLES.md \
+    tests/prover/wrong_definitions.md
 
 check "the tables are those of the sources" python3 "$root/tests/fast/promises.py" copy
 [ "$failed" = 0 ] || finish
@@ -64,7 +65,7 @@ check "a missing row is found" \
     is_found docs/dev/PROMISE_TABLES.md '`same_meaning`: `compared`, `failed`; ' '' 'no row has `comparing::same_meaning`: `compared` of bi_norm'
 check "a fact without a docstring is found" is_found crates/bi_hash/src/known_verdicts.rt '/// ' '// ' 'no docstring has `verdicts_are_known` of bi_hash'
 check "a wrong definition that no function refuses is found" \
-    is_found docs/dev/PROMISE_TABLES.md '  - Refused by: `firmware_text`
+    is_found tests/prover/wrong_definitions.md '  - Refused by: `firmware_text`
 ' '  - Refused by: `firmware`
 ' 'no public function `firmware` with a contract is in bi_legacy'
 check "a file that the reading order lacks is found" \
@@ -79,7 +80,7 @@ check "a row without definitions is found" \
     is_found docs/dev/PROMISE_TABLES.md '  - With: `NormalForm.IsNormalForm` (`is_own`)
 ' '' 'this is no row of three cells below the heading of a crate'
 check "a wrong definition that nothing refuses is found" \
-    is_found docs/dev/PROMISE_TABLES.md '  - Refused by: `firmware_text`
+    is_found tests/prover/wrong_definitions.md '  - Refused by: `firmware_text`
 ' '' 'this is no row of two cells below the heading of a crate'
 check "a row of an unknown crate is found" \
     is_found docs/dev/PROMISE_TABLES.md '### `bi_norm`:' '### `bi_normal`:' 'this is no row of three cells below the heading of a crate'
