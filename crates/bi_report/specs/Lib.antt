@@ -1,4 +1,5 @@
 pub mod CheckedFiles
+pub mod SignedTrees
 pub mod Checking
 pub mod CleanFiles
 pub mod Listing

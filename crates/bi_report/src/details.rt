@@ -1,27 +1,32 @@
 //! Details of what is reported on a boot image: the words of a line, or the members of an object in
 //! JSON.
 
-ghost use Rattle.std.specs.Prelude.{◌≡◌, [], ◌∷◌, filter, flat_map, map};
+ghost use Rattle.std.specs.Prelude.{◌≡◌, [], ◌∷◌, Some, filter, flat_map, map};
 ghost use Rattle.bi_fit.specs.JudgementCalls.{checked_hash_of};
-ghost use Rattle.bi_common.specs.HashedImages.{hashes_left};
+ghost use Rattle.bi_base.specs.Slices.{bytes_of};
+ghost use Rattle.bi_coverage.specs.NeededPaths.{needed_path};
+ghost use Rattle.bi_coverage.specs.Paths.{path_text};
+ghost use Rattle.bi_common.specs.Lines.{Name};
 ghost use Rattle.bi_common.specs.Json.{json_array};
 ghost use Rattle.bi_common.specs.JsonTokens.{json_tokens, member_tokens, value_tokens};
 ghost use Rattle.bi_common.specs.LineTokens.{line_tokens, one_field};
 ghost use Rattle.bi_common.specs.VerdictCounts.{is_verdict};
-ghost use Rattle.bi_report.specs.Details.{detail_member, detail_words, details_line};
+ghost use Rattle.bi_report.specs.ConcernValues.{used_left};
+ghost use Rattle.bi_report.specs.Details.{NameDetail, detail_member, detail_words, details_line};
 ghost use Rattle.bi_report.specs.Details.{details_object};
 ghost use Rattle.bi_report.specs.MadeDetails.{algorithm_strings, algorithm_words};
 ghost use Rattle.bi_report.specs.MadeDetails.{details_in, made_details};
 ghost use Rattle.bi_hash.specs.declared.verdicts.Verdict.TheVariants.{Good};
 
 use bi_common::fields::{Field, digits_or_none, name_or_none};
-use bi_common::hash_nodes::HashNodes;
 use bi_common::json_writer::{
     JsonPen, JsonToken, JsonValue, digits_or_null, put_member, put_value, shown_or_null,
 };
 use bi_common::lines::LinePen;
+use bi_coverage::NeededPath;
 use bi_fit::Checked;
 use bi_hash::Verdict;
+use crate::used_hashes::UsedHashes;
 
 /// A detail, with the name of its member in JSON.
 #[derive(Clone, Copy)]
@@ -30,6 +35,10 @@ pub(crate) enum Detail<'a, 'b> {
     Nothing,
     /// A name. If it is not there, the word is `-` and the value is `null`.
     Name(&'static str, Option<&'a [u8]>),
+    /// The path of a node that a signature must cover.
+    Needed(&'static str, NeededPath<'a>),
+    /// The path of a node: the names of the nodes on the way to it, without the root.
+    Path(&'static str, &'b [&'a [u8]]),
     /// A word.
     Word(&'static str, &'static str),
     /// A number.
@@ -37,7 +46,7 @@ pub(crate) enum Detail<'a, 'b> {
     /// The digits of a value. If it is not there, the word is `-` and the value is `null`.
     Digits(&'static str, Option<&'a [u8]>),
     /// The algorithms of the Good ones of these hash nodes: a word for each, and an array.
-    Algorithms(&'static str, HashNodes<'a, 'b>),
+    Algorithms(&'static str, UsedHashes<'a, 'b>),
 }
 
 /// Puts the line of details.
@@ -66,6 +75,8 @@ fn put_detail_words<L: LinePen>(detail: Detail, pen: &mut L)
     match detail {
         Detail::Nothing => {}
         Detail::Name(_, name) => pen.put_word(name_or_none(name)),
+        Detail::Needed(_, path) => put_needed_word(path, pen),
+        Detail::Path(_, names) => pen.put_word(Field::Path(names)),
         Detail::Word(_, word) => pen.put_word(Field::Text(word.as_bytes())),
         Detail::Number(_, number) => pen.put_word(Field::Decimal(number)),
         Detail::Digits(_, value) => pen.put_word(digits_or_none(value)),
@@ -73,9 +84,20 @@ fn put_detail_words<L: LinePen>(detail: Detail, pen: &mut L)
     }
 }
 
+/// Puts the word for a path that a signature must cover.
+fn put_needed_word<L: LinePen>(path: NeededPath, pen: &mut L)
+    ensures { L.puts pen.old (one_field (Name (needed_path path.entry))) pen.new }
+{
+    match path {
+        NeededPath::Root => pen.put_word(Field::Path(&[])),
+        NeededPath::Configuration(name) => pen.put_word(Field::Path(&[b"configurations", name])),
+        NeededPath::Image(name) => pen.put_word(Field::Path(&[b"images", name])),
+    }
+}
+
 /// Puts the algorithms of the Good ones of these hash nodes.
-fn put_algorithms<L: LinePen>(hashes: HashNodes, pen: &mut L)
-    ensures { L.puts pen.old (flat_map one_field (algorithm_words (hashes_left hashes.entry)))
+fn put_algorithms<L: LinePen>(hashes: UsedHashes, pen: &mut L)
+    ensures { L.puts pen.old (flat_map one_field (algorithm_words (used_left hashes.entry)))
         pen.new }
 {
     for hash in hashes {
@@ -120,6 +142,8 @@ fn put_detail_member<J: JsonPen>(detail: Detail, json: &mut J)
     match detail {
         Detail::Nothing => {}
         Detail::Name(member, name) => put_member((member, shown_or_null(name)), json),
+        Detail::Needed(member, path) => put_needed_member(member, path, json),
+        Detail::Path(member, names) => put_path_member(member, names, json),
         Detail::Word(member, word) => {
             put_member(
                 (member, JsonValue::String(Field::Text(word.as_bytes()))),
@@ -135,10 +159,33 @@ fn put_detail_member<J: JsonPen>(detail: Detail, json: &mut J)
     }
 }
 
+/// Puts the member for a path that a signature must cover.
+fn put_needed_member<J: JsonPen>(member: &str, path: NeededPath, json: &mut J)
+    ensures { J.puts json.old
+        (member_tokens (detail_member (NameDetail member.now (Some (needed_path path.entry))) ∷ []))
+        json.new }
+{
+    match path {
+        NeededPath::Root => put_path_member(member, &[], json),
+        NeededPath::Configuration(name) => {
+            put_path_member(member, &[b"configurations", name], json);
+        }
+        NeededPath::Image(name) => put_path_member(member, &[b"images", name], json),
+    }
+}
+
+/// Puts the member for the path of a node with these names on the way to it.
+fn put_path_member<J: JsonPen>(member: &str, names: &[&[u8]], json: &mut J)
+    ensures { J.puts json.old (member_tokens (detail_member
+        (NameDetail member.now (Some (path_text (bytes_of names.now)))) ∷ [])) json.new }
+{
+    put_member((member, JsonValue::String(Field::Path(names))), json);
+}
+
 /// Puts the array of the algorithms of the Good ones of these hash nodes.
-fn put_algorithm_array<J: JsonPen>(hashes: HashNodes, json: &mut J)
+fn put_algorithm_array<J: JsonPen>(hashes: UsedHashes, json: &mut J)
     ensures { J.puts json.old (json_tokens
-        (json_array (algorithm_strings (hashes_left hashes.entry)))) json.new }
+        (json_array (algorithm_strings (used_left hashes.entry)))) json.new }
 {
     json.put(JsonToken::BeginArray);
     put_algorithm_strings(hashes, json);
@@ -146,8 +193,8 @@ fn put_algorithm_array<J: JsonPen>(hashes: HashNodes, json: &mut J)
 }
 
 /// Puts the algorithms of the Good ones of these hash nodes as strings.
-fn put_algorithm_strings<J: JsonPen>(hashes: HashNodes, json: &mut J)
-    ensures { J.puts json.old (value_tokens (algorithm_strings (hashes_left hashes.entry)))
+fn put_algorithm_strings<J: JsonPen>(hashes: UsedHashes, json: &mut J)
+    ensures { J.puts json.old (value_tokens (algorithm_strings (used_left hashes.entry)))
         json.new }
 {
     for hash in hashes {

@@ -6,7 +6,7 @@ ghost use Rattle.bi_common.specs.JsonTokens.{json_tokens, value_tokens};
 ghost use Rattle.bi_common.specs.LineTokens.{tokens_of_lines};
 ghost use Rattle.bi_report.specs.CheckedFiles.{concerns_text, text_of_concerns};
 ghost use Rattle.bi_report.specs.Checking.{concern_line, concern_object, concerns_object};
-ghost use Rattle.bi_report.specs.Checking.{kept_concerns};
+ghost use Rattle.bi_report.specs.Checking.{allowed_under, kept_concerns};
 ghost use Rattle.bi_report.specs.CheckedImages.{concerns_left, has_any, kept_left};
 ghost use Rattle.bi_report.specs.FoundConcerns.{concerns_in};
 
@@ -25,13 +25,15 @@ pub fn put_concerns<S: Sink>(
     checker: Checker,
     sink: &mut S,
 ) -> Result<bool, Error>
-    ensures text { Wrote S.appends S.fails sink.old (concerns_text checker.format checker.allowed
-        (concerns_in (concerns_left concerns.entry))) result sink.new }
-    ensures clean { IfOk result (λ clean. IsTrue clean
-        ↔ (kept_concerns checker.allowed (concerns_in (concerns_left concerns.entry)) ≡ [])) }
+    ensures text { Wrote S.appends S.fails sink.old (concerns_text checker.format
+        (allowed_under checker.policy) (concerns_in (concerns_left concerns.entry)))
+        result sink.new }
+    ensures clean { IfOk result (λ clean. IsTrue clean ↔ (kept_concerns
+        (allowed_under checker.policy) (concerns_in (concerns_left concerns.entry)) ≡ [])) }
 {
     let mut pen = SinkPen::new(sink);
-    let any = put_text(concerns.kept(checker.allowed), checker.format, &mut pen);
+    let kept = concerns.kept(checker.policy.allowed_kinds());
+    let any = put_text(kept, checker.format, &mut pen);
     pen.result()?;
     Ok(!any)
 }
