@@ -5,6 +5,7 @@
 ghost use Rattle.bi_report.specs.KnownChecks.{BuiltCheckIsKnown, CheckErrorsAreKnown};
 ghost use Rattle.bi_report.specs.KnownChecks.{PayloadBoundIsKnown, ProtectionIsKnown};
 ghost use Rattle.bi_report.specs.KnownConcerns.{ConcernsAreKnown, StrongAlgorithmsAreKnown};
+ghost use Rattle.bi_report.specs.KnownConcerns.{SkippedHashesAreKnown};
 ghost use Rattle.bi_report.specs.KnownConcerns.{TrailingBytesAreKnown, LegacyConcernsAreKnown};
 ghost use Rattle.bi_report.specs.KnownConcerns.{AllowedKindsAreKnown};
 ghost use Rattle.bi_report.specs.KnownOutputs.{VerifyOutputsAreKnown, CheckOutputsAreKnown};
@@ -54,6 +55,12 @@ pub fn strong_algorithms_are_known()
     ensures { StrongAlgorithmsAreKnown }
 {}
 
+/// A hash node that U-Boot skips has a line, and protects nothing. Only a property of four bytes
+/// that are not all zero makes U-Boot skip it.
+pub fn skipped_hashes_are_known()
+    ensures { SkippedHashesAreKnown }
+{}
+
 /// The bytes after the payload that ends last, here that of the first image, are those that have a
 /// line.
 pub fn trailing_bytes_are_known()
@@ -68,7 +75,8 @@ pub fn legacy_concerns_are_known()
     bi_legacy::laws::one_meaning();
 }
 
-/// Each kind of concerns is allowed by its own name.
+/// Each kind of concerns is allowed by its own name, and a lack of signatures is allowed unless it
+/// is asked about.
 pub fn allowed_kinds_are_known()
     ensures { AllowedKindsAreKnown }
 {}

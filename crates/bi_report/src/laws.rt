@@ -19,8 +19,9 @@ pub fn check_tells_clean()
     ensures { CheckTellsClean }
 {}
 
-/// A built image tree is clean if and only if it has no images, or each of them has a hash node and
-/// one of a strong algorithm, but for what is allowed.
+/// A built image tree, which has no signature, is clean if and only if none is asked for, and it has
+/// no images, or each of them has a hash node and one of a strong algorithm, but for what is
+/// allowed.
 pub fn built_is_clean()
     ensures { BuiltIsClean }
 {}
@@ -28,7 +29,7 @@ pub fn built_is_clean()
 /// The text of such a tree, in any form, is clean if and only if the tree is, and checking it has
 /// no error but `OutOfMemory`, within limits that hold the text and four open nodes. So nothing
 /// follows its payloads, and together they are within the limit. If one of the algorithms is
-/// strong, checking it writes nothing.
+/// strong and no signature is asked for, checking it writes nothing.
 pub fn built_text_is_clean()
     ensures { BuiltTextIsClean }
 {}
