@@ -14,9 +14,8 @@ use Rattle.bi_common.specs.Json.{json_text}
 use Rattle.bi_common.specs.KnownWords.{lines}
 use Rattle.bi_report.specs.CheckedFiles.{IsCheckOutput, check_promise, concerns_text}
 use Rattle.bi_report.specs.Checking.{BadHash, TrailingBytes, WeakHash, allowed_by_default}
-use Rattle.bi_report.specs.Checking.{tree_concerns}
 use Rattle.bi_report.specs.FitListing.{configuration_entry, configuration_object}
-use Rattle.bi_report.specs.KnownConcerns.{hash_by}
+use Rattle.bi_report.specs.KnownConcerns.{hash_by, unsigned_tree_concerns}
 use Rattle.bi_report.specs.KnownTexts.{hash_with}
 use Rattle.bi_report.specs.ListedFiles.{IsListing}
 use Rattle.bi_report.specs.VerifiedFiles.{IsVerifyOutput}
@@ -105,7 +104,7 @@ each_concern =
     ++ (codes "{\"concern\":\"weak-hash\",\"image\":\"a\",\"algorithms\":[\"sha1\",\"md5\"]},"
     ++ lines (codes "{\"concern\":\"trailing\",\"size\":7}]}" ∷ [])))))))))))
 
--- Checking the file as lines, with nothing allowed, gives this value and this text, and nothing
+-- Checking the file as lines, without options, gives this value and this text, and nothing
 -- else.
 pub record IsOnlyCheck (clean : Bool) (file text : List ℕ) : Type 0 where
   pub is_output : (check_promise Lines allowed_by_default widest).is_output clean file text
@@ -132,7 +131,7 @@ pub record CheckOutputsAreKnown : Type 0 where
       file_without_hash
       (lines (codes "{\"concerns\":[]}" ∷ []))
   pub each_json : concerns_text Json allowed_by_default
-      (tree_concerns configured_tree
+      (unsigned_tree_concerns configured_tree
       ++ BadHash (hash_with Malformed)
       ∷ WeakHash (codes "a") (map hash_by (codes "sha1" ∷ codes "md5" ∷ []))
       ∷ TrailingBytes 7 ∷ [])

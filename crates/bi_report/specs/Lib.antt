@@ -14,6 +14,7 @@ pub mod Details
 pub mod Reports
 pub mod KnownChecks
 pub mod KnownConcerns
+pub mod KnownSignatures
 pub mod KnownTexts
 pub mod MadeDetails
 pub mod Listed

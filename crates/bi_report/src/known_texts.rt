@@ -12,6 +12,7 @@ ghost use Rattle.bi_report.specs.KnownOutputs.{VerifyOutputsAreKnown, CheckOutpu
 ghost use Rattle.bi_report.specs.KnownOutputs.{JsonListingsAreKnown};
 ghost use Rattle.bi_report.specs.KnownScans.{ClaimsAreKnown, OffsetsAreKnown, ScansAreKnown};
 ghost use Rattle.bi_report.specs.KnownScans.{ScanErrorsAreKnown};
+ghost use Rattle.bi_report.specs.KnownSignatures.{SignatureConcernsAreKnown};
 ghost use Rattle.bi_report.specs.KnownTexts.{ReportsAreKnown, LegacyListingsAreKnown};
 ghost use Rattle.bi_report.specs.KnownTexts.{FitListingIsKnown, EachSourceIsListed};
 ghost use Rattle.bi_report.specs.KnownTexts.{ConfigurationLinesAreKnown};
@@ -59,6 +60,12 @@ pub fn strong_algorithms_are_known()
 /// that are not all zero makes U-Boot skip it.
 pub fn skipped_hashes_are_known()
     ensures { SkippedHashesAreKnown }
+{}
+
+/// The concerns about signatures have known lines, and known JSON: about a signed node and what it
+/// does not cover, a configuration without one, and unit addresses.
+pub fn signature_concerns_are_known()
+    ensures { SignatureConcernsAreKnown }
 {}
 
 /// The bytes after the payload that ends last, here that of the first image, are those that have a
