@@ -7,6 +7,7 @@ pub mod CheckedHashes
 pub mod CleanLaws
 pub mod LegacyConcernFacts
 pub mod TextFacts
+pub mod SignatureFacts
 pub mod ListedFiles
 pub mod ListedNames
 pub mod AsciiListings
@@ -30,5 +31,6 @@ pub mod JsonListings
 pub mod JsonReports
 pub mod FoundImages
 pub mod TreeMemory
+pub mod UnitAddresses
 pub mod CheckFacts
 mod HeaderSum

@@ -38,7 +38,7 @@ pub data Concern : Type 0 where
   -- A hash node whose verdict is not Good.
   BadHash : (hash : CheckedHash) → Concern
   -- A hash node of an image that U-Boot skips.
-  SkippedHash : (image node : List ℕ) → Concern
+  SkippedHash : (image hash : List ℕ) → Concern
   -- An image with a payload and without a Good verdict on a hash node that U-Boot does not skip.
   UnhashedImage : (image : List ℕ) → Concern
   -- An image with a payload, and with Good verdicts on these hash nodes alone, none of which names
@@ -71,7 +71,7 @@ kind_of_signature Strings = kind.Strings
 -- The kind of a concern.
 abbrev pub kind_of : Concern → ConcernKind
 kind_of (BadHash hash) = kind.BadHash
-kind_of (SkippedHash image node) = kind.SkippedHash
+kind_of (SkippedHash image hash) = kind.SkippedHash
 kind_of (UnhashedImage image) = kind.Unhashed
 kind_of (WeakHash image good) = kind.WeakHash
 kind_of (BadKey configuration key) = kind.BadList
@@ -112,8 +112,8 @@ path_details Strings = []
 -- their verdicts are Good.
 abbrev pub later_details : Concern → List Detail
 later_details (BadHash hash) = hash_details hash
-later_details (SkippedHash image node) =
-    NameDetail (codes "image") (Some image) ∷ NameDetail (codes "node") (Some node) ∷ []
+later_details (SkippedHash image hash) =
+    NameDetail (codes "image") (Some image) ∷ NameDetail (codes "node") (Some hash) ∷ []
 later_details (UnhashedImage image) = NameDetail (codes "image") (Some image) ∷ []
 later_details (WeakHash image good) =
     NameDetail (codes "image") (Some image)

@@ -1,0 +1,52 @@
+use Rattle.std.proofs.Common.{◌≡◌, ℕ, Bool, true, false, List, [], ◌∷◌, ◌++◌, bytes_eq, if◌then◌else◌, map, refl, sym, ap, ap₂, ◌∙◌}
+use Rattle.std.specs.FinMap.{from_entries}
+use Rattle.bi_blob.specs.Tree.{Nodes, none, node, PropertyMap, properties_of, with_each}
+use Rattle.bi_fdt.specs.Content.{root_of}
+use Rattle.bi_fit.specs.Content.{FitModel, tree_of}
+use Rattle.bi_fit.specs.ImageTree.{with_children_of, without_payloads}
+use Rattle.bi_fit.specs.Names.{images_name}
+use Rattle.bi_coverage.specs.Paths.{path_text}
+use Rattle.bi_report.specs.SignedTrees.{addresses_below, has_address, unit_addresses}
+
+-- The unit addresses of a file are those of the tree that it means: they are in the names of nodes alone.
+
+-- Nodes whose own parts are changed have the same unit addresses,
+addresses_each : {A B : Type 0} (change : A → B) (parent : List (List ℕ)) (nodes : Nodes A) →
+    addresses_below parent (with_each change nodes) ≡ addresses_below parent nodes
+addresses_each change parent none = refl
+addresses_each change parent (node name own children later) =
+    ap₂ (λ (a b : List (List (List ℕ))). (if has_address name then (parent ++ name ∷ []) ∷ [] else []) ++ (a ++ b))
+    (addresses_each change (parent ++ name ∷ []) children) (addresses_each change parent later)
+
+-- so have image nodes without their payloads,
+addresses_without_payloads : (parent : List (List ℕ)) (nodes : Nodes PropertyMap) →
+    addresses_below parent (without_payloads nodes) ≡ addresses_below parent nodes
+addresses_without_payloads parent none = refl
+addresses_without_payloads parent (node name own children later) =
+    ap (λ (b : List (List (List ℕ))). (if has_address name then (parent ++ name ∷ []) ∷ [] else [])
+    ++ (addresses_below (parent ++ name ∷ []) children ++ b)) (addresses_without_payloads parent later)
+
+-- and nodes one of which has such children.
+addresses_of_children : (wanted : List ℕ) (parent : List (List ℕ)) (nodes : Nodes PropertyMap) →
+    addresses_below parent (with_children_of wanted without_payloads nodes) ≡ addresses_below parent nodes
+addresses_of_children wanted parent none = refl
+addresses_of_children wanted parent (node name own children later) = by (bytes_eq name wanted) refl where
+  by : (b : Bool) → bytes_eq name wanted ≡ b →
+      addresses_below parent (with_children_of wanted without_payloads (node name own children later))
+      ≡ addresses_below parent (node name own children later)
+  by true is = rw is
+      (ap (λ (a : List (List (List ℕ))). (if has_address name then (parent ++ name ∷ []) ∷ [] else [])
+      ++ (a ++ addresses_below parent later)) (addresses_without_payloads (parent ++ name ∷ []) children))
+  by false is = rw is
+      (ap (λ (b : List (List (List ℕ))). (if has_address name then (parent ++ name ∷ []) ∷ [] else [])
+      ++ (addresses_below (parent ++ name ∷ []) children ++ b)) (addresses_of_children wanted parent later))
+
+-- So the unit addresses of a file are those of its tree.
+pub addresses_of_tree : (content : FitModel) → unit_addresses (root_of content.blob) ≡ unit_addresses (tree_of content).root
+addresses_of_tree content =
+    let children = (root_of content.blob).children in
+    ap (map path_text)
+    (sym
+    (addresses_of_children images_name [] (with_each from_entries (with_each properties_of children))
+    ∙ addresses_each from_entries [] (with_each properties_of children)
+    ∙ addresses_each properties_of [] children))
