@@ -1,5 +1,6 @@
-use Rattle.std.proofs.Common.{◌≡◌, ℕ, Bool, true, false, List, [], ◌∷◌, ◌++◌, bytes_eq, if◌then◌else◌, map, refl, sym, ap, ap₂, ◌∙◌}
+use Rattle.std.proofs.Common.{◌≡◌, ℕ, Bool, true, false, List, [], ◌∷◌, ◌++◌, bytes_eq, if◌then◌else◌, map, Option, None, Some, refl, sym, ap, ap₂, ◌∙◌}
 use Rattle.std.specs.FinMap.{from_entries}
+use Rattle.bi_blob.specs.Lookups.{Sibling}
 use Rattle.bi_blob.specs.Tree.{Nodes, none, node, PropertyMap, properties_of, with_each}
 use Rattle.bi_fdt.specs.Content.{root_of}
 use Rattle.bi_fit.specs.Content.{FitModel, tree_of}
@@ -40,6 +41,11 @@ addresses_of_children wanted parent (node name own children later) = by (bytes_e
   by false is = rw is
       (ap (λ (b : List (List (List ℕ))). (if has_address name then (parent ++ name ∷ []) ∷ [] else [])
       ++ (addresses_below (parent ++ name ∷ []) children ++ b)) (addresses_of_children wanted parent later))
+
+-- A node and the nodes after it, or no nodes.
+abbrev pub nodes_from : {Own : Type 0} → Option (Sibling Own) → Nodes Own
+nodes_from None = none
+nodes_from (Some first) = node first.name first.own first.children first.later
 
 -- So the unit addresses of a file are those of its tree.
 pub addresses_of_tree : (content : FitModel) → unit_addresses (root_of content.blob) ≡ unit_addresses (tree_of content).root

@@ -68,6 +68,17 @@ pub passed_has_none : (allowed : Allowed) (test : Bool) (concern : Concern) → 
 passed_has_none allowed true concern passed = refl
 passed_has_none allowed false concern passed = search (rules, allowed_has_none)
 
+-- One that comes from a test that passes has none if and only if the test fails where it is not allowed.
+pub test_fails : (allowed : Allowed) (test : Bool) (concern : Concern) → HaveNoLine allowed (if test then concern ∷ [] else []) →
+    IsFalse (allows allowed (kind_of concern)) → test ≡ false
+test_fails allowed true concern none refused = absurd (true≢false (sym (one_is_allowed allowed concern none) ∙ refused))
+test_fails allowed false concern none refused = refl
+
+pub failed_has_none : (allowed : Allowed) (test : Bool) (concern : Concern) → (IsFalse (allows allowed (kind_of concern)) → test ≡ false) →
+    HaveNoLine allowed (if test then concern ∷ [] else [])
+failed_has_none allowed true concern fails = search (rules, allowed_has_none)
+failed_has_none allowed false concern fails = refl
+
 -- An element that passes a test.
 pub any_is_found : {X : Type 0} (test : X → Bool) (xs : List X) → list_any test xs ≡ true → (x : X) × Contains xs x × (test x ≡ true)
 any_is_found test [] is = absurd cc
