@@ -55,7 +55,10 @@ impl<'a> FitCoverage<'a> {
 fn is_any_signed(configurations: &[ConfigurationCoverage]) -> bool
     ensures { result ≡ has_signed_node (map configuration_value configurations.now) }
 {
-    configurations
-        .iter()
-        .any(|configuration| !configuration.signatures.is_empty())
+    for configuration in configurations {
+        if !configuration.signatures.is_empty() {
+            return true;
+        }
+    }
+    false
 }
