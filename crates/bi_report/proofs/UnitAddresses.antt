@@ -1,11 +1,12 @@
-use Rattle.std.proofs.Common.{◌≡◌, ℕ, Bool, true, false, List, [], ◌∷◌, ◌++◌, bytes_eq, if◌then◌else◌, map, Option, None, Some, refl, sym, ap, ap₂, ◌∙◌}
+use Rattle.std.proofs.Common.{◌≡◌, ℕ, Bool, true, false, List, [], ◌∷◌, ◌++◌, bytes_eq, if◌then◌else◌, map, refl, sym, ap, ap₂, append_assoc, append-nil, ◌∙◌}
 use Rattle.std.specs.FinMap.{from_entries}
 use Rattle.bi_blob.specs.Lookups.{Sibling}
-use Rattle.bi_blob.specs.Tree.{Nodes, none, node, PropertyMap, properties_of, with_each}
+use Rattle.bi_blob.specs.Tree.{Nodes, none, node, FileNode, PropertyMap, properties_of, with_each}
 use Rattle.bi_fdt.specs.Content.{root_of}
 use Rattle.bi_fit.specs.Content.{FitModel, tree_of}
 use Rattle.bi_fit.specs.ImageTree.{with_children_of, without_payloads}
 use Rattle.bi_fit.specs.Names.{images_name}
+use Rattle.bi_fit.specs.NormalNodes.{alone}
 use Rattle.bi_coverage.specs.Paths.{path_text}
 use Rattle.bi_report.specs.SignedTrees.{addresses_below, has_address, unit_addresses}
 
@@ -42,11 +43,6 @@ addresses_of_children wanted parent (node name own children later) = by (bytes_e
       (ap (λ (b : List (List (List ℕ))). (if has_address name then (parent ++ name ∷ []) ∷ [] else [])
       ++ (addresses_below (parent ++ name ∷ []) children ++ b)) (addresses_of_children wanted parent later))
 
--- A node and the nodes after it, or no nodes.
-abbrev pub nodes_from : {Own : Type 0} → Option (Sibling Own) → Nodes Own
-nodes_from None = none
-nodes_from (Some first) = node first.name first.own first.children first.later
-
 -- So the unit addresses of a file are those of its tree.
 pub addresses_of_tree : (content : FitModel) → unit_addresses (root_of content.blob) ≡ unit_addresses (tree_of content).root
 addresses_of_tree content =
@@ -56,3 +52,33 @@ addresses_of_tree content =
     (addresses_of_children images_name [] (with_each from_entries (with_each properties_of children))
     ∙ addresses_each from_entries [] (with_each properties_of children)
     ∙ addresses_each properties_of [] children))
+
+-- The unit addresses of a node and of the nodes after it.
+pub addresses_first : (parent : List (List ℕ)) (first : Sibling FileNode) →
+    addresses_below parent (node first.name first.own first.children first.later)
+    ≡ addresses_below parent (alone first) ++ addresses_below parent first.later
+addresses_first parent first =
+    let own = if has_address first.name then (parent ++ first.name ∷ []) ∷ [] else [] in
+    let below = addresses_below (parent ++ first.name ∷ []) first.children in
+    let later = addresses_below parent first.later in
+    sym (append_assoc own below later)
+    ∙ ap (λ (l : List (List (List ℕ))). (own ++ l) ++ later) (sym (append-nil below))
+
+-- Some added to a list, and then the others.
+pub added_first : {X : Type 0} (old one later target new : List X) → old ++ (one ++ later) ≡ target → new ≡ old ++ one →
+    new ++ later ≡ target
+added_first old one later target new all is = ap (λ l. l ++ later) is ∙ append_assoc old one later ∙ all
+
+-- The unit addresses of a node: its own, and those below it.
+pub node_added : (old one two : List (List (List ℕ))) (parent names : List (List ℕ)) (first : Sibling FileNode) →
+    names ≡ parent ++ first.name ∷ [] →
+    one ≡ old ++ (if has_address first.name then names ∷ [] else []) →
+    two ≡ one ++ addresses_below names first.children →
+    two ≡ old ++ addresses_below parent (alone first)
+node_added old one two parent names first is is_one is_two =
+    let own = if has_address first.name then names ∷ [] else [] in
+    is_two
+    ∙ ap (λ l. l ++ addresses_below names first.children) is_one
+    ∙ append_assoc old own (addresses_below names first.children)
+    ∙ ap (λ (l : List (List (List ℕ))). old ++ (own ++ l)) (sym (append-nil (addresses_below names first.children)))
+    ∙ ap (λ names. old ++ ((if has_address first.name then names ∷ [] else []) ++ (addresses_below names first.children ++ []))) is

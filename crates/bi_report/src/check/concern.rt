@@ -72,8 +72,8 @@ impl<'a, 'b> Concern<'a, 'b> {
     pub(crate) fn details(self) -> [Detail<'a, 'b>; 5]
         ensures { made_details result ≡ concern_details (concern_value self.entry) }
     {
-        let kind = Detail::Word("concern", self.kind().word());
-        let none = Detail::Nothing;
+        let kind: Detail<'a, 'b> = Detail::Word("concern", self.kind().word());
+        let none: Detail<'a, 'b> = Detail::Nothing;
         match self {
             Concern::BadHash(_, _, hash) => [
                 kind,
