@@ -26,8 +26,8 @@ abbrev pub concerns_text : Format → Allowed → List Concern → List ℕ
 concerns_text format allowed concerns = text_of_concerns format (kept_concerns allowed concerns)
 
 -- The text is that of the concerns about the file that are not allowed, in a form. The file means
--- something and nothing else, its payloads are within the payload bound, and the needed paths of its
--- signed nodes are within the path bound.
+-- something and nothing else, its payloads are within the payload bound, and the needed paths of
+-- its signed nodes are within the path bound.
 pub record IsChecked (format : Format) (allowed : Allowed) (limits : Limits) (file text : List ℕ)
     : Type 0
   where

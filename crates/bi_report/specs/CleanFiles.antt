@@ -110,7 +110,8 @@ EachSignedNode tree Holds = (configuration signature : Sibling PropertyMap)
 
 -- This holds for each signed node that records a list of paths, and for these paths.
 abbrev pub EachRecord : ImageTree
-    → (Holds : (configuration signature : Sibling PropertyMap) → (recorded : List (List ℕ)) → Type 0)
+    → (Holds : (configuration signature : Sibling PropertyMap) → (recorded : List (List ℕ))
+    → Type 0)
     → Type 0
 EachRecord tree Holds = EachSignedNode tree
     (λ configuration signature. (recorded : List (List ℕ))
@@ -131,11 +132,11 @@ pub record ReachesStrings (file : List ℕ) (root : Root FileNode) (signature : 
 -- ---- trees
 
 -- Nothing in a flattened image tree is a concern, but for what is allowed: no verdict is other than
--- Good; U-Boot skips no hash node; each image with a payload has a Good verdict, and one of a strong
--- algorithm; each list of each configuration names images that are there; there is a configuration,
--- and each has a signed node; each signed node records a list of paths, which as a set are the
--- needed paths of its configuration, and this has a reference; no name has a unit address, if there
--- is a signed node; and the default names a configuration, if there is one.
+-- Good; U-Boot skips no hash node; each image with a payload has a Good verdict, and one of a
+-- strong algorithm; each list of each configuration names images that are there; there is a
+-- configuration, and each has a signed node; each signed node records a list of paths, which as a
+-- set are the needed paths of its configuration, and this has a reference; no name has a unit
+-- address, if there is a signed node; and the default names a configuration, if there is one.
 pub record IsCleanTree (allowed : Allowed) (tree : ImageTree) : Type 0 where
   pub bad_hash : IsFalse allowed.bad_hash → AreGood (verdicts_of tree)
   pub skipped_hash : IsFalse allowed.skipped_hash
@@ -195,9 +196,9 @@ HasZerosAfter file images payloads =
     → slice_get file index ≡ Some byte → byte ≡ 0
 
 -- Nothing in a file is a concern, but for what is allowed: it is a legacy image, which has no
--- configuration and so no signature, or a flattened image tree in which nothing is, and whose signed
--- nodes reach the names of the properties that they must cover; and no byte after the image is other
--- than zero.
+-- configuration and so no signature, or a flattened image tree in which nothing is, and whose
+-- signed nodes reach the names of the properties that they must cover; and no byte after the image
+-- is other than zero.
 pub data IsClean (allowed : Allowed) (limits : Limits) (file : List ℕ) : Type 0 where
   CleanLegacyImage : (parsed : LegacyModel) → IsReadLegacy limits file parsed
       → IsTrue allowed.unsigned
@@ -239,7 +240,8 @@ pub record ProtectImages (allowed : Allowed) (algorithms : List Algo) : Type 0 w
   pub weak_hash : IsFalse allowed.weak_hash → algorithms ≢ [] → HasStrongAlgorithm algorithms
 
 -- The law that a built image tree, which has no signature, is clean if and only if none is asked
--- for, and it has no images or its hash nodes protect them. So nothing else in it is ever a concern.
+-- for, and it has no images or its hash nodes protect them. So nothing else in it is ever a
+-- concern.
 abbrev pub BuiltIsClean : Type 0
 BuiltIsClean =
     (allowed : Allowed) (head : HeadModel) (plan : PlanModel) (images : List ImageSpecModel)
@@ -249,8 +251,8 @@ BuiltIsClean =
 
 -- What checking a text finds, if it is that of a tree that is built of these images with hash nodes
 -- of these algorithms: the only error is that memory runs out, and the text is clean if and only if
--- no signature is asked for, and there are no images or the hash nodes protect them. So its payloads
--- are within the payload bound, and no byte that is not zero follows them.
+-- no signature is asked for, and there are no images or the hash nodes protect them. So its
+-- payloads are within the payload bound, and no byte that is not zero follows them.
 pub record IsBuiltClean (allowed : Allowed) (bounds : Limits) (images : List ImageSpec)
     (algorithms : List Algo) (text : List ℕ) : Type 0 where
   pub error : (error : Error) → IsCheckError bounds text error → error ≡ OutOfMemory

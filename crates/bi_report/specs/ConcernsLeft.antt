@@ -88,7 +88,10 @@ signatures_left left =
 abbrev pub found_in_paths : List (Vec (Bor (List ℕ))) → List FoundConcern
 found_in_paths paths =
     map
-    (λ path. record { concern = UnitAddress (path_text (bytes_of path.items)); subject = NamedNodes })
+    (λ path. record {
+      concern = UnitAddress (path_text (bytes_of path.items));
+      subject = NamedNodes;
+    })
     paths
 
 -- Those that are left.

@@ -52,7 +52,8 @@ pub record ConcernsAreKnown : Type 0 where
       ∷ codes "weak-hash a crc32"
       ∷ codes "bad-hash b hash-1 crc32 no-payload"
       ∷ [])
-  pub configurations : concerns_text Lines allowed_by_default (unsigned_tree_concerns configured_tree)
+  pub configurations :
+      concerns_text Lines allowed_by_default (unsigned_tree_concerns configured_tree)
       ≡ lines
       (codes "unhashed a"
       ∷ codes "missing conf-1 fdt 1"
@@ -68,7 +69,8 @@ pub record ConcernsAreKnown : Type 0 where
       ≡ lines (codes "unhashed a" ∷ codes "bad-default conf-3" ∷ [])
   pub no_algorithm : concerns_text Lines allowed_by_default (BadHash (hash_with Malformed) ∷ [])
       ≡ lines (codes "bad-hash a hash-1 - malformed" ∷ [])
-  pub no_default : concerns_text Lines allowed_by_default (default_concerns None (codes "conf-1" ∷ []))
+  pub no_default :
+      concerns_text Lines allowed_by_default (default_concerns None (codes "conf-1" ∷ []))
       ≡ lines (codes "bad-default -" ∷ [])
   pub last_payload_ends : option_map
       (λ images. content_end three_external images three_tree.payloads)
@@ -189,8 +191,8 @@ pub record HasOnlyConcerns (file : List ℕ) (concerns : List Concern) : Type 0 
 
 -- The bytes after the last part of a legacy image are those that have a line: the seven bytes after
 -- the data of a kernel image, and the two bytes after the last part in the data of a multi-file
--- image. Without such bytes the image is clean, and so it is if they are allowed. A legacy image has
--- no signature, so it is not clean if one is asked for.
+-- image. Without such bytes the image is clean, and so it is if they are allowed. A legacy image
+-- has no signature, so it is not clean if one is asked for.
 pub record LegacyConcernsAreKnown : Type 0 where
   pub after_data : HasOnlyConcerns kernel_file_with_rest (Unsigned None ∷ TrailingBytes 7 ∷ [])
   pub after_data_is_not_clean : ¬ (IsClean allowed_by_default widest kernel_file_with_rest)

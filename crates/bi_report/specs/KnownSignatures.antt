@@ -47,9 +47,9 @@ address_lines coverage =
     concerns_text Lines allowed_by_default
     (address_concerns coverage (unit_addresses addressed_root))
 
--- Each concern about a signed node has a line, and so has a configuration without one, if signatures
--- are asked for, or the lack of configurations. Unit addresses have lines only if there is a signed
--- node.
+-- Each concern about a signed node has a line, and so has a configuration without one, if
+-- signatures are asked for, or the lack of configurations. Unit addresses have lines only if there
+-- is a signed node.
 pub record SignatureConcernsAreKnown : Type 0 where
   pub no_nodes : signature_lines (signed_by (NoNodes ∷ []) ∷ [])
       ≡ lines (codes "no-nodes conf-1 signature-1" ∷ [])

@@ -51,7 +51,8 @@ has_signatures (first ∷ later) = true
 
 -- Whether one of these configurations has a signed node.
 abbrev pub is_any_signed : List ConfigurationCoverage → Bool
-is_any_signed coverage = list_any (λ configuration. has_signatures configuration.signatures) coverage
+is_any_signed coverage =
+    list_any (λ configuration. has_signatures configuration.signatures) coverage
 
 -- The needed paths of the signed nodes of a meaning, for each of them those of its configuration,
 -- are longer together than the limit on files. A legacy image has none.

@@ -182,18 +182,19 @@ impl Policy {
 /// U-Boot skips, and then, if the image has a payload, that no verdict is Good, or that no Good one
 /// is of a strong algorithm, apart from hash nodes that U-Boot skips. For each configuration: the
 /// keys that do not list images that are there. For each again: that it has no signed node, if the
-/// policy asks for that, and what each of its signed nodes does not cover. No signature is verified.
-/// Then the nodes whose names have unit addresses, if there is a signed node, and the default, if
-/// there are configurations and it names none of them. If there is no configuration, there is a
-/// line for that instead, if the policy asks for signatures, also for a legacy image. Of any image,
-/// at the end: the number of the bytes of the file after it, if one of them is not zero.
+/// policy asks for that, and what each of its signed nodes does not cover. No signature is
+/// verified. Then the nodes whose names have unit addresses, if there is a signed node, and the
+/// default, if there are configurations and it names none of them. If there is no configuration,
+/// there is a line for that instead, if the policy asks for signatures, also for a legacy image. Of
+/// any image, at the end: the number of the bytes of the file after it, if one of them is not zero.
 ///
 /// Errors, the first that applies: those of `BootImage::read`; TooLarge at the limit, if the
 /// payloads of a flattened image tree together are longer than that, each counted for each image
 /// that has it; TooLarge at the limit, if the paths that the signed nodes must cover are longer
-/// together than that, for each of them those of its configuration. OutOfMemory may come instead of any of these, but only after the checks of a
-/// legacy image, or of the header and the memory reservation block of a blob. No payload is hashed
-/// before the lengths of the payloads are checked: this is tested, and in no clause.
+/// together than that, for each of them those of its configuration. OutOfMemory may come instead of
+/// any of these, but only after the checks of a legacy image, or of the header and the memory
+/// reservation block of a blob. No payload is hashed before the lengths of the payloads are
+/// checked: this is tested, and in no clause.
 pub fn check(alloc: Global, file: &[u8], policy: Policy, limits: Limits) -> Result<String, Error>
     ensures checked { IfOk result (λ text. IsChecked Lines (allowed_under policy) limits file.now
         (string_bytes text)) }
@@ -206,8 +207,8 @@ pub fn check(alloc: Global, file: &[u8], policy: Policy, limits: Limits) -> Resu
     check_as(alloc, file, checker, limits)
 }
 
-/// Returns the concerns about a boot image that the policy does not allow, as one text of JSON and a
-/// newline. It says what the lines of `check` say, and the errors are those of `check`.
+/// Returns the concerns about a boot image that the policy does not allow, as one text of JSON and
+/// a newline. It says what the lines of `check` say, and the errors are those of `check`.
 pub fn check_json(
     alloc: Global,
     file: &[u8],
@@ -300,8 +301,8 @@ impl Command for Checker {
     ghost laws = { λ checker. check_laws checker.format (allowed_under checker.policy) };
 }
 
-/// Reads a boot image to its end, writes the lines of the concerns about it that the policy does not
-/// allow, and flushes: `pipe_to` with a `Checker`. Returns whether there is no line.
+/// Reads a boot image to its end, writes the lines of the concerns about it that the policy does
+/// not allow, and flushes: `pipe_to` with a `Checker`. Returns whether there is no line.
 ///
 /// The errors are those of `pipe_to`, and of the file those of `check`.
 pub fn check_to<R: Read, W: Write>(
@@ -311,8 +312,8 @@ pub fn check_to<R: Read, W: Write>(
     policy: Policy,
     limits: Limits,
 ) -> Result<bool, Error>
-    ensures { IsPiped (check_promise Lines (allowed_under policy) limits) limits (R.remaining reader.old)
-        (R.remaining reader.new) (W.contents writer.old) (W.contents writer.new) result }
+    ensures { IsPiped (check_promise Lines (allowed_under policy) limits) limits
+        (R.remaining reader.old) (R.remaining reader.new) (W.contents writer.old) (W.contents writer.new) result }
 {
     let checker = Checker {
         policy,
@@ -321,8 +322,8 @@ pub fn check_to<R: Read, W: Write>(
     pipe_to(alloc, &checker, reader, writer, limits)
 }
 
-/// Reads a boot image to its end, writes the concerns about it that the policy does not allow as one
-/// text of JSON and a newline, and flushes. Its value and its errors are those of `check_to`.
+/// Reads a boot image to its end, writes the concerns about it that the policy does not allow as
+/// one text of JSON and a newline, and flushes. Its value and its errors are those of `check_to`.
 pub fn check_json_to<R: Read, W: Write>(
     alloc: Global,
     reader: &mut R,
@@ -330,8 +331,8 @@ pub fn check_json_to<R: Read, W: Write>(
     policy: Policy,
     limits: Limits,
 ) -> Result<bool, Error>
-    ensures { IsPiped (check_promise Json (allowed_under policy) limits) limits (R.remaining reader.old)
-        (R.remaining reader.new) (W.contents writer.old) (W.contents writer.new) result }
+    ensures { IsPiped (check_promise Json (allowed_under policy) limits) limits
+        (R.remaining reader.old) (R.remaining reader.new) (W.contents writer.old) (W.contents writer.new) result }
 {
     let checker = Checker {
         policy,

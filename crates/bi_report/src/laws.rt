@@ -19,8 +19,8 @@ pub fn check_tells_clean()
     ensures { CheckTellsClean }
 {}
 
-/// A built image tree, which has no signature, is clean if and only if none is asked for, and it has
-/// no images, or each of them has a hash node and one of a strong algorithm, but for what is
+/// A built image tree, which has no signature, is clean if and only if none is asked for, and it
+/// has no images, or each of them has a hash node and one of a strong algorithm, but for what is
 /// allowed.
 pub fn built_is_clean()
     ensures { BuiltIsClean }

@@ -38,7 +38,8 @@ impl<'a> CheckedImage<'a> {
     ghost use Rattle.bi_report.specs.CheckedImages.{concerns_left, found_of};
     ghost use Rattle.bi_report.specs.FoundConcerns.{HasConcerns};
 
-    /// Reads a boot image and what its signatures cover, and computes the digests. The errors are those of `check`.
+    /// Reads a boot image and what its signatures cover, and computes the digests. The errors are
+    /// those of `check`.
     pub fn read(alloc: Global, file: &'a [u8], limits: Limits) -> Result<CheckedImage<'a>, Error>
         ensures read { IfOk result (λ image. HasConcerns limits file.entry.now (found_of image)) }
         ensures failed { IfErr result (IsCheckError limits file.entry.now) }
@@ -96,8 +97,8 @@ impl<'a> JudgedFit<'a> {
 
     /// Reads what the signatures cover, and computes the digests. Requires: the tree was read.
     ///
-    /// Errors: TooLarge at the limit, if the payloads are longer, or the paths that the signed nodes
-    /// must cover; OutOfMemory.
+    /// Errors: TooLarge at the limit, if the payloads are longer, or the paths that the signed
+    /// nodes must cover; OutOfMemory.
     fn new(alloc: Global, fit: Fit<'a>, limits: Limits) -> Result<JudgedFit<'a>, Error>
         requires held { IsHeld fit }
         ensures same { IfOk result (λ judged. judged ≡ fit.entry) }

@@ -19,9 +19,9 @@ use bi_hash::RegionDigests;
 use bi_legacy::Legacy;
 
 /// The concerns that are left about a boot image, in their order: about each image of a flattened
-/// image tree, each of its configurations, their signatures, its unit addresses and its default, and
-/// then about the bytes of the file after the image. A lack of signatures is among them, whether it
-/// is asked for or not.
+/// image tree, each of its configurations, their signatures, its unit addresses and its default,
+/// and then about the bytes of the file after the image. A lack of signatures is among them,
+/// whether it is asked for or not.
 #[derive(Drop)]
 pub struct Concerns<'a, 'b> {
     /// None for a legacy image.

@@ -29,8 +29,8 @@ pub struct FitCoverage<'a> {
 impl<'a> FitCoverage<'a> {
     /// Reads what the signatures cover. Requires: the tree was read.
     ///
-    /// Errors: TooLarge at the limit, only if the paths are longer that the signed nodes must cover,
-    /// for each of them those of its configuration; OutOfMemory.
+    /// Errors: TooLarge at the limit, only if the paths are longer that the signed nodes must
+    /// cover, for each of them those of its configuration; OutOfMemory.
     pub fn read(alloc: Global, fit: &Fit<'a>, limits: Limits) -> Result<FitCoverage<'a>, Error>
         requires held { IsHeld fit.now }
         ensures read { IfOk result (λ coverage. IsCoverageOf fit.now coverage) }
