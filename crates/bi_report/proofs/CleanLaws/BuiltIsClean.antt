@@ -1,8 +1,8 @@
 use Rattle.std.proofs.Common.{◌≡◌, ◌≢◌, ◌⊎◌, inl, inr, ℕ, ◌+◌, Bool, true, false, ◌||◌, List, rules}
 use Rattle.std.proofs.Common.{[], ◌∷◌, Some, None, Contains, filter, flat_map, map, IsFalse, IsSome}
-use Rattle.std.proofs.Common.{IsTrue, bytes_eq, refl, sym, ap, subst, ◌∙◌, true≢false}
-use Rattle.std.specs.FinMap.{get, from_entries, get-from_entries}
-use Rattle.std.proofs.lemmas.Cmp.{nat_list_cmp_total}
+use Rattle.std.proofs.Common.{IsTrue, bytes_eq, nat_cmp, refl, sym, ap, subst, ◌∙◌, true≢false}
+use Rattle.std.specs.Cmp.Lexicographic.{slice_cmp}
+use Rattle.std.specs.FinMap.{get, from_entries}
 use Rattle.std.specs.List.{AllByRecursion, list_any}
 use Rattle.std.proofs.lemmas.Slice.Eq.{bytes_eq-Decides}
 use Rattle.bi_base.proofs.ListMembers.{Contains-cases, Contains-none, each-map, each-map_back, each-weaker}
@@ -15,7 +15,7 @@ use Rattle.bi_hash.specs.declared.algo.Algo.{Algo}
 use Rattle.bi_hash.specs.Algos.{algorithm_name}
 use Rattle.bi_hash.specs.Digests.{digest_of}
 use Rattle.bi_fit.specs.Building.{HeadModel, ConfigurationSpecModel, PlanModel, ImageSpecModel, built_tree, configuration_names}
-use Rattle.bi_fit.specs.Building.{built_configurations, built_hash_nodes, built_hash_properties, built_images}
+use Rattle.bi_fit.specs.Building.{built_configurations, built_hash_nodes, built_hash_properties, built_image_properties, built_images}
 use Rattle.bi_fit.specs.ImageTree.{ImageTree, image_nodes, nodes_or_none}
 use Rattle.bi_fit.specs.Judgement.{CheckedHash, BadList, Image, Missing, checked_hash, configuration_nodes, hash_nodes, images_of}
 use Rattle.bi_fit.specs.Judgement.{images_with}
@@ -23,6 +23,7 @@ use Rattle.bi_fit.specs.Names.{is_hash_name}
 use Rattle.bi_fit.specs.Laws.{HasConfigurations, HasGoodPayloads, good_hashes, list_by_names}
 use Rattle.bi_fit.proofs.BuiltConfigurations.{built_has_configurations}
 use Rattle.bi_fit.proofs.BuiltVerdicts.{built_has_good_payloads}
+use Rattle.bi_fit.proofs.JudgementFacts.{find-properties}
 use Rattle.bi_report.specs.declared.check.Allowed.{Allowed}
 use Rattle.bi_report.specs.Checking.{ignore_name, is_good, is_strong, is_strong_algorithm, judged_hash, judged_hashes, skips}
 use Rattle.bi_report.specs.Checking.{strong_algorithms, used_hashes}
@@ -96,8 +97,9 @@ have_payloads (entry ∷ entries) [] = tt
 have_payloads (entry ∷ entries) (image ∷ images) = (refl, have_payloads entries images)
 
 -- U-Boot skips no hash node of a built image.
-no_ignore : (algo : Algo) (digest : List ℕ) → get (from_entries (built_hash_properties algo digest)) ignore_name ≡ None
-no_ignore algo digest = get-from_entries nat_list_cmp_total (built_hash_properties algo digest) ignore_name
+no_ignore : (algo : Algo) (digest : List ℕ) →
+    get (from_entries {R = slice_cmp nat_cmp} (built_hash_properties algo digest)) ignore_name ≡ None
+no_ignore algo digest = find-properties (built_hash_properties algo digest) ignore_name
 
 none_of_hashes : (image : Image) (number : ℕ) (algorithms : List Algo) (payload : List ℕ) →
     AllByRecursion (λ hash. IsFalse hash.is_skipped)
@@ -111,7 +113,16 @@ none_is_skipped : (head : HeadModel) (algorithms : List Algo) (images : List Ima
     (images_with (siblings (built_images head algorithms images)) (map (λ image. Some image.payload) images))
 none_is_skipped head algorithms [] = tt
 none_is_skipped head algorithms (image ∷ later) =
-    (none_of_hashes _ 1 algorithms image.payload, none_is_skipped head algorithms later)
+    let first : Image = record {
+      entry = record {
+        name = image.name;
+        own = from_entries (built_image_properties head image);
+        children = built_hash_nodes 1 algorithms image.payload;
+        later = built_images head algorithms later;
+      };
+      payload = Some image.payload;
+    } in
+    (none_of_hashes first 1 algorithms image.payload, none_is_skipped head algorithms later)
 
 -- The verdicts on the hash nodes of an image, and on those that U-Boot does not skip.
 abbrev checked_in : Image → List CheckedHash
@@ -178,7 +189,7 @@ unsigned_node : (head : HeadModel) (configurations : List ConfigurationSpecModel
     Contains (signed_nodes configuration) signature → ⊥
 unsigned_node head [] configuration signature has is = Contains-none configuration has
 unsigned_node head (first ∷ later) configuration signature has is =
-    elim Contains-cases _ (siblings (built_configurations head later)) configuration has [
+    elim (Contains-cases _ (siblings (built_configurations head later)) configuration has) [
       | inl same ↦
           Contains-none signature (subst (λ (configuration : Sibling PropertyMap). Contains (signed_nodes configuration) signature) (sym same) is)
       | inr among ↦ unsigned_node head later configuration signature among is
@@ -265,7 +276,11 @@ module _ (allowed : Allowed) (head : HeadModel) (plan : PlanModel) (first : Imag
       (have_payloads (siblings (nodes_or_none (image_nodes (built_tree head plan (first ∷ later)).root))) (first ∷ later)) each
 
   some_algorithm : IsFalse allowed.unhashed → plan.algorithms ≢ []
-  some_algorithm refused none = search (rules, first_is, test_of_good)
+  some_algorithm refused none =
+      let one = first_is HasGoodHash (clean.unhashed refused) in
+      true≢false
+      (sym (test_of_good one.0 one.1) ∙ ap (list_any is_good) one.2
+      ∙ ap (λ algorithms. list_any is_good (good_hashes 1 algorithms first)) none)
 
   strong_algorithm : IsFalse allowed.weak_hash → plan.algorithms ≢ [] → HasStrongAlgorithm plan.algorithms
   strong_algorithm refused some =
@@ -295,4 +310,7 @@ clean_is_protected allowed head plan (first ∷ later) clean =
     (unsigned_is_allowed allowed head plan (first ∷ later) clean, inr (images_are_protected allowed head plan first later clean))
 
 pub built_is_clean : BuiltIsClean
-built_is_clean allowed head plan images can is_plan = search (rules, clean_is_protected, built_tree_is_clean, built_has_configurations)
+built_is_clean allowed head plan images can is_plan = (
+  λ clean. clean_is_protected allowed head plan images clean,
+  λ both. built_tree_is_clean allowed head plan images (built_has_configurations head plan images can is_plan) is_plan.default both,
+)

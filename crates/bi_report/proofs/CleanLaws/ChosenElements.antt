@@ -36,7 +36,7 @@ pub all_pass : {X : Type 0} (test : X → Bool) (xs : List X) → list_all test 
 all_pass test [] all x has = absurd (Contains-none x has)
 all_pass test (first ∷ others) all x has =
     let both = and_parts (test first) (list_all test others) all in
-    elim Contains-cases first others x has [ inl same ↦ ap test (sym same) ∙ both.0 | inr among ↦ all_pass test others both.1 x among ]
+    elim (Contains-cases first others x has) [ inl same ↦ ap test (sym same) ∙ both.0 | inr among ↦ all_pass test others both.1 x among ]
 
 pub pass_all : {X : Type 0} (test : X → Bool) (xs : List X) → ((x : X) → Contains xs x → test x ≡ true) → list_all test xs ≡ true
 pass_all test [] each = refl
@@ -53,7 +53,7 @@ each_of_contained P (first ∷ others) each =
 pub list_of_element : {X Y : Type 0} (f : X → List Y) (xs : List X) (y : Y) → Contains (flat_map f xs) y →
     (x : X) × Contains xs x × Contains (f x) y
 list_of_element f [] y has = absurd (Contains-none y has)
-list_of_element f (first ∷ others) y has = elim Contains-append_cases (f first) (flat_map f others) y has [
+list_of_element f (first ∷ others) y has = elim (Contains-append_cases (f first) (flat_map f others) y has) [
   | inl here ↦ (first, Contains-first first others, here)
   | inr among ↦
       let later = list_of_element f others y among in
@@ -63,7 +63,7 @@ list_of_element f (first ∷ others) y has = elim Contains-append_cases (f first
 pub element_of_list : {X Y : Type 0} (f : X → List Y) (xs : List X) (x : X) (y : Y) → Contains xs x → Contains (f x) y →
     Contains (flat_map f xs) y
 element_of_list f [] x y has among = absurd (Contains-none x has)
-element_of_list {Y = Y} f (first ∷ others) x y has among = elim Contains-cases first others x has [
+element_of_list {Y = Y} f (first ∷ others) x y has among = elim (Contains-cases first others x has) [
   | inl same ↦ Contains-append_left (f first) (flat_map f others) y (subst (λ x. Contains (f x) y) (sym same) among)
   | inr later ↦ Contains-append_right (f first) (flat_map f others) y (element_of_list f others x y later among)
 ]

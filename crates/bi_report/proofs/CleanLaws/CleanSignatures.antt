@@ -109,20 +109,20 @@ module _ (allowed : Allowed) (configuration name : List ℕ) where
 
   module _ (recorded : List (List ℕ)) (parts : List NeededPart) where
     -- The parts that are not covered.
-    abbrev uncovered : List NeededPart
-    uncovered = filter (λ part. not (is_covered recorded part)) parts
+    abbrev uncovered_parts : List NeededPart
+    uncovered_parts = filter (λ part. not (is_covered recorded part)) parts
 
     abbrev about_part : NeededPart → Concern
     about_part part = about (Uncovered part.path)
 
-    same_parts : map about (uncovered_concerns recorded parts) ≡ map about_part uncovered
-    same_parts = map-map about (λ (part : NeededPart). Uncovered part.path) uncovered
+    same_parts : map about (uncovered_concerns recorded parts) ≡ map about_part uncovered_parts
+    same_parts = map-map about (λ (part : NeededPart). Uncovered part.path) uncovered_parts
 
     -- Each needed path is recorded.
     all_covered : HasNone (uncovered_concerns recorded parts) → IsFalse allowed.uncovered → (path : List ℕ) →
         Contains (paths_of_parts parts) path → Contains recorded path
     all_covered none refused path needed =
-        let empty : uncovered ≡ [] = none_is_made allowed kind.Uncovered about_part (λ part. refl) uncovered
+        let empty : uncovered_parts ≡ [] = none_is_made allowed kind.Uncovered about_part (λ part. refl) uncovered_parts
         (sym (ap (kept_concerns allowed) same_parts) ∙ none) refused in
         let part = list_of_element paths_of_part parts path needed in
         among_found recorded path
@@ -133,33 +133,33 @@ module _ (allowed : Allowed) (configuration name : List ℕ) where
         HasNone (uncovered_concerns recorded parts)
     covered_have_none covered =
         ap (kept_concerns allowed) same_parts
-        ∙ made_have_none allowed kind.Uncovered about_part (λ part. refl) uncovered
+        ∙ made_have_none allowed kind.Uncovered about_part (λ part. refl) uncovered_parts
         (λ refused. each_passes (is_covered recorded) parts
         (λ part is_part. pass_all (λ path. is_among path recorded) (paths_of_part part)
         (λ path here. found_among recorded path (covered refused path (element_of_list paths_of_part parts part path is_part here)))))
 
   module _ (recorded needed : List (List ℕ)) where
     -- The recorded paths that are not needed.
-    abbrev foreign : List (List ℕ)
-    foreign = foreign_paths (each_once recorded) needed
+    abbrev foreign_found : List (List ℕ)
+    foreign_found = foreign_paths (each_once recorded) needed
 
-    same_paths : map about (map Foreign foreign) ≡ map (λ path. about (Foreign path)) foreign
-    same_paths = map-map about Foreign foreign
+    same_paths : map about (map Foreign foreign_found) ≡ map (λ path. about (Foreign path)) foreign_found
+    same_paths = map-map about Foreign foreign_found
 
     -- Each recorded path is needed.
-    all_needed : HasNone (map Foreign foreign) → IsFalse allowed.foreign → (path : List ℕ) → Contains recorded path → Contains needed path
+    all_needed : HasNone (map Foreign foreign_found) → IsFalse allowed.foreign → (path : List ℕ) → Contains recorded path → Contains needed path
     all_needed none refused path has =
-        let empty : foreign ≡ [] = none_is_made allowed kind.Foreign (λ path. about (Foreign path)) (λ path. refl) foreign
+        let empty : foreign_found ≡ [] = none_is_made allowed kind.Foreign (λ path. about (Foreign path)) (λ path. refl) foreign_found
         (sym (ap (kept_concerns allowed) same_paths) ∙ none) refused in
         among_found needed path
         (none_fails (λ path. is_among path needed) (each_once recorded) empty path
         (among_found (each_once recorded) path (among_once recorded path ∙ found_among recorded path has)))
 
     needed_have_none : (IsFalse allowed.foreign → (path : List ℕ) → Contains recorded path → Contains needed path) →
-        HasNone (map Foreign foreign)
+        HasNone (map Foreign foreign_found)
     needed_have_none are =
         ap (kept_concerns allowed) same_paths
-        ∙ made_have_none allowed kind.Foreign (λ path. about (Foreign path)) (λ path. refl) foreign
+        ∙ made_have_none allowed kind.Foreign (λ path. about (Foreign path)) (λ path. refl) foreign_found
         (λ refused. each_passes (λ path. is_among path needed) (each_once recorded)
         (λ path once. found_among needed path (are refused path
         (among_found recorded path (sym (among_once recorded path) ∙ found_among (each_once recorded) path once)))))
@@ -294,11 +294,11 @@ module _ (allowed : Allowed) (file : List ℕ) (root : Root FileNode) (tree : Im
   covers_all = configuration_coverage_in file root tree
 
   -- The concern that a configuration has no signed node.
-  is_signed : (name : List ℕ) (cover : Sibling PropertyMap → SignatureCoverage) (signed : List (Sibling PropertyMap)) →
+  signed_is_there : (name : List ℕ) (cover : Sibling PropertyMap → SignatureCoverage) (signed : List (Sibling PropertyMap)) →
       HaveNoLine allowed (unsigned_concerns name (map cover signed)) → IsFalse allowed.unsigned → signed ≢ []
-  is_signed name cover [] none refused empty =
+  signed_is_there name cover [] none refused empty =
       true≢false (sym (one_is_allowed allowed (Unsigned (Some name)) none) ∙ refused)
-  is_signed name cover (first ∷ later) none refused empty = absurd cc
+  signed_is_there name cover (first ∷ later) none refused empty = absurd cc
 
   signed_has_none : (name : List ℕ) (cover : Sibling PropertyMap → SignatureCoverage) (signed : List (Sibling PropertyMap)) →
       (IsFalse allowed.unsigned → signed ≢ []) → HaveNoLine allowed (unsigned_concerns name (map cover signed))
@@ -349,7 +349,7 @@ module _ (allowed : Allowed) (file : List ℕ) (root : Root FileNode) (tree : Im
       (flat_map (signature_concerns configuration.name) (map (covers configuration) signed)) both.0 in
       let rest = configurations_are_covered later both.1 in
       record {
-        unsigned = λ refused. (is_signed configuration.name (covers configuration) signed here.0 refused, rest.unsigned refused);
+        unsigned = λ refused. (signed_is_there configuration.name (covers configuration) signed here.0 refused, rest.unsigned refused);
         each = (
           each-weaker (λ signature. HaveNoLine allowed (of_signed configuration signature)) (IsCleanSigned configuration)
               (λ signature has. signature_is_clean allowed file root configuration.name (references tree configuration)
@@ -397,7 +397,7 @@ module _ (allowed : Allowed) (file : List ℕ) (root : Root FileNode) (tree : Im
   any_signed [] = refl
   any_signed (first ∷ later) = ap (λ b. has_one first || b) (any_signed later)
 
-  module _ (configurations : List (Sibling PropertyMap)) (paths : List (List ℕ)) where
+  module _ (configurations : List (Sibling PropertyMap)) (paths : List (List (List ℕ))) where
     no_address_of : (b : Bool) → is_any_signed (map covers_all configurations) ≡ b →
         HaveNoLine allowed (if b then map UnitAddress paths else []) → IsFalse allowed.unit_address → HasSigned configurations → paths ≡ []
     no_address_of true is none refused some = none_is_made allowed kind.UnitAddress UnitAddress (λ path. refl) paths none refused

@@ -34,3 +34,28 @@ add_below-returns-clause-paths t c =
     ∙ subst (λ nodes. name_lists c.loop-next.paths.items ++ addresses_below (bytes_of c.loop-next.names.items) nodes
     ≡ name_lists c.args.paths.now.items ++ addresses_below (bytes_of c.args.names.now.items) (node_of c.args.node).children)
     none_left c.loop-next.invariant.left
+
+pub add_below-loop-next-preserved : goal.add_below-loop-next-preserved
+add_below-loop-next-preserved t c =
+    let s = node_of c.in-Some.child in
+    let old = name_lists c.loop-next.paths.items in
+    let parent = bytes_of c.loop-next.names.items in
+    let target = name_lists c.args.paths.now.items
+    ++ addresses_below (bytes_of c.args.names.now.items) (node_of c.args.node).children in
+    let here : nodes_from (option_map node_of c.loop-next.next)
+    ≡ nodes_from (Some s) = ap (λ next. nodes_from (option_map node_of next)) c.in-Some.is in
+    let rest : nodes_from (option_map node_of c.next_sibling-next.result)
+    ≡ s.later = ap nodes_from c.next_sibling-next.ensures.sibling ∙ nodes_from_first s.later in
+    let left : old ++ addresses_below parent (nodes_from (Some s)) ≡ target = subst
+    (λ nodes. old ++ addresses_below parent nodes ≡ target) here c.loop-next.invariant.left in
+    let shallow : max (depth s.children + 1) (depth s.later) ≤ depth (node_of c.args.node).children =
+    subst (λ nodes. depth nodes ≤ depth (node_of c.args.node).children) here c.loop-next.invariant.shallow in
+    rw rest (record {
+      left = subst (λ items. name_lists c.add_node.new.paths.items ++ addresses_below (bytes_of items) s.later ≡ target)
+          (sym c.in_ok-add_node.ensures.names)
+          (added_first old (addresses_below parent (alone s)) (addresses_below parent s.later) target
+          (name_lists c.add_node.new.paths.items) (ap (λ l. old ++ l) (sym (addresses_first parent s)) ∙ left)
+          c.in_ok-add_node.ensures.paths);
+      names = c.in_ok-add_node.ensures.names ∙ c.loop-next.invariant.names;
+      shallow = omega arith;
+    })
