@@ -8,6 +8,7 @@ pub mod CleanLaws
 pub mod LegacyConcernFacts
 pub mod TextFacts
 pub mod SignatureFacts
+pub mod SignedFileFacts
 pub mod ListedFiles
 pub mod ListedNames
 pub mod AsciiListings

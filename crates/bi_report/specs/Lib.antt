@@ -15,6 +15,7 @@ pub mod Reports
 pub mod KnownChecks
 pub mod KnownConcerns
 pub mod KnownSignatures
+pub mod KnownSignedFiles
 pub mod KnownTexts
 pub mod MadeDetails
 pub mod Listed

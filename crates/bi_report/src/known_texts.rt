@@ -13,6 +13,7 @@ ghost use Rattle.bi_report.specs.KnownOutputs.{JsonListingsAreKnown};
 ghost use Rattle.bi_report.specs.KnownScans.{ClaimsAreKnown, OffsetsAreKnown, ScansAreKnown};
 ghost use Rattle.bi_report.specs.KnownScans.{ScanErrorsAreKnown};
 ghost use Rattle.bi_report.specs.KnownSignatures.{SignatureConcernsAreKnown};
+ghost use Rattle.bi_report.specs.KnownSignedFiles.{SignedFileIsKnown};
 ghost use Rattle.bi_report.specs.KnownTexts.{ReportsAreKnown, LegacyListingsAreKnown};
 ghost use Rattle.bi_report.specs.KnownTexts.{FitListingIsKnown, EachSourceIsListed};
 ghost use Rattle.bi_report.specs.KnownTexts.{ConfigurationLinesAreKnown};
@@ -66,6 +67,12 @@ pub fn skipped_hashes_are_known()
 /// does not cover, a configuration without one, and unit addresses.
 pub fn signature_concerns_are_known()
     ensures { SignatureConcernsAreKnown }
+{}
+
+/// The concerns about a signed file of three images have known lines: about an image that the
+/// signature does not cover, and about variants of the file.
+pub fn signed_file_is_known()
+    ensures { SignedFileIsKnown }
 {}
 
 /// The bytes after the payload that ends last, here that of the first image, are those that have a
