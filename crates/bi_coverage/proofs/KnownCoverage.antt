@@ -1,5 +1,6 @@
 use Rattle.std.proofs.Common.{rules}
 use Rattle.bi_base.specs.Cells.{cell, u32_at}
+use Rattle.bi_blob.specs.Layout.{text_of_blocks, text_of_events}
 use Rattle.bi_fit.proofs.BuildFacts.{entries_in_order}
 use Rattle.bi_fit.proofs.JudgementFacts.{find-properties}
 use Rattle.bi_coverage.specs.KnownCoverage.{CoverageIsKnown}
@@ -7,7 +8,7 @@ use Rattle.bi_coverage.specs.KnownCoverage.{CoverageIsKnown}
 -- The known coverage.
 
 pub coverage_known : CoverageIsKnown
-unfolding cell u32_at
+unfolding cell u32_at text_of_events text_of_blocks
 coverage_known = record {
   covered = simp (find-properties, entries_in_order);
   uncovered = simp (find-properties, entries_in_order);

@@ -21,8 +21,8 @@ abbrev pub list_value : List (List ℕ) → List ℕ
 list_value names = flat_map (λ name. name ++ 0 ∷ []) names
 
 -- An image node with a hash node.
-abbrev pub hashed_image : (name : List ℕ) → (later : Nodes (List Property)) → Nodes (List Property)
-hashed_image name later = node name [] (node (codes "hash-1") [] none none) later
+abbrev pub hash_image : (name : List ℕ) → (later : Nodes (List Property)) → Nodes (List Property)
+hash_image name later = node name [] (node (codes "hash-1") [] none none) later
 
 -- The properties of the configuration: it names three images. Its other properties name none.
 abbrev pub configuration_properties : List Property
@@ -35,13 +35,13 @@ configuration_properties =
     ∷ []
 
 -- A tree with four images, and a configuration with this signature node.
-abbrev pub signed_tree : (signature : List Property) → Root (List Property)
-signed_tree signature = record {
+abbrev pub coverage_tree : (signature : List Property) → Root (List Property)
+coverage_tree signature = record {
   own = [];
   children = node images_name []
-      (hashed_image (codes "kernel-1")
+      (hash_image (codes "kernel-1")
       (node (codes "fdt-1") [] (node (codes "cipher") [] none (node (codes "hash-1") [] none none))
-      (hashed_image (codes "ramdisk-1") (hashed_image (codes "other-1") none))))
+      (hash_image (codes "ramdisk-1") (hash_image (codes "other-1") none))))
       (node configurations_name []
       (node (codes "conf-1") configuration_properties
       (node (codes "signature-1") signature none none) none)
@@ -49,8 +49,8 @@ signed_tree signature = record {
 }
 
 -- What a file with this tree holds.
-abbrev pub content_of : Root (List Property) → FitModel
-content_of root = record {
+abbrev pub signed_content : Root (List Property) → FitModel
+signed_content root = record {
   blob = record {
     file = text_of_tree 4 0 [] root;
     cpu = 0;
@@ -99,19 +99,19 @@ known_coverage concerns =
 -- strings block: `kernel`, `fdt`, `ramdisk` and `description`. The name `data-size` after them does
 -- not count. The names of the signature node itself end later.
 pub record CoverageIsKnown : Type 0 where
-  pub covered : coverage_of (content_of (signed_tree (signature_of (last_path ∷ most_paths) 31)))
+  pub covered : coverage_of (signed_content (coverage_tree (signature_of (last_path ∷ most_paths) 31)))
       ≡ known_coverage []
-  pub uncovered : coverage_of (content_of (signed_tree (signature_of most_paths 31)))
+  pub uncovered : coverage_of (signed_content (coverage_tree (signature_of most_paths 31)))
       ≡ known_coverage (Uncovered (codes "/images/ramdisk-1") ∷ [])
   pub foreign :
       coverage_of
-      (content_of
-      (signed_tree
+      (signed_content
+      (coverage_tree
       (signature_of
       (codes "/images/x" ∷ last_path ∷ codes "/images/other-1" ∷ codes "/images/x" ∷ most_paths)
       31)))
       ≡ known_coverage (Foreign (codes "/images/x") ∷ Foreign (codes "/images/other-1") ∷ [])
-  pub all_uncovered : coverage_of (content_of (signed_tree (signature_of (last_path ∷ []) 0)))
+  pub all_uncovered : coverage_of (signed_content (coverage_tree (signature_of (last_path ∷ []) 0)))
       ≡ known_coverage
       (Uncovered (codes "/")
       ∷ Uncovered (codes "/configurations/conf-1")
@@ -120,23 +120,23 @@ pub record CoverageIsKnown : Type 0 where
       ∷ Uncovered (codes "/images/ramdisk-1")
       ∷ [])
   pub short_strings :
-      coverage_of (content_of (signed_tree (signature_of (last_path ∷ most_paths) 30)))
+      coverage_of (signed_content (coverage_tree (signature_of (last_path ∷ most_paths) 30)))
       ≡ known_coverage (Strings ∷ [])
   pub own_strings :
       coverage_of
-      (content_of
-      (signed_tree
+      (signed_content
+      (coverage_tree
       (signature_of (codes "/configurations/conf-1/signature-1" ∷ last_path ∷ most_paths) 31)))
       ≡ known_coverage (Foreign (codes "/configurations/conf-1/signature-1") ∷ Strings ∷ [])
-  pub no_list :
+  pub no_listed_names :
       coverage_of
-      (content_of
-      (signed_tree ((value_name, cell 1) ∷ (hashed_nodes_name, codes "/") ∷ [])))
+      (signed_content
+      (coverage_tree ((value_name, cell 1) ∷ (hashed_nodes_name, codes "/") ∷ [])))
       ≡ known_coverage (NoNodes ∷ [])
   pub unsigned :
       coverage_of
-      (content_of
-      (signed_tree ((value_name, []) ∷ (hashed_nodes_name, list_value most_paths) ∷ [])))
+      (signed_content
+      (coverage_tree ((value_name, []) ∷ (hashed_nodes_name, list_value most_paths) ∷ [])))
       ≡ record { name = codes "conf-1"; signatures = [] } ∷ []
   pub needed :
-      all_needed_length (tree_of (content_of (signed_tree (signature_of most_paths 31)))) ≡ 156
+      all_needed_length (tree_of (signed_content (coverage_tree (signature_of most_paths 31)))) ≡ 156
