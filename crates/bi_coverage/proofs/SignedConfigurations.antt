@@ -117,17 +117,17 @@ coverage_empty content configuration name signatures is_name nothing empty =
 
 -- So it is if no child is signed.
 none_of : (nodes : List (Sibling PropertyMap)) → list_any is_signed nodes ≡ false → filter is_signed nodes ≡ []
-none_of [] no = refl
-none_of (first ∷ later) no = by (is_signed first) refl (none_of later)
+none_of [] without = refl
+none_of (first ∷ later) without = by (is_signed first) refl (none_of later)
   where
     by : (b : Bool) → is_signed first ≡ b → (list_any is_signed later ≡ false → filter is_signed later ≡ []) →
         filter is_signed (first ∷ later) ≡ []
-    by true is rest = absurd (true≢false (sym (ap (λ b. b || list_any is_signed later) is) ∙ no))
-    by false is rest = rw is (rest (rw is at no))
+    by true is rest = absurd (true≢false (sym (ap (λ b. b || list_any is_signed later) is) ∙ without))
+    by false is rest = rw is (rest (rw is at without))
 
 pub none_signed : (sibling : Sibling FileNode) → list_any is_signed (siblings (meaning_of_sibling sibling).children) ≡ false →
     signed_nodes (meaning_of_sibling sibling) ≡ []
-none_signed sibling no = none_of (siblings (meaning_of_sibling sibling).children) no
+none_signed sibling without = none_of (siblings (meaning_of_sibling sibling).children) without
 
 -- Nothing is needed then.
 pub nothing_needed : (tree : ImageTree) (configuration : Sibling PropertyMap) (sum : ℕ) → signed_nodes configuration ≡ [] →

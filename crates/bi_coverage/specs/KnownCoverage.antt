@@ -128,7 +128,7 @@ pub record CoverageIsKnown : Type 0 where
       (coverage_tree
       (signature_of (codes "/configurations/conf-1/signature-1" ∷ last_path ∷ most_paths) 31)))
       ≡ known_coverage (Foreign (codes "/configurations/conf-1/signature-1") ∷ Strings ∷ [])
-  pub no_listed_names :
+  pub no_list :
       coverage_of
       (signed_content
       (coverage_tree ((value_name, cell 1) ∷ (hashed_nodes_name, codes "/") ∷ [])))
