@@ -95,9 +95,10 @@ children_numbered front parent children has = record {
         × (index < length (front ++ siblings parent.children))
     at name index found =
         let is : index ≡ length front + found.0 = found.1 in
-        let within : found.0 < length (siblings parent.children) = found.3 in
-        (ap (slice_get (front ++ siblings parent.children)) is ∙ get_after front (siblings parent.children) found.0 ∙ found.2,
-          omega (arith, length-append front (siblings parent.children)))
+        let within : found.0 < length (siblings parent.children) = found.3 in (
+          ap (slice_get (front ++ siblings parent.children)) is ∙ get_after front (siblings parent.children) found.0 ∙ found.2,
+          omega (arith, length-append front (siblings parent.children)),
+        )
 
 -- What is at an index stays there in a longer list.
 pub get_front : {X : Type 0} (front later : List X) (index : ℕ) → index < length front →

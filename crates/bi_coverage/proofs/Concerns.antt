@@ -111,7 +111,7 @@ all_added old one two three references parts listed recorded needed is_recorded 
     ∙ ap (λ l. l ++ map Foreign (foreign_paths recorded needed)) (is_two ∙ ap (λ l. l ++ uncovered_concerns recorded parts) is_one)
     ∙ ap (λ l. (old ++ reference_concerns references ++ uncovered_concerns recorded parts) ++ map Foreign l) foreign
     ∙ ap (λ l. (old ++ reference_concerns references ++ l) ++ map Foreign
-        (foreign_paths (each_once listed) (paths_of_parts parts))) uncovered
+    (foreign_paths (each_once listed) (paths_of_parts parts))) uncovered
     ∙ append_assoc (old ++ reference_concerns references) (uncovered_concerns listed parts) _
     ∙ append_assoc old (reference_concerns references) _
 
@@ -130,7 +130,7 @@ strings_added content sibling references parts listed value end paths all is_lis
     ∙ ap (λ l. l ++ (if has_strings value end then [] else Strings ∷ [])) is_paths
     ∙ ap (λ value. concerns_of_paths references parts (Some listed) ++ (if has_strings value end then [] else Strings ∷ [])) same
     ∙ ap (λ end. concerns_of_paths references parts (Some listed)
-        ++ (if has_strings (get (meaning_of_sibling sibling).own hashed_strings_name) end then [] else Strings ∷ [])) is_end
+    ++ (if has_strings (get (meaning_of_sibling sibling).own hashed_strings_name) end then [] else Strings ∷ [])) is_end
     ∙ ap (λ recorded. concerns_of_paths references parts recorded
-        ++ concerns_of_strings content.blob.file (root_of content.blob) (get (meaning_of_sibling sibling).own hashed_strings_name) recorded)
+    ++ concerns_of_strings content.blob.file (root_of content.blob) (get (meaning_of_sibling sibling).own hashed_strings_name) recorded)
     (sym is_listed)

@@ -126,7 +126,7 @@ module _ (file : List ℕ) (root : Root FileNode) (nodes : List (Sibling FileNod
       ap (λ n. drop n more) is_count
       ∙ ap (drop (length children + 1))
       (is ∙ ap (λ l. l ++ siblings next.children)
-        (grown.split ∙ ap (λ l. grown.done ++ l) left_next ∙ sym (append_assoc grown.done (next ∷ []) rest))
+      (grown.split ∙ ap (λ l. grown.done ++ l) left_next ∙ sym (append_assoc grown.done (next ∷ []) rest))
       ∙ append_assoc (grown.done ++ next ∷ []) rest (siblings next.children))
       ∙ drop_front (grown.done ++ next ∷ []) (rest ++ siblings next.children) (length children + 1)
       (omega (arith, length-append grown.done (next ∷ []), AllZip-long _ grown.done children grown.have_children)) in

@@ -109,7 +109,7 @@ module _ (tree : ImageTree) where
         ∙ total_length-append (paths_of_part (needed_part_of (get_or references index default).now))
         (paths_of_parts (map needed_part_of (bytes_of (drop (index + 1) references))))
         ∙ ap (λ children. total_length (paths_of_part (image_part (get_or references index default).now children))
-            + references_length (bytes_of (drop (index + 1) references))) (sym are)
+        + references_length (bytes_of (drop (index + 1) references))) (sym are)
 
     -- The length of one more reference is added.
     pub reference_added : (sum : ℕ) →

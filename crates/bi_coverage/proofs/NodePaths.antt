@@ -173,7 +173,7 @@ module _ {Own : Type 0} where
           let below : owns_with (47 ∷ first) children (47 ∷ (name ++ [])) ≡ [] =
           owns_elsewhere (47 ∷ first) children (47 ∷ (name ++ []))
           (λ rest e. let after : name ++ [] ≡ first ++ 47 ∷ rest = cc in
-              let parts = same_first_name name first [] (47 ∷ rest) plain are.0.is_name.no_slash tt refl after in absurd (cc parts.1)) in
+          let parts = same_first_name name first [] (47 ∷ rest) plain are.0.is_name.no_slash tt refl after in absurd (cc parts.1)) in
           rw (here, below) refl
       at_name (byte ∷ rest) rest_is is =
           let same : first ≡ name = (bytes_eq-Decides first name).0 is in

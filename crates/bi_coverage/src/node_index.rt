@@ -87,7 +87,11 @@ impl<'a, 'b> NodeIndex<'a, 'b> {
             number = *child;
             rest = later;
         }
-        if rest.is_empty() { self.ends[number] } else { 0 }
+        if rest.is_empty() {
+            self.ends[number]
+        } else {
+            0
+        }
     }
 
     /// Returns where the last name of the properties of the nodes with the paths that a value lists

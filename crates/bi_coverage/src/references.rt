@@ -80,11 +80,7 @@ fn is_other_name(name: &[u8]) -> bool
 
 /// Adds the names of images that a value lists. Fails if memory runs out. Requires: the tree was
 /// read.
-fn add_images<'a>(
-    found: &mut NameSet<'a>,
-    fit: &Fit<'a>,
-    value: &'a [u8],
-) -> Result<(), AllocError>
+fn add_images<'a>(found: &mut NameSet<'a>, fit: &Fit<'a>, value: &'a [u8]) -> Result<(), AllocError>
     requires held { IsHeld fit.now }
     ensures { OnOk result (found.new ≡ with_all_new found.old
         (filter (λ name. is_among name (names (images_in (tree_of fit.now))))

@@ -60,7 +60,8 @@ found_in_signature configuration signature concern =
 -- Those that are left about it.
 abbrev pub signature_left : SignatureConcerns → List FoundConcern
 signature_left left =
-    map (λ concern. found_in_signature left.configuration.now left.name.now (signature_concern concern))
+    map
+    (λ concern. found_in_signature left.configuration.now left.name.now (signature_concern concern))
     (drop left.index left.concerns.now)
 
 -- Those about a signed node of a configuration.

@@ -10,8 +10,8 @@ ghost use Rattle.bi_report.specs.MadeDetails.{details_in, made_details};
 
 use super::ConcernKind;
 use crate::details::Detail;
-use crate::verify::verdict_word;
 use crate::used_hashes::UsedHashes;
+use crate::verify::verdict_word;
 use bi_coverage::SignatureConcern;
 use bi_fdt::{NodeRef, Property};
 use bi_fit::{Checked, Key};

@@ -36,15 +36,17 @@ returns-in_err-coverage-clause-failed c =
     c.in_ok-indexed.ensures in
     refusal_passed_on _ _
     (λ fault. (fault ≡ too_large indexed.limit)
-        × (indexed.limit < c.loop-next.total + sum_of (needed_lengths (tree_of indexed.content) (meaning_of_node configuration))))
+    × (indexed.limit < c.loop-next.total + sum_of (needed_lengths (tree_of indexed.content) (meaning_of_node configuration))))
     (λ fault. (fault ≡ too_large indexed.limit)
-        × (indexed.limit < c.loop-next.total + sum_of (needed_lengths (tree_of indexed.content) (meaning_of_node configuration))))
+    × (indexed.limit < c.loop-next.total + sum_of (needed_lengths (tree_of indexed.content) (meaning_of_node configuration))))
     _ c.from_residual-in_err-coverage.ensures.1 c.in_err-coverage.ensures.failed c.in_err-coverage.ensures.failed
-    (λ fault one other. (one.0 ∙ ap too_large limit_is,
+    (λ fault one other. (
+      one.0 ∙ ap too_large limit_is,
       too_long_at c.args.fit.now (map configuration_value c.loop-next.read.items) c.loop-next.total _
-      (siblings (node_of configuration).later)
-      (node_of configuration) (ap (λ next. siblings_from (option_map node_of next)) c.in-Some.is) c.loop-next.invariant.to
-      c.args.limits.file (omega (arith, limit_is, sum_is, one.1))))
+          (siblings (node_of configuration).later)
+          (node_of configuration) (ap (λ next. siblings_from (option_map node_of next)) c.in-Some.is) c.loop-next.invariant.to
+          c.args.limits.file (omega (arith, limit_is, sum_is, one.1)),
+    ))
 
 pub loop-next-smaller : goal.loop-next-smaller
 loop-next-smaller c =
@@ -76,7 +78,7 @@ loop-next-preserved c =
           ∙ ap (λ (indexed : IndexedFit). configuration_coverage indexed.content (meaning_of_node configuration)) c.in_ok-indexed.ensures))
           (c.in_ok-coverage.ensures.sum
           ∙ ap (λ (indexed : IndexedFit). c.loop-next.total
-              + sum_of (needed_lengths (tree_of indexed.content) (meaning_of_node configuration))) c.in_ok-indexed.ensures);
+          + sum_of (needed_lengths (tree_of indexed.content) (meaning_of_node configuration))) c.in_ok-indexed.ensures);
       within = let most = c.in_ok-coverage.ensures.within in omega (arith, limit_is, most);
       same_table = subst (λ table. IfSome c.next_sibling-next.result (λ node. table_of_node node ≡ table)) table
           c.next_sibling-next.ensures.same_table;

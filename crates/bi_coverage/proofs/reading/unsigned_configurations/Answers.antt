@@ -26,6 +26,7 @@ loop-configuration-preserved c =
     (ap (map configuration_value) c.in_ok-push.ensures.items
     ∙ map-append configuration_value before.read.items _
     ∙ ap (λ last. map configuration_value before.read.items ++ last ∷ [])
-    (coverage_empty content (meaning_of_node configuration) c.name.result.now (map signature_value c.new.result.items) c.name.ensures nothing
+    (coverage_empty content (meaning_of_node configuration) c.name.result.now (map signature_value c.new.result.items) c.name.ensures
+    nothing
     (ap (map signature_value) c.new.ensures.items)))
     (nothing_needed (tree_of content) (meaning_of_node configuration) 0 nothing)

@@ -11,4 +11,4 @@ invariant-loop-property l =
     let is_image : List ℕ → Bool = λ name. is_among name (names (images_in (tree_of l.fit))) in
     with_all_new l.found (filter is_image (flat_map names_in_property (map (λ keyed. property_of keyed.1) l.property-iterator)))
     ≡ with_all_new l.initial.found (filter is_image (flat_map names_in_property
-        (map (λ keyed. property_of keyed.1) l.initial.property-iterator)))
+    (map (λ keyed. property_of keyed.1) l.initial.property-iterator)))

@@ -70,10 +70,10 @@ returns-clause-read c =
     ∙ ap (λ names. map (signature_with content names (map part_value c.deref-2.result.now)) (map meaning_of_node c.deref.result.now))
     (c.names-3.ensures ∙ sym c.names.ensures)
     ∙ ap (λ parts. map (signature_with content (bytes_of c.names.result.now) (map part_value parts))
-        (map meaning_of_node c.deref.result.now))
+    (map meaning_of_node c.deref.result.now))
     c.deref-2.ensures.value
     ∙ ap (λ nodes. map (signature_with content (bytes_of c.names.result.now) (map part_value c.in_ok-parts.parts.items))
-        (map meaning_of_node nodes)) c.deref.ensures.value)
+    (map meaning_of_node nodes)) c.deref.ensures.value)
 
 pub returns-clause-sum : goal.returns-clause-sum
 returns-clause-sum c =
