@@ -100,8 +100,8 @@ known_coverage concerns =
 
 -- What a signature of a configuration `c` needs that names one image, with a hash node and a child
 -- `cipher`.
-abbrev pub known_parts : List NeededPart
-known_parts =
+abbrev pub coverage_parts : List NeededPart
+coverage_parts =
     single_part []
     ∷ single_part (configurations_name ∷ codes "c" ∷ [])
     ∷ image_part (codes "a")
@@ -111,7 +111,7 @@ known_parts =
 -- The concerns about the paths that it records.
 abbrev pub concerns_about_paths : (recorded : List (List ℕ)) → List SignatureConcern
 concerns_about_paths recorded =
-    concerns_of_paths (codes "a" ∷ []) known_parts (Some recorded)
+    concerns_of_paths (codes "a" ∷ []) coverage_parts (Some recorded)
 
 -- All that it needs, but the last path.
 abbrev pub first_paths : List (List ℕ)
