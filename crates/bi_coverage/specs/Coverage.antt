@@ -40,9 +40,9 @@ abbrev pub is_covered : (recorded : List (List ℕ)) → NeededPart → Bool
 is_covered recorded part = list_all (λ path. is_among path recorded) (paths_of_part part)
 
 -- The concern that a configuration has no reference.
-abbrev pub image_concerns : (references : List (List ℕ)) → List SignatureConcern
-image_concerns [] = NoImages ∷ []
-image_concerns (first ∷ later) = []
+abbrev pub reference_concerns : (references : List (List ℕ)) → List SignatureConcern
+reference_concerns [] = NoImages ∷ []
+reference_concerns (first ∷ later) = []
 
 -- The concerns about the needed parts that are not covered.
 abbrev pub uncovered_concerns : (recorded : List (List ℕ)) → List NeededPart
@@ -60,7 +60,7 @@ abbrev pub concerns_of_paths : (references : List (List ℕ)) → List NeededPar
     → Option (List (List ℕ)) → List SignatureConcern
 concerns_of_paths references parts None = NoNodes ∷ []
 concerns_of_paths references parts (Some recorded) =
-    image_concerns references
+    reference_concerns references
     ++ (uncovered_concerns recorded parts
     ++ map Foreign (foreign_paths (each_once recorded) (paths_of_parts parts)))
 

@@ -8,8 +8,8 @@ pub enum SignatureConcern<'a> {
     /// The configuration names no image.
     NoImages,
     /// This path of the root, of the configuration or of an image is not recorded in
-    /// `hashed-nodes`, or one that is needed together with it is not: the paths of the hash nodes of
-    /// an image and of its child `cipher` are needed together with that of the image.
+    /// `hashed-nodes`, or one that is needed together with it is not: the paths of the hash nodes
+    /// of an image and of its child `cipher` are needed together with that of the image.
     Uncovered(Vec<u8>),
     /// This path is recorded in `hashed-nodes` and is not needed.
     Foreign(&'a [u8]),

@@ -9,7 +9,7 @@ ghost use Rattle.bi_coverage.specs.Signatures.{image_part as image_part_of, path
 ghost use Rattle.bi_coverage.specs.Signatures.{paths_of_parts};
 ghost use Rattle.bi_coverage.specs.Signatures.{total_length};
 ghost use Rattle.bi_coverage.specs.Signatures.{single_part as single_part_of};
-ghost use Rattle.bi_coverage.specs.Values.{part_value};
+ghost use Rattle.bi_coverage.specs.NeededParts.{part_value};
 
 use crate::name_set::NameSet;
 use crate::needed_part::NeededPart;

@@ -3,7 +3,7 @@
 ghost use Rattle.std.specs.Prelude.{◌≡◌, map};
 ghost use Rattle.bi_coverage.specs.Paths.{each_once};
 ghost use Rattle.bi_coverage.specs.Signatures.{paths_of_parts};
-ghost use Rattle.bi_coverage.specs.Values.{part_value};
+ghost use Rattle.bi_coverage.specs.NeededParts.{part_value};
 
 use crate::name_set::NameSet;
 use crate::needed_part::NeededPart;

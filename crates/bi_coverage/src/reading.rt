@@ -14,14 +14,15 @@ ghost use Rattle.bi_fit.specs.Judgement.{listed_names};
 ghost use Rattle.bi_fit.specs.NormalNodes.{HasDistinctNames};
 ghost use Rattle.bi_coverage.specs.Coverage.{Foreign, Strings, coverage_of, configuration_coverage};
 ghost use Rattle.bi_coverage.specs.Coverage.{has_strings as reaches};
-ghost use Rattle.bi_coverage.specs.Coverage.{concerns_of_paths, image_concerns, signature_with};
+ghost use Rattle.bi_coverage.specs.Coverage.{concerns_of_paths, reference_concerns, signature_with};
 ghost use Rattle.bi_coverage.specs.Coverage.{strings_concerns, uncovered_concerns, foreign_paths};
-ghost use Rattle.bi_coverage.specs.Numbers.{total as total_of};
+ghost use Rattle.bi_coverage.specs.Numbers.{sum_of as total_of};
 ghost use Rattle.bi_coverage.specs.Signatures.{all_needed_length, needed_lengths, parts_for};
 ghost use Rattle.bi_coverage.specs.Signatures.{paths_of_parts, total_length, covered_below};
 ghost use Rattle.bi_coverage.specs.Signatures.{recorded_paths};
-ghost use Rattle.bi_coverage.specs.Values.{configuration_value, signature_value, concern_value};
-ghost use Rattle.bi_coverage.specs.Values.{meaning_of_node, part_value};
+ghost use Rattle.bi_coverage.specs.Values.{configuration_value, signature_value, signature_concern};
+ghost use Rattle.bi_coverage.specs.Values.{meaning_of_node};
+ghost use Rattle.bi_coverage.specs.NeededParts.{part_value};
 
 use crate::concern::SignatureConcern;
 use crate::covered_names::covered_by_image;
@@ -33,6 +34,7 @@ use crate::needed::{
 use crate::needed_part::NeededPart;
 use crate::needs::Needs;
 use crate::node_index::NodeIndex;
+use crate::paths::copy_path;
 use crate::references::{order_by_names, references};
 use crate::signed::{has_signed_node, recorded_list, signed_nodes};
 use crate::strings::has_strings;
@@ -159,14 +161,14 @@ struct IndexedFit<'a, 'b> {
 
 impl<'a, 'b> Model for IndexedFit<'a, 'b> {
     ghost use Rattle.bi_coverage.specs.IndexedFits.{IndexedFit, IsIndexedFit};
-    ghost use Rattle.bi_coverage.specs.Values.{name_lists};
+    ghost use Rattle.bi_coverage.specs.Values.{names_in_lists};
 
     ghost Value = { IndexedFit };
 
     ghost view = { λ indexed. record { content = indexed.fit.now; limit = indexed.limit } };
 
     ghost invariant = { λ indexed. IsIndexedFit indexed.fit.now indexed.order
-        (name_lists indexed.covered.items) indexed.nodes };
+        (names_in_lists indexed.covered.items) indexed.nodes };
 }
 
 impl<'a, 'b> IndexedFit<'a, 'b> {
@@ -187,7 +189,7 @@ impl<'a, 'b> IndexedFit<'a, 'b> {
     }
 
     /// Returns the names of the children of an image that a signature must cover.
-    fn covered(&self, image: &[u8]) -> &[&'a [u8]]
+    fn covered_names(&self, image: &[u8]) -> &[&'a [u8]]
         ensures { bytes_of result.now ≡ covered_below (tree_of self.now.content) image.now }
     {
         match self.fit.image(image) {
@@ -290,7 +292,7 @@ impl<'a, 'b> IndexedFit<'a, 'b> {
         let mut length = add_length(0, 17, self.limit)?;
         length = add_length(length, name.len(), self.limit)?;
         for image in references {
-            length = add_image_length(length, image, self.covered(image), self.limit)?;
+            length = add_image_length(length, image, self.covered_names(image), self.limit)?;
         }
         Ok(length)
     }
@@ -310,7 +312,7 @@ impl<'a, 'b> IndexedFit<'a, 'b> {
         parts.push(single_part(alloc, &[])?)?;
         parts.push(single_part(alloc, &[b"configurations", name])?)?;
         for image in references {
-            parts.push(image_part(alloc, image, self.covered(image))?)?;
+            parts.push(image_part(alloc, image, self.covered_names(image))?)?;
         }
         Ok(parts)
     }
@@ -340,7 +342,7 @@ impl<'a, 'b> IndexedFit<'a, 'b> {
         signature: NodeRef<'a, '_>,
         needs: Needs<'a, '_, '_>,
     ) -> Result<Vec<SignatureConcern<'a>>, AllocError>
-        ensures { IfOk result (λ concerns. map concern_value concerns.items
+        ensures { IfOk result (λ concerns. map signature_concern concerns.items
             ≡ concerns_of_paths (bytes_of needs.entry.references.now)
             (map part_value needs.entry.parts.now)
             (recorded_paths (meaning_of_node signature.entry))
@@ -365,14 +367,14 @@ fn add_path_concerns<'a>(
     list: &'a [u8],
     needs: Needs<'a, '_, '_>,
 ) -> Result<(), AllocError>
-    ensures { OnOk result (map concern_value concerns.new.items
-        ≡ map concern_value concerns.old.items
+    ensures { OnOk result (map signature_concern concerns.new.items
+        ≡ map signature_concern concerns.old.items
         ++ concerns_of_paths (bytes_of needs.entry.references.now)
         (map part_value needs.entry.parts.now) (Some (listed_names list.entry.now))) }
 {
     let recorded = listed_paths(alloc, list)?;
     add_image_concern(concerns, needs.references)?;
-    add_uncovered(concerns, &recorded, needs.parts)?;
+    add_uncovered(alloc, concerns, &recorded, needs.parts)?;
     add_foreign(concerns, &recorded, needs.paths)?;
     Ok(())
 }
@@ -384,8 +386,8 @@ fn add_strings_concern(
     strings: Option<&[u8]>,
     end: usize,
 ) -> Result<(), AllocError>
-    ensures { OnOk result (map concern_value concerns.new.items
-        ≡ map concern_value concerns.old.items
+    ensures { OnOk result (map signature_concern concerns.new.items
+        ≡ map signature_concern concerns.old.items
         ++ (if reaches (option_map (λ value. value.now) strings.entry) end
         then [] else Strings ∷ [])) }
 {
@@ -401,8 +403,9 @@ fn add_image_concern(
     concerns: &mut Vec<SignatureConcern>,
     references: &[&[u8]],
 ) -> Result<(), AllocError>
-    ensures { OnOk result (map concern_value concerns.new.items
-        ≡ map concern_value concerns.old.items ++ image_concerns (bytes_of references.now)) }
+    ensures { OnOk result (map signature_concern concerns.new.items
+        ≡ map signature_concern concerns.old.items
+        ++ reference_concerns (bytes_of references.now)) }
 {
     if references.is_empty() {
         concerns.push(SignatureConcern::NoImages)?;
@@ -413,17 +416,19 @@ fn add_image_concern(
 /// Adds the concerns about the parts that are not covered by recorded paths. Fails if memory runs
 /// out.
 fn add_uncovered(
+    alloc: Global,
     concerns: &mut Vec<SignatureConcern>,
     recorded: &NameSet,
     parts: &[NeededPart],
 ) -> Result<(), AllocError>
-    ensures { OnOk result (map concern_value concerns.new.items
-        ≡ map concern_value concerns.old.items
+    ensures { OnOk result (map signature_concern concerns.new.items
+        ≡ map signature_concern concerns.old.items
         ++ uncovered_concerns recorded.now (map part_value parts.now)) }
 {
     for part in parts {
         if !is_covered(recorded, part) {
-            concerns.push(SignatureConcern::Uncovered(part.path.clone()?))?;
+            let path = copy_path(alloc, &part.path)?;
+            concerns.push(SignatureConcern::Uncovered(path))?;
         }
     }
     Ok(())
@@ -435,8 +440,8 @@ fn add_foreign<'a>(
     recorded: &NameSet<'a>,
     needed: &NameSet,
 ) -> Result<(), AllocError>
-    ensures { OnOk result (map concern_value concerns.new.items
-        ≡ map concern_value concerns.old.items
+    ensures { OnOk result (map signature_concern concerns.new.items
+        ≡ map signature_concern concerns.old.items
         ++ map Foreign (foreign_paths recorded.now needed.now)) }
 {
     for path in recorded.names() {

@@ -14,10 +14,10 @@ use Rattle.bi_blob.proofs.Texts.FirstUse.{among_found}
 use Rattle.bi_coverage.specs.Coverage.{SignatureConcern, NoNodes, NoImages, Uncovered, Foreign, Strings, SignatureCoverage}
 use Rattle.bi_coverage.specs.Coverage.{ConfigurationCoverage}
 use Rattle.bi_coverage.specs.Coverage.{concerns_of_paths, concerns_of_strings, foreign_paths, has_strings, hashed_strings_name}
-use Rattle.bi_coverage.specs.Coverage.{image_concerns}
+use Rattle.bi_coverage.specs.Coverage.{reference_concerns}
 use Rattle.bi_coverage.specs.Coverage.{is_covered, path_concerns, recorded_end, uncovered_concerns}
 use Rattle.bi_coverage.specs.Paths.{each_once, path_text, with_all_new, with_new}
-use Rattle.bi_coverage.specs.Signatures.{NeededPart, covered_below, hashed_nodes_name, image_part, images_in, is_signed, list_of_names}
+use Rattle.bi_coverage.specs.Signatures.{NeededPart, covered_below, hashed_nodes_name, image_part, images_in, is_signed, names_of_value}
 use Rattle.bi_coverage.specs.Signatures.{names_of_configuration, needed_parts, paths_of_parts, recorded_paths, references, signed_nodes}
 use Rattle.bi_fit.specs.ImageTree.{ImageTree, ArePropertiesByName, HaveByteNames, IsImageTree, image_nodes, nodes_or_none}
 use Rattle.bi_fit.specs.Judgement.{configuration_nodes, listed_names}
@@ -70,7 +70,8 @@ abbrev IsByteNode : Sibling PropertyMap → Type 0
 IsByteNode sibling =
     AreBytes sibling.name × ArePropertiesByName sibling.own × AreNodes ArePropertiesByName sibling.children × HaveByteNames sibling.children
 
-each_node : (nodes : Nodes PropertyMap) → AreNodes ArePropertiesByName nodes → HaveByteNames nodes → AllByRecursion IsByteNode (siblings nodes)
+each_node : (nodes : Nodes PropertyMap) → AreNodes ArePropertiesByName nodes → HaveByteNames nodes →
+    AllByRecursion IsByteNode (siblings nodes)
 each_node none are bytes = tt
 each_node (node name own children later) are bytes = ((bytes.0, are.0.is_own, are.1, bytes.1), each_node later are.2 bytes.2)
 
@@ -81,7 +82,7 @@ image_name_bytes tree is =
     (node_names_bytes is.images (bytes-children_of images_name tree.root.children is.images is.has_images is.name_bytes))
 
 -- The paths that a signature node records.
-value_list : (value : List ℕ) → AreBytes value → IfSome (list_of_names value) (AllByRecursion AreBytes)
+value_list : (value : List ℕ) → AreBytes value → IfSome (names_of_value value) (AllByRecursion AreBytes)
 value_list value bytes = by (ends_with nat_eq value (0 ∷ []))
   where
     by : (b : Bool) → IfSome (cond b (Some (listed_names value)) None) (AllByRecursion AreBytes)
@@ -89,10 +90,10 @@ value_list value bytes = by (ends_with nat_eq value (0 ∷ []))
     by false = tt
 
 recorded_bytes : (own : PropertyMap) → ArePropertiesByName own →
-    IfSome (option_and_then list_of_names (get own hashed_nodes_name)) (AllByRecursion AreBytes)
+    IfSome (option_and_then names_of_value (get own hashed_nodes_name)) (AllByRecursion AreBytes)
 recorded_bytes own are = by (get own hashed_nodes_name) refl
   where
-    by : (o : Option (List ℕ)) → get own hashed_nodes_name ≡ o → IfSome (option_and_then list_of_names o) (AllByRecursion AreBytes)
+    by : (o : Option (List ℕ)) → get own hashed_nodes_name ≡ o → IfSome (option_and_then names_of_value o) (AllByRecursion AreBytes)
     by None there = tt
     by (Some value) there = value_list value (are hashed_nodes_name value there).value_bytes
 
@@ -123,7 +124,7 @@ images_are tree [] bytes = tt
 images_are tree (image ∷ later) bytes =
     (path_bytes (images_name ∷ image ∷ []) (bytes_by_test images_name refl, bytes.0, tt), images_are tree later bytes.1)
 
-no_image : (images : List (List ℕ)) → AllByRecursion HasBytePath (image_concerns images)
+no_image : (images : List (List ℕ)) → AllByRecursion HasBytePath (reference_concerns images)
 no_image [] = (tt, tt)
 no_image (first ∷ later) = tt
 
@@ -133,7 +134,7 @@ paths_are images parts None are bytes = (tt, tt)
 paths_are images parts (Some recorded) are bytes =
     let uncovered = uncovered_concerns recorded parts in
     let foreign = foreign_paths (each_once recorded) (paths_of_parts parts) in
-    each-append HasBytePath (image_concerns images) (uncovered ++ map Foreign foreign) (no_image images)
+    each-append HasBytePath (reference_concerns images) (uncovered ++ map Foreign foreign) (no_image images)
     (each-append HasBytePath uncovered (map Foreign foreign)
     (each-map HasBytePath (λ part. Uncovered part.path) (filter (λ part. not (is_covered recorded part)) parts)
     (each-filter IsBytePart (λ part. not (is_covered recorded part)) parts are))

@@ -3,7 +3,7 @@ use Rattle.std.specs.Borrow.{Bor}
 use Rattle.std.specs.Global.{Vec}
 use Rattle.bi_base.specs.Slices.{bytes_of}
 use Rattle.bi_coverage.specs.Coverage.{SignatureConcern, SignatureCoverage}
-use Rattle.bi_coverage.specs.Values.{concern_value, configuration_value, signature_value}
+use Rattle.bi_coverage.specs.Values.{configuration_value, signature_concern, signature_value}
 use Rattle.bi_fdt.specs.Views.{node_of}
 use Rattle.bi_fit.specs.Names.{all_keys}
 use Rattle.bi_common.specs.HashedImages.{found_left, hashed_left}
@@ -60,7 +60,8 @@ found_in_signature configuration signature concern =
 -- Those that are left about it.
 abbrev pub signature_left : SignatureConcerns → List FoundConcern
 signature_left left =
-    map (λ concern. found_in_signature left.configuration.now left.name.now (concern_value concern))
+    map
+    (λ concern. found_in_signature left.configuration.now left.name.now (signature_concern concern))
     (drop left.index left.concerns.now)
 
 -- Those about a signed node of a configuration.

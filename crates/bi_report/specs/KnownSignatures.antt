@@ -21,8 +21,8 @@ signed_by concerns = record {
 }
 
 -- A configuration without one.
-abbrev pub unsigned : ConfigurationCoverage
-unsigned = record { name = codes "conf 2"; signatures = [] }
+abbrev pub unsigned_example : ConfigurationCoverage
+unsigned_example = record { name = codes "conf 2"; signatures = [] }
 
 -- The lines about configurations with this coverage, if signatures are asked for.
 abbrev pub signature_lines : List ConfigurationCoverage → List ℕ
@@ -54,7 +54,7 @@ pub record SignatureConcernsAreKnown : Type 0 where
   pub no_nodes : signature_lines (signed_by (NoNodes ∷ []) ∷ [])
       ≡ lines (codes "no-nodes conf-1 signature-1" ∷ [])
   pub others : signature_lines
-      (unsigned
+      (unsigned_example
       ∷ signed_by
       (NoImages ∷ Uncovered (codes "/") ∷ Uncovered (codes "/images/ramdisk-1")
       ∷ Foreign (codes "/images/x y") ∷ Strings ∷ [])
@@ -69,13 +69,13 @@ pub record SignatureConcernsAreKnown : Type 0 where
       ∷ [])
   pub covered : signature_lines (signed_by [] ∷ []) ≡ []
   pub no_configuration : signature_lines [] ≡ lines (codes "unsigned -" ∷ [])
-  pub addresses : address_lines (unsigned ∷ signed_by [] ∷ [])
+  pub addresses : address_lines (unsigned_example ∷ signed_by [] ∷ [])
       ≡ lines
       (codes "unit-address /images/kernel@1"
       ∷ codes "unit-address /images/kernel@1/hash@1"
       ∷ codes "unit-address /@"
       ∷ [])
-  pub no_signed_node : address_lines (unsigned ∷ []) ≡ []
+  pub no_signed_node : address_lines (unsigned_example ∷ []) ≡ []
   pub json : concerns_text Json allowed_by_default
       (coverage_concerns (signed_by (Uncovered (codes "/images/ramdisk-1") ∷ [])))
       ≡ lines
@@ -83,7 +83,10 @@ pub record SignatureConcernsAreKnown : Type 0 where
       ++ codes "\"signature\":\"signature-1\",\"path\":\"/images/ramdisk-1\"}]}"
       ∷ [])
   pub other_json : concerns_text Json nothing_allowed
-      (SkippedHash (codes "a") (codes "hash-1") ∷ Unsigned None ∷ UnitAddress (codes "-" ∷ codes "a@1" ∷ []) ∷ [])
+      (SkippedHash (codes "a") (codes "hash-1")
+      ∷ Unsigned None
+      ∷ UnitAddress (codes "-" ∷ codes "a@1" ∷ [])
+      ∷ [])
       ≡ lines
       (codes "{\"concerns\":[{\"concern\":\"skipped-hash\",\"image\":\"a\",\"node\":\"hash-1\"},"
       ++ (codes "{\"concern\":\"unsigned\",\"configuration\":null},"

@@ -14,6 +14,7 @@ ghost use Rattle.bi_report.specs.MadeDetails.{algorithm_strings, algorithm_words
 ghost use Rattle.bi_report.specs.MadeDetails.{details_in, made_details};
 ghost use Rattle.bi_hash.specs.declared.verdicts.Verdict.TheVariants.{Good};
 
+use crate::used_hashes::UsedHashes;
 use bi_common::fields::{Field, digits_or_none, name_or_none};
 use bi_common::json_writer::{
     JsonPen, JsonToken, JsonValue, digits_or_null, put_member, put_value, shown_or_null,
@@ -21,7 +22,6 @@ use bi_common::json_writer::{
 use bi_common::lines::LinePen;
 use bi_fit::Checked;
 use bi_hash::Verdict;
-use crate::used_hashes::UsedHashes;
 
 /// A detail, with the name of its member in JSON.
 #[derive(Clone, Copy)]

@@ -1,7 +1,7 @@
 //! A concern about a boot image.
 
 ghost use Rattle.std.specs.Prelude.{◌≡◌};
-ghost use Rattle.bi_coverage.specs.Values.{concern_value as signature_value};
+ghost use Rattle.bi_coverage.specs.Values.{signature_concern};
 ghost use Rattle.bi_report.specs.Checking.{concern_details, kind_of as kind_of_concern};
 ghost use Rattle.bi_report.specs.Checking.{kind_of_signature as kind_of_signature_concern};
 ghost use Rattle.bi_report.specs.Checking.{path_details};
@@ -10,8 +10,8 @@ ghost use Rattle.bi_report.specs.MadeDetails.{details_in, made_details};
 
 use super::ConcernKind;
 use crate::details::Detail;
-use crate::verify::verdict_word;
 use crate::used_hashes::UsedHashes;
+use crate::verify::verdict_word;
 use bi_coverage::SignatureConcern;
 use bi_fdt::{NodeRef, Property};
 use bi_fit::{Checked, Key};
@@ -135,7 +135,7 @@ impl<'a, 'b> Concern<'a, 'b> {
 
 /// Returns the kind of a concern about a signed node.
 fn kind_of_signature(concern: &SignatureConcern) -> ConcernKind
-    ensures { result ≡ kind_of_signature_concern (signature_value concern.now) }
+    ensures { result ≡ kind_of_signature_concern (signature_concern concern.now) }
 {
     match concern {
         SignatureConcern::NoNodes => ConcernKind::NoNodes,
@@ -148,11 +148,11 @@ fn kind_of_signature(concern: &SignatureConcern) -> ConcernKind
 
 /// Returns the detail for the path that a concern about a signed node names.
 fn path_detail<'a, 'b>(concern: &'b SignatureConcern<'a>) -> Detail<'a, 'b>
-    ensures { details_in result ≡ path_details (signature_value concern.entry.now) }
+    ensures { details_in result ≡ path_details (signature_concern concern.entry.now) }
 {
     match concern {
         SignatureConcern::Uncovered(path) => Detail::Needed("path", path),
-        SignatureConcern::Foreign(path) => Detail::Name("path", Some(path)),
+        SignatureConcern::Foreign(path) => Detail::Name("path", Some(*path)),
         SignatureConcern::NoNodes | SignatureConcern::NoImages | SignatureConcern::Strings => {
             Detail::Nothing
         }

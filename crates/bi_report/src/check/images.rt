@@ -120,10 +120,7 @@ impl<'a, 'b> Iterator for AllImageConcerns<'a, 'b> {
 }
 
 /// Returns the concern that U-Boot skips a hash node of an image, if it does.
-fn skip_concern<'a, 'b>(
-    image: NodeRef<'a, 'b>,
-    hash: NodeRef<'a, 'b>,
-) -> Option<Concern<'a, 'b>>
+fn skip_concern<'a, 'b>(image: NodeRef<'a, 'b>, hash: NodeRef<'a, 'b>) -> Option<Concern<'a, 'b>>
     ensures { let of = node_of image.entry in let node = node_of hash.entry in
         found_or_none result ≡ concerns_about (HashOf of node)
         (if is_skipped_hash node then SkippedHash of.name node.name ∷ [] else []) }

@@ -35,11 +35,7 @@ impl<'a, 'b> Iterator for SignatureConcerns<'a, 'b> {
     fn next(&mut self) -> Option<Concern<'a, 'b>> {
         let concern = self.concerns.get(self.index)?;
         self.index += 1;
-        Some(Concern::OfSignature(
-            self.configuration,
-            self.name,
-            concern,
-        ))
+        Some(Concern::OfSignature(self.configuration, self.name, concern))
     }
 }
 

@@ -12,9 +12,10 @@ loop-child-init c = record {
 
 pub returns-in_err-sum-3-clause-fault : goal.returns-in_err-sum-3-clause-fault
 returns-in_err-sum-3-clause-fault c =
-    fault_passed_on _ _ _ c.from_residual-in_err-sum-3.ensures.1
-    (c.in_err-sum-3.ensures.fault.0,
-      child_too_long _ _ _ _ c.loop-child-test.true _ _ c.loop-child.invariant.is_sum _ c.in_err-sum-3.ensures.fault.1)
+    fault_passed_on _ _ _ c.from_residual-in_err-sum-3.ensures.1 (
+      c.in_err-sum-3.ensures.fault.0,
+      child_too_long _ _ _ _ c.loop-child-test.true _ _ c.loop-child.invariant.is_sum _ c.in_err-sum-3.ensures.fault.1,
+    )
 
 pub loop-child-preserved : goal.loop-child-preserved
 loop-child-preserved c = record {

@@ -13,7 +13,7 @@ returns-in_err-result-clause-text g c =
     let S = g.S.Sink in
     let text = text_of_concerns c.args.checker.format in
     let same = ap concerns_in c.kept.ensures ∙ kept_in c.allowed_kinds.result (concerns_left c.args.concerns)
-        ∙ ap (λ kinds. kept_concerns kinds (concerns_in (concerns_left c.args.concerns))) c.allowed_kinds.ensures in
+    ∙ ap (λ kinds. kept_concerns kinds (concerns_in (concerns_left c.args.concerns))) c.allowed_kinds.ensures in
     passed_on S.appends S.fails c.args.sink.now _ _ c.from_residual.result _ c.from_residual.ensures.1
     (same_call (λ old text new. S.fails old text new c.in_err-result.field-0.0) _ _ _ _ (text (concerns_in (kept_left c.kept.result))) _
     c.new-pen.ensures.same_sink (search rules) (ap text same)
@@ -23,7 +23,7 @@ pub returns-clause-text : goal.returns-clause-text
 returns-clause-text g c =
     let text = text_of_concerns c.args.checker.format in
     let same = ap concerns_in c.kept.ensures ∙ kept_in c.allowed_kinds.result (concerns_left c.args.concerns)
-        ∙ ap (λ kinds. kept_concerns kinds (concerns_in (concerns_left c.args.concerns))) c.allowed_kinds.ensures in
+    ∙ ap (λ kinds. kept_concerns kinds (concerns_in (concerns_left c.args.concerns))) c.allowed_kinds.ensures in
     same_call g.S.Sink.appends _ _ _ _ (text (concerns_in (kept_left c.kept.result))) _ c.new-pen.ensures.same_sink
     (search rules) (ap text same)
     (c.in_ok-result.ensures.wrote c.new-pen.result _ c.new-pen.ensures.not_failed c.put_text-any.ensures.text)
