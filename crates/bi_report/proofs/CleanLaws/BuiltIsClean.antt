@@ -6,7 +6,7 @@ use Rattle.std.specs.FinMap.{get, from_entries}
 use Rattle.std.specs.List.{AllByRecursion, list_any}
 use Rattle.std.proofs.lemmas.Slice.Eq.{bytes_eq-Decides}
 use Rattle.bi_base.proofs.ListMembers.{Contains-cases, Contains-none, each-map, each-map_back, each-weaker}
-use Rattle.bi_coverage.specs.Numbers.{total}
+use Rattle.bi_coverage.specs.Numbers.{sum_of}
 use Rattle.bi_coverage.specs.Signatures.{all_needed_length, needed_lengths, signed_nodes}
 use Rattle.bi_blob.specs.Layout.{is_among}
 use Rattle.bi_blob.specs.Lookups.{Sibling, siblings}
@@ -208,7 +208,7 @@ needs_none tree head (first ∷ later) = needs_none tree head later
 
 pub needs_no_paths : (head : HeadModel) (plan : PlanModel) (images : List ImageSpecModel) →
     all_needed_length (built_tree head plan images) ≡ 0
-needs_no_paths head plan images = ap total (needs_none (built_tree head plan images) head plan.configurations)
+needs_no_paths head plan images = ap sum_of (needs_none (built_tree head plan images) head plan.configurations)
 
 -- and is not signed.
 not_signed : (head : HeadModel) (configurations : List ConfigurationSpecModel) →

@@ -14,7 +14,7 @@ use Rattle.bi_blob.specs.Lookups.{Sibling}
 use Rattle.bi_blob.specs.Tree.{FileNode, FileProperty, PropertyMap, Root}
 use Rattle.bi_blob.proofs.Texts.FirstUse.{among_found, found_among}
 use Rattle.bi_coverage.specs.Coverage.{ConfigurationCoverage, SignatureConcern, SignatureCoverage, NoNodes, NoImages, Uncovered, Foreign, Strings}
-use Rattle.bi_coverage.specs.Coverage.{concerns_of_paths, concerns_of_strings, foreign_paths, has_strings, hashed_strings_name, image_concerns}
+use Rattle.bi_coverage.specs.Coverage.{concerns_of_paths, concerns_of_strings, foreign_paths, has_strings, hashed_strings_name, reference_concerns}
 use Rattle.bi_coverage.specs.Coverage.{is_covered, name_end, names_end, recorded_end, uncovered_concerns}
 use Rattle.bi_coverage.specs.Paths.{LocatedNode, all_nodes, each_once, path_text}
 use Rattle.bi_coverage.specs.Signatures.{NeededPart, needed_parts, paths_of_part, paths_of_parts, recorded_paths, references, signed_nodes}
@@ -95,11 +95,11 @@ module _ (allowed : Allowed) (configuration name : List ℕ) where
       ∙ both_have_none allowed (map about one) (map about later) first rest
 
   -- Its configuration has a reference.
-  some_reference : (references : List (List ℕ)) → HasNone (image_concerns references) → IsFalse allowed.no_images → references ≢ []
+  some_reference : (references : List (List ℕ)) → HasNone (reference_concerns references) → IsFalse allowed.no_images → references ≢ []
   some_reference [] none refused empty = true≢false (sym (one_is_allowed allowed (about NoImages) none) ∙ refused)
   some_reference (first ∷ later) none refused empty = absurd cc
 
-  references_have_none : (references : List (List ℕ)) → (IsFalse allowed.no_images → references ≢ []) → HasNone (image_concerns references)
+  references_have_none : (references : List (List ℕ)) → (IsFalse allowed.no_images → references ≢ []) → HasNone (reference_concerns references)
   references_have_none [] some = by allowed.no_images refl
     where
       by : (b : Bool) → allowed.no_images ≡ b → HasNone (NoImages ∷ [])
@@ -223,7 +223,7 @@ module _ (allowed : Allowed) (file : List ℕ) (root : Root FileNode) (configura
   without_line (Some recorded) is none =
       let all = two_parts allowed configuration signature.name (concerns_of_paths references parts (Some recorded))
       (concerns_of_strings file root value (Some recorded)) none in
-      let paths = two_parts allowed configuration signature.name (image_concerns references)
+      let paths = two_parts allowed configuration signature.name (reference_concerns references)
       (uncovered_concerns recorded parts ++ foreign_part recorded) all.0 in
       let rest = two_parts allowed configuration signature.name (uncovered_concerns recorded parts) (foreign_part recorded) paths.1 in
       let same : (other : List (List ℕ)) → recorded_paths signature ≡ Some other → recorded ≡ other =
@@ -257,7 +257,7 @@ module _ (allowed : Allowed) (file : List ℕ) (root : Root FileNode) (configura
   with_record (Some recorded) is clean =
       of_two allowed configuration signature.name (concerns_of_paths references parts (Some recorded))
       (concerns_of_strings file root value (Some recorded))
-      (of_two allowed configuration signature.name (image_concerns references)
+      (of_two allowed configuration signature.name (reference_concerns references)
       (uncovered_concerns recorded parts ++ foreign_part recorded)
       (references_have_none allowed configuration signature.name references (λ refused. clean.no_images refused recorded is))
       (of_two allowed configuration signature.name (uncovered_concerns recorded parts) (foreign_part recorded)
