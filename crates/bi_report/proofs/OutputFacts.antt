@@ -212,17 +212,17 @@ module _ (one_legacy : OneLegacyMeaning) where
   -- A tree with few bytes of payloads, which needs no paths, is within the bounds of checking.
   within_bounds : (tree : ImageTree) → payloads_length tree.payloads ≤ 0x7fffffff → all_needed_length tree ≡ 0 →
       ¬ (IsOverCheckBound widest (OfFit tree))
-  within_bounds tree few none (inl over) = omega (arith, over, few)
-  within_bounds tree few none (inr over) = omega (arith, over, none)
+  within_bounds tree few no_paths (inl over) = omega (arith, over, few)
+  within_bounds tree few no_paths (inr over) = omega (arith, over, no_paths)
 
   -- What is said of a file with these concerns.
   abbrev checked : (format : Format) (allowed : Allowed) (file text : List ℕ) (tree : ImageTree) (concerns : List Concern) →
       FitMeans widest file tree → AreConcerns widest file concerns → payloads_length tree.payloads ≤ 0x7fffffff →
       all_needed_length tree ≡ 0 → text ≡ concerns_text format allowed concerns → IsChecked format allowed widest file text
-  checked format allowed file text tree concerns means are few none is = record {
+  checked format allowed file text tree concerns means are few no_paths is = record {
     meaning = OfFit tree;
     means = only_tree file tree means;
-    within = within_bounds tree few none;
+    within = within_bounds tree few no_paths;
     concerns = concerns;
     are_concerns = are;
     is_text = is;

@@ -142,8 +142,8 @@ pub record SignedFileIsKnown : Type 0 where
       (signed_root (codes "kernel-1") sha256_properties
       (recording (first_needed_paths (codes "kernel-1")) 85)))
       ≡ lines
-      (codes "{\"concerns\":[{\"concern\":\"uncovered\",\"configuration\":\"conf-1\","
-      ++ codes "\"signature\":\"signature-1\",\"path\":\"/images/ramdisk-1\"}]}"
+      ((codes "{\"concerns\":[{\"concern\":\"uncovered\",\"configuration\":\"conf-1\","
+      ++ codes "\"signature\":\"signature-1\",\"path\":\"/images/ramdisk-1\"}]}")
       ∷ [])
   pub allowed : concerns_text Lines (record allowed_by_default { uncovered = true })
       (signed_concerns
