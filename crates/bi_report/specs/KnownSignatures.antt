@@ -79,8 +79,8 @@ pub record SignatureConcernsAreKnown : Type 0 where
   pub json : concerns_text Json allowed_by_default
       (coverage_concerns (signed_by (Uncovered (codes "/images/ramdisk-1") ∷ [])))
       ≡ lines
-      (codes "{\"concerns\":[{\"concern\":\"uncovered\",\"configuration\":\"conf-1\","
-      ++ codes "\"signature\":\"signature-1\",\"path\":\"/images/ramdisk-1\"}]}"
+      ((codes "{\"concerns\":[{\"concern\":\"uncovered\",\"configuration\":\"conf-1\","
+      ++ codes "\"signature\":\"signature-1\",\"path\":\"/images/ramdisk-1\"}]}")
       ∷ [])
   pub other_json : concerns_text Json nothing_allowed
       (SkippedHash (codes "a") (codes "hash-1")
@@ -88,7 +88,7 @@ pub record SignatureConcernsAreKnown : Type 0 where
       ∷ UnitAddress (codes "-" ∷ codes "a@1" ∷ [])
       ∷ [])
       ≡ lines
-      (codes "{\"concerns\":[{\"concern\":\"skipped-hash\",\"image\":\"a\",\"node\":\"hash-1\"},"
+      ((codes "{\"concerns\":[{\"concern\":\"skipped-hash\",\"image\":\"a\",\"node\":\"hash-1\"},"
       ++ (codes "{\"concern\":\"unsigned\",\"configuration\":null},"
-      ++ codes "{\"concern\":\"unit-address\",\"path\":\"/%2D/a@1\"}]}")
+      ++ codes "{\"concern\":\"unit-address\",\"path\":\"/%2D/a@1\"}]}"))
       ∷ [])
