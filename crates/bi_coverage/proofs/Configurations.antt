@@ -1,13 +1,12 @@
-use Rattle.std.proofs.Common.{◌≡◌, ℕ, ◌+◌, ◌<◌, ◌≤◌, List, [], ◌∷◌, ◌++◌, map, flat_map, Option, Some, None, refl, sym, ap, subst, ◌∙◌}
+use Rattle.std.proofs.Common.{◌≡◌, ℕ, ◌+◌, ◌<◌, List, [], ◌∷◌, ◌++◌, map, flat_map, Option, Some, None, refl, sym, ap, subst, ◌∙◌}
 use Rattle.std.proofs.Common.{arith}
-use Rattle.std.proofs.Common.{append_assoc, append-nil, bytes_eq, rules}
+use Rattle.std.proofs.Common.{append_assoc, append-nil}
 use Rattle.std.specs.List.{AllByRecursion}
 use Rattle.bi_blob.specs.Lookups.{Sibling, siblings, node_named}
 use Rattle.bi_blob.specs.Tree.{Nodes, none, node, FileNode, AreNodes}
 use Rattle.bi_fdt.specs.Content.{root_of}
 use Rattle.bi_fit.specs.Content.{FitModel, IsHeld, tree_of}
 use Rattle.bi_fit.specs.HashNodes.{file_configurations}
-use Rattle.bi_fit.specs.ImageTree.{nodes_or_none, children_of}
 use Rattle.bi_fit.specs.Judgement.{configuration_nodes}
 use Rattle.bi_fit.specs.Names.{configurations_name}
 use Rattle.bi_fit.specs.NormalNodes.{HasDistinctNames}

@@ -1,14 +1,13 @@
-use Rattle.std.proofs.Common.{◌≡◌, ◌≢◌, ℕ, suc, zero, ◌<◌, List, [], ◌∷◌, ◌++◌, Bool, true, false, max, map, filter, length, Option, Some}
+use Rattle.std.proofs.Common.{◌≡◌, ◌≢◌, ℕ, suc, zero, ◌<◌, List, [], ◌∷◌, Bool, true, false, max, map, filter, length, Some}
 use Rattle.std.proofs.Common.{None, slice_get}
-use Rattle.std.proofs.Common.{bytes_eq, get_or, ◌==◌, refl, sym, ap, subst, ◌∙◌, arith, rules}
+use Rattle.std.proofs.Common.{bytes_eq, get_or, ◌==◌, refl, sym, ap, subst, ◌∙◌, arith}
 use Rattle.std.specs.List.{AllZip}
 use Rattle.std.proofs.lemmas.Bool.{eqb-true, true≢false}
-use Rattle.std.proofs.lemmas.List.{length-map}
 use Rattle.std.proofs.lemmas.Slice.Zip.{AllZip-long}
 use Rattle.std.proofs.lemmas.Option.{same_Some}
 use Rattle.std.proofs.lemmas.Slice.Eq.{bytes_eq-Decides}
 use Rattle.bi_blob.specs.Lookups.{Sibling, root_node, node_named}
-use Rattle.bi_blob.specs.Tree.{Nodes, none, node, FileNode, Root, AreNodes, AreProperties, IsTree, IsNew, names, properties_of}
+use Rattle.bi_blob.specs.Tree.{Nodes, none, node, FileNode, Root, AreNodes, AreProperties, IsTree, IsNew, properties_of}
 use Rattle.bi_blob.specs.Tree.{tree_without_places, with_each}
 use Rattle.bi_blob.proofs.Blobs.Lookups.{names-with_each}
 use Rattle.bi_coverage.specs.ChildNumbers.{Children, child_number}
@@ -16,7 +15,7 @@ use Rattle.bi_coverage.specs.Coverage.{names_end}
 use Rattle.bi_coverage.specs.NodeIndices.{HasChildren, IsNodeIndex, path_end}
 use Rattle.bi_coverage.specs.Numbers.{greatest}
 use Rattle.bi_coverage.specs.PathParts.{BeginsWithNode, BeginsWithNoSlash}
-use Rattle.bi_coverage.specs.Paths.{LocatedNode, path_text, nodes_below, all_nodes}
+use Rattle.bi_coverage.specs.Paths.{LocatedNode, path_text, nodes_below}
 use Rattle.bi_coverage.proofs.NodePaths.{owns_with, owns_found, owns_located, owns_by_name, owns_elsewhere}
 
 -- The node of a path is found name by name.

@@ -1,21 +1,20 @@
 use Rattle.std.proofs.Common.{◌≡◌, ℕ, ◌+◌, suc, List, [], ◌∷◌, ◌++◌, Bool, true, false, not, ◌==◌, length, map, filter, Option, Some, None}
 use Rattle.std.proofs.Common.{Bor, slice_get, bytes_eq}
-use Rattle.std.proofs.Common.{refl, sym, ap, subst, ◌∙◌, arith, append-nil, option_and_then}
+use Rattle.std.proofs.Common.{refl, sym, ap, ◌∙◌, arith, append-nil, option_and_then}
 use Rattle.std.specs.Prelude.{◌&&◌}
 use Rattle.std.specs.List.{AllZip}
 use Rattle.std.specs.Option.{option_map, is_some}
 use Rattle.std.proofs.lemmas.Bool.Decides.{nat_tests}
-use Rattle.std.proofs.lemmas.List.{map-append}
 use Rattle.std.proofs.lemmas.Option.{same_Some}
 use Rattle.bi_blob.specs.Layout.{is_among}
 use Rattle.bi_blob.specs.Lookups.{Sibling, siblings, node_named, value_named}
 use Rattle.bi_blob.specs.Tree.{Nodes, none, node, FileNode, PropertyMap, names, properties_of}
 use Rattle.bi_fit.specs.Content.{FitModel, ImageModel, IsHeld, IsReadImage, tree_of, index_from, index_of}
 use Rattle.bi_fit.specs.HashNodes.{file_images}
-use Rattle.bi_fit.specs.ImageTree.{children_of, nodes_or_none, without_payloads, image_nodes}
+use Rattle.bi_fit.specs.ImageTree.{children_of, nodes_or_none, without_payloads}
 use Rattle.bi_fit.specs.Names.{is_hash_name, is_signature_name, value_name}
 use Rattle.bi_fit.specs.NormalNodes.{nodes_by_name}
-use Rattle.bi_fit.proofs.FileNodes.{get-by_name, names-by_name, image_nodes_named, siblings-by_name}
+use Rattle.bi_fit.proofs.FileNodes.{get-by_name, names-by_name, image_nodes_named}
 use Rattle.bi_fdt.specs.Content.{root_of}
 use Rattle.bi_coverage.specs.IndexedFits.{covered_by_images}
 use Rattle.bi_coverage.specs.Signatures.{has_bytes, images_in, is_signed, covered_names, covered_below, cipher_name}

@@ -1,6 +1,6 @@
 use Rattle.std.specs.Prelude.{ℕ, ◌+◌, ◌==◌, Bool, false, not, ◌&&◌, List, [], ◌∷◌, ◌++◌, length}
 use Rattle.std.specs.Prelude.{map}
-use Rattle.std.specs.Prelude.{filter, flat_map, Option, None, Some, codes, nat_le, if◌then◌else◌}
+use Rattle.std.specs.Prelude.{filter, Option, None, Some, codes, nat_le, if◌then◌else◌}
 use Rattle.std.specs.FinMap.{get}
 use Rattle.std.specs.List.{list_all}
 use Rattle.bi_base.specs.Cells.{u32_at}
@@ -13,7 +13,7 @@ use Rattle.bi_fit.specs.ImageTree.{ImageTree}
 use Rattle.bi_fit.specs.Judgement.{configuration_nodes}
 use Rattle.bi_fit.specs.Names.{is_payload_name}
 use Rattle.bi_coverage.specs.Numbers.{greatest}
-use Rattle.bi_coverage.specs.Paths.{LocatedNode, path_text, all_nodes, each_once}
+use Rattle.bi_coverage.specs.Paths.{path_text, all_nodes, each_once}
 use Rattle.bi_coverage.specs.Signatures.{NeededPart, paths_of_part, paths_of_parts, needed_parts}
 use Rattle.bi_coverage.specs.Signatures.{recorded_paths, references, signed_nodes}
 

@@ -1,4 +1,4 @@
-use Rattle.std.specs.Prelude.{◌≡◌, ℕ, List, [], ◌∷◌, ◌++◌, length, map, flat_map, codes, Option}
+use Rattle.std.specs.Prelude.{◌≡◌, ℕ, List, [], ◌∷◌, ◌++◌, length, map, flat_map, codes}
 use Rattle.std.specs.Prelude.{None, Some}
 use Rattle.bi_base.specs.Cells.{cell}
 use Rattle.bi_blob.specs.Tree.{Nodes, none, node, FileNode, Root, Property}
@@ -9,7 +9,7 @@ use Rattle.bi_fit.specs.declared.image.Place.TheVariants as place
 use Rattle.bi_fit.specs.Content.{FitModel, tree_of}
 use Rattle.bi_fit.specs.Names.{images_name, configurations_name, value_name, data_name}
 use Rattle.bi_fit.specs.Names.{data_size_name}
-use Rattle.bi_coverage.specs.Coverage.{ConfigurationCoverage, SignatureConcern, NoNodes, NoImages}
+use Rattle.bi_coverage.specs.Coverage.{ConfigurationCoverage, SignatureConcern, NoNodes}
 use Rattle.bi_coverage.specs.Coverage.{Uncovered, Foreign, Strings, coverage_of}
 use Rattle.bi_coverage.specs.Coverage.{concerns_of_paths, concerns_of_strings, hashed_strings_name}
 use Rattle.bi_coverage.specs.Signatures.{NeededPart, all_needed_length, covered_names}

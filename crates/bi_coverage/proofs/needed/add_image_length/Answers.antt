@@ -1,7 +1,7 @@
-use Rattle.std.proofs.Common.{◌≡◌, ◌+◌, arith}
+use Rattle.std.proofs.Common.{arith}
 use Rattle.bi_base.specs.Slices.{bytes_of}
 use Rattle.bi_base.proofs.Refusals.{fault_passed_on}
-use Rattle.bi_coverage.proofs.NeededLengths.{children_length, part_length, child_added, child_too_long}
+use Rattle.bi_coverage.proofs.NeededLengths.{part_length, child_added, child_too_long}
 use Rattle.bi_coverage.proofs.needed.add_image_length.Goals as goal
 
 pub loop-child-init : goal.loop-child-init

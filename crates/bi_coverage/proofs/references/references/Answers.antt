@@ -1,4 +1,4 @@
-use Rattle.std.proofs.Common.{◌≡◌, ℕ, List, Bool, filter, flat_map, map, sym, ap, ◌∙◌}
+use Rattle.std.proofs.Common.{ℕ, List, Bool, filter, flat_map, map, sym, ap, ◌∙◌}
 use Rattle.bi_blob.specs.Layout.{is_among}
 use Rattle.bi_blob.specs.Tree.{names, property_of}
 use Rattle.bi_fdt.specs.Properties.{file_property_of}

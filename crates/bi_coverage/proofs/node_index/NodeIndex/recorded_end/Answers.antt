@@ -1,8 +1,7 @@
-use Rattle.std.proofs.Common.{length, map, max, ap, ◌∙◌, arith}
+use Rattle.std.proofs.Common.{◌∙◌, arith}
 use Rattle.bi_fdt.specs.Content.{root_of}
 use Rattle.bi_fit.specs.Judgement.{listed_names}
 use Rattle.bi_coverage.specs.NodeIndices.{path_end}
-use Rattle.bi_coverage.specs.Numbers.{greatest}
 use Rattle.bi_coverage.proofs.Ends.{recorded_is, recorded_more, recorded_all}
 use Rattle.bi_coverage.proofs.node_index.NodeIndex.recorded_end.Goals as goal
 

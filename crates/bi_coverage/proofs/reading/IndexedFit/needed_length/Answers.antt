@@ -1,4 +1,4 @@
-use Rattle.std.proofs.Common.{◌≡◌, ◌<◌, ◌≤◌, ℕ, ap, subst, ◌∙◌}
+use Rattle.std.proofs.Common.{◌≡◌, ◌<◌, ◌≤◌, ℕ, ap, subst}
 use Rattle.std.specs.Prelude.{IfErr}
 use Rattle.bi_base.specs.Reading.{too_large}
 use Rattle.bi_base.specs.Slices.{bytes_of}
