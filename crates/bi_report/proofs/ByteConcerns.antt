@@ -122,7 +122,7 @@ images_are : (tree : ImageTree) (images : List (List ℕ)) → AllByRecursion Ar
     AllByRecursion IsBytePart (map (λ image. image_part image (covered_below tree image)) images)
 images_are tree [] bytes = tt
 images_are tree (image ∷ later) bytes =
-    (path_bytes (images_name ∷ image ∷ []) (bytes_by_test images_name refl, bytes.0, tt), images_are tree later bytes.1)
+    (path_bytes (images_name ∷ image ∷ []) (bytes_by_test images_name refl, (bytes.0, tt)), images_are tree later bytes.1)
 
 no_image : (images : List (List ℕ)) → AllByRecursion HasBytePath (reference_concerns images)
 no_image [] = (tt, tt)
@@ -153,10 +153,12 @@ strings_are file root value (Some recorded) = by (has_strings value (recorded_en
 module _ (file : List ℕ) (root : Root FileNode) (tree : ImageTree) (is : IsImageTree tree) where
   parts_are : (configuration : Sibling PropertyMap) → IsByteNode configuration → AllByRecursion IsBytePart (needed_parts tree configuration)
   parts_are configuration bytes = (
-    path_bytes [] tt,
-    path_bytes (configurations_name ∷ configuration.name ∷ []) (bytes_by_test configurations_name refl, bytes.0, tt),
-    images_are tree (references tree configuration)
-        (all_new [] _ tt (among_bytes (names (images_in tree)) (image_name_bytes tree is) (names_of_configuration configuration))),
+    bytes_by_test (47 ∷ []) refl,
+    (
+        path_bytes (configurations_name ∷ configuration.name ∷ []) (bytes_by_test configurations_name refl, (bytes.0, tt)),
+        images_are tree (references tree configuration)
+            (all_new [] _ tt (among_bytes (names (images_in tree)) (image_name_bytes tree is) (names_of_configuration configuration))),
+    ),
   )
 
   signature_is : (configuration : Sibling PropertyMap) → IsByteNode configuration → (signature : Sibling PropertyMap) →

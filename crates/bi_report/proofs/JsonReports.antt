@@ -50,7 +50,7 @@ numbers : (limits : Limits) (file : List ℕ) (concerns : List Concern) → IsIn
     AreConcerns limits file concerns → AllByRecursion ConcernHasNumbers concerns
 numbers limits file concerns range (OfLegacyImage parsed is are) =
     subst (AllByRecursion ConcernHasNumbers) (sym are)
-    ((tt, (tt, tt)), trailing_numbers file (length file - parsed.unused) (omega (arith, is.means.within.short, range.1)))
+    ((tt, (tt, tt)), trailing_numbers file (length file - parsed.unused) (omega (arith, is.means.short, range.1)))
 numbers limits file concerns range (OfImageTree tree means are) =
     let end : ℕ = content_end file means.is_file.images tree.payloads in
     let concerns_of_tree : List Concern = tree_concerns tree (coverage_in file means.is_file.root tree) in

@@ -1,4 +1,5 @@
 use Rattle.std.proofs.Common.{refl}
+use Rattle.bi_base.specs.Cells.{cell}
 use Rattle.bi_report.specs.KnownConcerns.{SkippedHashesAreKnown}
 use Rattle.bi_report.specs.KnownSignatures.{SignatureConcernsAreKnown}
 

@@ -32,16 +32,19 @@ addresses_without_payloads parent (node name own children later) =
 addresses_of_children : (wanted : List ℕ) (parent : List (List ℕ)) (nodes : Nodes PropertyMap) →
     addresses_below parent (with_children_of wanted without_payloads nodes) ≡ addresses_below parent nodes
 addresses_of_children wanted parent none = refl
-addresses_of_children wanted parent (node name own children later) = by (bytes_eq name wanted) refl where
+addresses_of_children wanted parent (node name own children later) =
+    by (bytes_eq name wanted) refl (addresses_of_children wanted parent later)
+  where
   by : (b : Bool) → bytes_eq name wanted ≡ b →
+      addresses_below parent (with_children_of wanted without_payloads later) ≡ addresses_below parent later →
       addresses_below parent (with_children_of wanted without_payloads (node name own children later))
       ≡ addresses_below parent (node name own children later)
-  by true is = rw is
+  by true is rest = rw is
       (ap (λ (a : List (List (List ℕ))). (if has_address name then (parent ++ name ∷ []) ∷ [] else [])
       ++ (a ++ addresses_below parent later)) (addresses_without_payloads (parent ++ name ∷ []) children))
-  by false is = rw is
+  by false is rest = rw is
       (ap (λ (b : List (List (List ℕ))). (if has_address name then (parent ++ name ∷ []) ∷ [] else [])
-      ++ (addresses_below (parent ++ name ∷ []) children ++ b)) (addresses_of_children wanted parent later))
+      ++ (addresses_below (parent ++ name ∷ []) children ++ b)) rest)
 
 -- So the unit addresses of a file are those of its tree.
 pub addresses_of_tree : (content : FitModel) → unit_addresses (root_of content.blob) ≡ unit_addresses (tree_of content).root

@@ -8,6 +8,7 @@ ghost use Rattle.bi_coverage.specs.Signatures.{all_needed_length};
 ghost use Rattle.bi_coverage.specs.Values.{configuration_value};
 ghost use Rattle.bi_fit.specs.Content.{IsHeld, tree_of};
 ghost use Rattle.bi_report.specs.ConcernValues.{IsCoverageOf};
+ghost use Rattle.bi_report.specs.SignedTrees.{has_signatures};
 ghost use Rattle.bi_report.specs.SignedTrees.{is_any_signed as has_signed_node};
 
 use super::addresses::{Paths, unit_addresses};
@@ -56,9 +57,16 @@ fn is_any_signed(configurations: &[ConfigurationCoverage]) -> bool
     ensures { result ≡ has_signed_node (map configuration_value configurations.now) }
 {
     for configuration in configurations {
-        if !configuration.signatures.is_empty() {
+        if is_signed(configuration) {
             return true;
         }
     }
     false
+}
+
+/// Returns whether a configuration has a signed node.
+fn is_signed(configuration: &ConfigurationCoverage) -> bool
+    ensures { result ≡ has_signatures (configuration_value configuration.now).signatures }
+{
+    !configuration.signatures.is_empty()
 }
