@@ -44,8 +44,8 @@ pub record IsCoverageOf (content : FitModel) (coverage : FitCoverage) : Type 0 w
 -- The concern of a value of the code.
 abbrev pub concern_value : ConcernValue → Concern
 concern_value (concern.BadHash image node hash) = BadHash (checked_hash_of hash)
-concern_value (concern.SkippedHash image node) =
-    SkippedHash (node_of image).name (node_of node).name
+concern_value (concern.SkippedHash image node hash) =
+    let checked = checked_hash_of hash in SkippedHash checked.image checked.node_name
 concern_value (concern.UnhashedImage image) = UnhashedImage (node_of image).name
 concern_value (concern.WeakHash image hashes) =
     WeakHash (node_of image).name (filter is_good (used_left hashes))
@@ -62,7 +62,7 @@ concern_value (concern.TrailingBytes count) = TrailingBytes count
 -- What that concern is about.
 abbrev pub subject_value : ConcernValue → Subject
 subject_value (concern.BadHash image node hash) = HashOf (node_of image) (node_of node)
-subject_value (concern.SkippedHash image node) = HashOf (node_of image) (node_of node)
+subject_value (concern.SkippedHash image node hash) = HashOf (node_of image) (node_of node)
 subject_value (concern.UnhashedImage image) = NodeItself (node_of image)
 subject_value (concern.WeakHash image hashes) = NodeItself (node_of image)
 subject_value (concern.BadKey node key) = NodeItself (node_of node)

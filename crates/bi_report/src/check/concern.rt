@@ -22,7 +22,7 @@ pub enum Concern<'a, 'b> {
     /// The verdict on a hash node is not Good. The nodes are those of the image and of the hash.
     BadHash(NodeRef<'a, 'b>, NodeRef<'a, 'b>, Checked<'a>),
     /// U-Boot skips this hash node. The nodes are those of the image and of the hash.
-    SkippedHash(NodeRef<'a, 'b>, NodeRef<'a, 'b>),
+    SkippedHash(NodeRef<'a, 'b>, NodeRef<'a, 'b>, Checked<'a>),
     /// The image of this node has a payload and no Good verdict, apart from hash nodes that U-Boot
     /// skips.
     UnhashedImage(NodeRef<'a, 'b>),
@@ -82,9 +82,9 @@ impl<'a, 'b> Concern<'a, 'b> {
                 Detail::Name("algorithm", hash.algo),
                 Detail::Word("verdict", verdict_word(hash.verdict)),
             ],
-            Concern::SkippedHash(image, node) => {
-                let image = Detail::Name("image", Some(image.name()));
-                let node = Detail::Name("node", Some(node.name()));
+            Concern::SkippedHash(_, _, hash) => {
+                let image = Detail::Name("image", Some(hash.image));
+                let node = Detail::Name("node", Some(hash.node));
                 [kind, image, node, none, none]
             }
             Concern::UnhashedImage(image) => {

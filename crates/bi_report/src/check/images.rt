@@ -1,21 +1,22 @@
 //! The concerns about the images of a flattened image tree.
 
-ghost use Rattle.std.specs.Prelude.{◌≡◌, [], ◌∷◌, flat_map, if◌then◌else◌};
+ghost use Rattle.std.specs.Prelude.{◌≡◌, flat_map};
 ghost use Rattle.std.specs.Iterator.{YieldsFirstBy, item_count};
 ghost use Rattle.std.specs.List.{list_any};
 ghost use Rattle.std.specs.Option.{option_map};
 ghost use Rattle.bi_fdt.specs.Views.{node_of};
 ghost use Rattle.bi_fit.specs.Content.{AreAtTheirPlaces};
 ghost use Rattle.bi_fit.specs.JudgementCalls.{checked_hash_of};
-ghost use Rattle.bi_common.specs.HashedImages.{found_left, image_value, images_of_blob};
+ghost use Rattle.bi_common.specs.HashedImages.{found_hash_of, found_left, image_value};
+ghost use Rattle.bi_common.specs.HashedImages.{images_of_blob};
 ghost use Rattle.bi_report.specs.Checking.{is_good as is_good_hash, is_strong as is_strong_hash};
 ghost use Rattle.bi_report.specs.Checking.{is_strong_algorithm, protection_concerns};
 ghost use Rattle.bi_report.specs.Checking.{payload_concerns};
-ghost use Rattle.bi_report.specs.Checking.{SkippedHash};
+ghost use Rattle.bi_report.specs.Checking.{skip_concerns};
 ghost use Rattle.bi_report.specs.ConcernValues.{found_or_none, found_value, used_left};
 ghost use Rattle.bi_report.specs.ConcernsLeft.{image_left, images_left};
 ghost use Rattle.bi_report.specs.FoundConcerns.{HashOf, NodeItself, concerns_about};
-ghost use Rattle.bi_report.specs.FoundConcerns.{found_in_image, is_skipped as is_skipped_hash};
+ghost use Rattle.bi_report.specs.FoundConcerns.{found_in_image, judged_found};
 ghost use Rattle.bi_report.specs.FoundConcerns.{used_found};
 
 use super::concern::Concern;
@@ -63,13 +64,13 @@ impl<'a, 'b> Iterator for ImageConcerns<'a, 'b> {
             return Some(concern);
         }
         while let Some((node, hash)) = self.hashes.next_node() {
-            let of_skipped = skip_concern(self.image, node);
+            let of_skipped = skip_concern(self.image, node, hash);
             if !is_good(hash.verdict) {
                 self.of_skipped = of_skipped;
                 return Some(Concern::BadHash(self.image, node, hash));
             }
-            if of_skipped.is_some() {
-                return of_skipped;
+            if let Some(concern) = of_skipped {
+                return Some(concern);
             }
         }
         self.of_payload.take()
@@ -120,13 +121,17 @@ impl<'a, 'b> Iterator for AllImageConcerns<'a, 'b> {
 }
 
 /// Returns the concern that U-Boot skips a hash node of an image, if it does.
-fn skip_concern<'a, 'b>(image: NodeRef<'a, 'b>, hash: NodeRef<'a, 'b>) -> Option<Concern<'a, 'b>>
-    ensures { let of = node_of image.entry in let node = node_of hash.entry in
-        found_or_none result ≡ concerns_about (HashOf of node)
-        (if is_skipped_hash node then SkippedHash of.name node.name ∷ [] else []) }
+fn skip_concern<'a, 'b>(
+    image: NodeRef<'a, 'b>,
+    node: NodeRef<'a, 'b>,
+    hash: Checked<'a>,
+) -> Option<Concern<'a, 'b>>
+    ensures { found_or_none result
+        ≡ concerns_about (HashOf (node_of image.entry) (node_of node.entry))
+        (skip_concerns (judged_found (found_hash_of (node.entry, hash.entry)))) }
 {
-    if is_skipped(hash) {
-        Some(Concern::SkippedHash(image, hash))
+    if is_skipped(node) {
+        Some(Concern::SkippedHash(image, node, hash))
     } else {
         None
     }

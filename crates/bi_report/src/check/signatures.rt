@@ -2,11 +2,11 @@
 
 ghost use Rattle.std.specs.Prelude.{◌≡◌, flat_map, map};
 ghost use Rattle.std.specs.Iterator.{YieldsFirstBy, item_count};
-ghost use Rattle.bi_coverage.specs.Values.{configuration_value};
+ghost use Rattle.bi_coverage.specs.Values.{configuration_value, signature_value};
 ghost use Rattle.bi_report.specs.Checking.{absence_concerns, unsigned_concerns};
 ghost use Rattle.bi_report.specs.ConcernValues.{found_or_none, found_value};
 ghost use Rattle.bi_report.specs.ConcernsLeft.{addresses_left, coverage_left, signature_left};
-ghost use Rattle.bi_report.specs.ConcernsLeft.{signatures_left, found_in_paths};
+ghost use Rattle.bi_report.specs.ConcernsLeft.{signatures_left, found_in_paths, found_in_signed};
 ghost use Rattle.bi_report.specs.FoundConcerns.{NamedNodes, concerns_about, found_in_coverage};
 
 use super::addresses::Paths;
@@ -23,6 +23,24 @@ pub(super) struct SignatureConcerns<'a, 'b> {
     concerns: &'b [SignatureConcern<'a>],
     /// The index of the first concern that is left.
     index: usize,
+}
+
+impl<'a, 'b> SignatureConcerns<'a, 'b> {
+    /// Returns the concerns about a signed node of the configuration with this name.
+    fn new(
+        configuration: &'a [u8],
+        signature: &'b SignatureCoverage<'a>,
+    ) -> SignatureConcerns<'a, 'b>
+        ensures { signature_left result
+            ≡ found_in_signed configuration.now (signature_value signature.entry.now) }
+    {
+        SignatureConcerns {
+            configuration,
+            name: signature.name,
+            concerns: &signature.concerns,
+            index: 0,
+        }
+    }
 }
 
 impl<'a, 'b> Iterator for SignatureConcerns<'a, 'b> {
@@ -86,12 +104,7 @@ impl<'a, 'b> Iterator for CoverageConcerns<'a, 'b> {
             }
             let signature = self.signatures.get(self.index)?;
             self.index += 1;
-            self.current = Some(SignatureConcerns {
-                configuration: self.configuration,
-                name: signature.name,
-                concerns: &signature.concerns,
-                index: 0,
-            });
+            self.current = Some(SignatureConcerns::new(self.configuration, signature));
         }
     }
 }
