@@ -8,5 +8,5 @@ pub mod laws;
 pub mod list;
 mod listed;
 pub mod scan;
-mod used_hashes;
+pub mod used_hashes;
 pub mod verify;

@@ -49,7 +49,7 @@ impl<'a, 'b> Iterator for UsedHashes<'a, 'b> {
 }
 
 /// Returns whether U-Boot skips a hash node.
-pub(crate) fn is_skipped(hash: NodeRef) -> bool
+pub fn is_skipped(hash: NodeRef) -> bool
     ensures { result ≡ is_skipped_hash (node_of hash.entry) }
 {
     skips(hash.property(b"uboot-ignore"))
