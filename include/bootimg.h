@@ -151,9 +151,10 @@ enum bootimg_cause {
 enum bootimg_concern_kind {
     /* The verdict on a hash node is not good. */
     BOOTIMG_CONCERN_BAD_HASH = 1,
-    /* An image has a payload and no good verdict. */
+    /* An image has a payload and no good verdict, apart from hash nodes that U-Boot skips. */
     BOOTIMG_CONCERN_UNHASHED = 2,
-    /* An image has a payload and good verdicts, but none of SHA-256, SHA-384 or SHA-512. */
+    /* An image has a payload and good verdicts, but none of SHA-256, SHA-384 or SHA-512, apart
+     * from hash nodes that U-Boot skips. */
     BOOTIMG_CONCERN_WEAK_HASH = 4,
     /* The value of a key of a configuration is not a list of names. */
     BOOTIMG_CONCERN_BAD_LIST = 8,
@@ -162,11 +163,28 @@ enum bootimg_concern_kind {
     /* There are configurations, and the default names none of them. */
     BOOTIMG_CONCERN_BAD_DEFAULT = 32,
     /* A byte after the image is not zero. */
-    BOOTIMG_CONCERN_TRAILING = 64
+    BOOTIMG_CONCERN_TRAILING = 64,
+    /* U-Boot skips a hash node. */
+    BOOTIMG_CONCERN_SKIPPED_HASH = 128,
+    /* A configuration has no signature, or there is no configuration. Only with BOOTIMG_SIGNED. */
+    BOOTIMG_CONCERN_UNSIGNED = 256,
+    /* A signature of a configuration does not say which nodes it covers. */
+    BOOTIMG_CONCERN_NO_NODES = 512,
+    /* The configuration of a signature names no image. */
+    BOOTIMG_CONCERN_NO_IMAGES = 1024,
+    /* A signature of a configuration does not cover a node that it must cover. */
+    BOOTIMG_CONCERN_UNCOVERED = 2048,
+    /* A signature of a configuration covers a node that it does not have to cover. */
+    BOOTIMG_CONCERN_FOREIGN = 4096,
+    /* A signature of a configuration does not cover the names of all properties of its nodes. */
+    BOOTIMG_CONCERN_STRINGS = 8192,
+    /* There is a signature of a configuration, and the name of a node has an @. */
+    BOOTIMG_CONCERN_UNIT_ADDRESS = 16384
 };
 
 /* `kinds` of bootimg_check and bootimg_concerns: the concerns that are left out. The numbers are
- * those of enum bootimg_concern_kind. */
+ * those of enum bootimg_concern_kind. BOOTIMG_SIGNED asks for signatures: without it no concern is
+ * BOOTIMG_CONCERN_UNSIGNED. */
 #define BOOTIMG_ALLOW_BAD_HASH 1u
 #define BOOTIMG_ALLOW_UNHASHED 2u
 #define BOOTIMG_ALLOW_WEAK_HASH 4u
@@ -174,6 +192,15 @@ enum bootimg_concern_kind {
 #define BOOTIMG_ALLOW_MISSING 16u
 #define BOOTIMG_ALLOW_BAD_DEFAULT 32u
 #define BOOTIMG_ALLOW_TRAILING 64u
+#define BOOTIMG_ALLOW_SKIPPED_HASH 128u
+#define BOOTIMG_ALLOW_UNSIGNED 256u
+#define BOOTIMG_ALLOW_NO_NODES 512u
+#define BOOTIMG_ALLOW_NO_IMAGES 1024u
+#define BOOTIMG_ALLOW_UNCOVERED 2048u
+#define BOOTIMG_ALLOW_FOREIGN 4096u
+#define BOOTIMG_ALLOW_STRINGS 8192u
+#define BOOTIMG_ALLOW_UNIT_ADDRESS 16384u
+#define BOOTIMG_SIGNED 32768u
 
 /* What a call returns in addition to its status. */
 typedef struct bootimg_result {
@@ -254,6 +281,9 @@ typedef struct bootimg_hash {
  *                                listed name that no image has, counted from 0.
  *   BOOTIMG_CONCERN_BAD_DEFAULT  `name`, which is the default.
  *   BOOTIMG_CONCERN_TRAILING     `size`: the number of bytes after the image.
+ *   BOOTIMG_CONCERN_SKIPPED_HASH `name` of the image, and `node`.
+ *   Any other kind               None. The line of bootimg_check with the same index has the names
+ *                                and the path.
  *
  * `node` is the name of the hash node. `verdict` is one of BOOTIMG_VERDICT_BAD to
  * BOOTIMG_VERDICT_MALFORMED, and `key` one of BOOTIMG_KERNEL to BOOTIMG_SCRIPT. The numbers of a
@@ -397,8 +427,8 @@ uint32_t bootimg_verdicts(const uint8_t *file, size_t file_size, uint32_t limit,
                           bootimg_hash *hashes, size_t hashes_count, bootimg_result *answer);
 
 /* Writes the concerns about a file of either kind, in the order of the lines of bootimg_check.
- * `kinds` is a sum of BOOTIMG_ALLOW_*, or 0: concerns of these kinds are left out. The call fails
- * as bootimg_check does. */
+ * `kinds` is a sum of BOOTIMG_ALLOW_* and BOOTIMG_SIGNED, or 0: concerns of these kinds are left
+ * out. The call fails as bootimg_check does. */
 uint32_t bootimg_concerns(const uint8_t *file, size_t file_size, uint32_t kinds, uint32_t limit,
                           uint32_t depth, bootimg_concern *concerns, size_t concerns_count,
                           bootimg_result *answer);
@@ -455,10 +485,10 @@ uint32_t bootimg_show(const uint8_t *file, size_t file_size, uint32_t layout, ui
 uint32_t bootimg_verify(const uint8_t *file, size_t file_size, uint32_t limit, uint32_t depth,
                         uint8_t *buffer, size_t buffer_size, bootimg_result *answer);
 
-/* Writes a line for each concern about a file: each thing in it that is not protected. `kinds` is
- * a sum of BOOTIMG_ALLOW_*, or 0: lines of these kinds are left out. `value` is 1 if there is no
- * line, otherwise 0. The call fails with TooLarge if the payloads together are longer than
- * `limit`. */
+/* Writes a line for each concern about a file: each thing in it that is not protected. No signature
+ * is verified. `kinds` is a sum of BOOTIMG_ALLOW_* and BOOTIMG_SIGNED, or 0: lines of these kinds
+ * are left out. `value` is 1 if there is no line, otherwise 0. The call fails with TooLarge if the
+ * payloads together, or the paths that signatures must cover, are longer than `limit`. */
 uint32_t bootimg_check(const uint8_t *file, size_t file_size, uint32_t kinds, uint32_t limit,
                        uint32_t depth, uint8_t *buffer, size_t buffer_size, bootimg_result *answer);
 

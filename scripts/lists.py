@@ -27,7 +27,7 @@ VALUES = {
     "key": ["bi_fit/src/key.rt: name"],
     "allow": ["bi_report/src/check.rt: word"],
     "hash": ["bi_hash/src/algo.rt: name", "bootimg/src/command_line/hashes.rt: parse_hashes"],
-    "cause": ["bi_base/src/fault.rt: name"],
+    "cause": ["bi_base/src/fault.rt: name", "bi_report/src/check.rt: word"],
 }
 
 

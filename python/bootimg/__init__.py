@@ -97,7 +97,23 @@ Buffer = bytes | bytearray | memoryview | mmap.mmap
 
 LIMIT = 0x7FFFFFFF
 DEPTH = 64
-CONCERNS = ("bad-hash", "unhashed", "weak-hash", "bad-list", "missing", "bad-default", "trailing")
+CONCERNS = (
+    "bad-hash",
+    "unhashed",
+    "weak-hash",
+    "bad-list",
+    "missing",
+    "bad-default",
+    "trailing",
+    "skipped-hash",
+    "unsigned",
+    "no-nodes",
+    "no-images",
+    "uncovered",
+    "foreign",
+    "strings",
+    "unit-address",
+)
 VERDICTS = ("good", "bad", "unknown-algorithm", "no-payload", "malformed")
 KEYS = ("kernel", "fdt", "ramdisk", "firmware", "loadables", "script")
 REASONS = (
@@ -116,6 +132,7 @@ REASONS = (
 
 _OK, _REFUSED, _OUT_OF_MEMORY, _NO_ROOM, _WRONG_ARGUMENT, _NOT_FOUND = range(6)
 _MISSING = 7
+_SIGNED = 32768
 
 
 class BootimgError(Exception):
@@ -564,10 +581,9 @@ def show(
     file: Buffer, layout: bool = False, limit: int = LIMIT, depth: int = DEPTH
 ) -> str:
     """Returns the page of a file, for a person: tables of what it is, of its images or parts, with
-    the verdict on each hash node, of its configurations and signature nodes, and the lines of
-    `check`. With `layout`, it has the regions of the file by their offsets. Its form may change
-    with the version. Raises Refused with TooLarge if the payloads together are longer than
-    `limit`."""
+    the verdict on each hash node, of its configurations, of its signature nodes with what each of
+    them covers, and the lines of `check`. With `layout`, it has the regions of the file by their
+    offsets. Its form may change with the version. Raises Refused with TooLarge as `check` does."""
     return _text("show", (file,), int(layout), _number(limit), _number(depth))[0]
 
 
@@ -584,25 +600,40 @@ def verify_json(file: Buffer, limit: int = LIMIT, depth: int = DEPTH) -> Report:
 
 
 def check(
-    file: Buffer, allow: Iterable[str] = (), limit: int = LIMIT, depth: int = DEPTH
+    file: Buffer,
+    allow: Iterable[str] = (),
+    limit: int = LIMIT,
+    depth: int = DEPTH,
+    *,
+    signed: bool = False,
 ) -> str:
     """Returns a line for each concern about a file: each thing in it that is not protected. The
     text is empty if there is no concern. Lines of the kinds in `allow`, of CONCERNS, are left out.
-    Raises Refused with TooLarge if the payloads together are longer than `limit`."""
-    return _text("check", (file,), _kinds_of(allow), _number(limit), _number(depth))[0]
+    With `signed`, each configuration without a signature has a line. No signature is verified.
+    Raises Refused with TooLarge if the payloads together, or the paths that signatures must cover,
+    are longer than `limit`."""
+    number = _policy_number(allow, signed)
+    return _text("check", (file,), number, _number(limit), _number(depth))[0]
 
 
 def check_json(
-    file: Buffer, allow: Iterable[str] = (), limit: int = LIMIT, depth: int = DEPTH
+    file: Buffer,
+    allow: Iterable[str] = (),
+    limit: int = LIMIT,
+    depth: int = DEPTH,
+    *,
+    signed: bool = False,
 ) -> str:
     """Returns what `check` says as one JSON text in ASCII and a newline, even if there is no
     concern."""
-    return _text("check_json", (file,), _kinds_of(allow), _number(limit), _number(depth))[0]
+    number = _policy_number(allow, signed)
+    return _text("check_json", (file,), number, _number(limit), _number(depth))[0]
 
 
-def _kinds_of(allow: Iterable[str]) -> int:
-    """Returns the number of a choice of kinds of concerns."""
-    return sum(1 << _index_of(kind, CONCERNS) for kind in set(allow))
+def _policy_number(allow: Iterable[str], signed: bool) -> int:
+    """Returns the number of a choice of kinds of concerns, and of whether signatures are asked
+    for."""
+    return sum(1 << _index_of(kind, CONCERNS) for kind in set(allow)) + _SIGNED * signed
 
 
 def convert(file: Buffer, limit: int = LIMIT, depth: int = DEPTH) -> bytes:
@@ -805,6 +836,7 @@ def _parser() -> argparse.ArgumentParser:
             command.add_argument("--json", action="store_true")
         if name == "check":
             command.add_argument("--allow", type=_kinds, default=[], metavar="KINDS")
+            command.add_argument("--signed", action="store_true")
         if name == "compare":
             command.add_argument("--quiet", action="store_true")
             command.add_argument("files", nargs=2, metavar="IMAGE")
@@ -875,7 +907,7 @@ def _printed(options: argparse.Namespace, file: bytes) -> tuple[str, int]:
         return report.text, int(not report.all_good)
     if options.command == "check":
         call, none = (check_json, '{"concerns":[]}\n') if options.json else (check, "")
-        concerns = call(file, options.allow, limit)
+        concerns = call(file, options.allow, limit, signed=options.signed)
         return concerns, int(concerns != none)
     if options.command == "show":
         return show(file, options.layout, limit), 0

@@ -194,6 +194,8 @@ class Concern:
     index: int | None = None
     default: str | None = None
     size: int | None = None
+    signature: str | None = None
+    path: str | None = None
 
     def __repr__(self) -> str:
         members = [(member.name, getattr(self, member.name)) for member in fields(self)]
@@ -340,13 +342,20 @@ class Image:
         text = self._optional_bytes(region)
         return None if text is None else _decoded(text)
 
-    def check(self, allow: Iterable[str] = ()) -> tuple[Concern, ...]:
+    def check(self, allow: Iterable[str] = (), *, signed: bool = False) -> tuple[Concern, ...]:
         """Returns the concerns about the file, except those of the kinds in `allow`, of
-        CONCERNS. Raises Refused with TooLarge if the payloads together are longer than the
-        limit."""
-        numbers = (bootimg._kinds_of(allow), *self._bounds)
+        CONCERNS. With `signed`, each configuration without a signature is one. Raises Refused with
+        TooLarge as `bootimg.check` does."""
+        kinds = tuple(allow)
+        numbers = (bootimg._policy_number(kinds, signed), *self._bounds)
         elements = bootimg._elements("concerns", bootimg._ConcernElement, (self.file,), *numbers)
-        return tuple(map(self._concern, elements))
+        if not any(_is_of_line(element) for element in elements):
+            return tuple(map(self._concern, elements))
+        lines = bootimg.check(self.file, kinds, *self._bounds, signed=signed).splitlines()
+        return tuple(
+            _concern_of_line(line) if _is_of_line(element) else self._concern(element)
+            for element, line in zip(elements, lines)
+        )
 
     def _concern(self, element: bootimg._ConcernElement) -> Concern:
         kind = bootimg.CONCERNS[element.kind.bit_length() - 1]
@@ -354,6 +363,8 @@ class Image:
         if kind == "bad-hash":
             node, algorithm = map(self._optional_text, (element.node, element.algorithm))
             return Concern(kind, name, node, algorithm, bootimg.VERDICTS[element.verdict])
+        if kind == "skipped-hash":
+            return Concern(kind, name, self._optional_text(element.node))
         if kind == "weak-hash":
             return Concern(kind, name, algorithms=tuple(self._good_algorithms[name]))
         if kind == "bad-list":
@@ -447,6 +458,22 @@ def open(
             # One byte more than the limit is enough for the file to be refused.
             return Image(file.read(limit + 1), limit, depth)
     return Image(source, limit, depth)
+
+
+def _is_of_line(element: bootimg._ConcernElement) -> bool:
+    """Returns whether only the line of a concern has its names."""
+    return bool(element.kind > 1 << bootimg.CONCERNS.index("skipped-hash"))
+
+
+def _concern_of_line(line: str) -> Concern:
+    """Returns the concern of a line about signatures or unit addresses."""
+    kind, *names = line.split(" ")
+    if kind == "unsigned":
+        return Concern(kind, configuration=None if names == ["-"] else _name_of(names[0]))
+    if kind == "unit-address":
+        return Concern(kind, path=_name_of(names[0]))
+    members = ("configuration", "signature", "path")
+    return Concern(kind, **dict(zip(members, map(_name_of, names))))
 
 
 def _decoded(name: bytes) -> str:

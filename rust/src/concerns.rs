@@ -1,7 +1,7 @@
 //! The concerns about a file.
 
 use crate::calls::{bytes_of, fill_of, fill_with_number, found};
-use crate::{sys, Concerns, Error, Key, Limits, Verdict};
+use crate::{check, sys, Error, Key, Limits, Policy, Verdict};
 use std::collections::BTreeMap;
 
 /// A concern about a file: a thing in it that is not protected.
@@ -20,13 +20,22 @@ pub enum Concern<'a> {
         /// The verdict.
         verdict: Verdict,
     },
-    /// An image has a payload and no good verdict.
+    /// U-Boot skips a hash node.
+    #[non_exhaustive]
+    SkippedHash {
+        /// The name of the image.
+        image: &'a [u8],
+        /// The name of the hash node.
+        node: &'a [u8],
+    },
+    /// An image has a payload and no good verdict, apart from hash nodes that U-Boot skips.
     #[non_exhaustive]
     Unhashed {
         /// The name of the image.
         image: &'a [u8],
     },
-    /// An image has a payload and good verdicts, but none of SHA-256, SHA-384 or SHA-512.
+    /// An image has a payload and good verdicts, but none of SHA-256, SHA-384 or SHA-512, apart
+    /// from hash nodes that U-Boot skips.
     #[non_exhaustive]
     WeakHash {
         /// The name of the image.
@@ -52,6 +61,63 @@ pub enum Concern<'a> {
         /// The index of the first such name, counted from 0.
         index: usize,
     },
+    /// A configuration has no signature, or there is no configuration. There is none unless
+    /// signatures are asked for.
+    #[non_exhaustive]
+    Unsigned {
+        /// The name of the configuration, if there is one.
+        configuration: Option<Vec<u8>>,
+    },
+    /// A signature of a configuration does not say which nodes it covers.
+    #[non_exhaustive]
+    NoNodes {
+        /// The name of the configuration.
+        configuration: Vec<u8>,
+        /// The name of the signature node.
+        signature: Vec<u8>,
+    },
+    /// The configuration of a signature names no image.
+    #[non_exhaustive]
+    NoImages {
+        /// The name of the configuration.
+        configuration: Vec<u8>,
+        /// The name of the signature node.
+        signature: Vec<u8>,
+    },
+    /// A signature of a configuration does not cover a node that it must cover.
+    #[non_exhaustive]
+    Uncovered {
+        /// The name of the configuration.
+        configuration: Vec<u8>,
+        /// The name of the signature node.
+        signature: Vec<u8>,
+        /// The path of the node.
+        path: Vec<u8>,
+    },
+    /// A signature of a configuration covers a node that it does not have to cover.
+    #[non_exhaustive]
+    Foreign {
+        /// The name of the configuration.
+        configuration: Vec<u8>,
+        /// The name of the signature node.
+        signature: Vec<u8>,
+        /// The path that the signature node has.
+        path: Vec<u8>,
+    },
+    /// A signature of a configuration does not cover the names of all properties of its nodes.
+    #[non_exhaustive]
+    Strings {
+        /// The name of the configuration.
+        configuration: Vec<u8>,
+        /// The name of the signature node.
+        signature: Vec<u8>,
+    },
+    /// There is a signature of a configuration, and the name of a node has an `@`.
+    #[non_exhaustive]
+    UnitAddress {
+        /// The path of the node.
+        path: Vec<u8>,
+    },
     /// There are configurations, and the default names none of them.
     #[non_exhaustive]
     BadDefault {
@@ -69,13 +135,19 @@ pub enum Concern<'a> {
 }
 
 /// Returns the concerns about a file of either kind, in the order of the lines of `check`. Concerns
-/// of allowed kinds are left out. Names are slices of the file.
+/// of allowed kinds are left out. Names are slices of the file, except those in concerns about
+/// signatures and unit addresses.
 ///
 /// # Errors
 ///
 /// Those of `check`.
-pub fn concerns(file: &[u8], allowed: Concerns, limits: Limits) -> Result<Vec<Concern<'_>>, Error> {
-    let (call, bits) = (sys::bootimg_concerns, allowed.bits());
+pub fn concerns(
+    file: &[u8],
+    policy: impl Into<Policy>,
+    limits: Limits,
+) -> Result<Vec<Concern<'_>>, Error> {
+    let policy = policy.into();
+    let (call, bits) = (sys::bootimg_concerns, policy.bits());
     let (elements, _) = fill_with_number(call, bits, 16, file, limits)?;
     let is_weak = |one: &sys::Concern| one.kind == sys::CONCERN_WEAK_HASH;
     let mut algorithms = if elements.iter().any(is_weak) {
@@ -83,8 +155,76 @@ pub fn concerns(file: &[u8], allowed: Concerns, limits: Limits) -> Result<Vec<Co
     } else {
         BTreeMap::new()
     };
-    let concern = |element: &sys::Concern| concern_of(file, element, &mut algorithms);
-    Ok(elements.iter().map(concern).collect())
+    let of_signatures = |one: &sys::Concern| one.kind > sys::CONCERN_SKIPPED_HASH;
+    let text = if elements.iter().any(of_signatures) {
+        check(file, policy, limits)?
+    } else {
+        String::new()
+    };
+    let lines = text.lines().chain(std::iter::repeat(""));
+    let concern = |(element, line)| match concern_of_line(line) {
+        Some(concern) => concern,
+        None => concern_of(file, element, &mut algorithms),
+    };
+    Ok(elements.iter().zip(lines).map(concern).collect())
+}
+
+/// Returns the concern of a line about signatures or unit addresses. Returns None for any other
+/// line.
+fn concern_of_line<'a>(line: &str) -> Option<Concern<'a>> {
+    let mut words = line.split(' ');
+    let kind = words.next()?;
+    let names: Vec<Vec<u8>> = words.map(name_of).collect();
+    Some(match (kind, &names[..]) {
+        ("unsigned", [configuration]) => Concern::Unsigned {
+            configuration: (!configuration.is_empty()).then(|| configuration.clone()),
+        },
+        ("unit-address", [path]) => Concern::UnitAddress { path: path.clone() },
+        ("no-nodes", [configuration, signature]) => Concern::NoNodes {
+            configuration: configuration.clone(),
+            signature: signature.clone(),
+        },
+        ("no-images", [configuration, signature]) => Concern::NoImages {
+            configuration: configuration.clone(),
+            signature: signature.clone(),
+        },
+        ("strings", [configuration, signature]) => Concern::Strings {
+            configuration: configuration.clone(),
+            signature: signature.clone(),
+        },
+        ("uncovered", [configuration, signature, path]) => Concern::Uncovered {
+            configuration: configuration.clone(),
+            signature: signature.clone(),
+            path: path.clone(),
+        },
+        ("foreign", [configuration, signature, path]) => Concern::Foreign {
+            configuration: configuration.clone(),
+            signature: signature.clone(),
+            path: path.clone(),
+        },
+        _ => return None,
+    })
+}
+
+/// Returns the bytes of a name that a line shows: `%` is before two hexadecimal digits, and `-`
+/// alone is a name of no bytes.
+fn name_of(shown: &str) -> Vec<u8> {
+    if shown == "-" {
+        return Vec::new();
+    }
+    let (mut name, mut left) = (Vec::new(), shown.as_bytes());
+    while let [first, later @ ..] = left {
+        let escaped = (*first == b'%').then(|| shown_byte(later)).flatten();
+        name.push(escaped.unwrap_or(*first));
+        left = if escaped.is_some() { &later[2..] } else { later };
+    }
+    name
+}
+
+/// Returns the byte that two hexadecimal digits show.
+fn shown_byte(digits: &[u8]) -> Option<u8> {
+    let digits = std::str::from_utf8(digits.get(..2)?).ok()?;
+    u8::from_str_radix(digits, 16).ok()
 }
 
 /// The algorithms of the good verdicts on the hash nodes of images, by the offset of the image's
@@ -105,6 +245,10 @@ fn concern_of<'a>(
             node: bytes_of(file, element.node),
             algorithm: found(file, element.algorithm),
             verdict: Verdict::from_number(element.verdict),
+        },
+        (sys::CONCERN_SKIPPED_HASH, _) => Concern::SkippedHash {
+            image: name,
+            node: bytes_of(file, element.node),
         },
         (sys::CONCERN_UNHASHED, _) => Concern::Unhashed { image: name },
         (sys::CONCERN_WEAK_HASH, _) => Concern::WeakHash {

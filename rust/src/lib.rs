@@ -38,7 +38,7 @@ pub use nodes::Property;
 pub use texts::{
     check, check_json, compare, compare_json, convert, describe, describe_json, listing,
     listing_json, normalise, same_meaning, show, update, verify, verify_json, Changes, Comparison,
-    Concerns, Form, NormalForm, Report,
+    Concerns, Form, NormalForm, Policy, Report,
 };
 
 use calls::{answer_of, fill, text_of};

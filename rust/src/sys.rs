@@ -122,6 +122,8 @@ pub const CONCERN_BAD_LIST: u32 = 8;
 pub const CONCERN_MISSING: u32 = 16;
 pub const CONCERN_BAD_DEFAULT: u32 = 32;
 pub const CONCERN_TRAILING: u32 = 64;
+pub const CONCERN_SKIPPED_HASH: u32 = 128;
+pub const SIGNED: u32 = 32768;
 
 /// The first byte of a file, a name or a path.
 pub type Bytes = *const u8;

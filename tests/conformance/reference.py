@@ -52,7 +52,11 @@ DIGESTS = {
 }
 VERDICTS = ("good", "bad", "unknown-algorithm", "no-payload", "malformed")
 STRONG = (b"sha256", b"sha384", b"sha512")
-CONCERNS = ("bad-hash", "unhashed", "weak-hash", "bad-list", "missing", "bad-default", "trailing")
+CONCERNS = (
+    "bad-hash", "skipped-hash", "unhashed", "weak-hash", "bad-list", "missing", "unsigned", "no-nodes", "no-images", "uncovered",
+    "foreign", "strings", "unit-address", "bad-default", "trailing")
+# The properties of a configuration that name no image.
+NO_REFERENCES = (b"description", b"compatible", b"default")
 # How many fields of a line of a description are its key; those of a line of another kind is its first.
 FIELDS_OF_KEY = {"property": 3, "node": 2, "payload": 2, "part": 2, "reservation": 3}
 
@@ -151,6 +155,9 @@ class Legacy:
 
     def check_payloads(self, limit):
         """The parts are never longer than a limit that the file is within."""
+
+    def check_paths(self, limit):
+        """A legacy image has no signatures."""
 
 
 def legacy_text(time, load, entry, codes, name, parts, limit):
@@ -393,9 +400,80 @@ class Fit:
                 name = algo.split(b"\0")[0] if algo is not None and b"\0" in algo else None
                 yield child, name, judged(name, value, payload), value
 
+    def needed(self, configuration):
+        """What a signature of a configuration must cover: the path of each node with those below it that are needed together with it."""
+        images, names = {node.name: node for node, _, _, _ in self.images}, []
+        for name, value in sorted(configuration.properties.items()):
+            if name not in NO_REFERENCES:
+                names += [one for one in names_of(value) or [] if one in images]
+        yield path_of(), []
+        yield path_of(b"configurations", configuration.name), []
+        for name in dict.fromkeys(names):
+            covered = [child.name for child in images[name].children if child.name.startswith(b"hash")]
+            covered += [b"cipher"] * bool(images[name].child(b"cipher"))
+            yield path_of(b"images", name), [path_of(b"images", name, child) for child in covered]
+
+    def check_paths(self, limit):
+        """Refuses paths that together are longer than the limit: for each signed node those that it must cover."""
+        length = 0
+        for configuration in self.configurations.children:
+            paths = [path for node, below in self.needed(configuration) for path in (node, *below)]
+            length += len(signed_nodes(configuration)) * sum(map(len, paths))
+        if length > limit:
+            refuse("TooLarge", limit)
+
+    def nodes(self):
+        """Each node with the names on its path, a node before those below it."""
+        def below(node, names):
+            yield node, names
+            for child in node.children:
+                yield from below(child, (*names, child.name))
+        return below(self.blob.root, ())
+
+    def strings_end(self, recorded):
+        """Where the last name ends of the properties of the nodes with these paths. Those that give payloads do not count."""
+        places = [
+            (name, place) for node, names in self.nodes() if path_of(*names) in recorded
+            for name, place in node.places.items() if name not in PLACES]
+        return max((cell_at(self.blob.file, place + 8) + len(name) + 1 for name, place in places), default=0)
+
+    def signature_concerns(self, configuration, signature):
+        """The concerns about a signed node: the kind of each, and a path."""
+        recorded = names_of(signature.properties.get(b"hashed-nodes", b""))
+        if recorded is None:
+            return [("no-nodes",)]
+        parts = list(self.needed(configuration))
+        found = [("no-images",)] if len(parts) == 2 else []
+        found += [("uncovered", node) for node, below in parts if not {node, *below} <= set(recorded)]
+        needed = {path for node, below in parts for path in (node, *below)}
+        found += [("foreign", path) for path in dict.fromkeys(recorded) if path not in needed]
+        strings = signature.properties.get(b"hashed-strings", b"")
+        if len(strings) != 8 or cell_at(strings, 4) < self.strings_end(recorded):
+            found.append(("strings",))
+        return found
+
     def signatures(self):
         nodes = [node for node, _, _, _ in self.images] + self.configurations.children
         return sum(child.name.startswith(b"signature") for node in nodes for child in node.children)
+
+
+def names_of(value):
+    """The names that a value lists, or None if it is no list of names."""
+    return value[:-1].split(b"\0") if value.endswith(b"\0") else None
+
+
+def path_of(*names):
+    return b"".join(b"/" + name for name in names) or b"/"
+
+
+def signed_nodes(configuration):
+    return [child for child in configuration.children if child.name.startswith(b"signature") and child.properties.get(b"value")]
+
+
+def is_skipped(hash):
+    """Whether U-Boot skips a hash node."""
+    value = hash.properties.get(b"uboot-ignore", b"")
+    return len(value) == 4 and any(value)
 
 
 def fit_text(cpu, reservations, root, payloads, options):
@@ -857,7 +935,8 @@ def differences(lines, others):
 def check(file, options):
     image = read(file, options["limit"])
     image.check_payloads(options["limit"])
-    concerns = [concern for concern in concerns_of(image) if concern["concern"] not in options.get("allow", [])]
+    image.check_paths(options["limit"])
+    concerns = [concern for concern in concerns_of(image, options["signed"]) if concern["concern"] not in options.get("allow", [])]
     output = json_of({"concerns": concerns}) if options["json"] else text_of(map(concern_line, concerns))
     return int(bool(concerns)), output, b""
 
@@ -870,22 +949,26 @@ def concern_line(concern):
     return " ".join(words)
 
 
-def concerns_of(image):
+def concerns_of(image, signed=False):
     if isinstance(image, Fit):
-        yield from concerns_of_fit(image)
+        yield from concerns_of_fit(image, signed)
+    elif signed:
+        yield {"concern": "unsigned", "configuration": None}
     if image.after.strip(b"\0"):
         yield {"concern": "trailing", "size": len(image.after)}
 
 
-def concerns_of_fit(fit):
+def concerns_of_fit(fit, signed):
     """The concerns about the images and the configurations."""
     for node, payload, _, _ in fit.images:
         good = []
         for child, name, found, _ in fit.verdicts(node, payload):
-            if found == "good":
-                good.append(name)
-            else:
+            if found != "good":
                 yield {"concern": "bad-hash"} | hash_object(node, child, name, found)
+            if is_skipped(child):
+                yield {"concern": "skipped-hash", "image": shown(node.name), "node": shown(child.name)}
+            elif found == "good":
+                good.append(name)
         if payload is not None and not good:
             yield {"concern": "unhashed", "image": shown(node.name)}
         elif payload is not None and not set(good) & set(STRONG):
@@ -898,6 +981,19 @@ def concerns_of_fit(fit):
             elif reason:
                 index = int(reason.removeprefix("missing image "))
                 yield {"concern": "missing", "configuration": shown(node.name), "key": key, "index": index}
+    if signed and not fit.configurations.children:
+        yield {"concern": "unsigned", "configuration": None}
+    for node in fit.configurations.children:
+        if signed and not signed_nodes(node):
+            yield {"concern": "unsigned", "configuration": shown(node.name)}
+        for signature in signed_nodes(node):
+            for kind, *path in fit.signature_concerns(node, signature):
+                concern = {"concern": kind, "configuration": shown(node.name), "signature": shown(signature.name)}
+                yield concern | {"path": shown(one) for one in path}
+    if any(map(signed_nodes, fit.configurations.children)):
+        for node, names in fit.nodes():
+            if b"@" in node.name:
+                yield {"concern": "unit-address", "path": shown(path_of(*names))}
     name = fit.default()
     if fit.configurations.children and not fit.configurations.child(name):
         yield {"concern": "bad-default", "default": name_or_null(name)}
@@ -909,6 +1005,7 @@ def concerns_of_fit(fit):
 def show(file, options):
     image = read(file, options["limit"])
     image.check_payloads(options["limit"])
+    image.check_paths(options["limit"])
     tables = list(tables_of_legacy(image, file) if isinstance(image, Legacy) else tables_of_fit(image, file))
     if options["layout"]:
         tables.append(layout(image, file))
@@ -949,13 +1046,24 @@ def tables_of_fit(fit, file):
     yield [("configuration", *keys, "compatible"), *rows]
     parents = [("images", [image[0] for image in fit.images]), ("configurations", nodes)]
     signed = [(parent, node, child) for parent, nodes in parents for node in nodes for child in node.children]
-    yield [("signature", "algorithm", "key", "verdict"), *[
-        (f"/{parent}/{shown(node.name)}/{shown(child.name)}", cell_of(child, "algo"), cell_of(child, "key-name-hint"), "not verified")
+    yield [("signature", "algorithm", "key", "verdict", "covers"), *[
+        (f"/{parent}/{shown(node.name)}/{shown(child.name)}", cell_of(child, "algo"), cell_of(child, "key-name-hint"), "not verified",
+            coverage_cell(fit, parent, node, child))
         for parent, node, child in signed if child.name.startswith(b"signature")]]
 
 
+def coverage_cell(fit, parent, node, signature):
+    """What a signature node covers, if it is valid."""
+    if not signature.properties.get(b"value"):
+        return "nothing"
+    if parent == "images":
+        return "payload"
+    return "not the whole configuration" if fit.signature_concerns(node, signature) else "whole configuration"
+
+
 def row_of_image(fit, node, payload, _, place):
-    hashes = [f"{name_or_hyphen(name)}:{found}" for _, name, found, _ in fit.verdicts(node, payload)]
+    marks = {True: ":skipped", False: ""}
+    hashes = [f"{name_or_hyphen(name)}:{found}{marks[is_skipped(child)]}" for child, name, found, _ in fit.verdicts(node, payload)]
     words = [cell_of(node, name) for name in ("type", "os", "arch", "compression")]
     placed = ("-", "-") if payload is None else (str(len(payload)), str(place))
     return (shown(node.name), *words, *placed, cell_of(node, "load", address_cell), cell_of(node, "entry", address_cell),
@@ -1261,7 +1369,7 @@ COMMANDS = {
     "describe": (of_image(describe), {"json": FLAG, **OFFSET}),
     "compare": (compare, {"quiet": FLAG, "json": FLAG}),
     "verify": (of_image(verify), {"json": FLAG, **OFFSET}),
-    "check": (of_image(check), {"allow": (kinds, ()), "json": FLAG, **OFFSET}),
+    "check": (of_image(check), {"allow": (kinds, ()), "signed": FLAG, "json": FLAG, **OFFSET}),
     "show": (of_image(show), {"layout": FLAG}),
     "scan": (of_image(scan), {}),
     "update": (of_image(update), {"time": (number, ()), "hashes": FLAG, **EXTERNAL, **OFFSET}),

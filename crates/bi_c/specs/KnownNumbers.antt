@@ -20,6 +20,7 @@ use Rattle.bi_norm.specs.declared.kind.Kind.TheVariants.{Legacy, Fit}
 use Rattle.bi_c.specs.Answers.{answer_of, answer_of_failure, done, failure_of_error, no_room}
 use Rattle.bi_c.specs.Answers.{status_of_failure}
 use Rattle.bi_c.specs.Arguments.{allowed_of, bounds, changes_of, form_of, has_bit, is_yes, key_of}
+use Rattle.bi_c.specs.Arguments.{policy_of}
 use Rattle.bi_c.specs.Calls.{failure_of_compare_error, flag, kind_number}
 use Rattle.bi_c.specs.ConcernElements.{concern_number, key_number}
 use Rattle.bi_c.specs.Extracting.{IsReasonNumber, failure_of_extract_error}
@@ -123,8 +124,9 @@ pub record ValuesAreKnown : Type 0 where
       ≡ 0 ∷ 1 ∷ 2 ∷ 3 ∷ 4 ∷ []
   pub concerns : map concern_number
       (kind.BadHash ∷ kind.Unhashed ∷ kind.WeakHash ∷ kind.BadList ∷ kind.Missing
-      ∷ kind.BadDefault ∷ kind.Trailing ∷ [])
-      ≡ 1 ∷ 2 ∷ 4 ∷ 8 ∷ 16 ∷ 32 ∷ 64 ∷ []
+      ∷ kind.BadDefault ∷ kind.Trailing ∷ kind.SkippedHash ∷ kind.Unsigned ∷ kind.NoNodes
+      ∷ kind.NoImages ∷ kind.Uncovered ∷ kind.Foreign ∷ kind.Strings ∷ kind.UnitAddress ∷ [])
+      ≡ 1 ∷ 2 ∷ 4 ∷ 8 ∷ 16 ∷ 32 ∷ 64 ∷ 128 ∷ 256 ∷ 512 ∷ 1024 ∷ 2048 ∷ 4096 ∷ 8192 ∷ 16384 ∷ []
   pub keys : map key_number
       (key.Kernel ∷ key.Fdt ∷ key.Ramdisk ∷ key.Firmware ∷ key.Loadables ∷ key.Script ∷ [])
       ≡ 0 ∷ 1 ∷ 2 ∷ 3 ∷ 4 ∷ 5 ∷ []
@@ -158,7 +160,19 @@ pub record AllowedBitsAreKnown : Type 0 where
   pub missing : allowed_words (allowed_of 16) ≡ codes "missing" ∷ []
   pub bad_default : allowed_words (allowed_of 32) ≡ codes "bad-default" ∷ []
   pub trailing : allowed_words (allowed_of 64) ≡ codes "trailing" ∷ []
+  pub skipped_hash : allowed_words (allowed_of 128) ≡ codes "skipped-hash" ∷ []
+  pub unsigned : allowed_words (allowed_of 256) ≡ codes "unsigned" ∷ []
+  pub no_nodes : allowed_words (allowed_of 512) ≡ codes "no-nodes" ∷ []
+  pub no_images : allowed_words (allowed_of 1024) ≡ codes "no-images" ∷ []
+  pub uncovered : allowed_words (allowed_of 2048) ≡ codes "uncovered" ∷ []
+  pub foreign : allowed_words (allowed_of 4096) ≡ codes "foreign" ∷ []
+  pub strings : allowed_words (allowed_of 8192) ≡ codes "strings" ∷ []
+  pub unit_address : allowed_words (allowed_of 16384) ≡ codes "unit-address" ∷ []
   pub two : allowed_words (allowed_of 68) ≡ codes "weak-hash" ∷ codes "trailing" ∷ []
-  pub all : allowed_words (allowed_of 127)
-      ≡ codes "bad-hash" ∷ codes "unhashed" ∷ codes "weak-hash" ∷ codes "bad-list"
-      ∷ codes "missing" ∷ codes "bad-default" ∷ codes "trailing" ∷ []
+  pub all : allowed_words (allowed_of 32767)
+      ≡ codes "bad-hash" ∷ codes "skipped-hash" ∷ codes "unhashed" ∷ codes "weak-hash"
+      ∷ codes "bad-list" ∷ codes "missing" ∷ codes "unsigned" ∷ codes "no-nodes"
+      ∷ codes "no-images" ∷ codes "uncovered" ∷ codes "foreign" ∷ codes "strings"
+      ∷ codes "unit-address" ∷ codes "bad-default" ∷ codes "trailing" ∷ []
+  pub not_asked : (policy_of 32767).signed ≡ false
+  pub asked : (policy_of 32768).signed ≡ true

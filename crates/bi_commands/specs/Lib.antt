@@ -1,5 +1,6 @@
 pub mod BuildCommands
 pub mod CauseSentences
+pub mod ConcernSentences
 pub mod Extracting
 pub mod Parts
 pub mod KnownBounds

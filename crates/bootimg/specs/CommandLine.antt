@@ -23,6 +23,8 @@ use Rattle.bi_norm.specs.declared.fit_building.ImageSpec.{ImageSpec}
 use Rattle.bi_norm.specs.declared.fit_building.ImageTexts.{ImageTexts}
 use Rattle.bootimg.specs.CodeWords.{IsCode, text_of_code, four_texts}
 use Rattle.bootimg.specs.ConfigurationWords.{AreConfigurations, AreHashes, IsDefault}
+use Rattle.bootimg.specs.Explanations.{name_of_explained}
+use Rattle.bootimg.specs.declared.explanations.Explained.{Explained}
 use Rattle.bootimg.specs.ConfigurationWords.{IsFirstBadConfiguration}
 use Rattle.bootimg.specs.Words.{listed_words, parts_of}
 use Rattle.bootimg.specs.Numbers.{IsNumber}
@@ -53,6 +55,7 @@ use Rattle.bi_common.specs.declared.format.Format.TheVariants.{Lines, Json}
 use Rattle.bi_common.specs.Unshown.{IsNameShownAs}
 use Rattle.bi_report.specs.Checking.{kind_word, allows as allows_kind}
 use Rattle.bi_report.specs.declared.check.Allowed.{Allowed}
+use Rattle.bi_report.specs.declared.check.Policy.{Policy}
 use Rattle.bi_report.specs.declared.check.ConcernKind.{ConcernKind}
 use Rattle.bootimg.specs.declared.command_line.extract.AllRequest.{AllRequest}
 use Rattle.bootimg.specs.declared.command_line.extract.Selected.{Selected}
@@ -84,7 +87,7 @@ HasLengths (Fit plan) = length plan.payloads.items ≡ length plan.images.items
 abbrev pub HasJobLengths : Job → Type 0
 HasJobLengths (Run plan) = ⊤
 HasJobLengths (Compare plan) = ⊤
-HasJobLengths (Explain cause) = ⊤
+HasJobLengths (Explain explained) = ⊤
 HasJobLengths (Build plan) = HasLengths plan
 
 -- The parts of the image to be built.
@@ -265,6 +268,19 @@ IsAllowedBy (Some text) allowed = IsAllowed (listed_words text) allowed
 abbrev pub allow_option : ArgMatches → Option (List ℕ)
 allow_option options = option_of options (codes "allow")
 
+-- The text of the flag `--signed`: `true` or `false`.
+abbrev pub signed_flag : ArgMatches → Option (List ℕ)
+signed_flag options = one_text (found_of options) (codes "signed")
+
+-- Signatures are asked for with `--signed`, and else not.
+abbrev pub AsksForSignatures : ArgMatches → Bool → Type 0
+AsksForSignatures options signed = IsFlag (signed_flag options) signed
+
+-- The options give this policy.
+pub record IsPolicy (options : ArgMatches) (policy : Policy) : Type 0 where
+  pub allowed : IsAllowedBy (allow_option options) policy.allowed
+  pub signed : AsksForSignatures options policy.signed
+
 -- ---- update
 
 -- The text of the flag `--hashes`: `true` or `false`.
@@ -302,11 +318,11 @@ IsChangesFailure options failure = ⊥
 abbrev pub NamesCause : List ℕ → Cause → Type 0
 NamesCause argument cause = argument ≡ name_of cause
 
--- The argument is the name of this cause. Without an argument there is no cause.
-abbrev pub IsExplained : Option (List ℕ) → Option Cause → Type 0
+-- The argument names this, a cause or a kind of concerns. Without an argument there is nothing.
+abbrev pub IsExplained : Option (List ℕ) → Option Explained → Type 0
 IsExplained None None = ⊤
-IsExplained (Some argument) (Some cause) = NamesCause argument cause
-IsExplained argument cause = ⊥
+IsExplained (Some argument) (Some explained) = argument ≡ name_of_explained explained
+IsExplained argument explained = ⊥
 
 -- ---- extract
 
@@ -589,7 +605,7 @@ name_of_task (task.Show presenter) = codes "show"
 name_of_task (task.List format) = codes "list"
 name_of_task (task.Describe format) = codes "describe"
 name_of_task (task.Verify format) = codes "verify"
-name_of_task (task.Check allowed format) = codes "check"
+name_of_task (task.Check policy format) = codes "check"
 name_of_task task.Scan = codes "scan"
 name_of_task (task.Update changes form) = codes "update"
 name_of_task (task.Extract selection) = codes "extract"
@@ -602,8 +618,8 @@ AreTaskOptions options (task.Show presenter) = ShowsLayout options presenter.lay
 AreTaskOptions options (task.List format) = IsFormat options format
 AreTaskOptions options (task.Describe format) = IsFormat options format
 AreTaskOptions options (task.Verify format) = IsFormat options format
-AreTaskOptions options (task.Check allowed format) =
-    IsAllowedBy (allow_option options) allowed × IsFormat options format
+AreTaskOptions options (task.Check policy format) =
+    IsPolicy options policy × IsFormat options format
 AreTaskOptions options task.Scan = ⊤
 AreTaskOptions options (task.Update changes form) = IsChanges options changes × IsForm options form
 AreTaskOptions options (task.Extract selection) =
@@ -630,8 +646,8 @@ IsBuildPlan name options (Fit plan) = (name ≡ codes "build-fit") × IsFitPlan 
 abbrev pub IsJob : List ℕ → ArgMatches → Job → Type 0
 IsJob name options (Run plan) = IsImagePlan name options plan
 IsJob name options (Compare plan) = (name ≡ codes "compare") × IsComparePlan options plan
-IsJob name options (Explain cause) =
-    (name ≡ codes "explain") × IsExplained (option_of options (codes "cause")) cause
+IsJob name options (Explain explained) =
+    (name ≡ codes "explain") × IsExplained (option_of options (codes "cause")) explained
 IsJob name options (Build plan) = IsBuildPlan name options plan
 
 -- Why the options of the command of this name are not a task.

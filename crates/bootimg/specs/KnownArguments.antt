@@ -79,7 +79,9 @@ pub record DefaultsAreKnown : Type 0 where
       ∷ [])
   pub verify : GivesValues (codes "verify") (codes "verify") defaults_with_json
   pub check : GivesValues (codes "check") (codes "check")
-      (without_value (codes "allow") ∷ defaults_with_json)
+      (without_value (codes "allow")
+      ∷ with_value (codes "signed") (codes "false")
+      ∷ defaults_with_json)
   pub scan : GivesValues (codes "scan") (codes "scan")
       (without_value (codes "offset") ∷ defaults_without_offset)
   pub update : GivesValues (codes "update") (codes "update")
@@ -173,9 +175,12 @@ pub record OptionsAreKnown : Type 0 where
       (codes "verify")
       json_and_others
   pub check : GivesValues
-      (codes "check --allow weak-hash,missing --json --offset 7 --limit 64 -o out in")
+      (codes
+      "check --allow weak-hash,missing --signed --json --offset 7 --limit 64 -o out in")
       (codes "check")
-      (with_value (codes "allow") (codes "weak-hash,missing") ∷ json_and_others)
+      (with_value (codes "allow") (codes "weak-hash,missing")
+      ∷ with_value (codes "signed") (codes "true")
+      ∷ json_and_others)
   pub scan : GivesValues (codes "scan --limit 64 -o out in") (codes "scan") limit_output_and_file
   pub update : GivesValues
       (codes "update --time 5 --hashes --external --align 8 --offset 7 --limit 64 -o out in")

@@ -13,7 +13,7 @@ use Rattle.bi_fit.specs.declared.key.Key.TheVariants.{Fdt}
 use Rattle.bi_legacy.specs.declared.fields.Fields.{Fields}
 use Rattle.bi_norm.specs.declared.fit_building.ImageSpec.{ImageSpec}
 use Rattle.clap.specs.declared.parser.matches.ArgMatches.{ArgMatches}
-use Rattle.bootimg.specs.CommandLine.{AreEscaped, ChangesHashes, Gives, IsAllowedBy, IsBuildPlan}
+use Rattle.bootimg.specs.CommandLine.{AreEscaped, AsksForSignatures, ChangesHashes, Gives, IsAllowedBy, IsBuildPlan}
 use Rattle.bootimg.specs.CommandLine.{IsChanges, IsChangesFailure, IsComparePlan, IsFields, IsForm}
 use Rattle.bootimg.specs.CommandLine.{IsFormat, IsImageSource, IsImageText, IsJob, IsPartSource}
 use Rattle.bootimg.specs.CommandLine.{IsQuiet, IsSelected, IsSelectionFailure, NoneIs}
@@ -78,6 +78,10 @@ pub record FlagsAreKnown : Type 0 where
       (λ options. IsOnlyOne (IsQuiet options) true)
   pub not_quiet : HoldsFor (codes "compare a b") (codes "compare")
       (λ options. IsOnlyOne (IsQuiet options) false)
+  pub signed : HoldsFor (codes "check --signed") (codes "check")
+      (λ options. IsOnlyOne (AsksForSignatures options) true)
+  pub not_signed : HoldsFor (codes "check") (codes "check")
+      (λ options. IsOnlyOne (AsksForSignatures options) false)
   pub hashes : HoldsFor (codes "update --hashes") (codes "update")
       (λ options. IsOnlyOne (ChangesHashes options) true)
   pub no_hashes : HoldsFor (codes "update") (codes "update")
@@ -165,6 +169,10 @@ pub record AllowedWordsAreKnown : Type 0 where
   pub no_value : (allowed : Allowed) → IsAllowedBy None allowed → allowed_words allowed ≡ []
   pub two : (allowed : Allowed) → IsAllowedBy (Some (codes "trailing,weak-hash")) allowed
       → allowed_words allowed ≡ codes "weak-hash" ∷ codes "trailing" ∷ []
+  pub about_signatures : (allowed : Allowed)
+      → IsAllowedBy (Some (codes "unit-address,skipped-hash,uncovered")) allowed
+      → allowed_words allowed
+      ≡ codes "skipped-hash" ∷ codes "uncovered" ∷ codes "unit-address" ∷ []
   pub other_word : NoneIs (IsAllowedBy (Some (codes "weak-hash,good")))
   pub empty_word : NoneIs (IsAllowedBy (Some []))
 

@@ -28,6 +28,8 @@ use Rattle.bi_legacy.specs.Meaning.{image_of}
 use Rattle.bi_legacy.specs.Text.{legacy_text}
 use Rattle.bi_norm.specs.KnownBuildFaults.{head_like}
 use Rattle.bi_norm.specs.KnownBuiltTexts.{kernel_and_ramdisk}
+use Rattle.bi_report.specs.declared.check.Allowed.{Allowed}
+use Rattle.bi_report.specs.declared.check.Policy.{Policy}
 use Rattle.bi_report.specs.Checking.{nothing_allowed}
 use Rattle.bi_report.specs.KnownOutputs.{bad_lines, file_with_hash, file_without_hash}
 use Rattle.bi_report.specs.KnownOutputs.{good_lines, kernel_object}
@@ -55,6 +57,10 @@ use Rattle.bootimg.specs.declared.tasks.Done.{Done}
 abbrev pub without_notes : (good : Bool) → Done
 without_notes good = record { good = good; kept = kept None 0 }
 
+-- What is asked of an image, with these kinds allowed.
+abbrev pub policy_with : (signed : Bool) → Allowed → Policy
+policy_with signed allowed = record { allowed = allowed; signed = signed }
+
 -- What each task makes of a small file, and how it ends: with the answer that its output gives. A
 -- text that is normalised or updated may lose the alignment of its payloads.
 pub record TaskEndsAreKnown : Type 0 where
@@ -75,13 +81,19 @@ pub record TaskEndsAreKnown : Type 0 where
       (file_with_hash short_crc)
       bad_lines
   pub bad_answer : HasAnswer (task.Verify Lines) (file_with_hash short_crc) false
-  pub check : TaskDone (task.Check nothing_allowed Json) widest (without_notes true) smallest_text
+  pub check : TaskDone (task.Check (policy_with false nothing_allowed) Json) widest
+      (without_notes true) smallest_text
       (lines (codes "{\"concerns\":[]}" ∷ []))
-  pub concern : TaskDone (task.Check nothing_allowed Lines) widest (without_notes false)
+  pub concern : TaskDone (task.Check (policy_with false nothing_allowed) Lines) widest
+      (without_notes false)
       file_without_hash
       (lines (codes "unhashed a" ∷ []))
-  pub allowed : TaskDone (task.Check (record nothing_allowed { unhashed = true }) Lines) widest
-      (without_notes true) file_without_hash []
+  pub allowed :
+      TaskDone
+      (task.Check (policy_with false (record nothing_allowed { unhashed = true })) Lines)
+      widest (without_notes true) file_without_hash []
+  pub signed : TaskDone (task.Check (policy_with true nothing_allowed) Lines) widest
+      (without_notes false) smallest_text (lines (codes "unsigned -" ∷ []))
   pub scan : TaskDone task.Scan (scan_limits 162) (without_notes true) two_images two_lines
   pub nothing_found : TaskDone task.Scan (scan_limits 162) (without_notes false) (codes "hello") []
   pub update : (form : Form)

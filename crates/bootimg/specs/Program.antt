@@ -130,7 +130,8 @@ verify = command (codes "verify") (json ∷ offset ∷ limit ∷ output ∷ file
 -- `check`.
 abbrev pub check : Shape
 check = command (codes "check")
-    (value_option (codes "allow") ∷ json ∷ offset ∷ limit ∷ output ∷ file ∷ [])
+    (value_option (codes "allow") ∷ flag_option (codes "signed") ∷ json ∷ offset ∷ limit ∷ output
+    ∷ file ∷ [])
 
 -- `scan`.
 abbrev pub scan : Shape

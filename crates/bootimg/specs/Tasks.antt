@@ -10,6 +10,7 @@ use Rattle.bi_norm.specs.Converting.{IsConvertedFile, IsConvertError}
 use Rattle.bi_norm.specs.NormalForm.{IsNormalForm, IsNormaliseError, IsNormaliseKept}
 use Rattle.bi_norm.specs.Reading.{IsBootImageReadError}
 use Rattle.bi_report.specs.CheckedFiles.{IsChecked, IsCheckError, IsCheckOutput}
+use Rattle.bi_report.specs.Checking.{allowed_under}
 use Rattle.bi_report.specs.ListedFiles.{IsListing}
 use Rattle.bi_report.specs.Scanning.{IsScanText, IsScanError, IsScanOutput}
 use Rattle.bi_report.specs.VerifiedFiles.{IsReport, IsVerifyOutput}
@@ -59,8 +60,8 @@ TaskDone (Describe format) limits done input output =
     IsDescription format limits input output × EndedWith true done
 TaskDone (Verify format) limits done input output =
     (good : Bool) × IsVerifyOutput format limits good input output × EndedWith good done
-TaskDone (Check allowed format) limits done input output =
-    (clean : Bool) × IsCheckOutput format allowed limits clean input output
+TaskDone (Check policy format) limits done input output =
+    (clean : Bool) × IsCheckOutput format (allowed_under policy) limits clean input output
     × EndedWith clean done
 TaskDone Scan limits done input output =
     (found : Bool) × IsScanOutput limits found input output × EndedWith found done
@@ -78,7 +79,8 @@ TaskText (Show presenter) limits input output = IsPage presenter.layout limits i
 TaskText (ListImage format) limits input output = IsListing format limits input output
 TaskText (Describe format) limits input output = IsDescription format limits input output
 TaskText (Verify format) limits input output = IsReport format limits input output
-TaskText (Check allowed format) limits input output = IsChecked format allowed limits input output
+TaskText (Check policy format) limits input output =
+    IsChecked format (allowed_under policy) limits input output
 TaskText Scan limits input output = IsScanText limits input output
 TaskText (Update changes form) limits input output = IsUpdated changes limits form input output
 TaskText (Extract selection) limits input output =
@@ -109,7 +111,7 @@ TaskFails (Describe format) limits input failure =
     IsCallFailure (IsDescribeError format limits input) failure
 TaskFails (Verify format) limits input failure =
     IsCallFailure (IsBootImageReadError limits input) failure
-TaskFails (Check allowed format) limits input failure =
+TaskFails (Check policy format) limits input failure =
     IsCallFailure (IsCheckError limits input) failure
 TaskFails Scan limits input failure = IsCallFailure (IsScanError limits input) failure
 TaskFails (Update changes form) limits input failure =
@@ -135,7 +137,7 @@ task_text (Show presenter) limits done input output is = is.0
 task_text (ListImage format) limits done input output is = is.0
 task_text (Describe format) limits done input output is = is.0
 task_text (Verify format) limits done input output is = is.1.report
-task_text (Check allowed format) limits done input output is = is.1.checked
+task_text (Check policy format) limits done input output is = is.1.checked
 task_text Scan limits done input output is = is.1.is_scan
 task_text (Update changes form) limits done input output updated = updated.0.output.is
 task_text (Extract selection) limits done input output is = is.0
@@ -198,7 +200,7 @@ task_in_memory (Describe format) limits input failure is =
     call_in_memory (IsDescribeError format limits input) (λ no. no) (λ no. no) failure is
 task_in_memory (Verify format) limits input failure is =
     call_in_memory (IsBootImageReadError limits input) (λ no. no) (λ no. no) failure is
-task_in_memory (Check allowed format) limits input failure is =
+task_in_memory (Check policy format) limits input failure is =
     call_in_memory (IsCheckError limits input) (λ no. no) (λ no. no) failure is
 task_in_memory Scan limits input failure is =
     call_in_memory (IsScanError limits input) (λ no. no) (λ no. no) failure is

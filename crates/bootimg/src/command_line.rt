@@ -24,10 +24,11 @@ ghost use Rattle.bootimg.specs.Program.{IsCommandName};
 ghost use Rattle.bootimg.specs.declared.command_line.NoRequest.TheVariants as outcome;
 ghost use Rattle.bootimg.specs.declared.failure.Failure.TheVariants.{Call};
 
+use crate::explanations::Explained;
 use crate::failure::Failure;
-use allowed::allowed_kinds;
-use bi_base::{Cause, Error, Limits};
-use bi_commands::check::Allowed;
+use allowed::policy;
+use bi_base::{Error, Limits};
+use bi_commands::check::Policy;
 use bi_commands::format::Format;
 use bi_commands::show::Presenter;
 use bi_commands::update::Changes;
@@ -37,7 +38,7 @@ use build::{fit_plan, legacy_plan};
 use clap::ArgMatches;
 use clap::error::ErrorKind;
 pub use configurations::ConfigurationWord;
-use explain::explained_cause;
+use explain::explained;
 pub use extract::{AllRequest, Selected};
 use extract::{all_request, selection};
 use options::{flag, form, format, limits, number};
@@ -62,8 +63,8 @@ pub enum Task {
     Describe(Format),
     /// Write the report on the checksums and digests, in this form.
     Verify(Format),
-    /// Write the concerns that are not of these kinds, in this form.
-    Check(Allowed, Format),
+    /// Write the concerns that this policy does not allow, in this form.
+    Check(Policy, Format),
     /// Write a line for each image inside the input.
     Scan,
     /// Write the normal form with these changes. That of a flattened image tree has this form.
@@ -92,8 +93,8 @@ pub enum Job<'a> {
     Run(ImagePlan<'a>),
     /// Compare two images.
     Compare(ComparePlan<'a>),
-    /// Write what this cause of a refusal means, or what each one means.
-    Explain(Option<Cause>),
+    /// Write what this means, or what each cause of a refusal and each kind of concerns means.
+    Explain(Option<Explained>),
     /// Build an image.
     Build(BuildPlan<'a>),
 }
@@ -216,7 +217,7 @@ fn parse_job<'a>(alloc: Global, name: &str, options: &ArgMatches<'a>) -> Result<
         return Ok(Job::Compare(compare_plan(options)?));
     }
     if name == "explain" {
-        return Ok(Job::Explain(explained_cause(options)?));
+        return Ok(Job::Explain(explained(options)?));
     }
     if name == "build-legacy" {
         let plan = legacy_plan(alloc, options)?;
@@ -257,7 +258,7 @@ fn parse_task(alloc: Global, name: &str, options: &ArgMatches<'_>) -> Result<Tas
         "list" => Task::List(format(options)),
         "describe" => Task::Describe(format(options)),
         "verify" => Task::Verify(format(options)),
-        "check" => Task::Check(allowed_kinds(options)?, format(options)),
+        "check" => Task::Check(policy(options)?, format(options)),
         "scan" => Task::Scan,
         "update" => Task::Update(changes(options)?, form(options)?),
         "extract" => Task::Extract(selection(alloc, options)?),

@@ -98,9 +98,9 @@ impl Task {
                 let good = Verifier { format: *format }.run(alloc, image, limits, sink)?;
                 return Ok(Done::with_answer(good));
             }
-            Task::Check(allowed, format) => {
+            Task::Check(policy, format) => {
                 let checker = Checker {
-                    allowed: *allowed,
+                    policy: *policy,
                     format: *format,
                 };
                 let clean = check_into(alloc, image, checker, limits, sink)?;

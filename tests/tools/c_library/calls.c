@@ -234,9 +234,9 @@ static int try_arguments(struct call *call)
     }
     CHECK(bootimg_normalise(call->files[0].bytes, call->files[0].size, 2, call->limit, 64, &byte, 1, &answer) ==
           BOOTIMG_WRONG_ARGUMENT);
-    CHECK(bootimg_check(call->files[0].bytes, call->files[0].size, 128, call->limit, 64, &byte, 1, &answer) ==
+    CHECK(bootimg_check(call->files[0].bytes, call->files[0].size, 2 * BOOTIMG_SIGNED, call->limit, 64, &byte, 1, &answer) ==
           BOOTIMG_WRONG_ARGUMENT);
-    CHECK(bootimg_check_json(call->files[0].bytes, call->files[0].size, 128, call->limit, 64, &byte, 1, &answer) ==
+    CHECK(bootimg_check_json(call->files[0].bytes, call->files[0].size, 2 * BOOTIMG_SIGNED, call->limit, 64, &byte, 1, &answer) ==
           BOOTIMG_WRONG_ARGUMENT);
     CHECK(bootimg_update(call->files[0].bytes, call->files[0].size, 4, 0, 0, call->limit, 64, &byte, 1, &answer) ==
           BOOTIMG_WRONG_ARGUMENT);
@@ -389,7 +389,9 @@ int main(int count, char **words)
         } else if (strcmp(words[i], "--limit") == 0) {
             call.limit = (uint32_t)strtoul(words[++i], NULL, 10);
         } else if (strcmp(words[i], "--kinds") == 0) {
-            call.kinds = (uint32_t)strtoul(words[++i], NULL, 10);
+            call.kinds |= (uint32_t)strtoul(words[++i], NULL, 10);
+        } else if (strcmp(words[i], "--signed") == 0) {
+            call.kinds |= BOOTIMG_SIGNED;
         } else if (strcmp(words[i], "--number") == 0) {
             call.number = (uint32_t)strtoul(words[++i], NULL, 10);
         } else if (strcmp(words[i], "--time") == 0) {

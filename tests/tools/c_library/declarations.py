@@ -95,7 +95,8 @@ FOUND = [
     ("HAS_", "fit_building.rt", r"(?P<name>load|entry): address_if\(has_bit\((?P<number>\d+), image.addresses\)"),
     ("CHANGE_", "update.rt", r"let new_(?P<name>time) = if has_bit\((?P<number>\d+), changes\)"),
     ("CHANGE_", "update.rt", r"(?P<name>hashes): has_bit\((?P<number>\d+), changes\)"),
-    ("ALLOW_", "arguments.rt", r"(?P<name>\w+): has_bit\((?P<number>\d+), kinds\)"),
+    ("ALLOW_", "arguments.rt", r"(?P<name>(?!signed\b)\b\w+): has_bit\((?P<number>\d+), kinds\)"),
+    ("", "arguments.rt", r"(?P<name>signed): has_bit\((?P<number>\d+), kinds\)"),
     ("CONCERN_", "concerns.rt", r"ConcernKind::(?P<name>\w+) => (?P<number>\d+),"),
     ("", "concerns.rt", r"Key::(?P<name>\w+) => (?P<number>\d+),"),
 ]
@@ -142,6 +143,7 @@ def placed(words, prefix, number_of_place):
 in_module = placed(module["CONCERNS"], "ALLOW_", lambda place: 1 << place)
 in_module |= placed(module["KEYS"], "", lambda place: place) | placed(module["statuses"], "", lambda place: place)
 in_module |= placed(module["VERDICTS"], "VERDICT_", lambda place: place)
+in_module |= {"BOOTIMG_SIGNED": module["_SIGNED"]}
 in_module |= {"BOOTIMG_LIMIT": module["LIMIT"], "BOOTIMG_DEPTH": module["DEPTH"], "BOOTIMG_MISSING": module["_MISSING"]}
 for name, number in in_module.items():
     if numbers.get(name) != number:

@@ -161,7 +161,7 @@ static void check_elements(const struct choice *c, int call, const void *element
             check_region(c, concern->name);
             check_region(c, concern->node);
             check_region(c, concern->algorithm);
-            CHECK(concern->kind != 0 && concern->kind <= BOOTIMG_CONCERN_TRAILING && (concern->kind & (concern->kind - 1)) == 0);
+            CHECK(concern->kind != 0 && concern->kind <= BOOTIMG_CONCERN_UNIT_ADDRESS && (concern->kind & (concern->kind - 1)) == 0);
             CHECK((concern->kind & c->number) == 0);
             CHECK(concern->verdict <= BOOTIMG_VERDICT_MALFORMED && concern->key <= BOOTIMG_SCRIPT);
         } else if (call == PROPERTIES) {

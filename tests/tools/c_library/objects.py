@@ -143,6 +143,11 @@ def concern_line(concern):
         "missing": lambda: [shown(concern.configuration), concern.key, str(concern.index)],
         "bad-default": lambda: [or_none(concern.default)],
         "trailing": lambda: [str(concern.size)],
+        "skipped-hash": lambda: [shown(concern.image), shown(concern.node)],
+        "unsigned": lambda: [or_none(concern.configuration)],
+        "unit-address": lambda: [shown(concern.path)],
+        **dict.fromkeys(("no-nodes", "no-images", "strings"), lambda: [shown(concern.configuration), shown(concern.signature)]),
+        **dict.fromkeys(("uncovered", "foreign"), lambda: [*map(shown, (concern.configuration, concern.signature, concern.path))]),
     }[concern.kind]()
     return " ".join([concern.kind, *words])
 

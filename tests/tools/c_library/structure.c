@@ -348,10 +348,11 @@ static void leave_out(struct memory file, uint32_t kinds)
     bootimg_result all, left;
     struct memory array, some;
     size_t count = 0;
-    if (bootimg_concerns(file.bytes, file.size, 0, BOOTIMG_LIMIT, BOOTIMG_DEPTH, NULL, 0, &all) == BOOTIMG_REFUSED)
+    if (bootimg_concerns(file.bytes, file.size, BOOTIMG_SIGNED, BOOTIMG_LIMIT, BOOTIMG_DEPTH, NULL, 0, &all) == BOOTIMG_REFUSED)
         return;
+    call.kinds = BOOTIMG_SIGNED;
     CHECK(make_with(&call, &array, all.size, &all) == BOOTIMG_OK);
-    call.kinds = kinds;
+    call.kinds = BOOTIMG_SIGNED + kinds;
     CHECK(make_with(&call, &some, all.size, &left) == BOOTIMG_OK && left.size <= all.size);
     const bootimg_concern *concerns = (const bootimg_concern *)(const void *)array.bytes;
     const bootimg_concern *kept = (const bootimg_concern *)(const void *)some.bytes;
@@ -393,9 +394,9 @@ static void print_elements(FILE *output, struct memory file, int which)
 static void print_concerns(FILE *output, struct memory file)
 {
     print_elements(output, file, CONCERNS);
-    for (uint32_t kind = 1; kind < 128; kind <<= 1) {
+    for (uint32_t kind = 1; kind < BOOTIMG_SIGNED; kind <<= 1) {
         leave_out(file, kind);
-        leave_out(file, 127 ^ kind);
+        leave_out(file, (BOOTIMG_SIGNED - 1) ^ kind);
     }
 }
 
@@ -540,7 +541,7 @@ static void try_numbers(struct memory file)
     call.key = BOOTIMG_SCRIPT + 1;
     CHECK(fill_array(&call, BOOTIMG_LIMIT, BOOTIMG_DEPTH, element, 1, &answer) == BOOTIMG_WRONG_ARGUMENT);
     call.call = CONCERNS;
-    call.kinds = 2 * BOOTIMG_ALLOW_TRAILING;
+    call.kinds = 2 * BOOTIMG_SIGNED;
     CHECK(fill_array(&call, BOOTIMG_LIMIT, BOOTIMG_DEPTH, element, 1, &answer) == BOOTIMG_WRONG_ARGUMENT);
     CHECK(is_unchanged(element, sizeof element) && is_unchanged((const uint8_t *)&fields, sizeof fields));
     CHECK(is_unchanged((const uint8_t *)&fit, sizeof fit));

@@ -32,10 +32,10 @@ COMMANDS = {
     "describe": {"--json"},
     "show": {"--layout"},
     "verify": {"--json"},
-    "check": {"--allow", "--json"},
+    "check": {"--allow", "--signed", "--json"},
     "convert": set(),
 }
-FLAGS = {"--external", "--hashes", "--default", "--json", "--layout"}
+FLAGS = {"--external", "--hashes", "--default", "--json", "--layout", "--signed"}
 SELECTIONS = {"--part", "--image", "--config", "--default"}
 
 

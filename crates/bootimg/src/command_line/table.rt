@@ -259,6 +259,13 @@ const ALLOW: OptionText = OptionText {
     form: OptionForm::Optional,
 };
 
+const SIGNED: OptionText = OptionText {
+    name: "signed",
+    value_name: "",
+    help: "Also find each configuration that has no signature, and that there is none",
+    form: OptionForm::Flag,
+};
+
 const NEW_TIME: OptionText = OptionText {
     name: "time",
     value_name: "N",
@@ -359,8 +366,9 @@ const INDEX: OptionText = OptionText {
 
 const CAUSE: OptionText = OptionText {
     name: "cause",
-    value_name: "CAUSE",
-    help: "The cause, as the error prints it; without CAUSE each cause is explained",
+    value_name: "NAME",
+    help: "A cause as an error prints it, or a kind of concerns as check prints it; without NAME \
+         each one is explained",
     form: OptionForm::Positional,
 };
 
@@ -492,12 +500,14 @@ static READING_COMMANDS: [CommandText; 8] = [
         after_help: "\
                  Reads an image, and writes to standard output a page for a person, in aligned\n\
                  columns: what the image is, its date and size; its parts or payloads, with the\n\
-                 verdict on each hash node; its configurations and signature nodes, which are not\n\
-                 verified; with --layout, the regions of the file by their offsets, padding and\n\
-                 free space too; and last the lines of check. The form of the page may change\n\
-                 with each version: list, describe, verify and check are for scripts.\n\n\
-                 --limit also bounds the payloads of a flattened image tree together. The exit\n\
-                 status is 0 even if a verdict is not good.\n\n\
+                 verdict on each hash node; its configurations; its signature nodes, which are not\n\
+                 verified, with what each of them covers; with --layout, the regions of the file\n\
+                 by their offsets, padding and free space too; and last the lines of check. The\n\
+                 form of the page may change with each version: list, describe, verify and check\n\
+                 are for scripts.\n\n\
+                 --limit also bounds the payloads of a flattened image tree together, and so the\n\
+                 paths that its signatures must cover. The exit status is 0 even if a verdict is\n\
+                 not good.\n\n\
                  Example: bootimg show --layout kernel.itb",
         options: &[LAYOUT, LIMIT, OUTPUT, FILE],
     },
@@ -566,19 +576,30 @@ static READING_COMMANDS: [CommandText; 8] = [
         after_help: "\
                  Reads an image, and writes to standard output a line for each thing in it that\n\
                  is not protected: nothing if all is. The first word of a line is its kind:\n\n\
-                 \x20 bad-hash     the verdict on a hash node is not good\n\
-                 \x20 unhashed     an image with a payload has no good hash node\n\
-                 \x20 weak-hash    it has good ones, and none of SHA-256, SHA-384 or SHA-512\n\
-                 \x20 bad-list     a value in a configuration is not a list of names\n\
-                 \x20 missing      a configuration lists an image that is not there\n\
-                 \x20 bad-default  the default is none of the configurations\n\
-                 \x20 trailing     bytes follow the image, and not all of them are zero\n\n\
-                 A legacy image can only have trailing: its checksums are always checked, and an\n\
-                 image with a wrong one is refused. --limit also bounds the payloads of a\n\
-                 flattened image tree together. Signatures are not checked.\n\n\
+                 \x20 bad-hash      the verdict on a hash node is not good\n\
+                 \x20 skipped-hash  U-Boot skips a hash node, which has uboot-ignore\n\
+                 \x20 unhashed      an image with a payload has no good hash node but skipped ones\n\
+                 \x20 weak-hash     it has good ones, and none of SHA-256, SHA-384 or SHA-512\n\
+                 \x20 bad-list      a value in a configuration is not a list of names\n\
+                 \x20 missing       a configuration lists an image that is not there\n\
+                 \x20 unsigned      with --signed: a configuration has no signature\n\
+                 \x20 no-nodes      a signature does not say which nodes it covers\n\
+                 \x20 no-images     the configuration of a signature names no image\n\
+                 \x20 uncovered     a signature does not cover a node that it must cover\n\
+                 \x20 foreign       a signature covers a node that the configuration does not use\n\
+                 \x20 strings       a signature does not cover the names of all properties\n\
+                 \x20 unit-address  there is a signature, and the name of a node has an @\n\
+                 \x20 bad-default   the default is none of the configurations\n\
+                 \x20 trailing      bytes follow the image, and not all of them are zero\n\n\
+                 No signature is verified: what is checked is what it covers if it is valid.\n\n\
+                 A legacy image can only have trailing, and unsigned with --signed: its checksums\n\
+                 are always checked, and an image with a wrong one is refused. --limit also\n\
+                 bounds the payloads of a flattened image tree together, and so the paths that\n\
+                 its signatures must cover.\n\n\
                  The exit status is 0 if nothing was found, and 1 if something was.\n\n\
-                 Example: bootimg check --allow weak-hash,trailing kernel.itb",
-        options: &[ALLOW, JSON, OFFSET, LIMIT, OUTPUT, FILE],
+                 Example: bootimg check --allow weak-hash,trailing kernel.itb\n\
+                 Example: bootimg check --signed kernel.itb",
+        options: &[ALLOW, SIGNED, JSON, OFFSET, LIMIT, OUTPUT, FILE],
     },
     CommandText {
         name: "scan",
@@ -743,11 +764,13 @@ static BUILDING_COMMANDS: [CommandText; 2] = [
 static EXPLAIN: CommandText = CommandText {
     name: "explain",
     aliases: &[],
-    about: "Say what the cause of an error means",
-    usage: "bootimg explain [OPTIONS] [CAUSE]",
+    about: "Say what the cause of an error or a concern means",
+    usage: "bootimg explain [OPTIONS] [NAME]",
     after_help: "\
-             Writes to standard output what the cause of an error means, and what can be done.\n\
-             Without CAUSE, writes a line for each cause, with its name. Reads no image.\n\n\
-             Example: bootimg explain BadMagic",
+             Writes to standard output what the cause of an error means, or a kind of concerns\n\
+             that check finds, and what can be done. Without NAME, writes a line for each cause\n\
+             and each kind, with its name. Reads no image.\n\n\
+             Example: bootimg explain BadMagic\n\
+             Example: bootimg explain uncovered",
     options: &[OUTPUT, CAUSE],
 };
