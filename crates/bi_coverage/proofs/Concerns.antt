@@ -1,4 +1,5 @@
-use Rattle.std.proofs.Common.{◌≡◌, ℕ, List, [], ◌∷◌, ◌++◌, Bool, true, false, not, map, filter, Option, Some, refl, sym, ap, ◌∙◌, append_assoc}
+use Rattle.std.proofs.Common.{◌≡◌, ℕ, List, [], ◌∷◌, ◌++◌, Bool, true, false, not, map, filter, Option, Some, refl, sym, ap, ◌∙◌}
+use Rattle.std.proofs.Common.{append_assoc}
 use Rattle.std.specs.FinMap.{get}
 use Rattle.std.specs.Prelude.{◌&&◌, if◌then◌else◌}
 use Rattle.std.specs.List.{list_all}
@@ -24,7 +25,8 @@ module _ (recorded : List (List ℕ)) (parts : List NeededPart) (part : NeededPa
   both : uncovered_concerns recorded (parts ++ part ∷ [])
       ≡ uncovered_concerns recorded parts ++ uncovered_concerns recorded (part ∷ [])
   both =
-      ap (map (λ (part : NeededPart). Uncovered part.path)) (filter-append (λ (part : NeededPart). not (is_covered recorded part)) parts (part ∷ []))
+      ap (map (λ (part : NeededPart). Uncovered part.path))
+      (filter-append (λ (part : NeededPart). not (is_covered recorded part)) parts (part ∷ []))
       ∙ map-append (λ (part : NeededPart). Uncovered part.path) (filter (λ part. not (is_covered recorded part)) parts)
       (filter (λ part. not (is_covered recorded part)) (part ∷ []))
 
@@ -127,4 +129,5 @@ strings_added content sibling references parts listed value end paths all is_lis
     ∙ ap (λ end. concerns_of_paths references parts (Some listed)
         ++ (if has_strings (get (meaning_of sibling).own hashed_strings_name) end then [] else Strings ∷ [])) is_end
     ∙ ap (λ recorded. concerns_of_paths references parts recorded
-        ++ concerns_of_strings content.blob.file (root_of content.blob) (get (meaning_of sibling).own hashed_strings_name) recorded) (sym is_listed)
+        ++ concerns_of_strings content.blob.file (root_of content.blob) (get (meaning_of sibling).own hashed_strings_name) recorded)
+    (sym is_listed)

@@ -1,4 +1,5 @@
-use Rattle.std.proofs.Common.{◌≡◌, ℕ, ◌+◌, ◌<◌, ◌≤◌, List, [], ◌∷◌, ◌++◌, map, flat_map, Option, Some, None, refl, sym, ap, subst, ◌∙◌, arith}
+use Rattle.std.proofs.Common.{◌≡◌, ℕ, ◌+◌, ◌<◌, ◌≤◌, List, [], ◌∷◌, ◌++◌, map, flat_map, Option, Some, None, refl, sym, ap, subst, ◌∙◌}
+use Rattle.std.proofs.Common.{arith}
 use Rattle.std.proofs.Common.{append_assoc, append-nil, bytes_eq, rules}
 use Rattle.std.specs.List.{AllByRecursion}
 use Rattle.bi_blob.specs.Lookups.{Sibling, siblings, node_named}
@@ -39,7 +40,8 @@ distinct_configurations content held = by (node_named (root_of content.blob).chi
     by None is = rw is tt
     by (Some sibling) is =
         rw is (each_distinct sibling.children
-        (found_are (root_of content.blob).children configurations_name sibling (root_is (root_of content.blob) held.is_blob.holds.is_tree) is))
+        (found_are (root_of content.blob).children configurations_name sibling
+        (root_is (root_of content.blob) held.is_blob.holds.is_tree) is))
 
 -- The configurations before these were read, with this sum of lengths.
 pub record IsReadTo (content : FitModel) (read : List ConfigurationCoverage) (sum : ℕ) (left : List (Sibling FileNode)) : Type 0 where
@@ -83,7 +85,8 @@ module _ (content : FitModel) (read : List ConfigurationCoverage) (sum : ℕ) (a
       later_sum ≡ sum + total (needed_lengths (tree_of content) (meaning_of next)) → IsReadTo content more later_sum left
   one_read more later_sum is is_later = record {
     is_read = ap (λ read. read ++ map (configuration_coverage content) (map meaning_of left)) is
-        ∙ append_assoc read (configuration_coverage content (meaning_of next) ∷ []) (map (configuration_coverage content) (map meaning_of left))
+        ∙ append_assoc read (configuration_coverage content (meaning_of next) ∷ [])
+        (map (configuration_coverage content) (map meaning_of left))
         ∙ ap (λ l. read ++ map (configuration_coverage content) (map meaning_of l)) (sym is_next)
         ∙ to.is_read;
     is_sum = let after = next_sum in omega (arith, after, is_later);

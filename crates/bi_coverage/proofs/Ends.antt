@@ -1,4 +1,5 @@
-use Rattle.std.proofs.Common.{◌≡◌, ℕ, max, List, [], ◌∷◌, ◌++◌, Bool, true, false, cond, map, filter, refl, sym, ap, ◌∙◌, bytes_eq, arith, rules}
+use Rattle.std.proofs.Common.{◌≡◌, ℕ, max, List, [], ◌∷◌, ◌++◌, Bool, true, false, cond, map, filter, refl, sym, ap, ◌∙◌, bytes_eq, arith}
+use Rattle.std.proofs.Common.{rules}
 use Rattle.std.specs.Prelude.{◌||◌}
 use Rattle.bi_blob.specs.Layout.{is_among}
 use Rattle.bi_blob.specs.Tree.{FileNode, FileProperty, Root}

@@ -1,4 +1,5 @@
-use Rattle.std.proofs.Common.{◌≡◌, ◌≢◌, ℕ, suc, zero, ◌<◌, List, [], ◌∷◌, ◌++◌, Bool, true, false, max, map, filter, length, Option, Some, None, slice_get}
+use Rattle.std.proofs.Common.{◌≡◌, ◌≢◌, ℕ, suc, zero, ◌<◌, List, [], ◌∷◌, ◌++◌, Bool, true, false, max, map, filter, length, Option, Some}
+use Rattle.std.proofs.Common.{None, slice_get}
 use Rattle.std.proofs.Common.{bytes_eq, get_or, ◌==◌, refl, sym, ap, subst, ◌∙◌, arith, rules}
 use Rattle.std.specs.List.{AllZip}
 use Rattle.std.proofs.lemmas.Bool.{eqb-true, true≢false}
@@ -7,7 +8,8 @@ use Rattle.std.proofs.lemmas.Slice.Zip.{AllZip-long}
 use Rattle.std.proofs.lemmas.Option.{same_Some}
 use Rattle.std.proofs.lemmas.Slice.Eq.{bytes_eq-Decides}
 use Rattle.bi_blob.specs.Lookups.{Sibling, root_node, node_named}
-use Rattle.bi_blob.specs.Tree.{Nodes, none, node, FileNode, Root, AreNodes, AreProperties, IsTree, IsNew, names, properties_of, tree_without_places, with_each}
+use Rattle.bi_blob.specs.Tree.{Nodes, none, node, FileNode, Root, AreNodes, AreProperties, IsTree, IsNew, names, properties_of}
+use Rattle.bi_blob.specs.Tree.{tree_without_places, with_each}
 use Rattle.bi_blob.proofs.Blobs.Lookups.{names-with_each}
 use Rattle.bi_coverage.specs.ChildNumbers.{Children, child_number}
 use Rattle.bi_coverage.specs.Coverage.{names_end}
@@ -137,7 +139,8 @@ module _ (file : List ℕ) (root : Root FileNode) (children : List Children) (en
 
   -- The children of the node.
   its_children : (numbers : Children) → slice_get children number ≡ Some numbers → HasChildren at.index.nodes at.sibling numbers
-  its_children numbers is = zipped_at (HasChildren at.index.nodes) at.index.nodes children number at.sibling numbers at.index.have_children at.there is
+  its_children numbers is =
+      zipped_at (HasChildren at.index.nodes) at.index.nodes children number at.sibling numbers at.index.have_children at.there is
 
   -- A child has the name.
   pub at_child : (numbers : Children) (name later : List ℕ) (child : ℕ) → slice_get children number ≡ Some numbers →

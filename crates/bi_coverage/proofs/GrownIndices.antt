@@ -1,4 +1,5 @@
-use Rattle.std.proofs.Common.{◌≡◌, ℕ, suc, ◌+◌, ◌<◌, ◌≤◌, List, [], ◌∷◌, ◌++◌, map, length, drop, get_or, Some, slice_get, refl, sym, ap, subst, ◌∙◌, arith}
+use Rattle.std.proofs.Common.{◌≡◌, ℕ, suc, ◌+◌, ◌<◌, ◌≤◌, List, [], ◌∷◌, ◌++◌, map, length, drop, get_or, Some, slice_get, refl, sym, ap}
+use Rattle.std.proofs.Common.{subst, ◌∙◌, arith}
 use Rattle.std.proofs.Common.{append_assoc, append-nil, length-append, rules}
 use Rattle.std.specs.Prelude.{⊤}
 use Rattle.std.specs.List.{AllByRecursion, AllZip}
@@ -100,7 +101,8 @@ module _ (file : List ℕ) (root : Root FileNode) (nodes : List (Sibling FileNod
   grown_more more numbers is has = record {
     done = grown.done ++ next ∷ [];
     left = rest ++ siblings next.children;
-    split = is ∙ ap (λ l. l ++ siblings next.children) (grown.split ∙ ap (λ l. grown.done ++ l) left_next ∙ sym (append_assoc grown.done (next ∷ []) rest))
+    split =
+        is ∙ ap (λ l. l ++ siblings next.children) (grown.split ∙ ap (λ l. grown.done ++ l) left_next ∙ sym (append_assoc grown.done (next ∷ []) rest))
         ∙ append_assoc (grown.done ++ next ∷ []) rest (siblings next.children);
     is_root = ap (λ l. slice_get l 0) is ∙ get_front nodes (siblings next.children) 0 grown.some ∙ grown.is_root;
     some = omega (arith, grown.some, ap length is, length-append nodes (siblings next.children));
@@ -121,7 +123,8 @@ module _ (file : List ℕ) (root : Root FileNode) (nodes : List (Sibling FileNod
   fewer_left more count is is_count =
       let moved : drop count more ≡ rest ++ siblings next.children =
       ap (λ n. drop n more) is_count
-      ∙ ap (drop (length children + 1)) (is ∙ ap (λ l. l ++ siblings next.children) (grown.split ∙ ap (λ l. grown.done ++ l) left_next ∙ sym (append_assoc grown.done (next ∷ []) rest))
+      ∙ ap (drop (length children + 1))
+      (is ∙ ap (λ l. l ++ siblings next.children) (grown.split ∙ ap (λ l. grown.done ++ l) left_next ∙ sym (append_assoc grown.done (next ∷ []) rest))
       ∙ append_assoc (grown.done ++ next ∷ []) rest (siblings next.children))
       ∙ drop_front (grown.done ++ next ∷ []) (rest ++ siblings next.children) (length children + 1)
       (omega (arith, length-append grown.done (next ∷ []), AllZip-long _ grown.done children grown.have_children)) in
@@ -171,7 +174,8 @@ module _ (file : List ℕ) (root : Root FileNode) (items : List NodeRef) (childr
   -- Its tokens are in the file.
   pub tokens_next : HasTokens file (node_of next)
   tokens_next =
-      next_tokens file root (map node_of items) children ends grown (node_of next) (drop (length children + 1) (map node_of items)) from_next
+      next_tokens file root (map node_of items) children ends grown (node_of next)
+      (drop (length children + 1) (map node_of items)) from_next
 
   -- It has its children and its end.
   pub grown_next : (more : List NodeRef) (numbers : Children) (later : List Children) (end : ℕ) (later_ends : List ℕ) →
@@ -183,7 +187,8 @@ module _ (file : List ℕ) (root : Root FileNode) (items : List NodeRef) (childr
       let long : length items ≡ length (map node_of items) = sym (simp length-map) in
       let after : drop (length items) (map node_of more) ≡ siblings (node_of next).children =
       ap (drop (length items)) is ∙ drop_front (map node_of items) (siblings (node_of next).children) (length items) long in
-      let whole = grown_more file root (map node_of items) children ends grown (node_of next) (drop (length children + 1) (map node_of items))
+      let whole = grown_more file root (map node_of items) children ends grown (node_of next)
+      (drop (length children + 1) (map node_of items))
       from_next (map node_of more) numbers is
       (subst (λ n. HasNumbersFrom n (siblings (node_of next).children) numbers) long
       (subst (λ l. HasNumbersFrom (length items) l numbers) after has)) in

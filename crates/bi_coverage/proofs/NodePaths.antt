@@ -27,7 +27,8 @@ path_text-child (first ∷ later) name =
     ∙ ap (λ l. joined (first ∷ later) ++ 47 ∷ l) (append-nil name)
 
 -- Two paths begin with the same name.
-pub same_name : (name other later rest : List ℕ) → AllByRecursion (λ byte. byte ≢ 47) name → AllByRecursion (λ byte. byte ≢ 47) other → IsRestOfPath later → IsRestOfPath rest →
+pub same_name : (name other later rest : List ℕ) → AllByRecursion (λ byte. byte ≢ 47) name →
+    AllByRecursion (λ byte. byte ≢ 47) other → IsRestOfPath later → IsRestOfPath rest →
     name ++ later ≡ other ++ rest → (name ≡ other) × (later ≡ rest)
 same_name [] [] later rest plain other_plain is_later is_rest same = (refl, same)
 same_name [] (byte ∷ other) [] rest plain other_plain is_later is_rest same = absurd cc
@@ -142,7 +143,8 @@ module _ {Own : Type 0} where
   owns_found (Some sibling) (byte ∷ later) = owns_with [] sibling.children (byte ∷ later)
 
   -- The node of a path is below the node that has its first name.
-  pub owns_by_name : (IsOwn : Own → Type 0) (nodes : Nodes Own) (name later : List ℕ) → AreNodes IsOwn nodes → AllByRecursion (λ byte. byte ≢ 47) name →
+  pub owns_by_name : (IsOwn : Own → Type 0) (nodes : Nodes Own) (name later : List ℕ) → AreNodes IsOwn nodes →
+      AllByRecursion (λ byte. byte ≢ 47) name →
       IsRestOfPath later → owns_with [] nodes (47 ∷ (name ++ later)) ≡ owns_found (node_named nodes name) later
   owns_by_name IsOwn none name later are plain is_rest = refl
   owns_by_name IsOwn (node first own children others) name later are plain is_rest =

@@ -1,4 +1,5 @@
-use Rattle.std.proofs.Common.{◌≡◌, ℕ, List, [], ◌∷◌, ◌++◌, Bool, true, false, Option, Some, None, Bor, filter, flat_map, refl, sym, ap, ◌∙◌, rules}
+use Rattle.std.proofs.Common.{◌≡◌, ℕ, List, [], ◌∷◌, ◌++◌, Bool, true, false, Option, Some, None, Bor, filter, flat_map, refl, sym, ap, ◌∙◌}
+use Rattle.std.proofs.Common.{rules}
 use Rattle.std.specs.Prelude.{MatchOption}
 use Rattle.std.specs.Option.{option_map}
 use Rattle.std.proofs.lemmas.List.Elements.{filter-append}
@@ -26,14 +27,16 @@ module _ (is_image : List ℕ → Bool) (held : List (List ℕ)) where
       with_all_new held (filter is_image (flat_map names_in (property ∷ later)))
       ≡ with_all_new held (filter is_image (flat_map names_in later))
   no_list property later none =
-      property_first property later ∙ ap (λ l. with_all_new (with_all_new held (filter is_image l)) (filter is_image (flat_map names_in later))) none
+      property_first property later
+      ∙ ap (λ l. with_all_new (with_all_new held (filter is_image l)) (filter is_image (flat_map names_in later))) none
 
   -- A property that lists the names of a value.
   pub list_first : (property : Property) (later : List Property) (list : List ℕ) → names_in property ≡ listed_names list →
       with_all_new held (filter is_image (flat_map names_in (property ∷ later)))
       ≡ with_all_new (with_all_new held (filter is_image (listed_names list))) (filter is_image (flat_map names_in later))
   list_first property later list all =
-      property_first property later ∙ ap (λ l. with_all_new (with_all_new held (filter is_image l)) (filter is_image (flat_map names_in later))) all
+      property_first property later
+      ∙ ap (λ l. with_all_new (with_all_new held (filter is_image l)) (filter is_image (flat_map names_in later))) all
 
   -- The first name of a list is an image's.
   pub image_first : (value name later : List ℕ) → BeginsWithName value name later → is_image name ≡ true →
@@ -41,7 +44,8 @@ module _ (is_image : List ℕ → Bool) (held : List (List ℕ)) where
   image_first value name later begins is =
       ap (λ names. with_all_new held (filter is_image names)) begins.listed ∙ rest
     where
-      rest : with_all_new held (filter is_image (name ∷ listed_names later)) ≡ with_all_new (with_new held name) (filter is_image (listed_names later))
+      rest : with_all_new held (filter is_image (name ∷ listed_names later))
+          ≡ with_all_new (with_new held name) (filter is_image (listed_names later))
       rest = rw is refl
 
   -- Or it is not.

@@ -63,7 +63,8 @@ get_mapped f [] index thing within = absurd (omega arith)
 get_mapped f (first ∷ later) zero thing within = refl
 get_mapped f (first ∷ later) (suc index) thing within = get_mapped f later index thing (omega arith)
 
-module _ (content : FitModel) (held : IsHeld content) (lists : List (Vec (Bor (List ℕ)))) (are : name_lists lists ≡ covered_by_images content)
+module _ (content : FitModel) (held : IsHeld content) (lists : List (Vec (Bor (List ℕ))))
+    (are : name_lists lists ≡ covered_by_images content)
     (name : List ℕ) (index : ℕ) (is : index_of name content.images ≡ Some index) where
   there : slice_get (name_lists lists) index ≡ Some (covered_below (tree_of content) name)
   there = ap (λ l. slice_get l index) are ∙ covered_at content held name index is
@@ -98,7 +99,8 @@ coverage_read content configuration name signed names parts signatures is_name a
     ∙ ap (λ names. map (signature_with content names parts) (map meaning_of_node signed)) are_names
     ∙ ap (λ parts. map (signature_with content (references tree configuration) parts) (map meaning_of_node signed)) needed
     ∙ ap (map (signature_with content (references tree configuration) (needed_parts tree configuration))) are_signed in
-    let make : List ℕ → List SignatureCoverage → ConfigurationCoverage = λ name signatures. record { name = name; signatures = signatures } in
+    let make : List ℕ → List SignatureCoverage → ConfigurationCoverage =
+    λ name signatures. record { name = name; signatures = signatures } in
     ap (λ name. make name signatures) is_name ∙ ap (make configuration.name) all
 
 -- One without signed nodes.
@@ -106,7 +108,8 @@ pub coverage_empty : (content : FitModel) (configuration : Sibling PropertyMap) 
     name ≡ configuration.name → signed_nodes configuration ≡ [] → signatures ≡ [] →
     record { name = name; signatures = signatures } ≡ configuration_coverage content configuration
 coverage_empty content configuration name signatures is_name nothing empty =
-    let make : List ℕ → List SignatureCoverage → ConfigurationCoverage = λ name signatures. record { name = name; signatures = signatures } in
+    let make : List ℕ → List SignatureCoverage → ConfigurationCoverage =
+    λ name signatures. record { name = name; signatures = signatures } in
     let all : signatures ≡ map (signature_coverage content configuration) (signed_nodes configuration) =
     empty ∙ ap (map (signature_coverage content configuration)) (sym nothing) in
     ap (λ name. make name signatures) is_name ∙ ap (make configuration.name) all

@@ -1,4 +1,5 @@
-use Rattle.std.specs.Prelude.{ℕ, ◌+◌, ◌==◌, Bool, false, not, ◌&&◌, List, [], ◌∷◌, ◌++◌, length, map}
+use Rattle.std.specs.Prelude.{ℕ, ◌+◌, ◌==◌, Bool, false, not, ◌&&◌, List, [], ◌∷◌, ◌++◌, length}
+use Rattle.std.specs.Prelude.{map}
 use Rattle.std.specs.Prelude.{filter, flat_map, Option, None, Some, codes, nat_le, if◌then◌else◌}
 use Rattle.std.specs.FinMap.{get}
 use Rattle.std.specs.List.{list_all}
@@ -73,8 +74,8 @@ path_concerns tree configuration signature =
 
 -- ---- the strings block
 
--- The property of a signature node that has the offset and the size of the part of the strings block
--- that was hashed.
+-- The property of a signature node that has the offset and the size of the part of the strings
+-- block that was hashed.
 abbrev pub hashed_strings_name : List ℕ
 hashed_strings_name = codes "hashed-strings"
 

@@ -8,5 +8,4 @@ pub mod PathParts
 pub mod NodeIndices
 pub mod ReferenceOrders
 pub mod IndexedFits
-pub mod NeededPaths
 pub mod KnownCoverage

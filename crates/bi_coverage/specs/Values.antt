@@ -11,11 +11,10 @@ use Rattle.bi_fit.specs.NormalNodes.{properties_by_name, nodes_by_name}
 use Rattle.bi_coverage.specs.declared.concern.SignatureConcern.{SignatureConcern as ConcernValue}
 use Rattle.bi_coverage.specs.declared.concern.SignatureConcern.TheVariants as concern
 use Rattle.bi_coverage.specs.declared.needed_part.NeededPart.{NeededPart as PartValue}
-use Rattle.bi_coverage.specs.declared.reading.ConfigurationCoverage.{ConfigurationCoverage as ConfigurationValue}
-use Rattle.bi_coverage.specs.declared.reading.SignatureCoverage.{SignatureCoverage as SignatureValue}
+use Rattle.bi_coverage.specs.declared.reading.ConfigurationCoverage as configuration
+use Rattle.bi_coverage.specs.declared.reading.SignatureCoverage as signature
 use Rattle.bi_coverage.specs.Coverage.{SignatureConcern, NoNodes, NoImages, Uncovered, Foreign}
 use Rattle.bi_coverage.specs.Coverage.{Strings, SignatureCoverage, ConfigurationCoverage}
-use Rattle.bi_coverage.specs.NeededPaths.{needed_path}
 use Rattle.bi_coverage.specs.Signatures.{NeededPart}
 
 -- Values as the code has them.
@@ -45,22 +44,22 @@ listed_by value = listed_names value.now
 abbrev pub concern_value : ConcernValue → SignatureConcern
 concern_value concern.NoNodes = NoNodes
 concern_value concern.NoImages = NoImages
-concern_value (concern.Uncovered path) = Uncovered (needed_path path)
+concern_value (concern.Uncovered path) = Uncovered path.items
 concern_value (concern.Foreign path) = Foreign path.now
 concern_value concern.Strings = Strings
 
 -- What is known of a signature node.
-abbrev pub signature_value : SignatureValue → SignatureCoverage
-signature_value signature = record {
-  name = signature.name.now;
-  concerns = map concern_value signature.concerns.items;
+abbrev pub signature_value : signature.SignatureCoverage → SignatureCoverage
+signature_value value = record {
+  name = value.name.now;
+  concerns = map concern_value value.concerns.items;
 }
 
 -- What is known of a configuration.
-abbrev pub configuration_value : ConfigurationValue → ConfigurationCoverage
-configuration_value configuration = record {
-  name = configuration.name.now;
-  signatures = map signature_value configuration.signatures.items;
+abbrev pub configuration_value : configuration.ConfigurationCoverage → ConfigurationCoverage
+configuration_value value = record {
+  name = value.name.now;
+  signatures = map signature_value value.signatures.items;
 }
 
 -- A needed part.

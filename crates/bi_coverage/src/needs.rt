@@ -13,7 +13,7 @@ use crate::needed_part::NeededPart;
 #[derive(Clone, Copy)]
 pub(crate) struct Needs<'a, 'p, 'q> {
     pub(crate) references: &'p [&'a [u8]],
-    pub(crate) parts: &'p [NeededPart<'a>],
+    pub(crate) parts: &'p [NeededPart],
     pub(crate) paths: &'q NameSet<'p>,
     ghost are_paths: { paths.now ≡ each_once (paths_of_parts (map part_value parts.now)) },
 }

@@ -23,7 +23,7 @@ ghost use Rattle.bi_coverage.specs.Signatures.{recorded_paths};
 ghost use Rattle.bi_coverage.specs.Values.{configuration_value, signature_value, concern_value};
 ghost use Rattle.bi_coverage.specs.Values.{meaning_of_node, part_value};
 
-use crate::concern::{NeededPath, SignatureConcern};
+use crate::concern::SignatureConcern;
 use crate::covered_names::covered_by_image;
 use crate::listed_paths::{is_covered, listed_paths};
 use crate::name_set::NameSet;
@@ -34,7 +34,7 @@ use crate::needed_part::NeededPart;
 use crate::needs::Needs;
 use crate::node_index::NodeIndex;
 use crate::references::{order_by_names, references};
-use crate::signed::{recorded_list, signed_nodes};
+use crate::signed::{has_signed_node, recorded_list, signed_nodes};
 use crate::strings::has_strings;
 use bi_base::{Error, Fault, Limits};
 use bi_fdt::{NodeRef, PropertyOrder};
@@ -68,6 +68,50 @@ pub struct ConfigurationCoverage<'a> {
 ///
 /// Errors: TooLarge at that limit, only if they are more; OutOfMemory.
 pub fn read_coverage<'a>(
+    alloc: Global,
+    fit: &Fit<'a>,
+    limits: Limits,
+) -> Result<Vec<ConfigurationCoverage<'a>>, Error>
+    requires held { IsHeld fit.now }
+    ensures read { IfOk result (λ read. map configuration_value read.items ≡ coverage_of fit.now) }
+    ensures within { IfOk result (λ _. all_needed_length (tree_of fit.now) ≤ limits.file) }
+    ensures failed { IfErr result (IsFaultOrNoMemory (λ fault. (fault ≡ too_large limits.file)
+        × (limits.file < all_needed_length (tree_of fit.now)))) }
+{
+    if let Some(read) = unsigned_configurations(alloc, fit)? {
+        return Ok(read);
+    }
+    read_configurations(alloc, fit, limits)
+}
+
+/// Returns the configurations of a flattened image tree, in their order in the file, if none of
+/// them has a signed node. Returns None if one of them has. Fails if memory runs out. Requires: the
+/// tree was read.
+fn unsigned_configurations<'a>(
+    alloc: Global,
+    fit: &Fit<'a>,
+) -> Result<Option<Vec<ConfigurationCoverage<'a>>>, AllocError>
+    requires held { IsHeld fit.now }
+    ensures read { IfOk result (λ found. IfSome found (λ read.
+        map configuration_value read.items ≡ coverage_of fit.now)) }
+    ensures none_needed { IfOk result (λ found. IfSome found (λ _.
+        all_needed_length (tree_of fit.now) ≡ 0)) }
+{
+    let mut read = Vec::new(alloc);
+    for configuration in fit.configuration_nodes() {
+        if has_signed_node(configuration) {
+            return Ok(None);
+        }
+        read.push(ConfigurationCoverage {
+            name: configuration.name(),
+            signatures: Vec::new(alloc),
+        })?;
+    }
+    Ok(Some(read))
+}
+
+/// Does what `read_coverage` does, with an index of the tree.
+fn read_configurations<'a>(
     alloc: Global,
     fit: &Fit<'a>,
     limits: Limits,
@@ -197,7 +241,7 @@ impl<'a, 'b> IndexedFit<'a, 'b> {
         alloc: Global,
         signed: &[NodeRef<'a, '_>],
         references: &[&'a [u8]],
-        parts: &[NeededPart<'a>],
+        parts: &[NeededPart],
     ) -> Result<Vec<SignatureCoverage<'a>>, AllocError>
         ensures { IfOk result (λ read. map signature_value read.items ≡ map
             (signature_with self.now.content (bytes_of references.now)
@@ -256,15 +300,15 @@ impl<'a, 'b> IndexedFit<'a, 'b> {
     fn needed_parts(
         &self,
         alloc: Global,
-        name: &'a [u8],
-        references: &[&'a [u8]],
-    ) -> Result<Vec<NeededPart<'a>>, AllocError>
+        name: &[u8],
+        references: &[&[u8]],
+    ) -> Result<Vec<NeededPart>, AllocError>
         ensures { IfOk result (λ parts. map part_value parts.items ≡ parts_for
-            (tree_of self.now.content) name.entry.now (bytes_of references.now)) }
+            (tree_of self.now.content) name.now (bytes_of references.now)) }
     {
         let mut parts = Vec::new(alloc);
-        parts.push(single_part(alloc, NeededPath::Root)?)?;
-        parts.push(single_part(alloc, NeededPath::Configuration(name))?)?;
+        parts.push(single_part(alloc, &[])?)?;
+        parts.push(single_part(alloc, &[b"configurations", name])?)?;
         for image in references {
             parts.push(image_part(alloc, image, self.covered(image))?)?;
         }
@@ -368,10 +412,10 @@ fn add_image_concern(
 
 /// Adds the concerns about the parts that are not covered by recorded paths. Fails if memory runs
 /// out.
-fn add_uncovered<'a>(
-    concerns: &mut Vec<SignatureConcern<'a>>,
+fn add_uncovered(
+    concerns: &mut Vec<SignatureConcern>,
     recorded: &NameSet,
-    parts: &[NeededPart<'a>],
+    parts: &[NeededPart],
 ) -> Result<(), AllocError>
     ensures { OnOk result (map concern_value concerns.new.items
         ≡ map concern_value concerns.old.items
@@ -379,7 +423,7 @@ fn add_uncovered<'a>(
 {
     for part in parts {
         if !is_covered(recorded, part) {
-            concerns.push(SignatureConcern::Uncovered(part.subject))?;
+            concerns.push(SignatureConcern::Uncovered(part.path.clone()?))?;
         }
     }
     Ok(())

@@ -1,7 +1,9 @@
 //! The signed nodes of configurations, and the lists in them.
 
 ghost use Rattle.std.specs.Prelude.{◌≡◌, map, IfOk};
+ghost use Rattle.std.specs.List.{list_any};
 ghost use Rattle.std.specs.Option.{option_map};
+ghost use Rattle.bi_blob.specs.Lookups.{siblings};
 ghost use Rattle.bi_coverage.specs.Signatures.{is_signed, has_bytes, signed_nodes, list_of_names};
 ghost use Rattle.bi_coverage.specs.Signatures.{recorded_paths};
 ghost use Rattle.bi_coverage.specs.Values.{meaning_of_node, listed_by};
@@ -29,6 +31,19 @@ fn has_bytes(value: Option<&[u8]>) -> bool
         Some(value) => !value.is_empty(),
         None => false,
     }
+}
+
+/// Returns whether a configuration has a signed node.
+pub(crate) fn has_signed_node(configuration: NodeRef) -> bool
+    ensures { result ≡ list_any is_signed
+        (siblings (meaning_of_node configuration.entry).children) }
+{
+    for child in Siblings::children(configuration) {
+        if is_signed(child) {
+            return true;
+        }
+    }
+    false
 }
 
 /// Returns the signed nodes of a configuration, in order. Fails if memory runs out.

@@ -15,6 +15,7 @@ pub mod FoundConcerns
 pub mod PrintedDetails
 pub mod LaterPuts
 pub mod AsciiReports
+pub mod ByteConcerns
 pub mod ListedResults
 pub mod OffsetLists
 pub mod ImageStarts

@@ -1,4 +1,5 @@
-use Rattle.std.proofs.Common.{◌≡◌, ℕ, Bool, true, false, List, [], ◌∷◌, ◌++◌, bytes_eq, if◌then◌else◌, map, refl, sym, ap, ap₂, append_assoc, append-nil, ◌∙◌}
+use Rattle.std.proofs.Common.{◌≡◌, ℕ, Bool, true, false, List, [], ◌∷◌, ◌++◌, bytes_eq, if◌then◌else◌, refl, sym, ap, ap₂, append_assoc}
+use Rattle.std.proofs.Common.{append-nil, ◌∙◌}
 use Rattle.std.specs.FinMap.{from_entries}
 use Rattle.bi_blob.specs.Lookups.{Sibling}
 use Rattle.bi_blob.specs.Tree.{Nodes, none, node, FileNode, PropertyMap, properties_of, with_each}
@@ -7,7 +8,6 @@ use Rattle.bi_fit.specs.Content.{FitModel, tree_of}
 use Rattle.bi_fit.specs.ImageTree.{with_children_of, without_payloads}
 use Rattle.bi_fit.specs.Names.{images_name}
 use Rattle.bi_fit.specs.NormalNodes.{alone}
-use Rattle.bi_coverage.specs.Paths.{path_text}
 use Rattle.bi_report.specs.SignedTrees.{addresses_below, has_address, unit_addresses}
 
 -- The unit addresses of a file are those of the tree that it means: they are in the names of nodes alone.
@@ -47,11 +47,10 @@ addresses_of_children wanted parent (node name own children later) = by (bytes_e
 pub addresses_of_tree : (content : FitModel) → unit_addresses (root_of content.blob) ≡ unit_addresses (tree_of content).root
 addresses_of_tree content =
     let children = (root_of content.blob).children in
-    ap (map path_text)
-    (sym
+    sym
     (addresses_of_children images_name [] (with_each from_entries (with_each properties_of children))
     ∙ addresses_each from_entries [] (with_each properties_of children)
-    ∙ addresses_each properties_of [] children))
+    ∙ addresses_each properties_of [] children)
 
 -- The unit addresses of a node and of the nodes after it.
 pub addresses_first : (parent : List (List ℕ)) (first : Sibling FileNode) →

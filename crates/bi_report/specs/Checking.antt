@@ -1,5 +1,6 @@
 use Rattle.std.specs.Prelude.{ℕ, ◌+◌, ◌-◌, ◌≡◌, ◌&&◌, ◌||◌, ◌==◌, max, Bool, false, not, List, []}
-use Rattle.std.specs.Prelude.{◌∷◌, ◌++◌, Option, Some, None, length, map, filter, flat_map, drop, codes}
+use Rattle.std.specs.Prelude.{◌∷◌, ◌++◌, Option, Some, None, length, map, filter, flat_map, drop}
+use Rattle.std.specs.Prelude.{codes}
 use Rattle.std.specs.Prelude.{bytes_eq, unwrap_or, if◌then◌else◌}
 use Rattle.std.specs.FinMap.{get}
 use Rattle.std.specs.List.{list_all, list_any}
@@ -26,7 +27,8 @@ use Rattle.bi_report.specs.declared.check.Allowed.{Allowed}
 use Rattle.bi_report.specs.declared.check.Policy.{Policy}
 use Rattle.bi_report.specs.declared.check.ConcernKind.{ConcernKind}
 use Rattle.bi_report.specs.declared.check.ConcernKind.TheVariants as kind
-use Rattle.bi_report.specs.Details.{Detail, NameDetail, WordDetail, NumberDetail, NamesDetail}
+use Rattle.bi_report.specs.Details.{Detail, NameDetail, PathDetail, WordDetail, NumberDetail}
+use Rattle.bi_report.specs.Details.{NamesDetail}
 use Rattle.bi_report.specs.Details.{details_line, details_object}
 use Rattle.bi_report.specs.Reports.{hash_details}
 use Rattle.bi_report.specs.SignedTrees.{coverage_in, is_any_signed, unit_addresses}
@@ -53,8 +55,8 @@ pub data Concern : Type 0 where
   Unsigned : (configuration : Option (List ℕ)) → Concern
   -- What a signed node of a configuration does not cover.
   OfSignature : (configuration signature : List ℕ) → SignatureConcern → Concern
-  -- A node with this path, whose name has a unit address.
-  UnitAddress : (path : List ℕ) → Concern
+  -- A node whose name has a unit address. These are the names on its path.
+  UnitAddress : (names : List (List ℕ)) → Concern
   -- A default that names no configuration, or is not there.
   BadDefault : (default : Option (List ℕ)) → Concern
   -- This many bytes follow an image, and one of them is not zero.
@@ -78,7 +80,7 @@ kind_of (BadKey configuration key) = kind.BadList
 kind_of (MissingImage configuration key index) = kind.Missing
 kind_of (Unsigned configuration) = kind.Unsigned
 kind_of (OfSignature configuration signature concern) = kind_of_signature concern
-kind_of (UnitAddress path) = kind.UnitAddress
+kind_of (UnitAddress names) = kind.UnitAddress
 kind_of (BadDefault default) = kind.BadDefault
 kind_of (TrailingBytes count) = kind.Trailing
 
@@ -128,7 +130,7 @@ later_details (Unsigned configuration) = NameDetail (codes "configuration") conf
 later_details (OfSignature configuration signature concern) =
     NameDetail (codes "configuration") (Some configuration)
     ∷ NameDetail (codes "signature") (Some signature) ∷ path_details concern
-later_details (UnitAddress path) = NameDetail (codes "path") (Some path) ∷ []
+later_details (UnitAddress names) = PathDetail (codes "path") names ∷ []
 later_details (BadDefault default) = NameDetail (codes "default") default ∷ []
 later_details (TrailingBytes count) = NumberDetail (codes "size") count ∷ []
 
@@ -281,9 +283,10 @@ abbrev pub absence_concerns : List ConfigurationCoverage → List Concern
 absence_concerns [] = Unsigned None ∷ []
 absence_concerns (first ∷ later) = []
 
--- The concerns about the nodes with these paths, whose names have unit addresses. U-Boot refuses
--- such names where it verifies signatures.
-abbrev pub address_concerns : List ConfigurationCoverage → (paths : List (List ℕ)) → List Concern
+-- The concerns about the nodes with these names on their paths, whose own names have unit
+-- addresses. U-Boot refuses such names where it verifies signatures.
+abbrev pub address_concerns : List ConfigurationCoverage → (paths : List (List (List ℕ)))
+    → List Concern
 address_concerns coverage paths = if is_any_signed coverage then map UnitAddress paths else []
 
 -- ---- a whole tree

@@ -6,7 +6,6 @@ use Rattle.bi_fdt.specs.Properties.{file_property_of}
 use Rattle.bi_fdt.specs.Views.{node_of}
 use Rattle.bi_fit.specs.JudgementCalls.{checked_hash_of}
 use Rattle.bi_fit.specs.Judgement.{CheckedHash}
-use Rattle.bi_coverage.specs.Paths.{path_text}
 use Rattle.bi_coverage.specs.Coverage.{coverage_of}
 use Rattle.bi_coverage.specs.Values.{concern_value as signature_value, configuration_value}
 use Rattle.bi_fdt.specs.Content.{root_of}
@@ -55,8 +54,8 @@ concern_value (concern.MissingImage node key index) = MissingImage (node_of node
 concern_value (concern.Unsigned configuration) =
     Unsigned (option_map (λ name. name.now) configuration)
 concern_value (concern.OfSignature configuration signature of_signature) =
-    OfSignature configuration.now signature.now (signature_value of_signature)
-concern_value (concern.UnitAddress names) = UnitAddress (path_text (bytes_of names.now))
+    OfSignature configuration.now signature.now (signature_value of_signature.now)
+concern_value (concern.UnitAddress names) = UnitAddress (bytes_of names.now)
 concern_value (concern.BadDefault name property) = BadDefault (option_map (λ name. name.now) name)
 concern_value (concern.TrailingBytes count) = TrailingBytes count
 

@@ -3,7 +3,6 @@ use Rattle.std.specs.Borrow.{Bor}
 use Rattle.std.specs.Global.{Vec}
 use Rattle.bi_base.specs.Slices.{bytes_of}
 use Rattle.bi_coverage.specs.Coverage.{SignatureConcern, SignatureCoverage}
-use Rattle.bi_coverage.specs.Paths.{path_text}
 use Rattle.bi_coverage.specs.Values.{concern_value, configuration_value, signature_value}
 use Rattle.bi_fdt.specs.Views.{node_of}
 use Rattle.bi_fit.specs.Names.{all_keys}
@@ -89,7 +88,7 @@ abbrev pub found_in_paths : List (Vec (Bor (List ℕ))) → List FoundConcern
 found_in_paths paths =
     map
     (λ path. record {
-      concern = UnitAddress (path_text (bytes_of path.items));
+      concern = UnitAddress (bytes_of path.items);
       subject = NamedNodes;
     })
     paths

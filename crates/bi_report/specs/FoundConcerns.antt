@@ -99,7 +99,7 @@ found_in_signatures coverage =
     concerns_about NamedNodes (absence_concerns coverage) ++ flat_map found_in_coverage coverage
 
 -- The concerns about the nodes with these paths, if one of the configurations is signed.
-abbrev pub found_in_addresses : List ConfigurationCoverage → (paths : List (List ℕ))
+abbrev pub found_in_addresses : List ConfigurationCoverage → (paths : List (List (List ℕ)))
     → List FoundConcern
 found_in_addresses coverage paths = concerns_about NamedNodes (address_concerns coverage paths)
 

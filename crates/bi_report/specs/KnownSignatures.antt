@@ -83,9 +83,9 @@ pub record SignatureConcernsAreKnown : Type 0 where
       ++ codes "\"signature\":\"signature-1\",\"path\":\"/images/ramdisk-1\"}]}"
       ∷ [])
   pub other_json : concerns_text Json nothing_allowed
-      (SkippedHash (codes "a") (codes "hash-1") ∷ Unsigned None ∷ UnitAddress (codes "/a@1") ∷ [])
+      (SkippedHash (codes "a") (codes "hash-1") ∷ Unsigned None ∷ UnitAddress (codes "-" ∷ codes "a@1" ∷ []) ∷ [])
       ≡ lines
       (codes "{\"concerns\":[{\"concern\":\"skipped-hash\",\"image\":\"a\",\"node\":\"hash-1\"},"
       ++ (codes "{\"concern\":\"unsigned\",\"configuration\":null},"
-      ++ codes "{\"concern\":\"unit-address\",\"path\":\"/a@1\"}]}")
+      ++ codes "{\"concern\":\"unit-address\",\"path\":\"/%2D/a@1\"}]}")
       ∷ [])

@@ -11,7 +11,6 @@ use Rattle.bi_norm.specs.Meaning.{Meaning, OfLegacy, OfFit}
 use Rattle.bi_common.specs.PayloadBounds.{IsOverPayloadBound}
 use Rattle.bi_coverage.specs.Coverage.{SignatureCoverage, ConfigurationCoverage, path_concerns}
 use Rattle.bi_coverage.specs.Coverage.{concerns_of_strings, hashed_strings_name}
-use Rattle.bi_coverage.specs.Paths.{path_text}
 use Rattle.bi_coverage.specs.Signatures.{signed_nodes, recorded_paths, all_needed_length}
 
 -- The signatures of the configurations of a flattened image tree, and the unit addresses in it
@@ -79,6 +78,7 @@ addresses_below parent (node name own children later) =
     (if has_address name then (parent ++ name ∷ []) ∷ [] else [])
     ++ (addresses_below (parent ++ name ∷ []) children ++ addresses_below parent later)
 
--- The paths of the nodes of a tree whose names have unit addresses, a node before those below it.
-abbrev pub unit_addresses : {Own : Type 0} → Root Own → List (List ℕ)
-unit_addresses root = map path_text (addresses_below [] root.children)
+-- The nodes of a tree whose names have unit addresses, a node before those below it: of each the
+-- names on its path.
+abbrev pub unit_addresses : {Own : Type 0} → Root Own → List (List (List ℕ))
+unit_addresses root = addresses_below [] root.children

@@ -1,18 +1,14 @@
 //! Details of what is reported on a boot image: the words of a line, or the members of an object in
 //! JSON.
 
-ghost use Rattle.std.specs.Prelude.{◌≡◌, [], ◌∷◌, Some, filter, flat_map, map};
+ghost use Rattle.std.specs.Prelude.{◌≡◌, [], ◌∷◌, filter, flat_map, map};
 ghost use Rattle.bi_fit.specs.JudgementCalls.{checked_hash_of};
-ghost use Rattle.bi_base.specs.Slices.{bytes_of};
-ghost use Rattle.bi_coverage.specs.NeededPaths.{needed_path};
-ghost use Rattle.bi_coverage.specs.Paths.{path_text};
-ghost use Rattle.bi_common.specs.Lines.{Name};
 ghost use Rattle.bi_common.specs.Json.{json_array};
 ghost use Rattle.bi_common.specs.JsonTokens.{json_tokens, member_tokens, value_tokens};
 ghost use Rattle.bi_common.specs.LineTokens.{line_tokens, one_field};
 ghost use Rattle.bi_common.specs.VerdictCounts.{is_verdict};
 ghost use Rattle.bi_report.specs.ConcernValues.{used_left};
-ghost use Rattle.bi_report.specs.Details.{NameDetail, detail_member, detail_words, details_line};
+ghost use Rattle.bi_report.specs.Details.{detail_member, detail_words, details_line};
 ghost use Rattle.bi_report.specs.Details.{details_object};
 ghost use Rattle.bi_report.specs.MadeDetails.{algorithm_strings, algorithm_words};
 ghost use Rattle.bi_report.specs.MadeDetails.{details_in, made_details};
@@ -23,7 +19,6 @@ use bi_common::json_writer::{
     JsonPen, JsonToken, JsonValue, digits_or_null, put_member, put_value, shown_or_null,
 };
 use bi_common::lines::LinePen;
-use bi_coverage::NeededPath;
 use bi_fit::Checked;
 use bi_hash::Verdict;
 use crate::used_hashes::UsedHashes;
@@ -35,8 +30,8 @@ pub(crate) enum Detail<'a, 'b> {
     Nothing,
     /// A name. If it is not there, the word is `-` and the value is `null`.
     Name(&'static str, Option<&'a [u8]>),
-    /// The path of a node that a signature must cover.
-    Needed(&'static str, NeededPath<'a>),
+    /// The path of a node that a signature must cover, as bytes.
+    Needed(&'static str, &'b [u8]),
     /// The path of a node: the names of the nodes on the way to it, without the root.
     Path(&'static str, &'b [&'a [u8]]),
     /// A word.
@@ -75,23 +70,12 @@ fn put_detail_words<L: LinePen>(detail: Detail, pen: &mut L)
     match detail {
         Detail::Nothing => {}
         Detail::Name(_, name) => pen.put_word(name_or_none(name)),
-        Detail::Needed(_, path) => put_needed_word(path, pen),
+        Detail::Needed(_, path) => pen.put_word(Field::Shown(path)),
         Detail::Path(_, names) => pen.put_word(Field::Path(names)),
         Detail::Word(_, word) => pen.put_word(Field::Text(word.as_bytes())),
         Detail::Number(_, number) => pen.put_word(Field::Decimal(number)),
         Detail::Digits(_, value) => pen.put_word(digits_or_none(value)),
         Detail::Algorithms(_, hashes) => put_algorithms(hashes, pen),
-    }
-}
-
-/// Puts the word for a path that a signature must cover.
-fn put_needed_word<L: LinePen>(path: NeededPath, pen: &mut L)
-    ensures { L.puts pen.old (one_field (Name (needed_path path.entry))) pen.new }
-{
-    match path {
-        NeededPath::Root => pen.put_word(Field::Path(&[])),
-        NeededPath::Configuration(name) => pen.put_word(Field::Path(&[b"configurations", name])),
-        NeededPath::Image(name) => pen.put_word(Field::Path(&[b"images", name])),
     }
 }
 
@@ -142,8 +126,12 @@ fn put_detail_member<J: JsonPen>(detail: Detail, json: &mut J)
     match detail {
         Detail::Nothing => {}
         Detail::Name(member, name) => put_member((member, shown_or_null(name)), json),
-        Detail::Needed(member, path) => put_needed_member(member, path, json),
-        Detail::Path(member, names) => put_path_member(member, names, json),
+        Detail::Needed(member, path) => {
+            put_member((member, JsonValue::String(Field::Shown(path))), json);
+        }
+        Detail::Path(member, names) => {
+            put_member((member, JsonValue::String(Field::Path(names))), json);
+        }
         Detail::Word(member, word) => {
             put_member(
                 (member, JsonValue::String(Field::Text(word.as_bytes()))),
@@ -157,29 +145,6 @@ fn put_detail_member<J: JsonPen>(detail: Detail, json: &mut J)
             put_algorithm_array(hashes, json);
         }
     }
-}
-
-/// Puts the member for a path that a signature must cover.
-fn put_needed_member<J: JsonPen>(member: &str, path: NeededPath, json: &mut J)
-    ensures { J.puts json.old
-        (member_tokens (detail_member (NameDetail member.now (Some (needed_path path.entry))) ∷ []))
-        json.new }
-{
-    match path {
-        NeededPath::Root => put_path_member(member, &[], json),
-        NeededPath::Configuration(name) => {
-            put_path_member(member, &[b"configurations", name], json);
-        }
-        NeededPath::Image(name) => put_path_member(member, &[b"images", name], json),
-    }
-}
-
-/// Puts the member for the path of a node with these names on the way to it.
-fn put_path_member<J: JsonPen>(member: &str, names: &[&[u8]], json: &mut J)
-    ensures { J.puts json.old (member_tokens (detail_member
-        (NameDetail member.now (Some (path_text (bytes_of names.now)))) ∷ [])) json.new }
-{
-    put_member((member, JsonValue::String(Field::Path(names))), json);
 }
 
 /// Puts the array of the algorithms of the Good ones of these hash nodes.

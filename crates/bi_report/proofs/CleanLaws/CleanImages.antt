@@ -3,12 +3,13 @@ use Rattle.std.proofs.Common.{is_some, filter, map, bytes_eq, refl, sym, ap, ap�
 use Rattle.std.specs.List.{AllByRecursion, list_any}
 use Rattle.std.proofs.lemmas.Bool.{and_parts}
 use Rattle.std.proofs.lemmas.Slice.Eq.{bytes_eq-Decides}
-use Rattle.bi_fit.specs.Judgement.{Image, CheckedHash}
+use Rattle.std.proofs.lemmas.Simd.{map-map}
+use Rattle.bi_fit.specs.Judgement.{Image, CheckedHash, checked_hash, hash_nodes}
 use Rattle.bi_hash.specs.declared.verdicts.Verdict.TheVariants.{Good}
 use Rattle.bi_common.specs.VerdictCounts.{is_verdict}
 use Rattle.bi_report.specs.declared.check.Allowed.{Allowed}
 use Rattle.bi_report.specs.Checking.{BadHash, JudgedHash, SkippedHash, kept_concerns, hash_concerns, image_concerns, is_good, is_strong}
-use Rattle.bi_report.specs.Checking.{judged_hashes, skip_concerns, used_hashes, verdict_concerns}
+use Rattle.bi_report.specs.Checking.{judged_hash, judged_hashes, skip_concerns, used_hashes, verdict_concerns}
 use Rattle.bi_report.specs.Checking.{is_strong_algorithm, payload_concerns, strong_algorithms, UnhashedImage, WeakHash}
 use Rattle.bi_report.specs.CleanFiles.{HasGoodHash, HasNoSkippedHash, HasStrongHash, IsHashed, IsNotWeak}
 use Rattle.bi_report.specs.Reports.{AreGood}
@@ -86,6 +87,25 @@ pub test_of_strong : (image : Image) → HasStrongHash image → list_any is_str
 test_of_strong image has =
     passes_any is_strong (used_hashes (judged_hashes image)) has.hash has.is_there
     (ap₂ (λ a b. a && b) (ap (is_verdict Good) has.is_good) (test_of_name has.hash.algo has.algorithm has.has_algorithm has.is_strong))
+
+-- The verdicts on the hash nodes of images are those of the tree.
+pub checked_are : (image : Image) → checked_of (judged_hashes image) ≡ map (checked_hash image) (hash_nodes image)
+checked_are image = map-map (λ (hash : JudgedHash). hash.checked) (judged_hash image) (hash_nodes image)
+
+pub verdicts_are : (images : List Image) →
+    flat_map (λ image. checked_of (judged_hashes image)) images
+    ≡ flat_map (λ image. map (checked_hash image) (hash_nodes image)) images
+verdicts_are [] = refl
+verdicts_are (image ∷ later) = ap₂ (λ (a b : List CheckedHash). a ++ b) (checked_are image) (verdicts_are later)
+
+-- If U-Boot skips none of them, it uses all of them.
+unskipped : (hashes : List JudgedHash) → AllByRecursion (λ hash. IsFalse hash.is_skipped) hashes → used_hashes hashes ≡ checked_of hashes
+unskipped [] each = refl
+unskipped (hash ∷ later) each = rw each.0 (ap (λ l. hash.checked ∷ l) (unskipped later each.1))
+
+pub used_are : (image : Image) → HasNoSkippedHash image →
+    used_hashes (judged_hashes image) ≡ map (checked_hash image) (hash_nodes image)
+used_are image none = unskipped (judged_hashes image) none ∙ checked_are image
 
 -- What an image without a line is.
 pub record IsCleanImage (allowed : Allowed) (image : Image) : Type 0 where

@@ -38,7 +38,7 @@ pub enum Concern<'a, 'b> {
     Unsigned(Option<&'a [u8]>),
     /// A signed node of a configuration does not cover all of it. The names are those of the
     /// configuration and of the node.
-    OfSignature(&'a [u8], &'a [u8], SignatureConcern<'a>),
+    OfSignature(&'a [u8], &'a [u8], &'b SignatureConcern<'a>),
     /// The name of a node has a unit address. These are the names of the nodes on the way to it,
     /// without the root.
     UnitAddress(&'b [&'a [u8]]),
@@ -134,8 +134,8 @@ impl<'a, 'b> Concern<'a, 'b> {
 }
 
 /// Returns the kind of a concern about a signed node.
-fn kind_of_signature(concern: SignatureConcern) -> ConcernKind
-    ensures { result ≡ kind_of_signature_concern (signature_value concern.entry) }
+fn kind_of_signature(concern: &SignatureConcern) -> ConcernKind
+    ensures { result ≡ kind_of_signature_concern (signature_value concern.now) }
 {
     match concern {
         SignatureConcern::NoNodes => ConcernKind::NoNodes,
@@ -147,8 +147,8 @@ fn kind_of_signature(concern: SignatureConcern) -> ConcernKind
 }
 
 /// Returns the detail for the path that a concern about a signed node names.
-fn path_detail<'a, 'b>(concern: SignatureConcern<'a>) -> Detail<'a, 'b>
-    ensures { details_in result ≡ path_details (signature_value concern.entry) }
+fn path_detail<'a, 'b>(concern: &'b SignatureConcern<'a>) -> Detail<'a, 'b>
+    ensures { details_in result ≡ path_details (signature_value concern.entry.now) }
 {
     match concern {
         SignatureConcern::Uncovered(path) => Detail::Needed("path", path),

@@ -38,7 +38,7 @@ impl<'a, 'b> Iterator for SignatureConcerns<'a, 'b> {
         Some(Concern::OfSignature(
             self.configuration,
             self.name,
-            *concern,
+            concern,
         ))
     }
 }

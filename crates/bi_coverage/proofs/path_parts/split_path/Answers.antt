@@ -7,5 +7,6 @@ split_at-requires c = omega (arith, c.slash_at.ensures, slash_within c.in_ok-fir
 
 pub returns : goal.returns
 returns c =
-    begins_with_node c.args.path.now c.in_ok-first.names.now _ _ c.in_ok-first.first.now _ c.in_ok-first.ensures.cases.0 c.if-first-ne47.false c.slash_at.ensures
+    begins_with_node c.args.path.now c.in_ok-first.names.now _ _ c.in_ok-first.first.now _
+    c.in_ok-first.ensures.cases.0 c.if-first-ne47.false c.slash_at.ensures
     c.split_at.ensures.front c.split_at.ensures.back

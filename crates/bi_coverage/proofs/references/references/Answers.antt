@@ -16,6 +16,7 @@ loop-property-preserved-in-Continue-1 c =
     let left = map (λ (keyed : KeyedProperty). property_of keyed.1) c.next.new.self in
     ap (λ held. with_all_new held (filter is_image (flat_map names_in left))) c.in_ok-add_images.ensures
     ∙ sym (list_first is_image c.loop-property.found property left c.in-Some-image_list.list.now c.in-Some-image_list.ensures)
-    ∙ ap (λ l. with_all_new c.loop-property.found (filter is_image (flat_map names_in (map (λ (keyed : KeyedProperty). property_of keyed.1) l))))
+    ∙ ap (λ l. with_all_new c.loop-property.found (filter is_image (flat_map names_in
+        (map (λ (keyed : KeyedProperty). property_of keyed.1) l))))
     (sym c.in-Some.ensures.steps)
     ∙ c.loop-property.invariant

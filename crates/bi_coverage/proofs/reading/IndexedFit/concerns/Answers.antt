@@ -14,7 +14,8 @@ pub returns : goal.returns
 returns c =
     strings_added c.args.self.now.content (node_of c.args.signature) (bytes_of c.args.needs.references.now)
     (map part_value c.args.needs.parts.now) (listed_names c.in-Some.list.now)
-    (option_map (λ value. value.now) c.property-strings.result) c.recorded_end.result (map concern_value c.add_path_concerns.new.concerns.items) _
+    (option_map (λ value. value.now) c.property-strings.result) c.recorded_end.result
+    (map concern_value c.add_path_concerns.new.concerns.items) _
     (sym c.recorded_list.ensures ∙ ap (option_map listed_by) c.in-Some.is)
     c.property-strings.ensures
     (c.recorded_end.ensures

@@ -11,7 +11,8 @@ use Rattle.bi_coverage.proofs.reading.IndexedFit.needed_length.Goals as goal
 
 pub returns-in_err-length-3-clause-fault : goal.returns-in_err-length-3-clause-fault
 returns-in_err-length-3-clause-fault c =
-    let all = total_length (paths_of_parts (parts_for (tree_of c.args.self.now.content) c.args.name.now (bytes_of c.args.references.now))) in
+    let all = total_length (paths_of_parts
+    (parts_for (tree_of c.args.self.now.content) c.args.name.now (bytes_of c.args.references.now))) in
     subst (λ (limit : ℕ). IfErr c.from_residual-in_err-length-3.result (λ fault. (fault ≡ too_large limit) × (limit < all)))
     (ap (λ (indexed : IndexedFit). indexed.limit) c.self.view_is)
     (fault_passed_on _ _ _ c.from_residual-in_err-length-3.ensures.1

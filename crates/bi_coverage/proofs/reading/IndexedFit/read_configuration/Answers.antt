@@ -68,7 +68,8 @@ returns-clause-read c =
     (c.in_ok-signatures.ensures
     ∙ ap (λ names. map (signature_with content names (map part_value c.deref-2.result.now)) (map meaning_of_node c.deref.result.now))
     (c.names-3.ensures ∙ sym c.names.ensures)
-    ∙ ap (λ parts. map (signature_with content (bytes_of c.names.result.now) (map part_value parts)) (map meaning_of_node c.deref.result.now))
+    ∙ ap (λ parts. map (signature_with content (bytes_of c.names.result.now) (map part_value parts))
+        (map meaning_of_node c.deref.result.now))
     c.deref-2.ensures.value
     ∙ ap (λ nodes. map (signature_with content (bytes_of c.names.result.now) (map part_value c.in_ok-parts.parts.items))
         (map meaning_of_node nodes)) c.deref.ensures.value)

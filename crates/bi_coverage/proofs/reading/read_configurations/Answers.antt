@@ -14,7 +14,7 @@ use Rattle.bi_coverage.specs.Numbers.{total}
 use Rattle.bi_coverage.specs.Signatures.{needed_lengths}
 use Rattle.bi_coverage.specs.Values.{configuration_value, meaning_of_node}
 use Rattle.bi_coverage.proofs.Configurations.{none_read, one_read, too_long}
-use Rattle.bi_coverage.proofs.reading.read_coverage.Goals as goal
+use Rattle.bi_coverage.proofs.reading.read_configurations.Goals as goal
 
 pub loop-next-init : goal.loop-next-init
 loop-next-init c = record {
