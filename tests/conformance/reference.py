@@ -993,7 +993,7 @@ def concerns_of_fit(fit, signed):
     if any(map(signed_nodes, fit.configurations.children)):
         for node, names in fit.nodes():
             if b"@" in node.name:
-                yield {"concern": "unit-address", "path": shown(path_of(*names))}
+                yield {"concern": "unit-address", "path": "".join(f"/{shown(name)}" for name in names)}
     name = fit.default()
     if fit.configurations.children and not fit.configurations.child(name):
         yield {"concern": "bad-default", "default": name_or_null(name)}

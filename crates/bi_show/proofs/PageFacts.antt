@@ -1,4 +1,5 @@
-use Rattle.std.proofs.Common.{◌≡◌, ℕ, ◌+◌, ◌/◌, ◌%◌, ◌<◌, ◌≤◌, zero, suc, List, [], ◌∷◌, ◌++◌, codes, get_or, length, sum, take, lit≤, refl}
+use Rattle.std.proofs.Common.{◌≡◌, ℕ, ◌+◌, ◌/◌, ◌%◌, ◌<◌, ◌≤◌, zero, suc, List, [], ◌∷◌, ◌++◌, None, codes, get_or, length, sum, take}
+use Rattle.std.proofs.Common.{lit≤, refl}
 use Rattle.std.proofs.Common.{arith, rules}
 use Rattle.std.specs.Fmt.{digits}
 use Rattle.std.specs.List.{AllAdjacentBelow}
@@ -11,7 +12,7 @@ use Rattle.bi_legacy.specs.KnownImages.{kernel_image, multi_file, multi_image}
 use Rattle.bi_legacy.specs.Laws.{OneLegacyMeaning}
 use Rattle.bi_norm.specs.Meaning.{OfLegacy}
 use Rattle.bi_norm.proofs.ComparisonFacts.{kernel_with_rest_means, multi_means, only_image}
-use Rattle.bi_report.specs.Checking.{OfLegacyImage, TrailingBytes}
+use Rattle.bi_report.specs.Checking.{OfLegacyImage, TrailingBytes, Unsigned}
 use Rattle.bi_report.proofs.LegacyConcernFacts.{is_read, known_model}
 use Rattle.bi_show.specs.declared.show.layout.LayoutRegion.{LayoutRegion}
 use Rattle.bi_show.specs.Dates.{IsTimeText, clock_text, date_text, days_of_years, month_lengths}
@@ -81,7 +82,7 @@ module _ (one_legacy : OneLegacyMeaning) where
     meaning = OfLegacy kernel_image;
     means = only_image one_legacy kernel_file_with_rest kernel_image kernel_with_rest_means;
     within = λ over. over;
-    concerns = TrailingBytes 7 ∷ [];
+    concerns = Unsigned None ∷ TrailingBytes 7 ∷ [];
     are_concerns =
         OfLegacyImage (known_model one_legacy kernel_file_with_rest kernel_image kernel_with_rest_means 7 refl)
         (is_read one_legacy kernel_file_with_rest kernel_image kernel_with_rest_means 7 refl) refl;
@@ -94,7 +95,7 @@ module _ (one_legacy : OneLegacyMeaning) where
     meaning = OfLegacy multi_image;
     means = only_image one_legacy multi_file multi_image multi_means;
     within = λ over. over;
-    concerns = [];
+    concerns = Unsigned None ∷ [];
     are_concerns =
         OfLegacyImage (known_model one_legacy multi_file multi_image multi_means 0 refl)
         (is_read one_legacy multi_file multi_image multi_means 0 refl) refl;

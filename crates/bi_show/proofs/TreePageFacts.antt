@@ -1,4 +1,4 @@
-use Rattle.std.proofs.Common.{zero, suc, [], ◌∷◌, ◌++◌, codes, lit≤, ap, sym, refl, arith}
+use Rattle.std.proofs.Common.{zero, suc, [], ◌∷◌, ◌++◌, inl, inr, codes, lit≤, ap, sym, refl, arith}
 use Rattle.std.specs.Fmt.{digits}
 use Rattle.bi_base.specs.Cells.{cell, cell8, u32_at}
 use Rattle.bi_base.specs.Crc.{crc32, crc_after, low_bits}
@@ -15,6 +15,7 @@ use Rattle.bi_norm.specs.Comparing.{MeansOnly}
 use Rattle.bi_norm.specs.Meaning.{OfFit}
 use Rattle.bi_norm.proofs.KindLaws.{one_file_meaning}
 use Rattle.bi_report.specs.Checking.{AreConcerns, OfImageTree as OfTreeConcerns}
+use Rattle.bi_report.specs.SignedTrees.{IsOverCheckBound}
 use Rattle.bi_show.specs.FitPages.{fit_regions}
 use Rattle.bi_show.specs.KnownTreePages.{TreePagesAreKnown}
 use Rattle.bi_show.specs.KnownTrees.{shown_default, shown_file}
@@ -38,6 +39,11 @@ regions_rise (suc (suc zero)) d within = lit≤ tt
 regions_rise (suc (suc (suc zero))) d within = lit≤ tt
 regions_rise (suc (suc (suc (suc k)))) d within = omega (arith, within)
 
+-- Its payload is within the bound, and it has no signed node.
+not_over : ¬ (IsOverCheckBound widest (OfFit shown_meaning))
+not_over (inl over) = omega (arith, over)
+not_over (inr over) = omega (arith, over)
+
 module _ (one_legacy : OneLegacyMeaning) where
   only_meaning : MeansOnly widest shown_file (OfFit shown_meaning)
   only_meaning = record {
@@ -49,7 +55,7 @@ module _ (one_legacy : OneLegacyMeaning) where
   concern_lines = record {
     meaning = OfFit shown_meaning;
     means = only_meaning;
-    within = λ over. omega (arith, over);
+    within = not_over;
     concerns = shown_concerns;
     are_concerns = are_concerns;
     is_text = refl;

@@ -1,5 +1,5 @@
 use Rattle.std.specs.Prelude.{ℕ, Bool, List, [], ◌∷◌, ◌++◌, Option, codes, filter, flat_map, length}
-use Rattle.std.specs.Prelude.{map, is_some, option_map}
+use Rattle.std.specs.Prelude.{map, is_some, option_map, if◌then◌else◌}
 use Rattle.std.specs.Fmt.{decimal}
 use Rattle.std.specs.List.{list_any}
 use Rattle.bi_blob.specs.Blob.{Reservation}
