@@ -13,7 +13,7 @@ declare -gA _bootimg_options=(
     [compare]="--quiet --json --limit= -o= --output="
     [diff]="--quiet --json --limit= -o= --output="
     [verify]="--json --offset= --limit= -o= --output="
-    [check]="--allow= --json --offset= --limit= -o= --output="
+    [check]="--allow= --signed --json --offset= --limit= -o= --output="
     [scan]="--limit= -o= --output="
     [update]="--time= --hashes --external --align= --offset= --limit= -o= --output="
     [extract]="--part= --image= --config= --default --all --key= --index= --escaped --offset= --limit= -o= --output="
@@ -24,14 +24,14 @@ declare -gA _bootimg_options=(
     [help]=""
 )
 declare -gA _bootimg_values=(
-    [--allow]=",bad-hash unhashed weak-hash bad-list missing bad-default trailing"
+    [--allow]=",bad-hash skipped-hash unhashed weak-hash bad-list missing unsigned no-nodes no-images uncovered foreign strings unit-address bad-default trailing"
     [--key]="kernel fdt ramdisk firmware loadables script"
     [--os]="netbsd linux vxworks u-boot"
     [--arch]="arm x86 mips ppc arm64 x86_64 riscv"
     [--type]="standalone kernel ramdisk multi firmware script flat_dt"
     [--compression]="none gzip bzip2 lzma lzo lz4 zstd"
     [--hash]=",crc32 md5 sha1 sha256 sha384 sha512 none"
-    [explain]="Truncated BadMagic BadHeaderCrc BadDataCrc BadPartTable BadPart BadTotalSize BadVersion BadOffset BadToken BadName BadNameOffset PropertyAfterChild DuplicateProperty DuplicateNode TooDeep NoImages BadCell NoSize OutsideFile TooLarge NoCodeName TooManyParts EmptyPart BadField Unsupported"
+    [explain]="Truncated BadMagic BadHeaderCrc BadDataCrc BadPartTable BadPart BadTotalSize BadVersion BadOffset BadToken BadName BadNameOffset PropertyAfterChild DuplicateProperty DuplicateNode TooDeep NoImages BadCell NoSize OutsideFile TooLarge NoCodeName TooManyParts EmptyPart BadField Unsupported bad-hash skipped-hash unhashed weak-hash bad-list missing unsigned no-nodes no-images uncovered foreign strings unit-address bad-default trailing"
     [help]="normalise show list describe compare verify check scan update extract convert build-legacy build-fit explain help"
 )
 _bootimg_files=" normalise normalize show list describe compare diff verify check scan update extract convert "

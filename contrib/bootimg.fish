@@ -35,7 +35,7 @@ complete $first -a extract -d 'Write one part or payload of an image'
 complete $first -a convert -d 'Convert a legacy image to a flattened image tree'
 complete $first -a build-legacy -d 'Build a legacy image'
 complete $first -a build-fit -d 'Build a flattened image tree'
-complete $first -a explain -d 'Say what the cause of an error means'
+complete $first -a explain -d 'Say what the cause of an error or a concern means'
 complete $first -a help -d 'Print this message or the help of the given subcommand(s)'
 complete -c bootimg -n '__bootimg_is normalise normalize update' -l external -d 'Write the payloads of a flattened image tree after the tree'
 complete -c bootimg -n '__bootimg_is normalise normalize update build-fit' -l align -x -d 'Place payloads at multiples of N'
@@ -48,7 +48,8 @@ complete -c bootimg -n '__bootimg_is list describe compare diff verify check' -l
 complete -c bootimg -n '__bootimg_is compare diff' -l quiet -d 'Write nothing'
 complete -c bootimg -n '__bootimg_is compare diff' -F
 complete -c bootimg -n '__bootimg_is compare diff' -F
-complete -c bootimg -n '__bootimg_is check' -l allow -x -d 'Leave out the lines of these kinds' -a '(__fish_complete_list , "printf %s\n bad-hash unhashed weak-hash bad-list missing bad-default trailing")'
+complete -c bootimg -n '__bootimg_is check' -l allow -x -d 'Leave out the lines of these kinds' -a '(__fish_complete_list , "printf %s\n bad-hash skipped-hash unhashed weak-hash bad-list missing unsigned no-nodes no-images uncovered foreign strings unit-address bad-default trailing")'
+complete -c bootimg -n '__bootimg_is check' -l signed -d 'Also find each configuration that has no signature'
 complete -c bootimg -n '__bootimg_is update' -l time -x -d 'Set the time of creation'
 complete -c bootimg -n '__bootimg_is update' -l hashes -d 'Compute the digest of each hash node with a known algorithm again'
 complete -c bootimg -n '__bootimg_is extract' -l part -x -d 'Write part N'
@@ -74,6 +75,6 @@ complete -c bootimg -n '__bootimg_is build-fit' -l hash -x -d 'The hash nodes of
 complete -c bootimg -n '__bootimg_is build-fit' -l external -d 'Write the payloads after the tree'
 complete -c bootimg -n '__bootimg_is build-fit' -l description -x -d 'The description of the tree'
 complete -c bootimg -n '__bootimg_is build-fit' -a '(__bootimg_part)'
-complete -c bootimg -n '__bootimg_is explain' -a 'Truncated BadMagic BadHeaderCrc BadDataCrc BadPartTable BadPart BadTotalSize BadVersion BadOffset BadToken BadName BadNameOffset PropertyAfterChild DuplicateProperty DuplicateNode TooDeep NoImages BadCell NoSize OutsideFile TooLarge NoCodeName TooManyParts EmptyPart BadField Unsupported'
+complete -c bootimg -n '__bootimg_is explain' -a 'Truncated BadMagic BadHeaderCrc BadDataCrc BadPartTable BadPart BadTotalSize BadVersion BadOffset BadToken BadName BadNameOffset PropertyAfterChild DuplicateProperty DuplicateNode TooDeep NoImages BadCell NoSize OutsideFile TooLarge NoCodeName TooManyParts EmptyPart BadField Unsupported bad-hash skipped-hash unhashed weak-hash bad-list missing unsigned no-nodes no-images uncovered foreign strings unit-address bad-default trailing'
 complete -c bootimg -n '__bootimg_is help' -a 'normalise show list describe compare verify check scan update extract convert build-legacy build-fit explain help'
 # lists.py: end

@@ -116,9 +116,9 @@ fn concern_element(concern: Concern<'_, '_>) -> ConcernElement
             element.algorithm = text_of(node.find_property(b"algo"));
             element.verdict = verdict_number(hash.verdict);
         }
-        Concern::SkippedHash(image, node) => {
+        Concern::SkippedHash(image, hash) => {
             element.name = name_region(image);
-            element.node = name_region(node);
+            element.node = name_region(hash);
         }
         Concern::UnhashedImage(image) => element.name = name_region(image),
         Concern::WeakHash(image, _hashes) => element.name = name_region(image),

@@ -32,6 +32,9 @@ use bi_fit::nodes::Siblings;
 use bi_report::check::FitCoverage;
 use std::alloc::{AllocError, Global};
 
+/// The word for what a signature node covers that has no value.
+const NOTHING: &str = "nothing";
+
 /// Returns the table of the signature nodes. Requires: the coverage is that of the tree.
 pub(super) fn signature_rows(
     alloc: Global,
@@ -125,7 +128,7 @@ fn add_signatures_of_configuration(
     let mut left = coverage;
     for child in Siblings::children(node) {
         if is_signature(child) {
-            let mut covers = "nothing";
+            let mut covers = NOTHING;
             if has_signature(child) {
                 let [covered, later @ ..] = left else {
                     unreachable!();
@@ -170,7 +173,7 @@ fn payload_word(signature: NodeRef) -> &'static str
     if has_signature(signature) {
         "payload"
     } else {
-        "nothing"
+        NOTHING
     }
 }
 
