@@ -6,7 +6,7 @@
 const REPORTS = [
   { call: 'show', shows: 'what the image is', numbers: [0] },
   { call: 'verify', shows: 'the verdict on each checksum and each digest', numbers: [] },
-  { call: 'check', shows: 'what in the image is not protected', numbers: [0] },
+  { call: 'check', shows: 'what in the image is not protected, and what its signatures do not cover', numbers: [0] },
   { call: 'list', shows: 'what the image holds, and where', numbers: [] },
   { call: 'describe', shows: 'what the image means, without the layout of the file', numbers: [] },
 ];

@@ -162,12 +162,15 @@ check "the program takes the values" sh -c '
 # Failures.
 sed -n 's/^            Cause::.* => "\(.*\)",$/\1/p' "$root/crates/bi_base/src/fault.rt" > causes
 check "there are causes in the code" test "$(wc -l < causes)" -ge 26
+# `explain` knows the kinds of concerns, too.
+sed -n 's/^            ConcernKind::.* => "\(.*\)",$/\1/p' "$root/crates/bi_report/src/check.rt" >> causes
+check "there are kinds of concerns in the code" test "$(wc -l < causes)" -ge 41
 awk '/^\.Sh DIAGNOSTICS/ { on = 1 } /^These lines have no offset/ { on = 0 } on && /^\.It Li/ { print $3 }' "$page" > got
 check "the page has the causes of the code" same causes got
 # A wide page has each sentence in one line.
 mandoc -Tascii -Owidth=1000 "$page" | sed 's/.\x08//g' | sed -n '/^DIAGNOSTICS/,/^     These lines have no offset/p' |
-    awk '/^     [A-Z][A-Za-z]*$/ { name = $1; next }
-        /^     [A-Z][A-Za-z]*  [^ ]/ { name = $1; sub(/^ *[A-Za-z]* */, ""); print name ": " $0; name = ""; next }
+    awk '/^     [A-Za-z][A-Za-z-]*$/ { name = $1; next }
+        /^     [A-Za-z][A-Za-z-]*  [^ ]/ { name = $1; sub(/^ *[A-Za-z-]* */, ""); print name ": " $0; name = ""; next }
         /^             / && name { sub(/^ */, ""); print name ": " $0; name = "" }' |
     sed "s/\`/'/g; s/  */ /g" > sentences
 "$root/bootimg" explain > explained
