@@ -12,11 +12,14 @@ have names are the strings of the functions in VALUES. A list stands in its file
 import difflib
 import re
 import sys
+import textwrap
 from pathlib import Path
 
 ROOT = Path(__file__).resolve().parents[1]
 FILES = ["contrib/bootimg.bash", "contrib/_bootimg", "contrib/bootimg.fish", "man/bootimg.1", "README.md"]
 TABLE = "crates/bootimg/src/command_line/table.rt"
+# The most columns of a line of words in the manual page, after its macro.
+WIDTH = 76
 
 # The files and functions whose strings are the values of an option or of an argument.
 VALUES = {
@@ -200,7 +203,9 @@ def synopsis(all):
 def values(all):
     for option in distinct(all).values():
         if option.values and not option.is_argument:
-            yield from [f".It Ar {option.value}", f".Cm {' , '.join(option.values)}"]
+            yield f".It Ar {option.value}"
+            words = textwrap.wrap(" , ".join(option.values), WIDTH, break_on_hyphens=False)
+            yield from [f".Cm {line}" for line in words]
 
 
 def readme(all):

@@ -45,7 +45,7 @@ list_task options flag (task.Show presenter) is = absurd (other_bytes (codes "li
 list_task options flag (task.List format) is = ap task.List (is.1.given flag)
 list_task options flag (task.Describe format) is = absurd (other_bytes (codes "list") (codes "describe") refl is.0)
 list_task options flag (task.Verify format) is = absurd (other_bytes (codes "list") (codes "verify") refl is.0)
-list_task options flag (task.Check allowed format) is = absurd (other_bytes (codes "list") (codes "check") refl is.0)
+list_task options flag (task.Check policy format) is = absurd (other_bytes (codes "list") (codes "check") refl is.0)
 list_task options flag task.Scan is = absurd (other_bytes (codes "list") (codes "scan") refl is.0)
 list_task options flag (task.Update changes form) is = absurd (other_bytes (codes "list") (codes "update") refl is.0)
 list_task options flag (task.Extract selection) is = absurd (other_bytes (codes "list") (codes "extract") refl is.0)
@@ -115,7 +115,7 @@ no_update_task options time flag (task.Show presenter) is = other_bytes (codes "
 no_update_task options time flag (task.List format) is = other_bytes (codes "update") (codes "list") refl is.0
 no_update_task options time flag (task.Describe format) is = other_bytes (codes "update") (codes "describe") refl is.0
 no_update_task options time flag (task.Verify format) is = other_bytes (codes "update") (codes "verify") refl is.0
-no_update_task options time flag (task.Check allowed format) is = other_bytes (codes "update") (codes "check") refl is.0
+no_update_task options time flag (task.Check policy format) is = other_bytes (codes "update") (codes "check") refl is.0
 no_update_task options time flag task.Scan is = other_bytes (codes "update") (codes "scan") refl is.0
 no_update_task options time flag (task.Update changes form) is =
     is.1.0.some (no_time_given _ time changes.time is.1.0.time, is.1.0.hashes.not_given flag)

@@ -130,6 +130,8 @@ flags_are_known = record {
   no_layout = λ options is layout holds. holds.not_given (flag_is (codes "show") (codes "show") options is (codes "layout") ∙ refl);
   quiet = λ options is quiet holds. holds.given (flag_is (codes "compare --quiet a b") (codes "compare") options is (codes "quiet") ∙ refl);
   not_quiet = λ options is quiet holds. holds.not_given (flag_is (codes "compare a b") (codes "compare") options is (codes "quiet") ∙ refl);
+  signed = λ options is signed holds. holds.given (flag_is (codes "check --signed") (codes "check") options is (codes "signed") ∙ refl);
+  not_signed = λ options is signed holds. holds.not_given (flag_is (codes "check") (codes "check") options is (codes "signed") ∙ refl);
   hashes = λ options is hashes holds. holds.given (flag_is (codes "update --hashes") (codes "update") options is (codes "hashes") ∙ refl);
   no_hashes = λ options is hashes holds. holds.not_given (flag_is (codes "update") (codes "update") options is (codes "hashes") ∙ refl);
   default_configuration = λ options is default holds.
@@ -267,19 +269,35 @@ allowed_is words allowed is given =
 
 good_is_no_kind : (given : ConcernKind) → ¬ (codes "good" ≡ kind_word given)
 good_is_no_kind kind.BadHash = other_bytes _ _ refl
+good_is_no_kind kind.SkippedHash = other_bytes _ _ refl
 good_is_no_kind kind.Unhashed = other_bytes _ _ refl
 good_is_no_kind kind.WeakHash = other_bytes _ _ refl
 good_is_no_kind kind.BadList = other_bytes _ _ refl
 good_is_no_kind kind.Missing = other_bytes _ _ refl
+good_is_no_kind kind.Unsigned = other_bytes _ _ refl
+good_is_no_kind kind.NoNodes = other_bytes _ _ refl
+good_is_no_kind kind.NoImages = other_bytes _ _ refl
+good_is_no_kind kind.Uncovered = other_bytes _ _ refl
+good_is_no_kind kind.Foreign = other_bytes _ _ refl
+good_is_no_kind kind.Strings = other_bytes _ _ refl
+good_is_no_kind kind.UnitAddress = other_bytes _ _ refl
 good_is_no_kind kind.BadDefault = other_bytes _ _ refl
 good_is_no_kind kind.Trailing = other_bytes _ _ refl
 
 nothing_is_no_kind : (given : ConcernKind) → ¬ ([] ≡ kind_word given)
 nothing_is_no_kind kind.BadHash = other_bytes _ _ refl
+nothing_is_no_kind kind.SkippedHash = other_bytes _ _ refl
 nothing_is_no_kind kind.Unhashed = other_bytes _ _ refl
 nothing_is_no_kind kind.WeakHash = other_bytes _ _ refl
 nothing_is_no_kind kind.BadList = other_bytes _ _ refl
 nothing_is_no_kind kind.Missing = other_bytes _ _ refl
+nothing_is_no_kind kind.Unsigned = other_bytes _ _ refl
+nothing_is_no_kind kind.NoNodes = other_bytes _ _ refl
+nothing_is_no_kind kind.NoImages = other_bytes _ _ refl
+nothing_is_no_kind kind.Uncovered = other_bytes _ _ refl
+nothing_is_no_kind kind.Foreign = other_bytes _ _ refl
+nothing_is_no_kind kind.Strings = other_bytes _ _ refl
+nothing_is_no_kind kind.UnitAddress = other_bytes _ _ refl
 nothing_is_no_kind kind.BadDefault = other_bytes _ _ refl
 nothing_is_no_kind kind.Trailing = other_bytes _ _ refl
 
@@ -288,6 +306,9 @@ allowed_words_are_known = record {
   no_value = λ allowed is. (λ i. map kind_word (filter (λ given. is given i) each_kind)) ∙ refl;
   two = λ allowed is.
       (λ i. map kind_word (filter (λ given. allowed_is (listed_words (codes "trailing,weak-hash")) allowed is given i) each_kind)) ∙ refl;
+  about_signatures = λ allowed is.
+      (λ i. map kind_word
+      (filter (λ given. allowed_is (listed_words (codes "unit-address,skipped-hash,uncovered")) allowed is given i) each_kind)) ∙ refl;
   other_word = λ allowed is. good_is_no_kind is.known.1.0.0 is.known.1.0.1;
   empty_word = λ allowed is. nothing_is_no_kind is.known.0.0 is.known.0.1;
 }

@@ -4,7 +4,8 @@ use Rattle.std.specs.Borrow.{Bor}
 use Rattle.std.specs.Io.KnownBytes.{Appends}
 use Rattle.std.specs.Prelude.{IfSome, IsTrue, option_map}
 use Rattle.bi_base.specs.Cells.{u32_at}
-use Rattle.bi_base.specs.declared.fault.Cause.{Cause}
+use Rattle.bootimg.specs.declared.explanations.Topic.{Topic}
+use Rattle.bootimg.specs.declared.explanations.Topic.TheVariants as topic
 use Rattle.bi_base.specs.declared.fault.Cause.TheVariants.{BadDataCrc}
 use Rattle.bi_base.specs.declared.fault.Error.{Error}
 use Rattle.bi_base.specs.declared.fault.Error.TheVariants.{Refused, OutOfMemory, ReadFailed, WriteFailed}
@@ -164,14 +165,14 @@ same_done outcome one other is also = let same : Ok one ≡ Ok other = sym is �
 pub one_failure : (outcome : Result Done SourceFailure) (one other : SourceFailure) → outcome ≡ Err one → outcome ≡ Err other → one ≡ other
 one_failure outcome one other is also = let same : Err one ≡ Err other = sym is ∙ also in cc
 
-explained : (work : Work) (done : Done) → IsExplainWork (Some BadDataCrc) work → work.outcome ≡ Ok done →
+explained : (work : Work) (done : Done) → IsExplainWork (Some (topic.Cause BadDataCrc)) work → work.outcome ≡ Ok done →
     Writes work.output explanation work.new_output × EndedWith true done
 explained work done (WroteExplanation wrote other ended is same) good =
     (wrote.written, subst (EndedWith true) (same_done work.outcome other done is good) ended)
 explained work done (ExplanationNotWritten error stopped is same) good = absurd (not_failed work.outcome good is)
 explained work done (NoMemoryForExplanation failed same) good = absurd (not_failed work.outcome good failed.outcome)
 
-not_explained : (work : Work) (failed : SourceFailure) → IsExplainWork (Some BadDataCrc) work → work.outcome ≡ Err failed →
+not_explained : (work : Work) (failed : SourceFailure) → IsExplainWork (Some (topic.Cause BadDataCrc)) work → work.outcome ≡ Err failed →
     (failed ≡ source_failure Standard (Call WriteFailed))
     ⊎ ((failed ≡ source_failure Standard (Call OutOfMemory)) × (work.new_output ≡ work.output))
 not_explained work failed (WroteExplanation wrote other ended is same) bad = absurd (not_failed work.outcome is bad)
@@ -180,7 +181,7 @@ not_explained work failed (ExplanationNotWritten error stopped is same) bad =
 not_explained work failed (NoMemoryForExplanation was same) bad =
     inr (one_failure work.outcome failed _ bad was.outcome, was.nothing_written)
 
-reads_nothing : (work : Work) → IsExplainWork (Some BadDataCrc) work → work.new_input ≡ work.input
+reads_nothing : (work : Work) → IsExplainWork (Some (topic.Cause BadDataCrc)) work → work.new_input ≡ work.input
 reads_nothing work (WroteExplanation wrote other ended is same) = same
 reads_nothing work (ExplanationNotWritten error stopped is same) = same
 reads_nothing work (NoMemoryForExplanation was same) = same
@@ -208,9 +209,9 @@ no_notes done old new ended notes =
 abbrev explain_line : List ℕ
 explain_line = codes "explain"
 
-no_cause : (argument : Option (List ℕ)) (cause : Option Cause) → argument ≡ None → IsExplained argument cause → cause ≡ None
+no_cause : (argument : Option (List ℕ)) (cause : Option Topic) → argument ≡ None → IsExplained argument cause → cause ≡ None
 no_cause argument cause is explains = by cause (subst (λ a. IsExplained a cause) is explains) where
-  by : (cause : Option Cause) → IsExplained None cause → cause ≡ None
+  by : (cause : Option Topic) → IsExplained None cause → cause ≡ None
   by None explains = refl
   by (Some given) explains = absurd explains
 

@@ -23,8 +23,8 @@ use Rattle.bi_norm.specs.declared.fit_building.ImageSpec.{ImageSpec}
 use Rattle.bi_norm.specs.declared.fit_building.ImageTexts.{ImageTexts}
 use Rattle.bootimg.specs.CodeWords.{IsCode, text_of_code, four_texts}
 use Rattle.bootimg.specs.ConfigurationWords.{AreConfigurations, AreHashes, IsDefault}
-use Rattle.bootimg.specs.Explanations.{name_of_explained}
-use Rattle.bootimg.specs.declared.explanations.Explained.{Explained}
+use Rattle.bootimg.specs.Explanations.{name_of_topic}
+use Rattle.bootimg.specs.declared.explanations.Topic.{Topic}
 use Rattle.bootimg.specs.ConfigurationWords.{IsFirstBadConfiguration}
 use Rattle.bootimg.specs.Words.{listed_words, parts_of}
 use Rattle.bootimg.specs.Numbers.{IsNumber}
@@ -87,7 +87,7 @@ HasLengths (Fit plan) = length plan.payloads.items ≡ length plan.images.items
 abbrev pub HasJobLengths : Job → Type 0
 HasJobLengths (Run plan) = ⊤
 HasJobLengths (Compare plan) = ⊤
-HasJobLengths (Explain explained) = ⊤
+HasJobLengths (Explain topic) = ⊤
 HasJobLengths (Build plan) = HasLengths plan
 
 -- The parts of the image to be built.
@@ -319,10 +319,10 @@ abbrev pub NamesCause : List ℕ → Cause → Type 0
 NamesCause argument cause = argument ≡ name_of cause
 
 -- The argument names this, a cause or a kind of concerns. Without an argument there is nothing.
-abbrev pub IsExplained : Option (List ℕ) → Option Explained → Type 0
+abbrev pub IsExplained : Option (List ℕ) → Option Topic → Type 0
 IsExplained None None = ⊤
-IsExplained (Some argument) (Some explained) = argument ≡ name_of_explained explained
-IsExplained argument explained = ⊥
+IsExplained (Some argument) (Some topic) = argument ≡ name_of_topic topic
+IsExplained argument topic = ⊥
 
 -- ---- extract
 
@@ -646,8 +646,8 @@ IsBuildPlan name options (Fit plan) = (name ≡ codes "build-fit") × IsFitPlan 
 abbrev pub IsJob : List ℕ → ArgMatches → Job → Type 0
 IsJob name options (Run plan) = IsImagePlan name options plan
 IsJob name options (Compare plan) = (name ≡ codes "compare") × IsComparePlan options plan
-IsJob name options (Explain explained) =
-    (name ≡ codes "explain") × IsExplained (option_of options (codes "cause")) explained
+IsJob name options (Explain topic) =
+    (name ≡ codes "explain") × IsExplained (option_of options (codes "cause")) topic
 IsJob name options (Build plan) = IsBuildPlan name options plan
 
 -- Why the options of the command of this name are not a task.

@@ -16,8 +16,8 @@ use Rattle.bi_commands.specs.ConcernSentences.{sentence_of_kind}
 use Rattle.bi_report.specs.Checking.{kind_word}
 use Rattle.bi_report.specs.declared.check.ConcernKind.{ConcernKind}
 use Rattle.bi_report.specs.declared.check.ConcernKind.TheVariants as kind
-use Rattle.bootimg.specs.declared.explanations.Explained.{Explained}
-use Rattle.bootimg.specs.declared.explanations.Explained.TheVariants as explained
+use Rattle.bootimg.specs.declared.explanations.Topic.{Topic}
+use Rattle.bootimg.specs.declared.explanations.Topic.TheVariants as topic
 
 -- What `explain` writes (profile of this project).
 
@@ -37,17 +37,17 @@ all_kinds =
     kind.UnitAddress ∷ kind.BadDefault ∷ kind.Trailing ∷ []
 
 -- The name of what `explain` can explain: that of a cause, or the word for a kind.
-abbrev pub name_of_explained : Explained → List ℕ
-name_of_explained (explained.Cause given) = name_of given
-name_of_explained (explained.Kind given) = kind_word given
+abbrev pub name_of_topic : Topic → List ℕ
+name_of_topic (topic.Cause given) = name_of given
+name_of_topic (topic.Kind given) = kind_word given
 
 -- What it means, and what a user can do.
-abbrev pub sentence_about : Explained → List ℕ
-sentence_about (explained.Cause given) = sentence_of given
-sentence_about (explained.Kind given) = sentence_of_kind given
+abbrev pub sentence_about : Topic → List ℕ
+sentence_about (topic.Cause given) = sentence_of given
+sentence_about (topic.Kind given) = sentence_of_kind given
 
 -- What it means, as a line.
-abbrev pub explanation_of : Explained → List ℕ
+abbrev pub explanation_of : Topic → List ℕ
 explanation_of given = sentence_about given ++ 10 ∷ []
 
 -- A line with a name and a meaning.
@@ -67,6 +67,6 @@ abbrev pub all_explanations : List ℕ
 all_explanations = flat_map line_of_cause all_causes ++ flat_map line_of_kind all_kinds
 
 -- What `explain` writes for this, or without an argument.
-abbrev pub explain_text : Option Explained → List ℕ
+abbrev pub explain_text : Option Topic → List ℕ
 explain_text None = all_explanations
 explain_text (Some given) = explanation_of given

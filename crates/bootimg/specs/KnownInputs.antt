@@ -24,7 +24,7 @@ use Rattle.bi_norm.specs.KnownComparisons.{file_without_magic, no_magic}
 use Rattle.bootimg.specs.ComparedFiles.{IsCompareFailure, IsCompareOutput}
 use Rattle.bootimg.specs.Explanations.{all_causes, all_kinds, explain_text, line_of_cause}
 use Rattle.bootimg.specs.Explanations.{line_of_kind}
-use Rattle.bootimg.specs.declared.explanations.Explained.TheVariants as explained
+use Rattle.bootimg.specs.declared.explanations.Topic.TheVariants as topic
 use Rattle.bi_report.specs.Checking.{kind_word}
 use Rattle.bi_report.specs.declared.check.ConcernKind.TheVariants as kind
 use Rattle.bootimg.specs.KnownRequests.{IsFileNamed}
@@ -162,18 +162,18 @@ kind_names =
 -- What `explain` writes for a cause, or for a kind of concerns, is one line. Without an argument it
 -- writes a line for each of both, which begins with its name.
 pub record ExplanationsAreKnown : Type 0 where
-  pub one : explain_text (Some (explained.Cause BadDataCrc))
+  pub one : explain_text (Some (topic.Cause BadDataCrc))
       ≡ lines
       (codes "The data checksum of a legacy image is wrong: fetch the image again."
       ∷ [])
-  pub other : explain_text (Some (explained.Cause BadMagic))
+  pub other : explain_text (Some (topic.Cause BadMagic))
       ≡ codes "The file is not of a kind that the command reads: decompress it if it is "
       ++ (codes "compressed, or remove what is before the image. convert reads only legacy "
       ++ codes "images.\n")
   pub line : line_of_cause BadDataCrc
       ≡ codes "BadDataCrc: The data checksum of a legacy image is wrong: "
       ++ codes "fetch the image again.\n"
-  pub concern : explain_text (Some (explained.Kind kind.Foreign))
+  pub concern : explain_text (Some (topic.Kind kind.Foreign))
       ≡ codes "A signature of a configuration covers a node that the configuration does not "
       ++ (codes "use. A newer U-Boot makes the list of nodes itself, and then finds the signature "
       ++ codes "wrong: sign the image again with mkimage -F -k.\n")

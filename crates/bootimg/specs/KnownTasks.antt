@@ -57,9 +57,9 @@ use Rattle.bootimg.specs.declared.tasks.Done.{Done}
 abbrev pub without_notes : (good : Bool) → Done
 without_notes good = record { good = good; kept = kept None 0 }
 
--- What is asked of an image, with these kinds allowed.
-abbrev pub policy_with : (signed : Bool) → Allowed → Policy
-policy_with signed allowed = record { allowed = allowed; signed = signed }
+-- These kinds are allowed, and signatures are not asked for.
+abbrev pub policy_of_kinds : Allowed → Policy
+policy_of_kinds allowed = record { allowed = allowed; signed = false }
 
 -- What each task makes of a small file, and how it ends: with the answer that its output gives. A
 -- text that is normalised or updated may lose the alignment of its payloads.
@@ -81,19 +81,17 @@ pub record TaskEndsAreKnown : Type 0 where
       (file_with_hash short_crc)
       bad_lines
   pub bad_answer : HasAnswer (task.Verify Lines) (file_with_hash short_crc) false
-  pub check : TaskDone (task.Check (policy_with false nothing_allowed) Json) widest
+  pub check : TaskDone (task.Check (policy_of_kinds nothing_allowed) Json) widest
       (without_notes true) smallest_text
       (lines (codes "{\"concerns\":[]}" ∷ []))
-  pub concern : TaskDone (task.Check (policy_with false nothing_allowed) Lines) widest
+  pub concern : TaskDone (task.Check (policy_of_kinds nothing_allowed) Lines) widest
       (without_notes false)
       file_without_hash
       (lines (codes "unhashed a" ∷ []))
   pub allowed :
       TaskDone
-      (task.Check (policy_with false (record nothing_allowed { unhashed = true })) Lines)
+      (task.Check (policy_of_kinds (record nothing_allowed { unhashed = true })) Lines)
       widest (without_notes true) file_without_hash []
-  pub signed : TaskDone (task.Check (policy_with true nothing_allowed) Lines) widest
-      (without_notes false) smallest_text (lines (codes "unsigned -" ∷ []))
   pub scan : TaskDone task.Scan (scan_limits 162) (without_notes true) two_images two_lines
   pub nothing_found : TaskDone task.Scan (scan_limits 162) (without_notes false) (codes "hello") []
   pub update : (form : Form)

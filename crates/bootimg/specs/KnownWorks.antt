@@ -26,7 +26,7 @@ use Rattle.bi_norm.specs.Converting.{fit_of}
 use Rattle.bi_norm.specs.KnownComparisons.{file_without_magic, no_magic}
 use Rattle.bootimg.specs.CommandLine.{HasJobLengths, sources_of}
 use Rattle.bootimg.specs.Explanations.{explain_text}
-use Rattle.bootimg.specs.declared.explanations.Explained.TheVariants as explained
+use Rattle.bootimg.specs.declared.explanations.Topic.TheVariants as topic
 use Rattle.bootimg.specs.Failures.{failure_to_save}
 use Rattle.bootimg.specs.KnownInputs.{one_file, two_files, without_files}
 use Rattle.bootimg.specs.Runs.{ArePartsRead, AreFirstRead, IsAllWork, IsExplainWork, IsHeldFailure}
@@ -111,16 +111,16 @@ explanation =
 
 -- It writes this and reads nothing, or memory runs out, or the output fails.
 pub record ExplainWorkIsKnown : Type 0 where
-  pub done : (work : Work) (done : Done) → IsExplainWork (Some (explained.Cause BadDataCrc)) work
+  pub done : (work : Work) (done : Done) → IsExplainWork (Some (topic.Cause BadDataCrc)) work
       → work.outcome ≡ Ok done
       → Writes work.output explanation work.new_output × (done.good ≡ true)
   pub failed : (work : Work) (failed : SourceFailure)
-      → IsExplainWork (Some (explained.Cause BadDataCrc)) work
+      → IsExplainWork (Some (topic.Cause BadDataCrc)) work
       → work.outcome ≡ Err failed
       → (failed ≡ source_failure Standard (Call WriteFailed))
       ⊎ ((failed ≡ source_failure Standard (Call OutOfMemory))
       × (work.new_output ≡ work.output))
-  pub reads_nothing : (work : Work) → IsExplainWork (Some (explained.Cause BadDataCrc)) work
+  pub reads_nothing : (work : Work) → IsExplainWork (Some (topic.Cause BadDataCrc)) work
       → work.new_input ≡ work.input
 
 -- A whole run: standard input is `x`, both outputs are empty, and there are no files.

@@ -24,7 +24,7 @@ ghost use Rattle.bootimg.specs.Program.{IsCommandName};
 ghost use Rattle.bootimg.specs.declared.command_line.NoRequest.TheVariants as outcome;
 ghost use Rattle.bootimg.specs.declared.failure.Failure.TheVariants.{Call};
 
-use crate::explanations::Explained;
+use crate::explanations::Topic;
 use crate::failure::Failure;
 use allowed::policy;
 use bi_base::{Error, Limits};
@@ -38,7 +38,7 @@ use build::{fit_plan, legacy_plan};
 use clap::ArgMatches;
 use clap::error::ErrorKind;
 pub use configurations::ConfigurationWord;
-use explain::explained;
+use explain::explained_topic;
 pub use extract::{AllRequest, Selected};
 use extract::{all_request, selection};
 use options::{flag, form, format, limits, number};
@@ -94,7 +94,7 @@ pub enum Job<'a> {
     /// Compare two images.
     Compare(ComparePlan<'a>),
     /// Write what this means, or what each cause of a refusal and each kind of concerns means.
-    Explain(Option<Explained>),
+    Explain(Option<Topic>),
     /// Build an image.
     Build(BuildPlan<'a>),
 }
@@ -217,7 +217,7 @@ fn parse_job<'a>(alloc: Global, name: &str, options: &ArgMatches<'a>) -> Result<
         return Ok(Job::Compare(compare_plan(options)?));
     }
     if name == "explain" {
-        return Ok(Job::Explain(explained(options)?));
+        return Ok(Job::Explain(explained_topic(options)?));
     }
     if name == "build-legacy" {
         let plan = legacy_plan(alloc, options)?;

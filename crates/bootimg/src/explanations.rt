@@ -15,7 +15,7 @@ use std::alloc::{AllocError, Global};
 
 /// What `explain` can explain.
 #[derive(Clone, Copy)]
-pub enum Explained {
+pub enum Topic {
     /// A cause of a refusal.
     Cause(Cause),
     /// A kind of concerns.
@@ -108,33 +108,33 @@ pub fn parse_cause(argument: &str) -> Option<Cause>
 }
 
 /// Returns what `explain` writes: what this means, or what each cause and each kind means.
-pub fn explanation(alloc: Global, explained: Option<Explained>) -> Result<String, AllocError>
-    ensures { IfOk result (λ text. string_bytes text ≡ explain_text explained) }
+pub fn explanation(alloc: Global, topic: Option<Topic>) -> Result<String, AllocError>
+    ensures { IfOk result (λ text. string_bytes text ≡ explain_text topic) }
 {
-    match explained {
-        Some(explained) => explanation_of_one(alloc, explained),
+    match topic {
+        Some(topic) => explanation_of_one(alloc, topic),
         None => explanation_of_all(alloc),
     }
 }
 
 /// Returns what this means, as a line.
-fn explanation_of_one(alloc: Global, explained: Explained) -> Result<String, AllocError>
-    ensures { IfOk result (λ text. string_bytes text ≡ explanation_of explained) }
+fn explanation_of_one(alloc: Global, topic: Topic) -> Result<String, AllocError>
+    ensures { IfOk result (λ text. string_bytes text ≡ explanation_of topic) }
 {
     let mut text = String::new(alloc);
-    text.push_str(explained.sentence())?;
+    text.push_str(topic.sentence())?;
     text.push_str("\n")?;
     Ok(text)
 }
 
-impl Explained {
+impl Topic {
     /// Returns what this means, and what a user can do.
     fn sentence(self) -> &'static str
         ensures { result.now ≡ sentence_about self }
     {
         match self {
-            Explained::Cause(cause) => sentence(cause),
-            Explained::Kind(kind) => concern_sentence(kind),
+            Topic::Cause(cause) => sentence(cause),
+            Topic::Kind(kind) => concern_sentence(kind),
         }
     }
 }

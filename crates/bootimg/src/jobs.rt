@@ -16,7 +16,7 @@ ghost use Rattle.bi_base.specs.Traces.{ReadTrace};
 
 use crate::builds::build_image;
 use crate::command_line::{ComparePlan, ImagePlan, ImageSource, Job};
-use crate::explanations::{Explained, explanation};
+use crate::explanations::{Topic, explanation};
 use crate::failure::Failure;
 use crate::tasks::Done;
 use bi_base::{
@@ -84,7 +84,7 @@ pub fn do_job<'a, S: TracedRead, T: TracedWrite, F: FileSystem>(
         Job::Run(plan) => run_on_image(alloc, plan, limits, files, input, output),
         Job::Compare(plan) => compare_images(alloc, *plan, limits, files, input, output),
         Job::Build(plan) => build_image(alloc, plan, limits, files, input, output),
-        Job::Explain(explained) => explain(alloc, *explained, output),
+        Job::Explain(topic) => explain(alloc, *topic, output),
     }
 }
 
@@ -305,10 +305,10 @@ fn compare_failure<'a>(plan: ComparePlan<'a>, error: CompareError) -> SourceFail
 /// Writes what this means, or what each cause and each kind means, and returns how that ended.
 fn explain<'a, T: TracedWrite>(
     alloc: Global,
-    explained: Option<Explained>,
+    topic: Option<Topic>,
     output: &mut T,
 ) -> Result<Done, SourceFailure<'a>>
-    ensures { (input : ReadTrace) → IsExplainWork explained (record {
+    ensures { (input : ReadTrace) → IsExplainWork topic (record {
       input = input;
       new_input = input;
       output = T.trace output.old;
@@ -316,7 +316,7 @@ fn explain<'a, T: TracedWrite>(
       outcome = result;
     }) }
 {
-    match explanation(alloc, explained) {
+    match explanation(alloc, topic) {
         Ok(text) => match write_and_flush(output, text.as_bytes()) {
             Ok(()) => Ok(Done::with_answer(true)),
             Err(error) => job_failed(ImageSource::Standard, Failure::Call(error)),

@@ -4,14 +4,14 @@ ghost use Rattle.std.specs.Prelude.{IfOk, IfErr, codes};
 ghost use Rattle.bootimg.specs.CommandLine.{option_of, IsBadValue, IsExplained};
 
 use crate::command_line::allowed::parse_kind;
-use crate::explanations::{Explained, parse_cause};
+use crate::explanations::{Topic, parse_cause};
 use crate::failure::Failure;
 use clap::ArgMatches;
 
 /// Returns what the argument names, if there is one: a cause, or a kind of concerns. Fails with
 /// BadValue at another argument.
-pub fn explained(options: &ArgMatches<'_>) -> Result<Option<Explained>, Failure>
-    ensures explained { IfOk result (IsExplained (option_of options.now (codes "cause"))) }
+pub fn explained_topic(options: &ArgMatches<'_>) -> Result<Option<Topic>, Failure>
+    ensures topic { IfOk result (IsExplained (option_of options.now (codes "cause"))) }
     ensures bad { IfErr result (IsBadValue
         (IsExplained (option_of options.now (codes "cause")))) }
 {
@@ -19,10 +19,10 @@ pub fn explained(options: &ArgMatches<'_>) -> Result<Option<Explained>, Failure>
         return Ok(None);
     };
     if let Some(cause) = parse_cause(argument) {
-        return Ok(Some(Explained::Cause(cause)));
+        return Ok(Some(Topic::Cause(cause)));
     }
     match parse_kind(argument) {
-        Some(kind) => Ok(Some(Explained::Kind(kind))),
+        Some(kind) => Ok(Some(Topic::Kind(kind))),
         None => Err(Failure::BadValue),
     }
 }

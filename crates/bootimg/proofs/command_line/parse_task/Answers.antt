@@ -4,7 +4,7 @@ use Rattle.bootimg.specs.declared.command_line.NoRequest.TheVariants.{Failure}
 use Rattle.bootimg.proofs.CommandLines.{outcome_weaker}
 use Rattle.bootimg.proofs.command_line.parse_task.Goals as goal
 use Rattle.bootimg.proofs.command_line.parse_task.Goals.{in-normalise+in_ok-form-in-normalise, in-show, in-list, in-describe, in-verify}
-use Rattle.bootimg.proofs.command_line.parse_task.Goals.{in-check+in_ok-allowed_kinds-in-check}
+use Rattle.bootimg.proofs.command_line.parse_task.Goals.{in-check+in_ok-policy-in-check}
 use Rattle.bootimg.proofs.command_line.parse_task.Goals.{in-update+in_ok-changes-in-update+in_ok-form-in-update}
 use Rattle.bootimg.proofs.command_line.parse_task.Goals.{in-scan, in-extract+in_ok-selection-in-extract, in-convert}
 
@@ -17,9 +17,9 @@ returns-clause-task c =
       | in-list w ↦ subst is_task (sym w.result-is) (w.in-list.is, w.format.ensures)
       | in-describe w ↦ subst is_task (sym w.result-is) (w.in-describe.is, w.format-in-describe.ensures)
       | in-verify w ↦ subst is_task (sym w.result-is) (w.in-verify.is, w.format-in-verify.ensures)
-      | in-check+in_ok-allowed_kinds-in-check w ↦ subst is_task (sym w.result-is) (
+      | in-check+in_ok-policy-in-check w ↦ subst is_task (sym w.result-is) (
         w.in-check.is,
-        (w.in_ok-allowed_kinds-in-check.ensures.value, w.format-in-check.ensures),
+        (w.in_ok-policy-in-check.ensures.value, w.format-in-check.ensures),
       )
       | in-scan w ↦ subst is_task (sym w.result-is) (w.in-scan.is, tt)
       | in-update+in_ok-changes-in-update+in_ok-form-in-update w ↦ subst is_task (sym w.result-is) (

@@ -4,6 +4,7 @@ use Rattle.bi_norm.specs.Converting.{IsConvertedFile, IsConvertError}
 use Rattle.bi_norm.specs.NormalForm.{IsNormalForm, IsNormaliseError}
 use Rattle.bi_norm.specs.Reading.{IsBootImageReadError}
 use Rattle.bi_report.specs.CheckedFiles.{IsChecked, IsCheckError}
+use Rattle.bi_report.specs.Checking.{allowed_under}
 use Rattle.bi_report.specs.ListedFiles.{IsListing}
 use Rattle.bi_report.specs.Scanning.{IsScanText, IsScanError}
 use Rattle.bi_report.specs.VerifiedFiles.{IsReport}
@@ -72,7 +73,7 @@ returns-in_err-clean-in-Check-clause-failed g c =
     let image = c.args.image.now in
     let p = err_from_is_err_and c.from_residual-in_err-clean-in-Check.result c.from_residual-in_err-clean-in-Check.ensures.1 in
     rw (c.in-Check.is, p.1)
-    (call_failed g.S.Sink.fails (IsChecked c.in-Check.format c.in-Check.allowed limits image) (IsCheckError limits image)
+    (call_failed g.S.Sink.fails (IsChecked c.in-Check.format (allowed_under c.in-Check.policy) limits image) (IsCheckError limits image)
     c.args.sink.now c.check_into.new.sink c.in_err-clean-in-Check.field-0.0 p.0 p.2
     c.in_err-clean-in-Check.ensures.failed)
 
