@@ -51,16 +51,16 @@ abbrev pub explanation_of : Topic → List ℕ
 explanation_of given = sentence_about given ++ 10 ∷ []
 
 -- A line with a name and a meaning.
-abbrev pub line_of : (name meaning : List ℕ) → List ℕ
-line_of name meaning = name ++ (codes ": " ++ (meaning ++ 10 ∷ []))
+abbrev pub line_with_meaning : (name meaning : List ℕ) → List ℕ
+line_with_meaning name meaning = name ++ (codes ": " ++ (meaning ++ 10 ∷ []))
 
 -- What a cause means, as a line that begins with the name of the cause.
 abbrev pub line_of_cause : Cause → List ℕ
-line_of_cause cause = line_of (name_of cause) (sentence_of cause)
+line_of_cause cause = line_with_meaning (name_of cause) (sentence_of cause)
 
 -- The same of a kind.
 abbrev pub line_of_kind : ConcernKind → List ℕ
-line_of_kind given = line_of (kind_word given) (sentence_of_kind given)
+line_of_kind given = line_with_meaning (kind_word given) (sentence_of_kind given)
 
 -- A line for each cause, and then for each kind.
 abbrev pub all_explanations : List ℕ

@@ -4,8 +4,8 @@ ghost use Rattle.std.specs.Prelude.{◌≡◌, ◌++◌, IfNone, IfOk, IfSome, O
 ghost use Rattle.std.specs.Prelude.{string_bytes};
 ghost use Rattle.bootimg.specs.CommandLine.{NamesCause, NoneIs};
 ghost use Rattle.bootimg.specs.Explanations.{all_explanations, explain_text, explanation_of};
-ghost use Rattle.bootimg.specs.Explanations.{all_causes, all_kinds, line_of, line_of_cause};
-ghost use Rattle.bootimg.specs.Explanations.{line_of_kind, sentence_about};
+ghost use Rattle.bootimg.specs.Explanations.{all_causes, all_kinds, line_of_cause};
+ghost use Rattle.bootimg.specs.Explanations.{line_of_kind, line_with_meaning, sentence_about};
 
 use bi_base::Cause;
 use bi_commands::causes::sentence;
@@ -174,7 +174,7 @@ fn put_kinds(text: &mut String) -> Result<(), AllocError>
 /// Appends the line of what has this name and means this.
 fn put_line(text: &mut String, name: &str, meaning: &str) -> Result<(), AllocError>
     ensures { OnOk result (string_bytes text.new
-        ≡ string_bytes text.old ++ line_of name.now meaning.now) }
+        ≡ string_bytes text.old ++ line_with_meaning name.now meaning.now) }
 {
     text.push_str(name)?;
     text.push_str(": ")?;
