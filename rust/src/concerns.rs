@@ -216,7 +216,11 @@ fn name_of(shown: &str) -> Vec<u8> {
     while let [first, later @ ..] = left {
         let escaped = (*first == b'%').then(|| shown_byte(later)).flatten();
         name.push(escaped.unwrap_or(*first));
-        left = if escaped.is_some() { &later[2..] } else { later };
+        left = if escaped.is_some() {
+            &later[2..]
+        } else {
+            later
+        };
     }
     name
 }

@@ -4,7 +4,7 @@ use bootimg::{
     build_fit, build_legacy, check, check_json, compare, compare_json, concerns, convert, describe,
     describe_json, kind, listing, listing_json, normalise, same_meaning, show, update, verify,
     verify_json, version, BuildImage, Cause, Changes, Concern, Concerns, Error, Fit, Form, Header,
-    Key, Kind, Legacy, Limits, Place, Refusal, Verdict,
+    Key, Kind, Legacy, Limits, Place, Policy, Refusal, Verdict,
 };
 
 const ALL: Limits = Limits {
@@ -270,6 +270,34 @@ fn concerns_about_files() {
         ..Concerns::default()
     };
     assert_eq!(concerns(&board, allowed, ALL), Ok(Vec::new()));
+    let policy = Policy {
+        allowed,
+        signed: true,
+    };
+    assert_eq!(
+        check(&board, policy, ALL).unwrap(),
+        "unsigned conf-1\nunsigned conf-2\n"
+    );
+    let found = concerns(&board, policy, ALL).unwrap();
+    let [Concern::Unsigned {
+        configuration: Some(one),
+        ..
+    }, Concern::Unsigned {
+        configuration: Some(other),
+        ..
+    }] = &found[..]
+    else {
+        panic!("{found:?}");
+    };
+    assert_eq!((&one[..], &other[..]), (&b"conf-1"[..], &b"conf-2"[..]));
+    let found = concerns(&kernel, policy, ALL).unwrap();
+    let [Concern::Unsigned {
+        configuration: None,
+        ..
+    }] = &found[..]
+    else {
+        panic!("{found:?}");
+    };
     let offset = Fit::read(&board, ALL)
         .unwrap()
         .image(b"fdt-1")
