@@ -3,6 +3,7 @@ pub mod TableFacts
 pub mod ShownCells
 pub mod ShownRows
 pub mod ShownPages
+pub mod ShownSignatures
 pub mod LayoutFacts
 pub mod LayoutsOfFiles
 pub mod PageFacts
