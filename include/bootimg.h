@@ -275,7 +275,8 @@ typedef struct bootimg_hash {
  *   BOOTIMG_CONCERN_UNHASHED     `name` of the image.
  *   BOOTIMG_CONCERN_WEAK_HASH    `name` of the image. Its algorithms are those of the elements of
  *                                bootimg_verdicts with this region as `image` and with
- *                                BOOTIMG_VERDICT_GOOD.
+ *                                BOOTIMG_VERDICT_GOOD, except for the nodes of the elements of
+ *                                BOOTIMG_CONCERN_SKIPPED_HASH.
  *   BOOTIMG_CONCERN_BAD_LIST     `name` of the configuration, and `key`.
  *   BOOTIMG_CONCERN_MISSING      `name` of the configuration, `key`, and `index`: that of the first
  *                                listed name that no image has, counted from 0.

@@ -378,10 +378,13 @@ class Image:
 
     @functools.cached_property
     def _good_algorithms(self) -> dict[str | None, list[str]]:
-        """The algorithms of the hash nodes whose verdict is good, by the name of their image."""
+        """The algorithms of the hash nodes whose verdict is good and that U-Boot does not skip, by
+        the name of their image."""
+        others = (kind for kind in bootimg.CONCERNS if kind != "skipped-hash")
+        skipped = {(one.image, one.node) for one in self.check(others)}
         algorithms: dict[str | None, list[str]] = {}
         for one in self.verify().hashes:
-            if one.verdict == "good":
+            if one.verdict == "good" and (one.image, one.node) not in skipped:
                 algorithms.setdefault(one.image, []).append(one.algorithm or "")
         return algorithms
 

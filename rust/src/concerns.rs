@@ -2,7 +2,7 @@
 
 use crate::calls::{bytes_of, fill_of, fill_with_number, found};
 use crate::{check, sys, Error, Key, Limits, Policy, Verdict};
-use std::collections::BTreeMap;
+use std::collections::{BTreeMap, BTreeSet};
 
 /// A concern about a file: a thing in it that is not protected.
 #[derive(Clone, Debug, PartialEq, Eq)]
@@ -151,7 +151,9 @@ pub fn concerns(
     let (elements, _) = fill_with_number(call, bits, 16, file, limits)?;
     let is_weak = |one: &sys::Concern| one.kind == sys::CONCERN_WEAK_HASH;
     let mut algorithms = if elements.iter().any(is_weak) {
-        good_algorithms(file, &fill_of(sys::bootimg_verdicts, 16, file, limits)?.0)
+        let (skipped, _) = fill_with_number(call, sys::SKIPPED_ALONE, 16, file, limits)?;
+        let (hashes, _) = fill_of(sys::bootimg_verdicts, 16, file, limits)?;
+        good_algorithms(file, &hashes, &skipped)
     } else {
         BTreeMap::new()
     };
@@ -276,11 +278,18 @@ fn concern_of<'a>(
     }
 }
 
-/// Returns the algorithms of the good ones of these hash nodes.
-fn good_algorithms<'a>(file: &'a [u8], hashes: &[sys::Hash]) -> Algorithms<'a> {
+/// Returns the algorithms of the good ones of these hash nodes, except for those of these concerns:
+/// that U-Boot skips a node.
+fn good_algorithms<'a>(
+    file: &'a [u8],
+    hashes: &[sys::Hash],
+    skipped: &[sys::Concern],
+) -> Algorithms<'a> {
+    let skipped: BTreeSet<usize> = skipped.iter().map(|one| one.node.offset).collect();
     let mut algorithms = Algorithms::new();
     for hash in hashes {
-        if Verdict::from_number(hash.verdict) == Verdict::Good {
+        let is_good = Verdict::from_number(hash.verdict) == Verdict::Good;
+        if is_good && !skipped.contains(&hash.node.offset) {
             let of_image = algorithms.entry(hash.image.offset).or_default();
             of_image.push(bytes_of(file, hash.algorithm));
         }

@@ -124,6 +124,8 @@ pub const CONCERN_BAD_DEFAULT: u32 = 32;
 pub const CONCERN_TRAILING: u32 = 64;
 pub const CONCERN_SKIPPED_HASH: u32 = 128;
 pub const SIGNED: u32 = 32768;
+/// Each kind of concerns is allowed but that of skipped hash nodes.
+pub const SKIPPED_ALONE: u32 = (SIGNED - 1) ^ CONCERN_SKIPPED_HASH;
 
 /// The first byte of a file, a name or a path.
 pub type Bytes = *const u8;

@@ -173,7 +173,7 @@ for compiler in gcc clang; do
     done
     check "$compiler: what the causes mean is what explain prints" sh -c 'for number in $(seq 26); do
         ./calls cause --number "$number" && printf ": " && ./calls sentence --number "$number" && echo || exit
-    done > output && "$1" explain | diff output -' sh "$program"
+    done > output && "$1" explain | head -n 26 | diff output -' sh "$program"
     ./calls version > output
     echo >> output
     check "$compiler: the version is that of the header" cmp output wanted

@@ -96,7 +96,7 @@ FOUND = [
     ("CHANGE_", "update.rt", r"let new_(?P<name>time) = if has_bit\((?P<number>\d+), changes\)"),
     ("CHANGE_", "update.rt", r"(?P<name>hashes): has_bit\((?P<number>\d+), changes\)"),
     ("ALLOW_", "arguments.rt", r"(?P<name>(?!signed\b)\b\w+): has_bit\((?P<number>\d+), kinds\)"),
-    ("", "arguments.rt", r"(?P<name>signed): has_bit\((?P<number>\d+), kinds\)"),
+    ("", "arguments.rt", r"\b(?P<name>signed): has_bit\((?P<number>\d+), kinds\)"),
     ("CONCERN_", "concerns.rt", r"ConcernKind::(?P<name>\w+) => (?P<number>\d+),"),
     ("", "concerns.rt", r"Key::(?P<name>\w+) => (?P<number>\d+),"),
 ]

@@ -145,7 +145,7 @@ def concern_line(concern):
         "trailing": lambda: [str(concern.size)],
         "skipped-hash": lambda: [shown(concern.image), shown(concern.node)],
         "unsigned": lambda: [or_none(concern.configuration)],
-        "unit-address": lambda: [shown(concern.path)],
+        "unit-address": lambda: ["".join(f"/{shown(name)}" for name in concern.path.split("/")[1:])],
         **dict.fromkeys(("no-nodes", "no-images", "strings"), lambda: [shown(concern.configuration), shown(concern.signature)]),
         **dict.fromkeys(("uncovered", "foreign"), lambda: [*map(shown, (concern.configuration, concern.signature, concern.path))]),
     }[concern.kind]()

@@ -307,7 +307,24 @@ static int is_same_region(bootimg_region one, bootimg_region other)
     return one.offset == other.offset && one.size == other.size;
 }
 
-/* Prints the algorithms of the good hash nodes of the image whose name is in a region. */
+/* Whether the name of a hash node that U-Boot skips is in a region. */
+static int is_skipped(struct memory file, bootimg_region node)
+{
+    const uint32_t others = (BOOTIMG_SIGNED - 1) ^ BOOTIMG_ALLOW_SKIPPED_HASH;
+    const struct call call = {.call = CONCERNS, .file = file, .kinds = others};
+    bootimg_result answer;
+    struct memory array;
+    int found = 0;
+    bootimg_concerns(file.bytes, file.size, others, BOOTIMG_LIMIT, BOOTIMG_DEPTH, NULL, 0, &answer);
+    CHECK(make_with(&call, &array, answer.size, &answer) == BOOTIMG_OK);
+    const bootimg_concern *concerns = (const bootimg_concern *)(const void *)array.bytes;
+    for (size_t i = 0; i < answer.size; i++)
+        found |= is_same_region(concerns[i].node, node);
+    give_back(array);
+    return found;
+}
+
+/* Prints the algorithms of the good hash nodes, but skipped ones, of the image whose name is in a region. */
 static void print_good(FILE *output, struct memory file, bootimg_region image)
 {
     const struct call call = {.call = VERDICTS, .file = file};
@@ -316,7 +333,7 @@ static void print_good(FILE *output, struct memory file, bootimg_region image)
     struct memory array = elements_of(&call, "verdicts", &status, &answer, output);
     const bootimg_hash *hashes = (const bootimg_hash *)(const void *)array.bytes;
     for (size_t i = 0; i < answer.size; i++)
-        if (is_same_region(hashes[i].image, image) && hashes[i].verdict == BOOTIMG_VERDICT_GOOD)
+        if (is_same_region(hashes[i].image, image) && hashes[i].verdict == BOOTIMG_VERDICT_GOOD && !is_skipped(file, hashes[i].node))
             print_found(output, file, hashes[i].algorithm);
     give_back(array);
 }
