@@ -1,5 +1,5 @@
 use Rattle.std.proofs.Common.{◌≡◌, ℕ, ◌+◌, ◌/◌, ◌%◌, ◌<◌, ◌≤◌, zero, suc, List, [], ◌∷◌, ◌++◌, None, codes, get_or, length, sum, take}
-use Rattle.std.proofs.Common.{lit≤, refl}
+use Rattle.std.proofs.Common.{inl, inr, lit≤, refl}
 use Rattle.std.proofs.Common.{arith, rules}
 use Rattle.std.specs.Fmt.{digits}
 use Rattle.std.specs.List.{AllAdjacentBelow}
@@ -13,6 +13,8 @@ use Rattle.bi_legacy.specs.Laws.{OneLegacyMeaning}
 use Rattle.bi_norm.specs.Meaning.{OfLegacy}
 use Rattle.bi_norm.proofs.ComparisonFacts.{kernel_with_rest_means, multi_means, only_image}
 use Rattle.bi_report.specs.Checking.{OfLegacyImage, TrailingBytes, Unsigned}
+use Rattle.bi_legacy.specs.Meaning.{LegacyImage}
+use Rattle.bi_report.specs.SignedTrees.{IsOverCheckBound}
 use Rattle.bi_report.proofs.LegacyConcernFacts.{is_read, known_model}
 use Rattle.bi_show.specs.declared.show.layout.LayoutRegion.{LayoutRegion}
 use Rattle.bi_show.specs.Dates.{IsTimeText, clock_text, date_text, days_of_years, month_lengths}
@@ -75,13 +77,18 @@ multi_rise (suc (suc (suc k))) d within = omega (arith, within)
 
 -- ---- pages
 
+-- A legacy image is within the bounds of checking.
+legacy_not_over : (image : LegacyImage) → ¬ (IsOverCheckBound widest (OfLegacy image))
+legacy_not_over image (inl over) = over
+legacy_not_over image (inr over) = over
+
 module _ (one_legacy : OneLegacyMeaning) where
   kernel_concerns : AreConcernLines widest kernel_file_with_rest (codes "trailing 7\n")
   unfolding header cell digits
   kernel_concerns = record {
     meaning = OfLegacy kernel_image;
     means = only_image one_legacy kernel_file_with_rest kernel_image kernel_with_rest_means;
-    within = λ over. over;
+    within = legacy_not_over _;
     concerns = Unsigned None ∷ TrailingBytes 7 ∷ [];
     are_concerns =
         OfLegacyImage (known_model one_legacy kernel_file_with_rest kernel_image kernel_with_rest_means 7 refl)
@@ -94,7 +101,7 @@ module _ (one_legacy : OneLegacyMeaning) where
   multi_concerns = record {
     meaning = OfLegacy multi_image;
     means = only_image one_legacy multi_file multi_image multi_means;
-    within = λ over. over;
+    within = legacy_not_over _;
     concerns = Unsigned None ∷ [];
     are_concerns =
         OfLegacyImage (known_model one_legacy multi_file multi_image multi_means 0 refl)

@@ -1,4 +1,5 @@
-use Rattle.std.proofs.Common.{zero, suc, [], ◌∷◌, ◌++◌, inl, inr, codes, lit≤, ap, sym, refl, arith}
+use Rattle.std.proofs.Common.{◌≡◌, zero, suc, [], ◌∷◌, ◌++◌, inl, inr, codes, lit≤, ap, sym, refl, arith, rules}
+use Rattle.bi_coverage.specs.Signatures.{all_needed_length}
 use Rattle.std.specs.Fmt.{digits}
 use Rattle.bi_base.specs.Cells.{cell, cell8, u32_at}
 use Rattle.bi_base.specs.Crc.{crc32, crc_after, low_bits}
@@ -40,9 +41,12 @@ regions_rise (suc (suc (suc zero))) d within = lit≤ tt
 regions_rise (suc (suc (suc (suc k)))) d within = omega (arith, within)
 
 -- Its payload is within the bound, and it has no signed node.
+nothing_needed : all_needed_length shown_meaning ≡ 0
+nothing_needed = search (rules, find-properties)
+
 not_over : ¬ (IsOverCheckBound widest (OfFit shown_meaning))
 not_over (inl over) = omega (arith, over)
-not_over (inr over) = omega (arith, over)
+not_over (inr over) = omega (arith, over, nothing_needed)
 
 module _ (one_legacy : OneLegacyMeaning) where
   only_meaning : MeansOnly widest shown_file (OfFit shown_meaning)

@@ -1,4 +1,4 @@
-use Rattle.std.proofs.Common.{◌≡◌, ◌×◌, ◌++◌, flat_map, map}
+use Rattle.std.proofs.Common.{◌≡◌, ◌++◌, flat_map, map}
 use Rattle.bi_blob.specs.Lookups.{siblings}
 use Rattle.bi_coverage.specs.Coverage.{configuration_coverage}
 use Rattle.bi_coverage.specs.Values.{configuration_value, meaning_of}
@@ -14,7 +14,7 @@ use Rattle.bi_show.proofs.show.signatures.add_configuration_signatures.Given as 
 -- configurations that are left.
 abbrev pub invariant-loop-node : goal.invariant-loop-node
 invariant-loop-node l =
-    let content = l.fit.now in
+    let content = l.fit in
     let row = configuration_signature_row content.blob.file (root_of content.blob) (tree_of content) in
     (cells_of_rows l.rows.items ++ flat_map (λ entry. map (row entry) (file_signatures entry)) (siblings_left l.node-iterator)
     ≡ cells_of_rows l.initial.rows.items

@@ -12,4 +12,4 @@ invariant-loop-node l =
     cells_of_rows l.rows.items
     ++ flat_map (λ entry. map (image_signature_row entry) (file_signatures entry)) (siblings_left l.node-iterator)
     ≡ cells_of_rows l.initial.rows.items
-    ++ flat_map (λ entry. map (image_signature_row entry) (file_signatures entry)) (siblings (file_images l.fit.now.blob))
+    ++ flat_map (λ entry. map (image_signature_row entry) (file_signatures entry)) (siblings (file_images l.fit.blob))

@@ -1,4 +1,4 @@
-use Rattle.std.proofs.Common.{◌≡◌, ◌×◌, ◌++◌, filter, map}
+use Rattle.std.proofs.Common.{◌≡◌, ◌++◌, filter, map}
 use Rattle.bi_coverage.specs.Coverage.{signature_coverage}
 use Rattle.bi_coverage.specs.Signatures.{is_signed}
 use Rattle.bi_coverage.specs.Values.{meaning_of, meaning_of_node, signature_value}
@@ -17,7 +17,7 @@ use Rattle.bi_show.proofs.show.signatures.add_signatures_of_configuration.Given 
 abbrev pub invariant-loop-child : goal.invariant-loop-child
 invariant-loop-child l =
     let entry = node_of l.node in
-    let content = l.fit.now in
+    let content = l.fit in
     let row = configuration_signature_row content.blob.file (root_of content.blob) (tree_of content) entry in
     let left = filter (λ child. is_signature_name child.name) (siblings_left l.child-iterator) in
     (cells_of_rows l.rows.items ++ map row left ≡ cells_of_rows l.initial.rows.items ++ map row (file_signatures entry))
