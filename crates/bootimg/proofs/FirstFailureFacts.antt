@@ -13,7 +13,7 @@ use Rattle.clap.proofs.OnLiterals.{clap_on_literals}
 use Rattle.bootimg.specs.CommandLine.{ChangesHashes, HasFitValues, HasNoForm, IsBadPlan, IsChanges, IsChangesFailure}
 use Rattle.bootimg.specs.CommandLine.{IsFirstBad, IsFitPlanFailure, IsForm, IsFormWith, IsImageText, IsLimits, IsNewTime}
 use Rattle.bootimg.specs.CommandLine.{IsTaskFailure, NoneIs, NotAllowed, NotChanged, NotCompared, NotExplained, NotFit, NotFormed}
-use Rattle.bootimg.specs.CommandLine.{NotFormedChanged, NotLegacy, NotLimited, NotPlaced, NotSelected, align_option, external_flag}
+use Rattle.bootimg.specs.CommandLine.{NotFormedChanged, NotLegacy, NotLimited, NotNamed, NotPlaced, NotSelected, align_option, external_flag}
 use Rattle.bootimg.specs.CommandLine.{given_offset, hashes_flag, limit_of, name_of_task, option_of, value_of, values_of}
 use Rattle.bootimg.specs.ConfigurationWords.{AreHashes, IsDefault, IsFirstBadConfiguration}
 use Rattle.bootimg.specs.KnownBuildRequests.{FirstFailuresAreKnown, IsTheOne}
@@ -243,6 +243,7 @@ not_a_task (task.Verify format) = other_bytes (codes "build-fit") (codes "verify
 not_a_task (task.Check allowed format) = other_bytes (codes "build-fit") (codes "check") refl
 not_a_task task.Scan = other_bytes (codes "build-fit") (codes "scan") refl
 not_a_task (task.Update changes form) = other_bytes (codes "build-fit") (codes "update") refl
+not_a_task (task.Get plan) = other_bytes (codes "build-fit") (codes "get") refl
 not_a_task (task.Extract selection) = other_bytes (codes "build-fit") (codes "extract") refl
 not_a_task task.Convert = other_bytes (codes "build-fit") (codes "convert") refl
 
@@ -259,6 +260,7 @@ fit_failure options failure (NotAllowed name fails) = absurd (other_bytes (codes
 fit_failure options failure (NotChanged name fails) = absurd (other_bytes (codes "build-fit") (codes "update") refl name)
 fit_failure options failure (NotFormedChanged name changes are fails) =
     absurd (other_bytes (codes "build-fit") (codes "update") refl name)
+fit_failure options failure (NotNamed name fails) = absurd (other_bytes (codes "build-fit") (codes "get") refl name)
 fit_failure options failure (NotSelected name all fails) = absurd (other_bytes (codes "build-fit") (codes "extract") refl name)
 fit_failure options failure (NotPlaced given is fails) = absurd (not_a_task given is.0)
 fit_failure options failure (NotLegacy name fails) = absurd (other_bytes (codes "build-fit") (codes "build-legacy") refl name)
@@ -294,6 +296,7 @@ update_failure options failure (NotFormed name fails) = absurd (other_bytes (cod
 update_failure options failure (NotAllowed name fails) = absurd (other_bytes (codes "update") (codes "check") refl name)
 update_failure options failure (NotChanged name fails) = inl fails
 update_failure options failure (NotFormedChanged name changes are fails) = inr (inl (changes, are, fails.0))
+update_failure options failure (NotNamed name fails) = absurd (other_bytes (codes "update") (codes "get") refl name)
 update_failure options failure (NotSelected name all fails) = absurd (other_bytes (codes "update") (codes "extract") refl name)
 update_failure options failure (NotPlaced given is fails) = inr (inr fails)
 update_failure options failure (NotLegacy name fails) = absurd (other_bytes (codes "update") (codes "build-legacy") refl name)

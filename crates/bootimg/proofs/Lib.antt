@@ -22,6 +22,7 @@ pub mod MemoryRuns
 pub mod ArgumentFacts
 pub mod OptionFacts
 pub mod RequestFacts
+pub mod GetFacts
 pub mod BuildRequestFacts
 pub mod FirstFailureFacts
 pub mod RunEnds

@@ -10,7 +10,7 @@ use Rattle.clap.specs.declared.parser.matches.ArgMatches.{ArgMatches}
 use Rattle.clap.proofs.OnLiterals.{clap_on_literals}
 use Rattle.bootimg.specs.CommandLine.{Gives, IsJob, IsLimits, IsTask, IsTaskFailure, NoJob, NoLimits, NoMemory}
 use Rattle.bootimg.specs.CommandLine.{NotAll, NotAllowed, NotChanged, NotCompared, NotExplained, NotFit, NotFormed, NotFormedChanged}
-use Rattle.bootimg.specs.CommandLine.{NotLegacy, NotLimited, NotPlaced, NotSelected, all_flag, hashes_flag, json_flag, limit_of}
+use Rattle.bootimg.specs.CommandLine.{NotLegacy, NotLimited, NotNamed, NotPlaced, NotSelected, all_flag, hashes_flag, json_flag, limit_of}
 use Rattle.bootimg.specs.CommandLine.{option_of}
 use Rattle.bootimg.specs.KnownOrders.{IsListOfFile, IsRejectedFor, RejectionsAreKnown, RequestsAreKnown}
 use Rattle.bootimg.specs.Program.{program_app}
@@ -48,6 +48,7 @@ list_task options flag (task.Verify format) is = absurd (other_bytes (codes "lis
 list_task options flag (task.Check allowed format) is = absurd (other_bytes (codes "list") (codes "check") refl is.0)
 list_task options flag task.Scan is = absurd (other_bytes (codes "list") (codes "scan") refl is.0)
 list_task options flag (task.Update changes form) is = absurd (other_bytes (codes "list") (codes "update") refl is.0)
+list_task options flag (task.Get plan) is = absurd (other_bytes (codes "list") (codes "get") refl is.0)
 list_task options flag (task.Extract selection) is = absurd (other_bytes (codes "list") (codes "extract") refl is.0)
 list_task options flag task.Convert is = absurd (other_bytes (codes "list") (codes "convert") refl is.0)
 
@@ -119,6 +120,7 @@ no_update_task options time flag (task.Check allowed format) is = other_bytes (c
 no_update_task options time flag task.Scan is = other_bytes (codes "update") (codes "scan") refl is.0
 no_update_task options time flag (task.Update changes form) is =
     is.1.0.some (no_time_given _ time changes.time is.1.0.time, is.1.0.hashes.not_given flag)
+no_update_task options time flag (task.Get plan) is = other_bytes (codes "update") (codes "get") refl is.0
 no_update_task options time flag (task.Extract selection) is = other_bytes (codes "update") (codes "extract") refl is.0
 no_update_task options time flag task.Convert is = other_bytes (codes "update") (codes "convert") refl is.0
 
@@ -136,6 +138,7 @@ scan_failure options failure (NotFormed name fails) = fails.0
 scan_failure options failure (NotAllowed name fails) = fails.0
 scan_failure options failure (NotChanged name fails) = absurd (other_bytes (codes "scan") (codes "update") refl name)
 scan_failure options failure (NotFormedChanged name changes are fails) = fails.0
+scan_failure options failure (NotNamed name fails) = fails.0
 scan_failure options failure (NotSelected name all fails) = absurd (other_bytes (codes "scan") (codes "extract") refl name)
 scan_failure options failure (NotPlaced given is fails) = fails.0
 scan_failure options failure (NotLegacy name fails) = fails.0
@@ -162,6 +165,7 @@ all_failure options flag failure (NotFormed name fails) = fails.0
 all_failure options flag failure (NotAllowed name fails) = fails.0
 all_failure options flag failure (NotChanged name fails) = absurd (other_bytes (codes "extract") (codes "update") refl name)
 all_failure options flag failure (NotFormedChanged name changes are fails) = fails.0
+all_failure options flag failure (NotNamed name fails) = fails.0
 all_failure options flag failure (NotSelected name all fails) = absurd (true≢false (sym (all.given flag)))
 all_failure options flag failure (NotPlaced given is fails) = fails.0
 all_failure options flag failure (NotLegacy name fails) = fails.0

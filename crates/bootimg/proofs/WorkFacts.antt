@@ -223,6 +223,7 @@ no_task_explains (task.Verify format) same = other_bytes (codes "explain") (code
 no_task_explains (task.Check allowed format) same = other_bytes (codes "explain") (codes "check") refl same
 no_task_explains task.Scan same = other_bytes (codes "explain") (codes "scan") refl same
 no_task_explains (task.Update changes form) same = other_bytes (codes "explain") (codes "update") refl same
+no_task_explains (task.Get plan) same = other_bytes (codes "explain") (codes "get") refl same
 no_task_explains (task.Extract selection) same = other_bytes (codes "explain") (codes "extract") refl same
 no_task_explains task.Convert same = other_bytes (codes "explain") (codes "convert") refl same
 

@@ -54,6 +54,11 @@ use Rattle.bi_common.specs.Unshown.{IsNameShownAs}
 use Rattle.bi_report.specs.Checking.{kind_word, allows as allows_kind}
 use Rattle.bi_report.specs.declared.check.Allowed.{Allowed}
 use Rattle.bi_report.specs.declared.check.ConcernKind.{ConcernKind}
+use Rattle.bi_values.specs.NameWords.{AreWordsOf}
+use Rattle.bi_values.specs.ValueNames.{value_name_models, words_of_value}
+use Rattle.bi_values.specs.declared.value_form.ValueForm.TheVariants.{Raw}
+use Rattle.bootimg.specs.ValueWords.{form_argument, texts_of_value}
+use Rattle.bootimg.specs.declared.command_line.get.GetPlan.{GetPlan}
 use Rattle.bootimg.specs.declared.command_line.extract.AllRequest.{AllRequest}
 use Rattle.bootimg.specs.declared.command_line.extract.Selected.{Selected}
 use Rattle.bootimg.specs.declared.command_line.extract.Selected.TheVariants.{Part, Image, Config}
@@ -295,6 +300,17 @@ IsChangesFailure options NoChange =
 IsChangesFailure options BadValue = (argument : List ℕ)
     × (option_of options (codes "time") ≡ Some argument) × NoneIs (IsNumber argument)
 IsChangesFailure options failure = ⊥
+
+-- ---- get
+
+-- The options of `get` are this plan: the names of the values that the words name, and the words
+-- for each. If the values are written raw there is one.
+pub record IsGetPlan (options : ArgMatches) (plan : GetPlan) : Type 0 where
+  pub form : option_of options (codes "as") ≡ form_argument plan.form
+  pub names : AreWordsOf (values_of options (codes "where")) (value_name_models plan.names.items)
+  pub words : map texts_of_value plan.words.items
+      ≡ map words_of_value (value_name_models plan.names.items)
+  pub one : plan.form ≡ Raw → length plan.names.items ≡ 1
 
 -- ---- explain
 
@@ -592,6 +608,7 @@ name_of_task (task.Verify format) = codes "verify"
 name_of_task (task.Check allowed format) = codes "check"
 name_of_task task.Scan = codes "scan"
 name_of_task (task.Update changes form) = codes "update"
+name_of_task (task.Get plan) = codes "get"
 name_of_task (task.Extract selection) = codes "extract"
 name_of_task task.Convert = codes "convert"
 
@@ -606,6 +623,7 @@ AreTaskOptions options (task.Check allowed format) =
     IsAllowedBy (allow_option options) allowed × IsFormat options format
 AreTaskOptions options task.Scan = ⊤
 AreTaskOptions options (task.Update changes form) = IsChanges options changes × IsForm options form
+AreTaskOptions options (task.Get plan) = IsGetPlan options plan
 AreTaskOptions options (task.Extract selection) =
     SelectsAll options false × IsSelected options selection
 AreTaskOptions options task.Convert = ⊤
@@ -644,6 +662,8 @@ pub data IsTaskFailure (name : List ℕ) (options : ArgMatches) (failure : Failu
       → IsTaskFailure name options failure
   NotFormedChanged : name ≡ codes "update" → (changes : Changes) → IsChanges options changes
       → IsFormFailure options failure → IsTaskFailure name options failure
+  NotNamed : name ≡ codes "get" → IsBadValue (IsGetPlan options) failure
+      → IsTaskFailure name options failure
   NotSelected : name ≡ codes "extract" → SelectsAll options false
       → IsSelectionFailure options failure → IsTaskFailure name options failure
   NotPlaced : (task : Task) → IsTask name options task

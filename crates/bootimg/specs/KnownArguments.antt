@@ -88,6 +88,12 @@ pub record DefaultsAreKnown : Type 0 where
       ∷ with_value (codes "external") (codes "false")
       ∷ without_value (codes "align")
       ∷ only_defaults)
+  pub get : GivesValues (codes "get a load") (codes "get")
+      (without_value (codes "as")
+      ∷ with_value (codes "offset") (codes "0")
+      ∷ default_limit
+      ∷ without_value (codes "output")
+      ∷ [])
   pub extract : GivesValues (codes "extract") (codes "extract")
       (without_value (codes "part")
       ∷ without_value (codes "image")
@@ -185,6 +191,10 @@ pub record OptionsAreKnown : Type 0 where
       ∷ with_value (codes "external") (codes "true")
       ∷ with_value (codes "align") (codes "8")
       ∷ offset_and_others)
+  pub get : GivesValues (codes "get --as raw --offset 7 --limit 64 -o out in / x load") (codes "get")
+      (with_value (codes "as") (codes "raw")
+      ∷ (codes "where", codes "/" ∷ codes "x" ∷ codes "load" ∷ [])
+      ∷ offset_and_others)
   pub extract : GivesValues
       (codes
       "extract --part 1 --image a --config c --key fdt --index 2 --offset 7 --limit 64 -o out in")
@@ -252,6 +262,10 @@ pub record MistakesAreKnown : Type 0 where
   pub no_type : fault_of program_app (words_of_line (codes "build-legacy --os linux --arch arm"))
       ≡ MissingRequiredArgument ∷ []
   pub one_image : fault_of program_app (words_of_line (codes "compare a"))
+      ≡ MissingRequiredArgument ∷ []
+  pub no_image_of_values : fault_of program_app (words_of_line (codes "get"))
+      ≡ MissingRequiredArgument ∷ []
+  pub no_values : fault_of program_app (words_of_line (codes "get a"))
       ≡ MissingRequiredArgument ∷ []
   pub two_files : fault_of program_app (words_of_line (codes "list a b")) ≡ UnknownArgument ∷ []
   pub other_option : fault_of program_app (words_of_line (codes "list --external"))

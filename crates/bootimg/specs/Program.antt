@@ -55,6 +55,13 @@ positionals name = record (positional name) {
   action = Some Append;
 }
 
+-- One or more positional arguments.
+abbrev pub required_positionals : (name : List ℕ) → Rule
+required_positionals name = record (positionals name) {
+  range = Some (record { start_inclusive = 1; end_inclusive = usize_max });
+  required = true;
+}
+
 -- ---- options of several commands
 
 -- `--limit`.
@@ -142,6 +149,12 @@ update = command (codes "update")
     (value_option (codes "time") ∷ flag_option (codes "hashes") ∷ external ∷ align ∷ offset
     ∷ limit ∷ output ∷ file ∷ [])
 
+-- `get`.
+abbrev pub get : Shape
+get = command (codes "get")
+    (value_option (codes "as") ∷ offset ∷ limit ∷ output ∷ required_positional (codes "file")
+    ∷ required_positionals (codes "where") ∷ [])
+
 -- `extract`.
 abbrev pub extract : Shape
 extract = command (codes "extract")
@@ -183,9 +196,9 @@ explain = command (codes "explain") (output ∷ positional (codes "cause") ∷ [
 abbrev pub reading_commands : List Shape
 reading_commands = normalise ∷ show ∷ list ∷ describe ∷ compare ∷ verify ∷ check ∷ scan ∷ []
 
--- The commands that make something else of an image.
+-- The commands that make something else of an image, or take something out of it.
 abbrev pub changing_commands : List Shape
-changing_commands = update ∷ extract ∷ convert ∷ []
+changing_commands = update ∷ get ∷ extract ∷ convert ∷ []
 
 -- The commands that build an image.
 abbrev pub building_commands : List Shape

@@ -15,6 +15,11 @@ use Rattle.bi_report.specs.Scanning.{IsScanText, IsScanError, IsScanOutput}
 use Rattle.bi_report.specs.VerifiedFiles.{IsReport, IsVerifyOutput}
 use Rattle.bi_describe.specs.Describing.{IsDescription, IsDescribeError}
 use Rattle.bi_show.specs.ShownFiles.{IsPage}
+use Rattle.bi_values.specs.Getting.{IsGetError, IsTextOfValues}
+use Rattle.bi_values.specs.ValueNames.{ValueNameModel, value_name_models}
+use Rattle.bi_values.specs.declared.get_error.GetError.{GetError}
+use Rattle.bi_values.specs.declared.get_error.GetError.TheVariants as get
+use Rattle.bi_values.specs.declared.value_form.ValueForm.{ValueForm}
 use Rattle.bi_commands.specs.declared.extract.ExtractError.{ExtractError}
 use Rattle.bi_commands.specs.declared.extract.ExtractError.TheVariants as extract
 use Rattle.bi_commands.specs.Extracting.{IsChosen, IsExtractError}
@@ -24,11 +29,12 @@ use Rattle.bootimg.specs.declared.command_line.ImagePlan.{ImagePlan}
 use Rattle.bootimg.specs.declared.command_line.Task.{Task}
 use Rattle.bootimg.specs.declared.command_line.Task.TheVariants.{Normalise, List as ListImage}
 use Rattle.bootimg.specs.declared.command_line.Task.TheVariants.{Verify, Check, Describe, Extract}
-use Rattle.bootimg.specs.declared.command_line.Task.TheVariants.{Update, Convert, Scan, Show}
+use Rattle.bootimg.specs.declared.command_line.Task.TheVariants.{Update, Convert, Scan, Show, Get}
+use Rattle.bootimg.specs.declared.command_line.get.ValueWords.{ValueWords}
 use Rattle.bootimg.specs.declared.failure.Failure.{Failure}
 use Rattle.bootimg.specs.declared.failure.Failure.TheVariants.{Call}
 use Rattle.bootimg.specs.declared.tasks.Done.{Done}
-use Rattle.bootimg.specs.Failures.{failure_of}
+use Rattle.bootimg.specs.Failures.{IsFailureOfGetting, failure_of}
 use Rattle.bootimg.specs.Offsets.{laws_at, promise_at}
 use Rattle.bootimg.specs.Selections.{select_of}
 
@@ -66,6 +72,9 @@ TaskDone Scan limits done input output =
     (found : Bool) × IsScanOutput limits found input output × EndedWith found done
 TaskDone (Update changes form) limits done input output =
     IsUpdateKept changes limits form done.kept input output × (done.good ≡ true)
+TaskDone (Get plan) limits done input output =
+    IsTextOfValues plan.form (value_name_models plan.names.items) limits input output
+    × EndedWith true done
 TaskDone (Extract selection) limits done input output =
     IsChosen (select_of selection) limits input output × EndedWith true done
 TaskDone Convert limits done input output =
@@ -81,6 +90,8 @@ TaskText (Verify format) limits input output = IsReport format limits input outp
 TaskText (Check allowed format) limits input output = IsChecked format allowed limits input output
 TaskText Scan limits input output = IsScanText limits input output
 TaskText (Update changes form) limits input output = IsUpdated changes limits form input output
+TaskText (Get plan) limits input output =
+    IsTextOfValues plan.form (value_name_models plan.names.items) limits input output
 TaskText (Extract selection) limits input output =
     IsChosen (select_of selection) limits input output
 TaskText Convert limits input output = IsConvertedFile limits input output
@@ -96,6 +107,14 @@ pub record IsExtractFailure (HasError : ExtractError → Type 0) (failure : Fail
   pub error : ExtractError
   pub has_error : HasError error
   pub is : failure ≡ failure_of error
+
+-- The failure is that of getting values with these words.
+pub record IsGetFailure (HasError : GetError → Type 0) (words : List ValueWords)
+    (failure : Failure) : Type 0
+  where
+    pub error : GetError
+    pub has_error : HasError error
+    pub is : IsFailureOfGetting words error failure
 
 -- The task fails so for the input.
 abbrev pub TaskFails : Task → Limits → (input : List ℕ) → Failure → Type 0
@@ -114,6 +133,9 @@ TaskFails (Check allowed format) limits input failure =
 TaskFails Scan limits input failure = IsCallFailure (IsScanError limits input) failure
 TaskFails (Update changes form) limits input failure =
     IsCallFailure (IsUpdateError changes limits form input) failure
+TaskFails (Get plan) limits input failure =
+    IsGetFailure (IsGetError plan.form (value_name_models plan.names.items) limits input)
+    plan.words.items failure
 TaskFails (Extract selection) limits input failure =
     IsExtractFailure (IsExtractError (select_of selection) limits input) failure
 TaskFails Convert limits input failure = IsCallFailure (IsConvertError limits input) failure
@@ -138,6 +160,7 @@ task_text (Verify format) limits done input output is = is.1.report
 task_text (Check allowed format) limits done input output is = is.1.checked
 task_text Scan limits done input output is = is.1.is_scan
 task_text (Update changes form) limits done input output updated = updated.0.output.is
+task_text (Get plan) limits done input output is = is.0
 task_text (Extract selection) limits done input output is = is.0
 task_text Convert limits done input output is = is.0
 
@@ -185,6 +208,22 @@ extract_in_memory HasError no_read no_write failure is =
       by extract.NoIndex has = tt
       by extract.NoPayload has = tt
 
+-- An error of getting values of a file in memory is not a failed read or write.
+get_in_memory : (form : ValueForm) (names : List ValueNameModel) (limits : Limits)
+    (input : List ℕ) (words : List ValueWords) (failure : Failure)
+    → IsGetFailure (IsGetError form names limits input) words failure → IsNoStreamFailure failure
+get_in_memory form names limits input words failure is = by is.error is.has_error is.is where
+  by : (error : GetError) → IsGetError form names limits input error
+      → IsFailureOfGetting words error failure → IsNoStreamFailure failure
+  by (get.Failed (Refused fault)) has same = subst IsNoStreamFailure (sym same) tt
+  by (get.Failed OutOfMemory) has same = subst IsNoStreamFailure (sym same) tt
+  by (get.Failed ReadFailed) has same = absurd has
+  by (get.Failed WriteFailed) has same = absurd has
+  by get.WrongKind has same = subst IsNoStreamFailure (sym same) tt
+  by (get.NoProperty index) has named = subst IsNoStreamFailure (sym named.2) tt
+  by (get.NoText index) has named = subst IsNoStreamFailure (sym named.2) tt
+  by (get.NoNumber index) has named = subst IsNoStreamFailure (sym named.2) tt
+
 -- A task neither reads nor writes.
 task_in_memory : (task : Task) (limits : Limits) (input : List ℕ) (failure : Failure)
     → TaskFails task limits input failure → IsNoStreamFailure failure
@@ -204,6 +243,9 @@ task_in_memory Scan limits input failure is =
     call_in_memory (IsScanError limits input) (λ no. no) (λ no. no) failure is
 task_in_memory (Update changes form) limits input failure is =
     call_in_memory (IsUpdateError changes limits form input) (λ no. no) (λ no. no) failure is
+task_in_memory (Get plan) limits input failure is =
+    get_in_memory plan.form (value_name_models plan.names.items) limits input plan.words.items
+    failure is
 task_in_memory (Extract selection) limits input failure is =
     extract_in_memory (IsExtractError (select_of selection) limits input)
     (λ no. no) (λ no. no) failure is

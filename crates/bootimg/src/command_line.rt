@@ -5,6 +5,7 @@ mod build;
 mod configurations;
 mod explain;
 mod extract;
+mod get;
 mod hashes;
 mod image;
 mod options;
@@ -40,6 +41,8 @@ pub use configurations::ConfigurationWord;
 use explain::explained_cause;
 pub use extract::{AllRequest, Selected};
 use extract::{all_request, selection};
+use get::get_plan;
+pub use get::{GetPlan, ValueWords};
 use options::{flag, form, format, limits, number};
 pub use part::PartSource;
 use show::presenter;
@@ -51,7 +54,7 @@ use update::changes;
 
 /// A command on one image, with the options that change what it does.
 #[derive(Drop)]
-pub enum Task {
+pub enum Task<'a> {
     /// Write the normal form. That of a flattened image tree has this form.
     Normalise(Form),
     /// Write the page for a person, with the layout of the file or without it.
@@ -68,6 +71,8 @@ pub enum Task {
     Scan,
     /// Write the normal form with these changes. That of a flattened image tree has this form.
     Update(Changes, Form),
+    /// Write the values of the plan.
+    Get(GetPlan<'a>),
     /// Write what the selection chooses.
     Extract(Selected),
     /// Write the flattened image tree of a legacy image.
@@ -78,7 +83,7 @@ pub enum Task {
 #[derive(Drop)]
 pub struct ImagePlan<'a> {
     /// The task.
-    pub task: Task,
+    pub task: Task<'a>,
     /// Where the image begins in the input: an offset in bytes.
     pub offset: u32,
     /// Where the input is read from.
@@ -124,7 +129,7 @@ pub enum NoRequest {
     /// The program prints this text: help, the version, or why clap rejects the arguments.
     Text(clap::Error),
     /// The program fails.
-    Failure(Failure),
+    Failure(Failure<'static>),
 }
 
 impl From<clap::Error> for NoRequest {
@@ -154,10 +159,10 @@ impl<T: Drop> From<AllocFailed<T>> for NoRequest {
     }
 }
 
-impl From<Failure> for NoRequest {
+impl From<Failure<'static>> for NoRequest {
     ghost from_gives = { λ failure result. result ≡ outcome.Failure failure };
 
-    fn from(failure: Failure) -> NoRequest {
+    fn from(failure: Failure<'static>) -> NoRequest {
         NoRequest::Failure(failure)
     }
 }
@@ -241,7 +246,11 @@ fn parse_job<'a>(alloc: Global, name: &str, options: &ArgMatches<'a>) -> Result<
 /// Returns the task of the command of this name with the options. Fails as `parse_arguments` does.
 /// Requires: the name is that of a command other than `compare`, `explain`, `build-legacy` and
 /// `build-fit`, and `extract` does not have `--all`.
-fn parse_task(alloc: Global, name: &str, options: &ArgMatches<'_>) -> Result<Task, NoRequest>
+fn parse_task<'a>(
+    alloc: Global,
+    name: &str,
+    options: &ArgMatches<'a>,
+) -> Result<Task<'a>, NoRequest>
     requires command { IsCommandName name.now }
     requires not_all { name.now ≡ codes "extract" → SelectsAll options.now false }
     requires no_comparison { name.now ≢ codes "compare" }
@@ -260,6 +269,7 @@ fn parse_task(alloc: Global, name: &str, options: &ArgMatches<'_>) -> Result<Tas
         "check" => Task::Check(allowed_kinds(options)?, format(options)),
         "scan" => Task::Scan,
         "update" => Task::Update(changes(options)?, form(options)?),
+        "get" => Task::Get(get_plan(alloc, options)?),
         "extract" => Task::Extract(selection(alloc, options)?),
         "convert" => Task::Convert,
         _ => unreachable!(),

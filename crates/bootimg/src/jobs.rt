@@ -33,7 +33,7 @@ pub struct SourceFailure<'a> {
     /// The image or the part that the failure is about, or the output file, if it is about one.
     pub source: ImageSource<'a>,
     /// The failure.
-    pub failure: Failure,
+    pub failure: Failure<'a>,
 }
 
 impl<'a> From<AllocError> for SourceFailure<'a> {
@@ -159,7 +159,10 @@ fn compare_images<'a, S: TracedRead, T: TracedWrite, F: FileSystem>(
 }
 
 /// Returns the end of a job that failed with an image from this source.
-pub fn job_failed<'a>(source: ImageSource<'a>, failure: Failure) -> Result<Done, SourceFailure<'a>>
+pub fn job_failed<'a>(
+    source: ImageSource<'a>,
+    failure: Failure<'a>,
+) -> Result<Done, SourceFailure<'a>>
     ensures { result ≡ Err (source_failure source.entry failure) }
 {
     Err(SourceFailure { source, failure })
@@ -172,7 +175,7 @@ pub fn read_image<S: TracedRead, F: FileSystem>(
     limits: Limits,
     files: &mut F,
     input: &mut S,
-) -> Result<Vec<u8>, Failure>
+) -> Result<Vec<u8>, Failure<'static>>
     ensures read { IfOk result (λ image. IsImageRead (F.known files.old) limits
         (record { input = S.trace input.old; steps = F.steps files.old })
         (record { input = S.trace input.new; steps = F.steps files.new })
@@ -196,7 +199,7 @@ pub fn read_file<F: FileSystem>(
     name: &str,
     limits: Limits,
     files: &mut F,
-) -> Result<Vec<u8>, Failure>
+) -> Result<Vec<u8>, Failure<'static>>
     ensures read { IfOk result (λ bytes. IsFileRead (F.known files.old) limits name.now
         bytes.items (F.steps files.old) (F.steps files.new)) }
     ensures failed { IfErr result (λ failure. IsFileNotRead (F.known files.old) limits name.now
@@ -218,7 +221,7 @@ fn read_input<S: TracedRead>(
     alloc: Global,
     limits: Limits,
     input: &mut S,
-) -> Result<Vec<u8>, Failure>
+) -> Result<Vec<u8>, Failure<'static>>
     ensures read { IfOk result (λ bytes. IsInputRead limits (S.trace input.old)
         (S.trace input.new) bytes.items) }
     ensures failed { IfErr result (IsNotRead limits (S.trace input.old) (S.trace input.new)) }

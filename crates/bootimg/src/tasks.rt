@@ -57,7 +57,7 @@ impl Done {
     }
 }
 
-impl Task {
+impl<'a> Task<'a> {
     /// Appends what the task makes of an image to a sink, and returns how that ended. Requires: the
     /// image is not longer than the limit on files.
     ///
@@ -69,7 +69,7 @@ impl Task {
         image: &[u8],
         limits: Limits,
         sink: &mut S,
-    ) -> Result<Done, Failure>
+    ) -> Result<Done, Failure<'a>>
         requires short { length image.now ≤ limits.file }
         ensures appended { IfOk result (λ done. Appended S.appends
             (TaskDone self.now limits done image.now) sink.old sink.new) }
@@ -114,6 +114,10 @@ impl Task {
                 let kept = update_with_kept(alloc, image, *changes, *form, limits, sink)?;
                 return Ok(Done { good: true, kept });
             }
+            Task::Get(plan) => match plan.getter().run(alloc, image, limits, sink) {
+                Ok(()) => return Ok(Done::with_answer(true)),
+                Err(error) => return Err(plan.failure(error)),
+            },
             Task::Extract(selection) => {
                 let select = selection.select();
                 Extractor { select }.run(alloc, image, limits, sink)?;
@@ -132,7 +136,7 @@ impl Task {
 impl<'a> Command for ImagePlan<'a> {
     type Value = Done;
 
-    type Failure = Failure;
+    type Failure = Failure<'a>;
 
     ghost can_run = { λ _. ⊤ };
 
@@ -144,7 +148,7 @@ impl<'a> Command for ImagePlan<'a> {
         input: &[u8],
         limits: Limits,
         sink: &mut S,
-    ) -> Result<Done, Failure> {
+    ) -> Result<Done, Failure<'a>> {
         let image = image_at(input, self.offset as usize);
         self.task.run_on(alloc, image, limits, sink)
     }

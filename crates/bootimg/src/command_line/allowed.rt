@@ -12,7 +12,7 @@ use clap::ArgMatches;
 
 /// Returns the kinds of concerns that the options allow: none without `--allow`. Fails with
 /// BadValue if a word of its value is not that for a kind.
-pub fn allowed_kinds(options: &ArgMatches<'_>) -> Result<Allowed, Failure>
+pub fn allowed_kinds(options: &ArgMatches<'_>) -> Result<Allowed, Failure<'static>>
     ensures value { IfOk result (IsAllowedBy (allow_option options.now)) }
     ensures bad { IfErr result (IsBadValue (IsAllowedBy (allow_option options.now))) }
 {

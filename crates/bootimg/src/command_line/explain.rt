@@ -10,7 +10,7 @@ use clap::ArgMatches;
 
 /// Returns the cause that the argument names, if there is one. Fails with BadValue at another
 /// argument.
-pub fn explained_cause(options: &ArgMatches<'_>) -> Result<Option<Cause>, Failure>
+pub fn explained_cause(options: &ArgMatches<'_>) -> Result<Option<Cause>, Failure<'static>>
     ensures cause { IfOk result (IsExplained (option_of options.now (codes "cause"))) }
     ensures bad { IfErr result (IsBadValue
         (IsExplained (option_of options.now (codes "cause")))) }

@@ -27,8 +27,8 @@ const VERSION: &str = "0.3.0 (Rattle logic dac8208d650f15bf)";
 
 /// The text of `--help` before the usage.
 const ABOUT: &str =
-    "Normalises, shows, lists, describes, compares, verifies, checks, finds, updates, extracts, \
-     converts and builds U-Boot boot images";
+    "Normalises, shows, lists, describes, compares, verifies, checks, finds, updates, reads, \
+     extracts, converts and builds U-Boot boot images";
 
 /// The text of `--help` after the options.
 const AFTER_HELP: &str =
@@ -62,6 +62,8 @@ enum OptionForm {
     RequiredPositional,
     /// Any number of positional arguments.
     Positionals,
+    /// One or more positional arguments.
+    RequiredPositionals,
 }
 
 /// An option of a command.
@@ -181,6 +183,11 @@ fn argument<'a>(alloc: Global, option: &OptionText) -> Arg<'a>
             .value_name(option.value_name)
             .num_args(0..)
             .action(ArgAction::Append),
+        OptionForm::RequiredPositionals => argument
+            .value_name(option.value_name)
+            .num_args(1..)
+            .action(ArgAction::Append)
+            .required(true),
     }
 }
 
@@ -201,6 +208,27 @@ const FILE: OptionText = OptionText {
     value_name: "IMAGE",
     help: "The image: a file. Without IMAGE, or if it is -, standard input is read",
     form: OptionForm::Positional,
+};
+
+const REQUIRED_FILE: OptionText = OptionText {
+    help: "The image: a file, or standard input if it is -",
+    form: OptionForm::RequiredPositional,
+    ..FILE
+};
+
+const WHERE: OptionText = OptionText {
+    name: "where",
+    value_name: "WHERE",
+    help: "Each value: the PATH of a node and the NAME of a property, as describe prints them, or \
+         of a legacy image one of name, time, load, entry, os, arch, type, compression",
+    form: OptionForm::RequiredPositionals,
+};
+
+const AS: OptionText = OptionText {
+    name: "as",
+    value_name: "FORM",
+    help: "text: each text of a value, without quotes; number: 0x and its digits; raw: its bytes",
+    form: OptionForm::Optional,
 };
 
 const ONE: OptionText = OptionText {
@@ -598,8 +626,8 @@ static READING_COMMANDS: [CommandText; 8] = [
     },
 ];
 
-/// The commands that make something else of an image.
-static CHANGING_COMMANDS: [CommandText; 3] = [
+/// The commands that make something else of an image, or take something out of it.
+static CHANGING_COMMANDS: [CommandText; 4] = [
     CommandText {
         name: "update",
         aliases: &[],
@@ -624,6 +652,25 @@ static CHANGING_COMMANDS: [CommandText; 3] = [
             OUTPUT,
             FILE,
         ],
+    },
+    CommandText {
+        name: "get",
+        aliases: &[],
+        about: "Print values of properties of an image",
+        usage: "bootimg get [OPTIONS] <IMAGE> <WHERE>...",
+        after_help: "\
+                 Reads an image, and writes a line for each WHERE to standard output. In a\n\
+                 flattened image tree a WHERE is two words, the path of a node and the name of a\n\
+                 property, and the line is its value, both as describe prints them. In a legacy\n\
+                 image it is one word, a field, and the line is the field as list prints it.\n\n\
+                 With --as text, a line for each text of a value, without quotes. With --as\n\
+                 number, 0x and 8 or 16 digits for a value of 4 or 8 bytes, and for a code of a\n\
+                 legacy image 0x and 2. With --as raw, the bytes of one value, and no newline.\n\n\
+                 Nothing is written if one of the values is not there, or not in that form. The\n\
+                 payload of an image is no property: extract writes it.\n\n\
+                 Example: bootimg get kernel.itb /images/kernel-1 load /configurations default\n\
+                 Example: bootimg get --as number kernel.uimage load",
+        options: &[AS, OFFSET, LIMIT, OUTPUT, REQUIRED_FILE, WHERE],
     },
     CommandText {
         name: "extract",

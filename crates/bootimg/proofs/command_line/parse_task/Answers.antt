@@ -6,7 +6,8 @@ use Rattle.bootimg.proofs.command_line.parse_task.Goals as goal
 use Rattle.bootimg.proofs.command_line.parse_task.Goals.{in-normalise+in_ok-form-in-normalise, in-show, in-list, in-describe, in-verify}
 use Rattle.bootimg.proofs.command_line.parse_task.Goals.{in-check+in_ok-allowed_kinds-in-check}
 use Rattle.bootimg.proofs.command_line.parse_task.Goals.{in-update+in_ok-changes-in-update+in_ok-form-in-update}
-use Rattle.bootimg.proofs.command_line.parse_task.Goals.{in-scan, in-extract+in_ok-selection-in-extract, in-convert}
+use Rattle.bootimg.proofs.command_line.parse_task.Goals.{in-scan, in-get+in_ok-get_plan-in-get, in-extract+in_ok-selection-in-extract}
+use Rattle.bootimg.proofs.command_line.parse_task.Goals.{in-convert}
 
 pub returns-clause-task : goal.returns-clause-task
 returns-clause-task c =
@@ -26,6 +27,7 @@ returns-clause-task c =
         w.in-update.is,
         (w.in_ok-changes-in-update.ensures.changes, w.in_ok-form-in-update.ensures.form),
       )
+      | in-get+in_ok-get_plan-in-get w ↦ subst is_task (sym w.result-is) (w.in-get.is, w.in_ok-get_plan-in-get.ensures.plan)
       | in-extract+in_ok-selection-in-extract w ↦ subst is_task (sym w.result-is) (
         w.in-extract.is,
         (c.requires.not_all w.in-extract.is, w.in_ok-selection-in-extract.ensures.selection),

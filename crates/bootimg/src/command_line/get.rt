@@ -1,0 +1,163 @@
+//! The command `get`.
+
+ghost use Rattle.std.specs.Prelude.{◌≡◌, ◌++◌, ◌×◌, Some, IfOk, IfErr, IfSome, flat_map};
+ghost use Rattle.std.specs.Prelude.{length, map, option_map};
+ghost use Rattle.bi_common.specs.MadeFields.{bytes_of_names};
+ghost use Rattle.bi_values.specs.NameWords.{AreNoWords, AreWordsOf};
+ghost use Rattle.bi_values.specs.ValueNames.{value_name_model, value_name_models, words_of_value};
+ghost use Rattle.bi_values.specs.declared.value_form.ValueForm.{ValueForm as Form};
+ghost use Rattle.bootimg.specs.CommandLine.{IsBadValue, IsFailureOutcome, IsGetPlan};
+ghost use Rattle.bootimg.specs.CommandLine.{texts_of};
+ghost use Rattle.bootimg.specs.Failures.{IsFailureOfGetting, IsIndexOfValue};
+ghost use Rattle.bootimg.specs.ValueWords.{BeginWithWords, form_argument, texts_of_value};
+ghost use Rattle.bootimg.specs.declared.failure.Failure.TheVariants.{BadValue};
+
+use crate::command_line::NoRequest;
+use crate::failure::Failure;
+use bi_values::{GetError, Getter, ValueForm, ValueName};
+use clap::ArgMatches;
+use std::alloc::{AllocError, Global};
+
+/// The words that name a value.
+#[derive(Clone, Copy)]
+pub enum ValueWords<'a> {
+    /// The path of a node, and the name of a property.
+    Property(&'a str, &'a str),
+    /// The word for a field.
+    Field(&'a str),
+}
+
+/// Which values of an image are written, and in which form.
+#[derive(Drop)]
+pub struct GetPlan<'a> {
+    /// The names of the values, in their order.
+    pub names: Vec<ValueName>,
+    /// The words for each of them.
+    pub words: Vec<ValueWords<'a>>,
+    /// The form.
+    pub form: ValueForm,
+    ghost paired: { length words.items ≡ length names.items },
+}
+
+impl<'a> GetPlan<'a> {
+    /// Returns the command of the library for the plan.
+    pub fn getter(&self) -> Getter<'_>
+        ensures form { result.form ≡ self.now.form }
+        ensures names { result.names.now ≡ self.now.names.items }
+    {
+        Getter {
+            names: &self.names,
+            form: self.form,
+        }
+    }
+
+    /// Returns the failure for an error of getting the values. Requires: if the error has the index
+    /// of a value, it is one of the values of the plan.
+    pub fn failure(&self, error: GetError) -> Failure<'a>
+        requires index { IsIndexOfValue (length self.now.names.items) error }
+        ensures { IsFailureOfGetting self.now.words.items error result }
+    {
+        match error {
+            GetError::Failed(error) => Failure::Call(error),
+            GetError::WrongKind => Failure::WrongKind,
+            GetError::NoProperty(index) => Failure::NoProperty(self.words[index]),
+            GetError::NoText(index) => Failure::NoText(self.words[index]),
+            GetError::NoNumber(index) => Failure::NoNumber(self.words[index]),
+        }
+    }
+}
+
+/// Returns which values the options name, and their form. Fails with BadValue if the form is not
+/// known, if the words do not name values, or if several values are to be written raw, or with
+/// OutOfMemory.
+pub fn get_plan<'a>(alloc: Global, options: &ArgMatches<'a>) -> Result<GetPlan<'a>, NoRequest>
+    ensures plan { IfOk result (IsGetPlan options.now) }
+    ensures failure { IfErr result (IsFailureOutcome (IsBadValue (IsGetPlan options.now))) }
+{
+    let form = parse_form(options.get_str("as")).ok_or(Failure::BadValue)?;
+    let words = options.get_strs("where").unwrap_or(&[]);
+    let names = parse_names(alloc, words)?;
+    if form == ValueForm::Raw && names.len() != 1 {
+        return Err(NoRequest::Failure(Failure::BadValue));
+    }
+    let words = words_of_names(alloc, &names, words)?;
+    Ok(GetPlan { names, words, form })
+}
+
+/// Parses the value of `--as`, or its absence. Returns None for any other text.
+fn parse_form(argument: Option<&str>) -> Option<ValueForm>
+    ensures some { IfSome result (λ form. option_map (λ text. text.now) argument
+        ≡ form_argument form) }
+    ensures exactly { (form : Form) → option_map (λ text. text.now) argument ≡ form_argument form
+        → result ≡ Some form }
+{
+    match argument {
+        None => Some(ValueForm::Shown),
+        Some("text") => Some(ValueForm::Text),
+        Some("number") => Some(ValueForm::Number),
+        Some("raw") => Some(ValueForm::Raw),
+        Some(_) => None,
+    }
+}
+
+/// Parses words for values. Fails with BadValue if they name none, or with OutOfMemory.
+fn parse_names(alloc: Global, words: &[&str]) -> Result<Vec<ValueName>, NoRequest>
+    ensures names { IfOk result (λ names.
+        AreWordsOf (texts_of words.now) (value_name_models names.items)) }
+    ensures failure { IfErr result (IsFailureOutcome
+        (λ failure. (failure ≡ BadValue) × AreNoWords (texts_of words.now))) }
+{
+    let bytes = bytes_of_words(alloc, words)?;
+    match ValueName::parse_all(alloc, &bytes) {
+        Ok(Some(names)) => Ok(names),
+        Ok(None) => Err(NoRequest::Failure(Failure::BadValue)),
+        Err(error) => Err(NoRequest::Failure(Failure::Call(error))),
+    }
+}
+
+/// Returns the bytes of words.
+fn bytes_of_words<'a>(alloc: Global, words: &[&'a str]) -> Result<Vec<&'a [u8]>, AllocError>
+    ensures { IfOk result (λ bytes. bytes_of_names bytes.items ≡ texts_of words.now) }
+{
+    let mut bytes = Vec::with_capacity(alloc, words.len())?;
+    for word in words {
+        bytes.push(word.as_bytes())?;
+    }
+    Ok(bytes)
+}
+
+/// Returns the words for each of these names. Requires: they are these words, one after the other.
+fn words_of_names<'a>(
+    alloc: Global,
+    names: &[ValueName],
+    words: &[&'a str],
+) -> Result<Vec<ValueWords<'a>>, AllocError>
+    requires { texts_of words.now ≡ flat_map words_of_value (value_name_models names.now) }
+    ensures { IfOk result (λ found. map texts_of_value found.items
+        ≡ map words_of_value (value_name_models names.now)) }
+{
+    let mut found = Vec::with_capacity(alloc, names.len())?;
+    let mut rest = words;
+    for name in names {
+        let (first, later) = split_words(name, rest);
+        found.push(first)?;
+        rest = later;
+    }
+    Ok(found)
+}
+
+/// Returns the words for a name, and the words after them. Requires: the words begin with those for
+/// the name.
+fn split_words<'r, 'a>(name: &ValueName, words: &'r [&'a str]) -> (ValueWords<'a>, &'r [&'a str])
+    requires { BeginWithWords (texts_of words.now) (words_of_value (value_name_model name.now)) }
+    ensures first { texts_of_value result.0 ≡ words_of_value (value_name_model name.now) }
+    ensures later { texts_of words.entry.now ≡ texts_of_value result.0 ++ texts_of result.1.now }
+{
+    match (name, words) {
+        (ValueName::Property { .. }, [path, name, later @ ..]) => {
+            (ValueWords::Property(path, name), later)
+        }
+        (ValueName::Field(_), [word, later @ ..]) => (ValueWords::Field(word), later),
+        _ => unreachable!(),
+    }
+}
