@@ -16,6 +16,7 @@ declare -gA _bootimg_options=(
     [check]="--allow= --json --offset= --limit= -o= --output="
     [scan]="--limit= -o= --output="
     [update]="--time= --hashes --external --align= --offset= --limit= -o= --output="
+    [get]="--as= --offset= --limit= -o= --output="
     [extract]="--part= --image= --config= --default --all --key= --index= --escaped --offset= --limit= -o= --output="
     [convert]="--offset= --limit= -o= --output="
     [build-legacy]="--os= --arch= --type= --compression= --name= --time= --load= --entry= --limit= -o= --output="
@@ -25,6 +26,7 @@ declare -gA _bootimg_options=(
 )
 declare -gA _bootimg_values=(
     [--allow]=",bad-hash unhashed weak-hash bad-list missing bad-default trailing"
+    [--as]="text number raw"
     [--key]="kernel fdt ramdisk firmware loadables script"
     [--os]="netbsd linux vxworks u-boot"
     [--arch]="arm x86 mips ppc arm64 x86_64 riscv"
@@ -32,9 +34,9 @@ declare -gA _bootimg_values=(
     [--compression]="none gzip bzip2 lzma lzo lz4 zstd"
     [--hash]=",crc32 md5 sha1 sha256 sha384 sha512 none"
     [explain]="Truncated BadMagic BadHeaderCrc BadDataCrc BadPartTable BadPart BadTotalSize BadVersion BadOffset BadToken BadName BadNameOffset PropertyAfterChild DuplicateProperty DuplicateNode TooDeep NoImages BadCell NoSize OutsideFile TooLarge NoCodeName TooManyParts EmptyPart BadField Unsupported"
-    [help]="normalise show list describe compare verify check scan update extract convert build-legacy build-fit explain help"
+    [help]="normalise show list describe compare verify check scan update get extract convert build-legacy build-fit explain help"
 )
-_bootimg_files=" normalise normalize show list describe compare diff verify check scan update extract convert "
+_bootimg_files=" normalise normalize show list describe compare diff verify check scan update get extract convert "
 # lists.py: end
 
 _bootimg() {

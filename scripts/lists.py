@@ -26,6 +26,7 @@ VALUES = {
     "compression": ["bi_legacy/src/codes.rt: compression_name"],
     "key": ["bi_fit/src/key.rt: name"],
     "allow": ["bi_report/src/check.rt: word"],
+    "as": ["bootimg/src/command_line/get.rt: parse_form"],
     "hash": ["bi_hash/src/algo.rt: name", "bootimg/src/command_line/hashes.rt: parse_hashes"],
     "cause": ["bi_base/src/fault.rt: name"],
 }
@@ -42,12 +43,14 @@ class Option:
     def __init__(self, name, value_name, help, form, values=()):
         self.name, self.values = name, list(values)
         self.is_argument = "Positional" in form
-        self.is_repeated = form in ("Positionals", "Repeated")
+        self.is_repeated = form in ("Positionals", "RequiredPositionals", "Repeated")
+        self.is_part = form == "Positionals"
         self.is_file = form in ("Positional", "RequiredPositional") and not self.values
         self.is_output = "Short" in form
         self.is_list = "," in value_name
         self.flags = [f"-{short}" for short in re.findall(r"Short\('(.)'\)", form)] + [f"--{name}"]
-        self.written = {"Positional": f"[{value_name}]", "Positionals": f"[{value_name}]..."}.get(form, value_name)
+        written = {"Positional": f"[{value_name}]", "Positionals": f"[{value_name}]...", "RequiredPositionals": f"{value_name}..."}
+        self.written = written.get(form, value_name)
         # The name of the value, of a form such as `KIND[,KIND]..` the first words.
         self.value = lower(value_name.split("[")[0])
         # The first words of the help, without a condition.
@@ -148,7 +151,7 @@ def specification(option):
     action = "_files" if option.is_file or option.is_output else f"({words})" if words else " "
     if option.is_list and words:
         action = f" _values -s , {option.value} {words}"
-    if option.is_argument and option.is_repeated:
+    if option.is_part:
         action = "_bootimg_part"
     first, name = "*" * option.is_repeated, option.value.replace(":", "\\:")
     value = f":{name}:{action}" if name else ""
@@ -166,13 +169,14 @@ def fish(all):
         words = " ".join(option.values)
         if option.is_list:
             words = f'(__fish_complete_list , "printf %s\\n {words}")' if words else ""
-        elif option.is_argument and option.is_repeated:
+        elif option.is_part:
             words = "(__bootimg_part)"
         flags = "-F" if option.is_file else "-s o -l output -r -F" if option.is_output else ""
         if not flags and not option.is_argument:
             flags = f"-l {option.name}" + " -x" * bool(option.value)
         flags += f" -d '{option.summary}'" * (not option.is_argument) + f" -a '{words}'" * bool(words)
-        yield f"complete -c bootimg -n '__bootimg_is {names}' {flags.strip()}"
+        if flags:
+            yield f"complete -c bootimg -n '__bootimg_is {names}' {flags.strip()}"
 
 
 def mdoc(word):

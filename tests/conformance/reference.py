@@ -656,6 +656,48 @@ def extract(file, options):
     return found[0]
 
 
+def get(file, options):
+    image = read(file, options["limit"])
+    return b"".join(value_of(image, place, options.get("as")) for place in options["places"])
+
+
+def value_of(image, place, form):
+    """What is written for a place: a field, or the path of a node and the name of a property."""
+    if isinstance(image, Legacy) != (len(place) == 1):
+        raise Refused("the selection does not fit this kind of image")
+    return field_value(image, *place, form) if len(place) == 1 else property_value(image, *place, form)
+
+
+def field_value(image, field, form):
+    size = 1 if field in FIELDS else 4
+    value = image.name if field == "name" else image.codes[field] if size == 1 else getattr(image, field)
+    if form == "number" and field == "name":
+        raise Refused("no number name")
+    if form == "number":
+        return text_of([f"0x{value:0{2 * size}x}"])
+    if form == "raw":
+        return value if field == "name" else value.to_bytes(size, "big")
+    return text_of([dict(line.split(" ", 1) for line in fields_of(image))[field]])
+
+
+def property_value(fit, path, name, form):
+    node = fit.blob.root
+    for step in path[1:].split("/") if path != "/" else []:
+        node = next((child for child in node.children if shown(child.name) == step), Node(b""))
+    value = {shown(known): value for known, value in fit.properties(node)}.get(name)
+    if value is None:
+        raise Refused(f"no such property {path} {name}")
+    if form == "text" and not is_texts(value):
+        raise Refused(f"no text {path} {name}")
+    if form == "number" and len(value) not in (4, 8):
+        raise Refused(f"no number {path} {name}")
+    if form == "text":
+        return value.replace(b"\0", b"\n")
+    if form == "number":
+        return text_of([f"0x{value.hex()}"])
+    return value if form == "raw" else text_of([" ".join(value_text(value))])
+
+
 def configured(fit, options):
     name = options["config"] if "config" in options else fit.default()
     configuration = fit.configurations.child(name)
@@ -796,9 +838,13 @@ def describe_fit(fit):
 
 def value_text(value):
     """The text of a value in a list, which is empty if the value is."""
-    if re.fullmatch(rb"([\x20-\x7e]+\0)+", value):
+    if is_texts(value):
         return [quoted(text) for text in value[:-1].split(b"\0")]
     return ["0x" + value.hex()] if value else []
+
+
+def is_texts(value):
+    return re.fullmatch(rb"([\x20-\x7e]+\0)+", value) is not None
 
 
 def compare(files, options):
@@ -1221,6 +1267,31 @@ def name_of(text, is_escaped):
     return name
 
 
+def form_of(text):
+    if text not in ("text", "number", "raw"):
+        raise Refused("usage: bad value")
+    return text
+
+
+def places_of(words, form):
+    """The places that the words name: fields, or pairs of the path of a node and the name of a property."""
+    places, words = [], list(words)
+    while words:
+        word = words.pop(0)
+        is_path = word.startswith("/")
+        if not is_path and word not in ("name", "time", "load", "entry", *FIELDS) or is_path and not words:
+            raise Refused("usage: bad value")
+        steps = [name_of(step, True) for step in word[1:].split("/")] if is_path and word != "/" else []
+        place = (word, words.pop(0)) if is_path else (word,)
+        names = steps + [name_of(name, True) for name in place[1:]]
+        if len(steps) > 63 or not all(names) or b"\0" in b"".join(names) or b"/" in b"".join(steps):
+            raise Refused("usage: bad value")
+        places.append(place)
+    if form == "raw" and len(places) > 1:
+        raise Refused("usage: bad value")
+    return places
+
+
 def length_of(text):
     """The length of a part, or the name of its file."""
     return text[1:] if text.startswith("@") else number(text)
@@ -1265,6 +1336,7 @@ COMMANDS = {
     "show": (of_image(show), {"layout": FLAG}),
     "scan": (of_image(scan), {}),
     "update": (of_image(update), {"time": (number, ()), "hashes": FLAG, **EXTERNAL, **OFFSET}),
+    "get": (of_image(get), {"as": (form_of, ()), **OFFSET}),
     "extract": (of_image(extract), {
         "part": (number, ()), "image": (str, ()), "config": (str, ()), "default": FLAG, "key": (key, "kernel"), "index": (number, "0"),
         "escaped": FLAG, **OFFSET}),
@@ -1297,7 +1369,9 @@ def split_arguments(name, options, arguments):
                 raise Unusable(f"no value for {word}")
             text = arguments.pop(0)
         given[option] = given.get(option, []) + [text] if is_repeated else text
-    if name == "compare" and len(words) != 2 or len(words) > 1 and not name.startswith(("build-", "compare")):
+    if name == "compare" and len(words) != 2 or name == "get" and len(words) < 2:
+        raise Unusable("wrong number of arguments")
+    if len(words) > 1 and not name.startswith(("build-", "compare", "get")):
         raise Unusable("wrong number of arguments")
     return given, words
 
@@ -1329,6 +1403,8 @@ def parse(arguments):
     if name == "extract":
         for option in {"image", "config"} & set(values):
             values[option] = name_of(values[option], values["escaped"])
+    if name == "get":
+        values["places"] = places_of(words[1:], values.get("as"))
     if name == "build-legacy":
         values["words"] = [length_of(word) for word in words]
     if name == "build-fit":

@@ -227,7 +227,8 @@ const WHERE: OptionText = OptionText {
 const AS: OptionText = OptionText {
     name: "as",
     value_name: "FORM",
-    help: "text: each text of a value, without quotes; number: 0x and its digits; raw: its bytes",
+    help: "How values are written: text, each text of a value without quotes; number, 0x and \
+         hexadecimal digits; raw, the bytes of one value",
     form: OptionForm::Optional,
 };
 
