@@ -14,4 +14,3 @@ pub mod ChoiceFacts
 pub mod PartFacts
 pub mod ExtractFacts
 pub mod PromiseFacts
-pub mod DescribedValues

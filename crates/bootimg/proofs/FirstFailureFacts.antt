@@ -31,6 +31,7 @@ use Rattle.bootimg.proofs.ArgumentFacts.{code_with_name, decimal_digits, is_no_n
 use Rattle.bootimg.proofs.BuildRequestFacts.{first_is_bad, no_first_word, unknown_md4, without_list}
 use Rattle.bootimg.proofs.OptionFacts.{found_values}
 use Rattle.bootimg.proofs.RequestFacts.{flag_is, no_change_fails, no_time_given, not_given_and_missing, option_is, value_is}
+use Rattle.bootimg.proofs.TaskNames.{not_a_task}
 
 -- Which of two failures small command lines have is known.
 
@@ -233,19 +234,6 @@ second_of word other later [] none are = are
 second_of word other later (image ∷ images) none are = no_first other later images none are.1
 
 -- ---- tasks
-
-not_a_task : (given : Task) → ¬ (codes "build-fit" ≡ name_of_task given)
-not_a_task (task.Normalise form) = other_bytes (codes "build-fit") (codes "normalise") refl
-not_a_task (task.Show presenter) = other_bytes (codes "build-fit") (codes "show") refl
-not_a_task (task.List format) = other_bytes (codes "build-fit") (codes "list") refl
-not_a_task (task.Describe format) = other_bytes (codes "build-fit") (codes "describe") refl
-not_a_task (task.Verify format) = other_bytes (codes "build-fit") (codes "verify") refl
-not_a_task (task.Check allowed format) = other_bytes (codes "build-fit") (codes "check") refl
-not_a_task task.Scan = other_bytes (codes "build-fit") (codes "scan") refl
-not_a_task (task.Update changes form) = other_bytes (codes "build-fit") (codes "update") refl
-not_a_task (task.Get plan) = other_bytes (codes "build-fit") (codes "get") refl
-not_a_task (task.Extract selection) = other_bytes (codes "build-fit") (codes "extract") refl
-not_a_task task.Convert = other_bytes (codes "build-fit") (codes "convert") refl
 
 -- The failures of `build-fit` are those of its limit and of its plan.
 abbrev IsFitTaskFailure : ArgMatches → Failure → Type 0

@@ -23,6 +23,8 @@ pub mod ArgumentFacts
 pub mod OptionFacts
 pub mod RequestFacts
 pub mod GetFacts
+pub mod GetWords
+pub mod TaskNames
 pub mod BuildRequestFacts
 pub mod FirstFailureFacts
 pub mod RunEnds

@@ -25,6 +25,7 @@ use Rattle.bootimg.proofs.ArgumentFacts.{decimal_digits, limits_are_known}
 use Rattle.bootimg.proofs.FirstFailureFacts.{change_fails}
 use Rattle.bootimg.proofs.RequestFacts.{all_requests_are_known, file_is_named, flag_is}
 use Rattle.bootimg.proofs.RequestFacts.{no_time_given, number_of_argument, option_is, value_is}
+use Rattle.bootimg.proofs.TaskNames.{list_task, no_update_task}
 
 -- What whole command lines request, or why they request nothing, is known.
 
@@ -37,20 +38,6 @@ command_is line name options is wanted given =
     cc
 
 -- ---- requests
-
-list_task : (options : ArgMatches) → json_flag options ≡ Some (codes "true") → (given : Task) → IsTask (codes "list") options given →
-    given ≡ task.List Json
-list_task options flag (task.Normalise form) is = absurd (other_bytes (codes "list") (codes "normalise") refl is.0)
-list_task options flag (task.Show presenter) is = absurd (other_bytes (codes "list") (codes "show") refl is.0)
-list_task options flag (task.List format) is = ap task.List (is.1.given flag)
-list_task options flag (task.Describe format) is = absurd (other_bytes (codes "list") (codes "describe") refl is.0)
-list_task options flag (task.Verify format) is = absurd (other_bytes (codes "list") (codes "verify") refl is.0)
-list_task options flag (task.Check allowed format) is = absurd (other_bytes (codes "list") (codes "check") refl is.0)
-list_task options flag task.Scan is = absurd (other_bytes (codes "list") (codes "scan") refl is.0)
-list_task options flag (task.Update changes form) is = absurd (other_bytes (codes "list") (codes "update") refl is.0)
-list_task options flag (task.Get plan) is = absurd (other_bytes (codes "list") (codes "get") refl is.0)
-list_task options flag (task.Extract selection) is = absurd (other_bytes (codes "list") (codes "extract") refl is.0)
-list_task options flag task.Convert is = absurd (other_bytes (codes "list") (codes "convert") refl is.0)
 
 abbrev list_line : List ℕ
 list_line = codes "list --json --offset 7 --limit 64 -o out in"
@@ -109,21 +96,6 @@ update_rejected line name only none failure (NotAll options is all fails) =
 update_rejected line name only none failure (NoMemory is) = inr is
 
 -- No job is an update without a change.
-no_update_task : (options : ArgMatches) → option_of options (codes "time") ≡ None → hashes_flag options ≡ Some (codes "false") →
-    (given : Task) → ¬ (IsTask (codes "update") options given)
-no_update_task options time flag (task.Normalise form) is = other_bytes (codes "update") (codes "normalise") refl is.0
-no_update_task options time flag (task.Show presenter) is = other_bytes (codes "update") (codes "show") refl is.0
-no_update_task options time flag (task.List format) is = other_bytes (codes "update") (codes "list") refl is.0
-no_update_task options time flag (task.Describe format) is = other_bytes (codes "update") (codes "describe") refl is.0
-no_update_task options time flag (task.Verify format) is = other_bytes (codes "update") (codes "verify") refl is.0
-no_update_task options time flag (task.Check allowed format) is = other_bytes (codes "update") (codes "check") refl is.0
-no_update_task options time flag task.Scan is = other_bytes (codes "update") (codes "scan") refl is.0
-no_update_task options time flag (task.Update changes form) is =
-    is.1.0.some (no_time_given _ time changes.time is.1.0.time, is.1.0.hashes.not_given flag)
-no_update_task options time flag (task.Get plan) is = other_bytes (codes "update") (codes "get") refl is.0
-no_update_task options time flag (task.Extract selection) is = other_bytes (codes "update") (codes "extract") refl is.0
-no_update_task options time flag task.Convert is = other_bytes (codes "update") (codes "convert") refl is.0
-
 no_update_job : (options : ArgMatches) → option_of options (codes "time") ≡ None → hashes_flag options ≡ Some (codes "false") →
     (job : Job) → ¬ (IsJob (codes "update") options job)
 no_update_job options time flag (Run plan) is = no_update_task options time flag plan.task is.task

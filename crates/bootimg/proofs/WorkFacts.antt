@@ -70,6 +70,7 @@ use Rattle.bootimg.proofs.InputFacts.{file_was_not_read, file_was_read, first_st
 use Rattle.bootimg.proofs.MemoryRuns.{same_steps}
 use Rattle.bootimg.proofs.OrderFacts.{command_is}
 use Rattle.bootimg.proofs.RequestFacts.{option_is}
+use Rattle.bootimg.proofs.TaskNames.{no_task_explains}
 
 -- What tasks and jobs do with small files is known.
 
@@ -213,19 +214,6 @@ no_cause argument cause is explains = by cause (subst (λ a. IsExplained a cause
   by : (cause : Option Cause) → IsExplained None cause → cause ≡ None
   by None explains = refl
   by (Some given) explains = absurd explains
-
-no_task_explains : (given : Task) → ¬ (codes "explain" ≡ name_of_task given)
-no_task_explains (task.Normalise form) same = other_bytes (codes "explain") (codes "normalise") refl same
-no_task_explains (task.Show presenter) same = other_bytes (codes "explain") (codes "show") refl same
-no_task_explains (task.List format) same = other_bytes (codes "explain") (codes "list") refl same
-no_task_explains (task.Describe format) same = other_bytes (codes "explain") (codes "describe") refl same
-no_task_explains (task.Verify format) same = other_bytes (codes "explain") (codes "verify") refl same
-no_task_explains (task.Check allowed format) same = other_bytes (codes "explain") (codes "check") refl same
-no_task_explains task.Scan same = other_bytes (codes "explain") (codes "scan") refl same
-no_task_explains (task.Update changes form) same = other_bytes (codes "explain") (codes "update") refl same
-no_task_explains (task.Get plan) same = other_bytes (codes "explain") (codes "get") refl same
-no_task_explains (task.Extract selection) same = other_bytes (codes "explain") (codes "extract") refl same
-no_task_explains task.Convert same = other_bytes (codes "explain") (codes "convert") refl same
 
 explain_job : (options : ArgMatches) → Gives (words_of_line explain_line) (codes "explain") options → (job : Job) →
     IsJob (codes "explain") options job → job ≡ Explain None

@@ -168,7 +168,11 @@ fn has_key(lists: &[KeyList<'_>], key: Key) -> bool
 
 /// Parses a list: `KEY=IMAGE[,IMAGE]..`. Fails with the given failure for any other text, or with
 /// OutOfMemory.
-fn parse_list<'a>(alloc: Global, text: &'a str, bad: Failure<'static>) -> Result<KeyList<'a>, NoRequest>
+fn parse_list<'a>(
+    alloc: Global,
+    text: &'a str,
+    bad: Failure<'static>,
+) -> Result<KeyList<'a>, NoRequest>
     ensures list { IfOk result (IsListText text.now) }
     ensures failure { IfErr result (IsFailureOutcome (IsBad bad (IsListText text.now))) }
 {

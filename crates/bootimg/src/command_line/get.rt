@@ -1,11 +1,12 @@
 //! The command `get`.
 
-ghost use Rattle.std.specs.Prelude.{◌≡◌, ◌++◌, ◌×◌, Some, IfOk, IfErr, IfSome, flat_map};
-ghost use Rattle.std.specs.Prelude.{length, map, option_map};
+ghost use Rattle.std.specs.Prelude.{◌≡◌, ◌≢◌, ◌++◌, Some, IfOk, IfErr, IfSome, IsFalse, IsTrue};
+ghost use Rattle.std.specs.Prelude.{flat_map, length, map, option_map};
 ghost use Rattle.bi_common.specs.MadeFields.{bytes_of_names};
 ghost use Rattle.bi_values.specs.NameWords.{AreNoWords, AreWordsOf};
 ghost use Rattle.bi_values.specs.ValueNames.{value_name_model, value_name_models, words_of_value};
 ghost use Rattle.bi_values.specs.declared.value_form.ValueForm.{ValueForm as Form};
+ghost use Rattle.bi_values.specs.declared.value_form.ValueForm.TheVariants.{Raw};
 ghost use Rattle.bootimg.specs.CommandLine.{IsBadValue, IsFailureOutcome, IsGetPlan};
 ghost use Rattle.bootimg.specs.CommandLine.{texts_of};
 ghost use Rattle.bootimg.specs.Failures.{IsFailureOfGetting, IsIndexOfValue};
@@ -77,7 +78,7 @@ pub fn get_plan<'a>(alloc: Global, options: &ArgMatches<'a>) -> Result<GetPlan<'
     let form = parse_form(options.get_str("as")).ok_or(Failure::BadValue)?;
     let words = options.get_strs("where").unwrap_or(&[]);
     let names = parse_names(alloc, words)?;
-    if form == ValueForm::Raw && names.len() != 1 {
+    if !can_write(form, names.len()) {
         return Err(NoRequest::Failure(Failure::BadValue));
     }
     let words = words_of_names(alloc, &names, words)?;
@@ -97,6 +98,17 @@ fn parse_form(argument: Option<&str>) -> Option<ValueForm>
         Some("number") => Some(ValueForm::Number),
         Some("raw") => Some(ValueForm::Raw),
         Some(_) => None,
+    }
+}
+
+/// Returns whether so many values can be written in a form: raw only one can.
+fn can_write(form: ValueForm, count: usize) -> bool
+    ensures can { IsTrue result → form ≡ Raw → count ≡ 1 }
+    ensures cannot { IsFalse result → (form ≡ Raw) × (count ≢ 1) }
+{
+    match form {
+        ValueForm::Raw => count == 1,
+        _ => true,
     }
 }
 
@@ -138,8 +150,8 @@ fn words_of_names<'a>(
 {
     let mut found = Vec::with_capacity(alloc, names.len())?;
     let mut rest = words;
-    for name in names {
-        let (first, later) = split_words(name, rest);
+    for index in 0..names.len() {
+        let (first, later) = split_words(&names[index], rest);
         found.push(first)?;
         rest = later;
     }
@@ -153,11 +165,8 @@ fn split_words<'r, 'a>(name: &ValueName, words: &'r [&'a str]) -> (ValueWords<'a
     ensures first { texts_of_value result.0 ≡ words_of_value (value_name_model name.now) }
     ensures later { texts_of words.entry.now ≡ texts_of_value result.0 ++ texts_of result.1.now }
 {
-    match (name, words) {
-        (ValueName::Property { .. }, [path, name, later @ ..]) => {
-            (ValueWords::Property(path, name), later)
-        }
-        (ValueName::Field(_), [word, later @ ..]) => (ValueWords::Field(word), later),
-        _ => unreachable!(),
+    match name {
+        ValueName::Property { .. } => (ValueWords::Property(words[0], words[1]), &words[2..]),
+        ValueName::Field(_) => (ValueWords::Field(words[0]), &words[1..]),
     }
 }
