@@ -1,6 +1,5 @@
-use Rattle.std.proofs.Common.{◌≡◌, ◌∙◌, ◌<◌, ◌+◌, ℕ, Bor, suc, List, [], ◌∷◌, ◌++◌, arith, drop, flat_map, get_or, length, map, take, ap, ap₂, refl, sym}
-use Rattle.std.proofs.Math.Seq.{drop-cons}
-use Rattle.std.proofs.lemmas.List.{length-map, map-append, take_more}
+use Rattle.std.proofs.Common.{◌≡◌, ◌∙◌, ◌<◌, ◌+◌, ℕ, Bor, List, [], ◌∷◌, ◌++◌, arith, drop, flat_map, get_or, length, map, take, ap, ap₂, refl, sym}
+use Rattle.std.proofs.lemmas.List.{drop_more, length-map, map-append, take_more}
 use Rattle.bi_values.specs.ValueNames.{value_name_model, value_name_models, words_of_value}
 use Rattle.bi_values.specs.declared.value_name.ValueName.{ValueName}
 use Rattle.bootimg.specs.CommandLine.{texts_of}
@@ -13,10 +12,10 @@ use Rattle.bootimg.specs.declared.command_line.get.ValueWords.TheVariants.{Prope
 -- The words of the names from this one on.
 pub words_from : (names : List ValueName) (index : ℕ) (name : ValueName) → index < length names → name ≡ get_or names index name →
     flat_map words_of_value (value_name_models (drop index names))
-    ≡ words_of_value (value_name_model name) ++ flat_map words_of_value (value_name_models (drop (suc index) names))
+    ≡ words_of_value (value_name_model name) ++ flat_map words_of_value (value_name_models (drop (index + 1) names))
 words_from names index name within is =
     ap (λ rest. flat_map words_of_value (value_name_models rest))
-    (drop-cons names index name within ∙ ap (λ one. one ∷ drop (suc index) names) (sym is))
+    (drop_more names index name within ∙ ap (λ one. one ∷ drop (index + 1) names) (sym is))
 
 -- The words for one more name.
 pub words_push : (found : List ValueWords) (first : ValueWords) (names : List ValueName) (index : ℕ) (name : ValueName) →
