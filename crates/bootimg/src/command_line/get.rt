@@ -1,6 +1,6 @@
 //! The command `get`.
 
-ghost use Rattle.std.specs.Prelude.{◌≡◌, ◌≢◌, ◌++◌, Some, IfOk, IfErr, IfSome, IsFalse, IsTrue};
+ghost use Rattle.std.specs.Prelude.{◌≡◌, ◌≢◌, Some, IfOk, IfErr, IfSome, IsFalse, IsTrue};
 ghost use Rattle.std.specs.Prelude.{flat_map, length, map, option_map};
 ghost use Rattle.bi_common.specs.MadeFields.{bytes_of_names};
 ghost use Rattle.bi_values.specs.NameWords.{AreNoWords, AreWordsOf};
@@ -38,6 +38,18 @@ pub struct GetPlan<'a> {
     /// The form.
     pub form: ValueForm,
     ghost paired: { length words.items ≡ length names.items },
+}
+
+impl<'a> ValueWords<'a> {
+    /// Returns their number.
+    fn count(self) -> usize
+        ensures { result ≡ length (texts_of_value self) }
+    {
+        match self {
+            ValueWords::Property(..) => 2,
+            ValueWords::Field(_) => 1,
+        }
+    }
 }
 
 impl<'a> GetPlan<'a> {
@@ -149,24 +161,22 @@ fn words_of_names<'a>(
         ≡ map words_of_value (value_name_models names.now)) }
 {
     let mut found = Vec::with_capacity(alloc, names.len())?;
-    let mut rest = words;
+    let mut at = 0;
     for index in 0..names.len() {
-        let (first, later) = split_words(&names[index], rest);
+        let first = first_words(&names[index], &words[at..]);
         found.push(first)?;
-        rest = later;
+        at += first.count();
     }
     Ok(found)
 }
 
-/// Returns the words for a name, and the words after them. Requires: the words begin with those for
-/// the name.
-fn split_words<'r, 'a>(name: &ValueName, words: &'r [&'a str]) -> (ValueWords<'a>, &'r [&'a str])
+/// Returns the words for a name. Requires: the words begin with them.
+fn first_words<'a>(name: &ValueName, words: &[&'a str]) -> ValueWords<'a>
     requires { BeginWithWords (texts_of words.now) (words_of_value (value_name_model name.now)) }
-    ensures first { texts_of_value result.0 ≡ words_of_value (value_name_model name.now) }
-    ensures later { texts_of words.entry.now ≡ texts_of_value result.0 ++ texts_of result.1.now }
+    ensures { texts_of_value result ≡ words_of_value (value_name_model name.now) }
 {
     match name {
-        ValueName::Property { .. } => (ValueWords::Property(words[0], words[1]), &words[2..]),
-        ValueName::Field(_) => (ValueWords::Field(words[0]), &words[1..]),
+        ValueName::Property { .. } => ValueWords::Property(words[0], words[1]),
+        ValueName::Field(_) => ValueWords::Field(words[0]),
     }
 }
